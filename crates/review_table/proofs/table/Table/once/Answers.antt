@@ -1,0 +1,15 @@
+use Rattle.std.proofs.Common.{subst}
+use Rattle.std.specs.Map.{keys_of}
+use Rattle.std.specs.List.Sorted.{IsStrictlySortedBy}
+use Rattle.std.proofs.lemmas.Map.Keys.{IsDistinct-from_sorted}
+use Rattle.review_table.proofs.Places.{row_among, rows_sorted}
+use Rattle.review_table.proofs.table.Table.once.Goals as goal
+
+pub returns : goal.returns
+returns g c =
+    let R = g.K.Ord.cmp in
+    let o = subst (λ t. IsStrictlySortedBy R (keys_of t)) c.self.view_is c.len.ensures.ordered in
+    record {
+      sorted = rows_sorted R c.args.self.now o;
+      rows = row_among g.met.K.Ord.total c.args.self.now (IsDistinct-from_sorted R (keys_of c.args.self.now) o);
+    }

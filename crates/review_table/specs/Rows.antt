@@ -1,0 +1,56 @@
+-- Places by key, each with a row or none; the rows are what callers see.
+use Rattle.std.specs.Prelude.{◌≡◌, List, [], ◌∷◌, Option, Some, None, IsSome, if◌then◌else◌}
+use Rattle.std.specs.declared.cmp.Ordering.{Ordering}
+use Rattle.std.specs.Map.{lookup}
+use Rattle.std.specs.BTreeMap.{is_at}
+use Rattle.std.specs.List.{All}
+use Rattle.review_table.specs.declared.table.Change.{Change}
+
+-- a row that may be missing twice over
+abbrev pub flat : {X : Type 0} → Option (Option X) → Option X
+flat None = None
+flat (Some o) = o
+
+-- the row at the place of a key
+abbrev pub row_at : {K X : Type 0} → (K → K → Ordering) → List (K × Option X) → K → Option X
+row_at cmp t k = flat (lookup (is_at (cmp k)) t)
+
+-- rows with that of a place in front, where it has one
+abbrev pub with_row : {K X : Type 0} → K → Option X → List (K × X) → List (K × X)
+with_row k None rows = rows
+with_row k (Some v) rows = (k, v) ∷ rows
+
+-- the rows, in the order of their keys
+abbrev pub rows_of : {K X : Type 0} → List (K × Option X) → List (K × X)
+rows_of [] = []
+rows_of (e ∷ t) = with_row e.0 e.1 (rows_of t)
+
+-- the row at a key, among rows
+abbrev pub row_in : {K X : Type 0} → (K → K → Ordering) → List (K × X) → K → Option X
+row_in cmp rows k = lookup (is_at (cmp k)) rows
+
+-- a key has a place
+abbrev pub HasPlace : {K X : Type 0} → (K → K → Ordering) → List (K × Option X) → K → Type 0
+HasPlace cmp t k = IsSome (lookup (is_at (cmp k)) t)
+
+-- each key that changes has a place
+abbrev pub HavePlaces : {K X : Type 0} → (K → K → Ordering) → List (K × Option X) → List (Change K X) → Type 0
+HavePlaces cmp t changes = All (λ c. HasPlace cmp t c.key) changes
+
+-- a key has a place without a row
+abbrev pub IsEmptyPlace : {K X : Type 0} → (K → K → Ordering) → List (K × Option X) → K → Type 0
+IsEmptyPlace cmp t k = lookup (is_at (cmp k)) t ≡ Some None
+
+-- the change of a key: the first that names it, with its new row or none
+abbrev pub change_of : {K X : Type 0} → (K → K → Ordering) → List (Change K X) → K → Option (Option X)
+change_of cmp [] q = None
+change_of cmp (c ∷ cs) q = if is_at (cmp c.key) q then Some c.row else change_of cmp cs q
+
+-- what was there, unless it is changed
+abbrev pub after_change : {X : Type 0} → Option X → X → X
+after_change None was = was
+after_change (Some now) was = now
+
+-- what a key has after changes
+abbrev pub changed : {K X : Type 0} → (K → K → Ordering) → List (Change K X) → K → Option X → Option X
+changed cmp changes q was = after_change (change_of cmp changes q) was

@@ -1,0 +1,308 @@
+ghost use Rattle.std.specs.Prelude.{◌≡◌, ◌++◌, List, Option, Some, None, [], IfOk, IfErr, IfSome, IsNone, OnOk, OnErr, ◌↔◌, map, length, option_copied, if◌then◌else◌, Result, Ok, Err, IsSome};
+ghost use Rattle.std.specs.Ordering.{eq_by_cmp};
+ghost use Rattle.std.specs.List.{All, IsDistinct, filter};
+ghost use Rattle.std.specs.List.Sorted.{IsStrictlySortedBy};
+ghost use Rattle.std.specs.Map.{lookup, keys_of};
+ghost use Rattle.std.specs.Map.Iter.{deref_pair};
+ghost use Rattle.std.specs.BTreeMap.{is_at};
+ghost use Rattle.std.specs.BTreeMap.Range.{IsLeBy, range_contains};
+ghost use Rattle.std.specs.declared.ops.Bound.TheVariants.{Included};
+ghost use Rattle.std.specs.declared.cmp.Ordering.TheVariants.{Less};
+ghost use Rattle.review_table.specs.Rows.{row_at, row_in, rows_of, HasPlace, HavePlaces, IsEmptyPlace, changed};
+ghost use Rattle.review_table.specs.declared.table.BadRows.TheVariants.{Double};
+
+use std::alloc::{AllocError, AllocFailed, Global};
+use std::collections::BTreeMap;
+use std::marker::Model;
+
+/// A key that can be copied exactly.
+pub trait Key: Ord + Drop + Sized {
+    fn copy(&self, alloc: Global) -> Result<Self, AllocError>
+        ensures { IfOk result (λ k. k ≡ self.now) };
+}
+
+/// A row for a key, or that the key has none.
+#[derive(Drop)]
+pub struct Change<K, V> {
+    pub key: K,
+    pub row: Option<V>,
+}
+
+/// Why rows make no table.
+#[derive(Clone, Copy, Debug, PartialEq, Eq, Drop)]
+pub enum BadRows {
+    Double,
+    Memory,
+}
+
+/// Rows by their keys, each key once, in the order of the keys. A place may hold no row.
+#[derive(Drop)]
+pub struct Table<K: Ord, V> {
+    places: BTreeMap<K, Option<V>>,
+}
+
+impl<K: Ord, V> Model for Table<K, V> {
+    ghost use Rattle.std.specs.Prelude.{List, Option};
+
+    ghost Value = { List (K × Option V) };
+
+    ghost view = { λ a. a.places.entries };
+}
+
+impl<K: Key, V: Drop> Table<K, V> {
+    pub fn new(alloc: Global) -> Table<K, V>
+        ensures { result ≡ [] }
+    {
+        Table {
+            places: BTreeMap::new(alloc),
+        }
+    }
+
+    /// The row at a key.
+    pub fn get(&self, key: &K) -> Option<&V>
+        ensures { option_copied result ≡ row_in K.cmp (rows_of self.now) key.now }
+    {
+        self.once();
+        self.at(key)
+    }
+
+    fn at(&self, key: &K) -> Option<&V>
+        ensures { option_copied result ≡ row_at K.cmp self.now key.now }
+    {
+        match self.places.get(key) {
+            Some(Some(row)) => Some(row),
+            Some(None) => None,
+            None => None,
+        }
+    }
+
+    /// Each key stands once, in order, so the row at a key is the one that the rows have.
+    pub fn once(&self)
+        ensures sorted { IsStrictlySortedBy K.cmp (keys_of (rows_of self.now)) }
+        ensures rows { (q : K) → row_at K.cmp self.now q ≡ row_in K.cmp (rows_of self.now) q }
+    {
+        let _ = self.places.len();
+    }
+
+    /// Makes a place for a key.
+    #[tactic(auto, using(crate::proofs::Places::rows_of_inserted))]
+    fn reserve(&mut self, key: K) -> Result<(), AllocError>
+        ensures same { rows_of self.new ≡ rows_of self.old }
+        ensures rows { (q : K) → row_at K.cmp self.new q ≡ row_at K.cmp self.old q }
+        ensures stay { (q : K) → HasPlace K.cmp self.old q → HasPlace K.cmp self.new q }
+        ensures ok { OnOk result (HasPlace K.cmp self.new key) }
+    {
+        if !self.places.contains_key(&key) {
+            self.places.insert(key, None)?;
+        }
+        Ok(())
+    }
+
+    /// Puts or takes away a row.
+    fn set(&mut self, key: K, row: Option<V>)
+        requires { HasPlace K.cmp self.old key }
+        ensures rows { (q : K) → row_at K.cmp self.new q ≡ (if is_at (K.cmp key) q then row else row_at K.cmp self.old q) }
+        ensures stay { (q : K) → HasPlace K.cmp self.old q → HasPlace K.cmp self.new q }
+    {
+        let _ = self.places.insert(key, row);
+    }
+
+    /// Adds a row with a new key.
+    fn add(&mut self, key: K, row: V) -> Result<(), BadRows>
+        ensures ok { OnOk result ((row_at K.cmp self.old key ≡ None) × ((q : K) → row_at K.cmp self.new q ≡ (if is_at (K.cmp key) q then Some row else row_at K.cmp self.old q))) }
+        ensures double { IfErr result (λ e. e ≡ Double → IsSome (row_at K.cmp self.old key)) }
+    {
+        if self.at(&key).is_some() {
+            return Err(BadRows::Double);
+        }
+        match self.places.insert(key, Some(row)) {
+            Ok(_) => Ok(()),
+            Err(_) => Err(BadRows::Memory),
+        }
+    }
+
+    /// Makes a place for each key that changes. An `Err` changes no row.
+    pub fn reserve_all(&mut self, alloc: Global, changes: &[Change<K, V>]) -> Result<(), AllocError>
+        ensures same { rows_of self.new ≡ rows_of self.old }
+        ensures rows { (q : K) → row_at K.cmp self.new q ≡ row_at K.cmp self.old q }
+        ensures ok { OnOk result (HavePlaces K.cmp self.new changes.now) }
+    {
+        for change in changes {
+            let key = change.key.copy(alloc)?;
+            self.reserve(key)?;
+        }
+        Ok(())
+    }
+
+    /// Makes the changes, for which `reserve_all` made the places. It can't fail.
+    pub fn apply(&mut self, changes: Vec<Change<K, V>>)
+        requires { HavePlaces K.cmp self.old changes.items }
+        ensures { (q : K) → row_in K.cmp (rows_of self.new) q ≡ changed K.cmp changes.items q (row_in K.cmp (rows_of self.old) q) }
+    {
+        self.once();
+        self.set_all(changes);
+        self.once();
+    }
+
+    /// Puts one row. An `Err` changes no row.
+    pub fn put(&mut self, key: K, row: V) -> Result<(), AllocError>
+        ensures ok { OnOk result ((q : K) → row_in K.cmp (rows_of self.new) q ≡ (if is_at (K.cmp key) q then Some row else row_in K.cmp (rows_of self.old) q)) }
+        ensures err { OnErr result (rows_of self.new ≡ rows_of self.old) }
+    {
+        self.once();
+        self.put_place(key, row)?;
+        self.once();
+        Ok(())
+    }
+
+    fn put_place(&mut self, key: K, row: V) -> Result<(), AllocError>
+        ensures ok { OnOk result ((q : K) → row_at K.cmp self.new q ≡ (if is_at (K.cmp key) q then Some row else row_at K.cmp self.old q)) }
+        ensures err { OnErr result (self.new ≡ self.old) }
+    {
+        self.places.insert(key, Some(row))?;
+        Ok(())
+    }
+
+    /// Takes the row of a key away, with its place.
+    pub fn remove(&mut self, key: &K)
+        ensures { (q : K) → row_in K.cmp (rows_of self.new) q ≡ (if is_at (K.cmp key.now) q then None else row_in K.cmp (rows_of self.old) q) }
+    {
+        self.once();
+        self.remove_place(key);
+        self.once();
+    }
+
+    fn remove_place(&mut self, key: &K)
+        ensures { (q : K) → row_at K.cmp self.new q ≡ (if is_at (K.cmp key.now) q then None else row_at K.cmp self.old q) }
+    {
+        let _ = self.places.remove(key);
+    }
+
+    /// Drops the places of these keys that hold no row: those that were reserved for nothing, or emptied.
+    pub fn release(&mut self, changes: &[Change<K, V>])
+        ensures same { rows_of self.new ≡ rows_of self.old }
+        ensures gone { All (λ c. IsEmptyPlace K.cmp self.new c.key → ⊥) changes.now }
+        ensures no_more { (q : K) → IsEmptyPlace K.cmp self.new q → IsEmptyPlace K.cmp self.old q }
+    {
+        for change in changes {
+            self.release_key(&change.key);
+        }
+    }
+
+    /// Drops the place of a key that holds no row.
+    fn release_key(&mut self, key: &K)
+        ensures same { rows_of self.new ≡ rows_of self.old }
+        ensures gone { IsEmptyPlace K.cmp self.new key.now → ⊥ }
+        ensures no_more { (q : K) → IsEmptyPlace K.cmp self.new q → IsEmptyPlace K.cmp self.old q }
+    {
+        if let Some(None) = self.places.get(key) {
+            let _ = self.places.remove(key);
+        }
+    }
+
+    /// Makes all changes, or none.
+    pub fn commit(&mut self, alloc: Global, changes: Vec<Change<K, V>>) -> Result<(), AllocError>
+        ensures done { OnOk result ((q : K) → row_in K.cmp (rows_of self.new) q ≡ changed K.cmp changes.items q (row_in K.cmp (rows_of self.old) q)) }
+        ensures same { OnErr result (rows_of self.new ≡ rows_of self.old) }
+    {
+        self.reserve_all(alloc, &changes)?;
+        self.apply(changes);
+        Ok(())
+    }
+
+    fn set_all(&mut self, changes: Vec<Change<K, V>>)
+        requires { HavePlaces K.cmp self.old changes.items }
+        ensures { (q : K) → row_at K.cmp self.new q ≡ changed K.cmp changes.items q (row_at K.cmp self.old q) }
+    {
+        let mut left = changes;
+        while let Some(change) = left.pop() {
+            self.set(change.key, change.row);
+        }
+    }
+
+    /// The table of rows with different keys.
+    pub fn from_vec(alloc: Global, rows: Vec<(K, V)>) -> Result<Table<K, V>, BadRows>
+        ensures ok { IfOk result (λ t. IsDistinct (eq_by_cmp K.cmp) (keys_of rows.items) × ((q : K) → row_at K.cmp t q ≡ lookup (is_at (K.cmp q)) rows.items)) }
+        ensures double { IfErr result (λ e. e ≡ Double → IsDistinct (eq_by_cmp K.cmp) (keys_of rows.items) → ⊥) }
+    {
+        let mut table = Table::new(alloc);
+        let mut left = rows;
+        while let Some((key, row)) = left.pop() {
+            match table.add(key, row) {
+                Ok(()) => {}
+                Err(error) => return Err(error),
+            }
+        }
+        Ok(table)
+    }
+
+    /// The rows, in the order of their keys.
+    pub fn into_rows(self, alloc: Global) -> Result<Vec<(K, V)>, AllocError>
+        ensures { IfOk result (λ rows. rows.items ≡ rows_of self) }
+    {
+        let mut rows = Vec::new(alloc);
+        for (key, place) in self.places {
+            if let Some(row) = place {
+                rows.push((key, row))?;
+            }
+        }
+        Ok(rows)
+    }
+
+    /// The rows, in the order of their keys.
+    pub fn rows<'a>(&'a self, alloc: Global) -> Result<Vec<(&'a K, &'a V)>, AllocError>
+        ensures rows { IfOk result (λ rows. map deref_pair rows.items ≡ rows_of self.now) }
+        ensures sorted { IsStrictlySortedBy K.cmp (keys_of (rows_of self.now)) }
+    {
+        self.once();
+        let mut rows = Vec::new(alloc);
+        for (key, place) in &self.places {
+            if let Some(row) = place {
+                rows.push((key, row))?;
+            }
+        }
+        Ok(rows)
+    }
+
+    /// The rows whose keys lie between two, these included, in the order of their keys.
+    pub fn select<'a>(
+        &'a self,
+        alloc: Global,
+        from: K,
+        to: K,
+    ) -> Result<Vec<(&'a K, &'a V)>, AllocError>
+        requires { IsLeBy K.cmp from to }
+        ensures rows { IfOk result (λ rows. map deref_pair rows.items ≡ filter (λ e. range_contains K.cmp (Included from) (Included to) e.0) (rows_of self.now)) }
+        ensures found { IfOk result (λ rows. (q : K) → row_in K.cmp (map deref_pair rows.items) q ≡ (if range_contains K.cmp (Included from) (Included to) q then row_in K.cmp (rows_of self.now) q else None)) }
+    {
+        let mut rows = Vec::new(alloc);
+        for (key, place) in self.places.range(from..=to) {
+            if let Some(row) = place {
+                rows.push((key, row))?;
+            }
+        }
+        Ok(rows)
+    }
+
+    /// The greatest key that has a row.
+    pub fn last_key(&self) -> Option<&K>
+        ensures none { IsNone result ↔ (rows_of self.now ≡ []) }
+        ensures there { IfSome result (λ k. IsSome (row_in K.cmp (rows_of self.now) k.now)) }
+        ensures above { IfSome result (λ k. (q : K) → K.cmp k.now q ≡ Less → row_in K.cmp (rows_of self.now) q ≡ None) }
+    {
+        self.once();
+        let mut left = self.places.iter();
+        while let Some((key, place)) = left.next_back() {
+            if place.is_some() {
+                return Some(key);
+            }
+        }
+        None
+    }
+}
+
+impl Key for u32 {
+    fn copy(&self, _alloc: Global) -> Result<u32, AllocError> {
+        Ok(*self)
+    }
+}
