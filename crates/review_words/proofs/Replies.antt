@@ -1,0 +1,111 @@
+-- A stored reply is what its fields are read as.
+use Rattle.std.proofs.Common.{◌≡◌, ℕ, ◌<◌, ◌≤◌, ◌+◌, List, [], ◌∷◌, length, refl, sym, ap, ◌∙◌, subst, arith, cond, Option, Some, None, Bool, true, false}
+use Rattle.std.specs.Prelude.{option_map, nat_le, ◌&&◌, if◌then◌else◌}
+use Rattle.std.specs.Str.{bytes_eq}
+use Rattle.std.proofs.lemmas.Slice.Eq.{bytes_eq-Decides}
+use Rattle.std.proofs.lemmas.Bool.Decides.{nat_tests}
+use Rattle.std.specs.Int.Digits.{digits_of}
+use Rattle.std.proofs.lemmas.Int.Digits.{length-digits_of-le}
+use Rattle.std.proofs.lemmas.List.{length-map}
+use Rattle.review_words.specs.Names.{is_account_number}
+use Rattle.review_words.specs.Texts.{shown_digits, numeral, reply_fields, reply_text, IsStored, refusal_number}
+use Rattle.review_words.specs.Cutting.{AreShort}
+use Rattle.review_words.specs.Reading.{◌>>=◌, number_of, account_of, refusal_of, reply_of}
+use Rattle.review_words.specs.declared.reply.Reply.{Reply}
+use Rattle.review_words.specs.declared.reply.Reply.TheVariants.{Done, Refused, IdentityReused, NotTaken}
+use Rattle.review_words.specs.declared.reply.Answer.TheVariants.{Account, Nothing}
+use Rattle.review_words.specs.declared.reply.Refusal.{Refusal}
+use Rattle.review_words.specs.declared.reply.Refusal.TheVariants.{UnknownCaller, NotAdmin, NoAccount, NameTaken, Limit}
+use Rattle.review_words.proofs.Numerals.{number_back, number_shown}
+
+pub account_back : (n : ℕ) → 1 ≤ n → n ≤ 1000000 → account_of (numeral n) ≡ Some n
+unfolding account_of is_account_number
+account_back n low high =
+    let test : (nat_le 1 n && nat_le n 1000000) ≡ true = grind (arith, nat_tests, low, high) in
+    rw (number_back n (omega arith)) (ap (λ b. cond b (Some n) None) test)
+
+of_range : (b : Bool) (k n : ℕ) → cond b (Some k) None ≡ Some n → (b ≡ true) × (k ≡ n)
+of_range true k n e = (refl, cc)
+of_range false k n e = absurd (cc)
+
+of_read : (o : Option ℕ) (n : ℕ) → (o >>= λ k. if is_account_number k then Some k else None) ≡ Some n → (o ≡ Some n) × (is_account_number n ≡ true)
+of_read (Some k) n e = let r = of_range (is_account_number k) k n e in (ap Some r.1, subst (λ m. is_account_number m ≡ true) r.1 r.0)
+of_read None n e = absurd (cc)
+
+pub account_shown : (n : ℕ) (cs : List ℕ) → account_of cs ≡ Some n → (numeral n ≡ cs) × (is_account_number n ≡ true)
+unfolding account_of
+account_shown n cs e = let r = of_read (number_of cs) n e in (number_shown n cs r.0, r.1)
+
+in_range : (n : ℕ) → is_account_number n ≡ true → (1 ≤ n) × (n ≤ 1000000)
+unfolding is_account_number
+in_range n e = (grind (arith, nat_tests, e), grind (arith, nat_tests, e))
+
+pub account_none : (n : ℕ) (cs : List ℕ) → account_of cs ≡ None → is_account_number n ≡ true → numeral n ≡ cs → ⊥
+account_none n cs none range shown =
+    let r = in_range n range in
+    let some : account_of cs ≡ Some n = ap account_of (sym shown) ∙ account_back n r.0 r.1 in
+    cc
+
+-- one line for each refusal
+refused_back : (r : Refusal) → reply_of (reply_fields (Refused r)) ≡ Some (Refused r)
+unfolding reply_of refusal_of
+refused_back UnknownCaller = rw (number_back 1 (omega arith)) refl
+refused_back NotAdmin = rw (number_back 2 (omega arith)) refl
+refused_back NoAccount = rw (number_back 7 (omega arith)) refl
+refused_back NameTaken = rw (number_back 25 (omega arith)) refl
+refused_back Limit = rw (number_back 28 (omega arith)) refl
+
+-- one line for each answer
+pub reply_back : (r : Reply) → IsStored r → reply_of (reply_fields r) ≡ Some r
+unfolding reply_of
+reply_back (Done (Account n)) s = rw (account_back n s.0 s.1) refl
+reply_back (Done Nothing) s = refl
+reply_back (Refused r) s = refused_back r
+reply_back IdentityReused s = absurd s
+reply_back (NotTaken c) s = absurd s
+
+-- The fields of a stored reply are short.
+short_digits : (ds : List ℕ) → length ds ≤ 10 → length (shown_digits ds) < 1000000000
+short_digits [] h = omega arith
+short_digits (d ∷ ds) h = let same = length-map ds (λ x. 48 + x) in omega (arith, h, same)
+
+short_numeral : (n : ℕ) → n < 4294967296 → length (numeral n) < 1000000000
+unfolding numeral
+short_numeral n h = short_digits (digits_of 10 n) (length-digits_of-le 10 10 n (omega arith) (omega (arith, h)))
+
+below : (r : Refusal) → refusal_number r < 4294967296
+below UnknownCaller = omega arith
+below NotAdmin = omega arith
+below NoAccount = omega arith
+below NameTaken = omega arith
+below Limit = omega arith
+
+pub short_reply : (r : Reply) → IsStored r → AreShort (reply_fields r)
+short_reply (Done (Account n)) s = (omega arith, (short_numeral n (omega (arith, s.1)), tt))
+short_reply (Done Nothing) s = (omega arith, tt)
+short_reply (Refused r) s = (omega arith, (short_numeral (refusal_number r) (below r), tt))
+short_reply IdentityReused s = absurd s
+short_reply (NotTaken c) s = absurd s
+
+-- What the fields of a stored reply are cut to, read as and written as.
+pub never_uncut : {A : Type 0} (view : A → List (List ℕ)) (o : Option A) (fs : List (List ℕ)) → o ≡ None → option_map view o ≡ Some fs → ⊥
+never_uncut view o fs none e = let some : None ≡ Some fs = ap (option_map view) (sym none) ∙ e in cc
+
+pub cut_to : {A : Type 0} (view : A → List (List ℕ)) (o : Option A) (x : A) (fs : List (List ℕ)) → o ≡ Some x → option_map view o ≡ Some fs → view x ≡ fs
+cut_to view o x fs some e = let same : Some (view x) ≡ Some fs = ap (option_map view) (sym some) ∙ e in cc
+
+pub never_unread : (r : Reply) (fs : List (List ℕ)) (o : Option Reply) → IsStored r → fs ≡ reply_fields r → o ≡ reply_of fs → o ≡ None → ⊥
+never_unread r fs o s same read none =
+    let some : Some r ≡ None = sym (reply_back r s) ∙ (ap reply_of (sym same) ∙ (sym read ∙ none)) in
+    cc
+
+read_as : (r q : Reply) (fs : List (List ℕ)) → IsStored r → fs ≡ reply_fields r → Some q ≡ reply_of fs → q ≡ r
+read_as r q fs s same read =
+    let some : Some q ≡ Some r = read ∙ (ap reply_of same ∙ reply_back r s) in
+    cc
+
+pub never_changed : (r q : Reply) (fs : List (List ℕ)) (again text : List ℕ) → IsStored r → fs ≡ reply_fields r → Some q ≡ reply_of fs → again ≡ reply_text q → reply_text r ≡ text → bytes_eq again text ≡ false → ⊥
+never_changed r q fs again text s same read written e differs =
+    let back : again ≡ text = written ∙ (ap reply_text (read_as r q fs s same read) ∙ e) in
+    let equal : bytes_eq again text ≡ true = (bytes_eq-Decides again text).1 back in
+    cc

@@ -1,0 +1,85 @@
+-- Histories of taken requests, the newest first, and the settings that they leave.
+use Rattle.std.specs.Prelude.{ℕ, ◌+◌, List, [], ◌∷◌, Option, Some, None, Bool, ◌&&◌, ◌||◌, ◌==◌, nat_le, if◌then◌else◌}
+use Rattle.std.specs.Str.{bytes_eq}
+use Rattle.std.specs.List.{list_any}
+use Rattle.review_words.specs.Names.{administrators, admin_name}
+use Rattle.review_words.specs.declared.command.Command.{Command}
+use Rattle.review_words.specs.declared.command.Command.TheVariants.{CreateAccount, PutGroup}
+use Rattle.review_words.specs.declared.reply.Reply.{Reply}
+use Rattle.review_words.specs.declared.reply.Reply.TheVariants.{Done}
+
+-- what makes two writes the same request
+pub record Identity : Type 0 where
+  pub caller : ℕ
+  pub id : List ℕ
+
+-- the caller and the id agree
+abbrev pub is_same : Identity → Identity → Bool
+is_same a b = (a.caller == b.caller) && bytes_eq a.id b.id
+
+-- a request that was taken, with its reply
+pub record Entry : Type 0 where
+  pub identity : Identity
+  pub command : Command
+  pub reply : Reply
+
+abbrev pub if_done : Reply → Command → Option Command
+if_done (Done answer) command = Some command
+if_done _ command = None
+
+-- the command of an entry, where it was accepted
+abbrev pub accepted : Entry → Option Command
+accepted e = if_done e.reply e.command
+
+-- the entry of an identity
+abbrev pub stored : List Entry → Identity → Option Entry
+stored [] i = None
+stored (e ∷ h) i = if is_same e.identity i then Some e else stored h i
+
+abbrev pub counted : Option Command → ℕ → ℕ
+counted (Some (CreateAccount name)) n = n + 1
+counted _ n = n
+
+-- how many accounts there are: account 1 is there from the start, and each accepted CreateAccount makes the next
+abbrev pub account_count : List Entry → ℕ
+account_count [] = 1
+account_count (e ∷ h) = counted (accepted e) (account_count h)
+
+abbrev pub named : Option Command → ℕ → ℕ → Option (List ℕ) → Option (List ℕ)
+named (Some (CreateAccount name)) number next before = if number == next then Some name else before
+named _ number next before = before
+
+-- the name of an account; account 1 is `admin`
+abbrev pub name_of : List Entry → ℕ → Option (List ℕ)
+name_of [] number = if number == 1 then Some admin_name else None
+name_of (e ∷ h) number = named (accepted e) number (account_count h + 1) (name_of h number)
+
+abbrev pub is_named : Option Command → List ℕ → Bool → Bool
+is_named (Some (CreateAccount given)) name before = bytes_eq given name || before
+is_named _ name before = before
+
+-- whether an account has the name
+abbrev pub name_taken : List Entry → List ℕ → Bool
+name_taken [] name = bytes_eq admin_name name
+name_taken (e ∷ h) name = is_named (accepted e) name (name_taken h name)
+
+-- whether a number is that of an account
+abbrev pub is_account : List Entry → ℕ → Bool
+is_account h number = nat_le 1 number && nat_le number (account_count h)
+
+abbrev pub put : Option Command → List ℕ → List ℕ → List ℕ
+put (Some (PutGroup group members)) name before = if bytes_eq group name then members else before
+put _ name before = before
+
+-- the listed members of a group: those that its last accepted PutGroup gave (`Registered-Users`, which holds every account, is never put)
+abbrev pub listed_members : List Entry → List ℕ → List ℕ
+listed_members [] group = if bytes_eq administrators group then 1 ∷ [] else []
+listed_members (e ∷ h) group = put (accepted e) group (listed_members h group)
+
+-- whether an account is a listed member of a group
+abbrev pub is_listed : List Entry → List ℕ → ℕ → Bool
+is_listed h group number = list_any (λ m. m == number) (listed_members h group)
+
+-- whether an account runs the desk
+abbrev pub is_admin : List Entry → ℕ → Bool
+is_admin h number = is_listed h administrators number

@@ -1,0 +1,66 @@
+-- Numbers and replies read from their fields.
+use Rattle.std.specs.Prelude.{ℕ, ◌+◌, ◌-◌, ◌*◌, List, [], ◌∷◌, length, codes, slice_index, slice_index_or, Option, Some, None, Bool, ◌&&◌, ◌||◌, ◌==◌, nat_le, nat_lt, if◌then◌else◌}
+use Rattle.std.specs.Str.{bytes_eq}
+use Rattle.review_words.specs.Names.{is_account_number}
+use Rattle.review_words.specs.declared.reply.Reply.{Reply}
+use Rattle.review_words.specs.declared.reply.Reply.TheVariants.{Done, Refused}
+use Rattle.review_words.specs.declared.reply.Answer.TheVariants.{Account, Nothing}
+use Rattle.review_words.specs.declared.reply.Refusal.{Refusal}
+use Rattle.review_words.specs.declared.reply.Refusal.TheVariants.{UnknownCaller, NotAdmin, NoAccount, NameTaken, Limit}
+
+-- a reading, and a second one of what the first gave; nothing where either gives nothing
+infixl 10 ◌>>=◌
+abbrev pub ◌>>=◌ : {A B : Type 0} → Option A → (A → Option B) → Option B
+(Some x) >>= f = f x
+None >>= f = None
+
+-- the field at a place, or the empty one where there are not so many
+abbrev pub at : List (List ℕ) → ℕ → List ℕ
+at fields i = slice_index_or fields i []
+
+-- the number below 2^32 whose digits are those of n and then those of the text
+abbrev pub number_after : ℕ → List ℕ → Option ℕ
+number_after n [] = Some n
+number_after n (c ∷ cs) = if nat_le 48 c && nat_le c 57 && nat_lt (n * 10 + (c - 48)) 4294967296 then number_after (n * 10 + (c - 48)) cs else None
+
+-- whether a text has a character, and no zero in front of others
+abbrev pub begins_well : List ℕ → Bool
+begins_well cs = nat_le 1 (length cs) && (nat_le (length cs) 1 || nat_lt 48 (slice_index cs 0))
+
+-- the number below 2^32 that a text shows in decimal without leading zeros
+unfoldable pub number_of : List ℕ → Option ℕ
+number_of cs = if begins_well cs then number_after 0 cs else None
+
+-- the account whose number a text is
+unfoldable pub account_of : List ℕ → Option ℕ
+account_of cs = do
+  number ← number_of cs
+  if is_account_number number then Some number else None
+
+-- the refusal of a number
+abbrev pub refusal_of_number : ℕ → Option Refusal
+refusal_of_number number =
+    if number == 1 then Some UnknownCaller
+    else if number == 2 then Some NotAdmin
+    else if number == 7 then Some NoAccount
+    else if number == 25 then Some NameTaken
+    else if number == 28 then Some Limit
+    else None
+
+-- the refusal that fields tell
+unfoldable pub refusal_of : List (List ℕ) → Option Refusal
+refusal_of fields = do
+  number ← number_of (at fields 1)
+  refusal_of_number number
+
+-- the stored reply that fields tell; further fields are not looked at
+unfoldable pub reply_of : List (List ℕ) → Option Reply
+reply_of fields = let name = at fields 0 in
+    if bytes_eq name (codes "Account") then (do
+      number ← account_of (at fields 1)
+      Some (Done (Account number)))
+    else if bytes_eq name (codes "Nothing") then Some (Done Nothing)
+    else if bytes_eq name (codes "Refused") then (do
+      refusal ← refusal_of fields
+      Some (Refused refusal))
+    else None

@@ -1,0 +1,33 @@
+//! The words of a review desk: names and numbers of fixed forms, commands, replies, and their texts.
+#![tactic(auto)]
+
+pub mod changes;
+pub mod command;
+pub mod forms;
+pub mod groups;
+pub mod keys;
+pub mod laws;
+pub mod names;
+mod numbers;
+mod pieces;
+pub mod places;
+pub mod reply;
+pub mod text;
+
+pub use changes::{ChangeNo, PatchNo};
+pub use command::{Command, Delivery};
+pub use forms::{Form, Name};
+pub use groups::{Groups, Paths};
+pub use laws::{content_tells, reply_tells};
+pub use names::{
+    AccountName, AccountNo, BadName, GroupName, Members, RequestId, Word, admin_name,
+    administrators,
+};
+pub use places::{BranchName, CommitName, LabelName, Path, ProjectName};
+pub use reply::{Answer, NotTaken, Refusal, Reply};
+pub use text::{BadReply, content_text, read_reply, reply_text};
+
+#[cfg(test)]
+mod form_tests;
+#[cfg(test)]
+mod tests;

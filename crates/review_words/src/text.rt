@@ -1,0 +1,183 @@
+//! The texts of commands and replies.
+ghost use Rattle.std.specs.Prelude.{◌≡◌, ◌++◌, ℕ, List, map, IfOk, IfErr, OnOk, IfSome, string_bytes};
+ghost use Rattle.std.specs.Str.{bytes_eq};
+ghost use Rattle.review_words.specs.Texts.{numeral, command_fields, content_text, reply_fields, reply_text, IsStored};
+ghost use Rattle.review_words.specs.Shown.{shown};
+ghost use Rattle.review_words.specs.Reading.{refusal_of, reply_of};
+ghost use Rattle.review_words.specs.declared.reply.Reply.{Reply};
+ghost use Rattle.review_words.specs.declared.reply.Reply.TheVariants.{Done, Refused};
+ghost use Rattle.review_words.specs.declared.text.BadReply.TheVariants.{Form};
+
+use crate::command::Command;
+use crate::names::{AccountNo, read_account};
+use crate::numbers::read_number;
+use crate::pieces::{Piece, cut, field_at, joined};
+use crate::reply::{Answer, Refusal, Reply};
+use std::alloc::{AllocError, AllocFailed, Global};
+
+/// Why a text was not read as a reply.
+#[derive(Clone, Copy, Debug, PartialEq, Eq)]
+pub enum BadReply {
+    /// It is the text of no stored reply. It will not be, however often it is tried.
+    Form,
+    /// There was no memory for it. It may be tried again.
+    Memory,
+}
+
+impl From<AllocError> for BadReply {
+    ghost use Rattle.std.specs.Prelude.{◌≡◌};
+    ghost use Rattle.review_words.specs.declared.text.BadReply.TheVariants.{Memory};
+
+    ghost from_gives = { λ _ e. e ≡ Memory };
+
+    fn from(_error: AllocError) -> BadReply {
+        BadReply::Memory
+    }
+}
+
+impl<T: Drop> From<AllocFailed<T>> for BadReply {
+    ghost use Rattle.std.specs.Prelude.{◌≡◌};
+    ghost use Rattle.review_words.specs.declared.text.BadReply.TheVariants.{Memory};
+
+    ghost from_gives = { λ _ e. e ≡ Memory };
+
+    fn from(_error: AllocFailed<T>) -> BadReply {
+        BadReply::Memory
+    }
+}
+
+fn add_accounts(out: &mut Vec<Piece<'_>>, accounts: &[AccountNo]) -> Result<(), AllocError>
+    ensures { OnOk result (map shown out.new.items ≡ map shown out.old.items ++ map numeral accounts.now) }
+{
+    for account in accounts {
+        out.push(Piece::Number(account.get() as u64))?;
+    }
+    Ok(())
+}
+
+fn command_pieces(alloc: Global, command: &Command) -> Result<Vec<Piece<'_>>, AllocError>
+    ensures { IfOk result (λ v. map shown v.items ≡ command_fields command.now) }
+{
+    match command {
+        Command::CreateAccount { name } => {
+            Ok(vec![in alloc; Piece::Text("CreateAccount"), Piece::Text(name.as_str())]?)
+        }
+        Command::PutGroup { group, members } => {
+            let accounts = members.as_slice();
+            let mut out = vec![in alloc;
+                Piece::Text("PutGroup"),
+                Piece::Text(group.as_str()),
+                Piece::Number(accounts.len() as u64),
+            ]?;
+            add_accounts(&mut out, accounts)?;
+            Ok(out)
+        }
+    }
+}
+
+/// The text of a command: its name, then its fields, a set as its count and then its members,
+/// each with its length in bytes before it. Equal texts come only from equal commands.
+/// An error where there was no memory for it.
+pub fn content_text(alloc: Global, command: &Command) -> Result<String, AllocError>
+    ensures { IfOk result (λ t. string_bytes t ≡ content_text command.now) }
+{
+    let pieces = command_pieces(alloc, command)?;
+    joined(alloc, &pieces)
+}
+
+fn answer_pieces(alloc: Global, answer: Answer) -> Result<Vec<Piece<'static>>, AllocError>
+    ensures { IfOk result (λ v. map shown v.items ≡ reply_fields (Done answer)) }
+{
+    match answer {
+        Answer::Account(account) => Ok(vec![in alloc;
+            Piece::Text("Account"),
+            Piece::Number(account.get() as u64),
+        ]?),
+        Answer::Nothing => Ok(vec![in alloc; Piece::Text("Nothing")]?),
+    }
+}
+
+fn answer_text(alloc: Global, answer: Answer) -> Result<String, AllocError>
+    ensures { IfOk result (λ t. string_bytes t ≡ reply_text (Done answer)) }
+{
+    let pieces = answer_pieces(alloc, answer)?;
+    joined(alloc, &pieces)
+}
+
+fn refusal_text(alloc: Global, refusal: Refusal) -> Result<String, AllocError>
+    ensures { IfOk result (λ t. string_bytes t ≡ reply_text (Refused refusal)) }
+{
+    let pieces = vec![in alloc;
+        Piece::Text("Refused"),
+        Piece::Number(refusal.number() as u64),
+    ]?;
+    joined(alloc, &pieces)
+}
+
+/// The text of a stored reply: the name of its answer and its parts, or `Refused` and the number.
+/// Equal texts come only from equal stored replies. The replies that are never stored,
+/// IdentityReused and NotTaken, have the empty text. An error where there was no memory for it.
+#[tactic(auto, unfolding(crate::specs::Texts::text_of))]
+pub fn reply_text(alloc: Global, reply: &Reply) -> Result<String, AllocError>
+    ensures { IfOk result (λ t. string_bytes t ≡ reply_text reply.now) }
+{
+    match reply {
+        Reply::Done(answer) => answer_text(alloc, *answer),
+        Reply::Refused(refusal) => refusal_text(alloc, *refusal),
+        Reply::IdentityReused | Reply::NotTaken(_) => Ok(String::new(alloc)),
+    }
+}
+
+fn is(bytes: &[u8], word: &str) -> bool
+    ensures { result ≡ bytes_eq bytes.now word.now }
+{
+    bytes == word.as_bytes()
+}
+
+#[tactic(auto, unfolding(crate::specs::Reading::refusal_of))]
+fn read_refusal(fields: &[&[u8]]) -> Option<Refusal>
+    ensures { result ≡ refusal_of (map (λ f. f.now) fields.now) }
+{
+    Refusal::from_number(read_number(field_at(fields, 1))?)
+}
+
+#[tactic(auto, unfolding(crate::specs::Reading::reply_of))]
+fn read_fields(fields: &[&[u8]]) -> Option<Reply>
+    ensures reply { result ≡ reply_of (map (λ f. f.now) fields.now) }
+    ensures stored { IfSome result IsStored }
+{
+    let name = field_at(fields, 0);
+    if is(name, "Account") {
+        let account = read_account(field_at(fields, 1))?;
+        return Some(Reply::Done(Answer::Account(account)));
+    }
+    if is(name, "Nothing") {
+        return Some(Reply::Done(Answer::Nothing));
+    }
+    if is(name, "Refused") {
+        let refusal = read_refusal(fields)?;
+        return Some(Reply::Refused(refusal));
+    }
+    None
+}
+
+/// The stored reply whose text this is. Form exactly where it is the text of none, as the empty
+/// text is; Memory where there was no memory to read it.
+pub fn read_reply(alloc: Global, text: &str) -> Result<Reply, BadReply>
+    ensures ok { IfOk result (λ r. IsStored r × (reply_text r ≡ text.now)) }
+    ensures form { IfErr result (λ e. e ≡ Form → (r : Reply) → IsStored r → reply_text r ≡ text.now → ⊥) }
+{
+    let Some(fields) = cut(alloc, text.as_bytes())? else {
+        return Err(BadReply::Form);
+    };
+    let Some(reply) = read_fields(&fields) else {
+        return Err(BadReply::Form);
+    };
+    // The readers let through more than is ever written, as a length with leading zeros.
+    let again = reply_text(alloc, &reply)?;
+    if again.as_str() == text {
+        Ok(reply)
+    } else {
+        Err(BadReply::Form)
+    }
+}
