@@ -1,0 +1,5 @@
+pub mod Rows
+pub mod Answer
+pub mod View
+pub mod Count
+pub mod Shelf

@@ -1,0 +1,80 @@
+-- The tables of a history, the rows that decide a command, and what was decided.
+use Rattle.std.specs.Prelude.{ℕ, ◌+◌, ◌≡◌, List, [], ◌∷◌, Option, Some, None, Bool, ◌&&◌, ◌||◌, ◌==◌, length, option_map, if◌then◌else◌, true, false}
+use Rattle.std.specs.Str.{bytes_eq}
+use Rattle.std.specs.List.{list_any}
+use Rattle.review_words.specs.Names.{administrators}
+use Rattle.review_words.specs.Texts.{content_text, reply_text}
+use Rattle.review_words.specs.History.{Entry, Identity, is_same, name_of, is_listed}
+use Rattle.review_words.specs.declared.command.Command.{Command}
+use Rattle.review_words.specs.declared.command.Command.TheVariants.{CreateAccount, PutGroup}
+use Rattle.review_words.specs.declared.reply.Reply.{Reply}
+use Rattle.review_rows.specs.declared.rows.Rows.{Rows}
+use Rattle.review_rows.specs.declared.rows.Delta.{Delta}
+use Rattle.review_rows.specs.Rows.{Key, AccountKey, MemberKey, OddKey, Row, AccountRow, MemberRow, AnswerRow, Tables, Wanted, is_group, after, ArePicked}
+use Rattle.review_rows.specs.Answer.{IsAnswer}
+
+-- the row of a key that the history says
+abbrev pub fact : List Entry → Key → Option Row
+fact h (AccountKey number) = option_map AccountRow (name_of h number)
+fact h (MemberKey group account) = if is_listed h group account then Some MemberRow else None
+fact h (OddKey o) = None
+
+-- the row of an entry, which has its number
+abbrev pub answer_row : Entry → ℕ → AnswerRow
+answer_row e number = record { identity = e.identity; request = number; content = content_text e.command; reply = reply_text e.reply }
+
+-- the stored request of an identity
+abbrev pub answered : List Entry → Identity → Option AnswerRow
+answered [] i = None
+answered (e ∷ h) i = if is_same e.identity i then Some (answer_row e (length h + 1)) else answered h i
+
+-- the version of the tables
+abbrev pub tables_version : ℕ
+tables_version = 1
+
+-- the tables have just what the history says
+pub record IsView (h : List Entry) (t : Tables) : Type 0 where
+  pub row_is : (k : Key) → t.row k ≡ fact h k
+  pub answer_is : (i : Identity) → t.answer i ≡ answered h i
+  pub version : t.version ≡ tables_version
+  pub requests : t.requests ≡ length h
+
+-- the accounts that decide a command: the caller, and those that it names
+abbrev pub needed_account : ℕ → Command → ℕ → Bool
+needed_account caller (CreateAccount name) number = caller == number
+needed_account caller (PutGroup group members) number = (caller == number) || list_any (λ m. m == number) members
+
+-- the group whose members a command replaces
+abbrev pub needed_group : Command → Option (List ℕ)
+needed_group (PutGroup group members) = Some group
+needed_group _ = None
+
+-- the name that a command gives
+abbrev pub needed_name : Command → Option (List ℕ)
+needed_name (CreateAccount name) = Some name
+needed_name _ = None
+
+-- whether the row of a key decides a command
+abbrev pub is_needed : ℕ → Command → Key → Bool
+is_needed caller command (AccountKey number) = needed_account caller command number
+is_needed caller command (MemberKey group account) = (bytes_eq administrators group && (caller == account)) || is_group (needed_group command) group
+is_needed caller command (OddKey o) = false
+
+-- whether the greatest number of an account decides it
+abbrev pub needs_last : Command → Bool
+needs_last (CreateAccount name) = true
+needs_last _ = false
+
+-- what decides a command
+abbrev pub needed : ℕ → Command → Wanted
+needed caller command = record { row = is_needed caller command; name = needed_name command; last_account = needs_last command }
+
+-- the rows are those of the history that are wanted
+pub record IsLoaded (h : List Entry) (wanted : Wanted) (rows : Rows) : Type 0 where
+  pub picked : ArePicked (fact h) wanted rows
+  pub requests : rows.requests ≡ length h
+
+-- the reply is an answer after the history, and the delta turns its rows into those of the history with the entry
+pub record IsDecided (h : List Entry) (caller : ℕ) (command : Command) (delta : Delta) (reply : Reply) : Type 0 where
+  pub reply_is : IsAnswer h caller command reply
+  pub row_is : (id : List ℕ) (k : Key) → fact (record { identity = record { caller = caller; id = id }; command = command; reply = reply } ∷ h) k ≡ after delta k (fact h k)

@@ -1,0 +1,11 @@
+//! The rows of a desk, what a delivery needs of them and changes in them, and what a shelf does that keeps them.
+//!
+//! The definitions here are what every other crate speaks of: the answer to a command after a history, the facts that a
+//! history says, and the tables that are the view of a history.
+#![tactic(auto)]
+
+pub mod rows;
+pub mod shelf;
+
+pub use rows::{Delta, Kept, MemberKey, Need, Rows};
+pub use shelf::{Shelf, ShelfFault};
