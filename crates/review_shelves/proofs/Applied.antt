@@ -1,0 +1,145 @@
+-- The tables after changes.
+use Rattle.std.proofs.Common.{◌≡◌, ℕ, Bool, true, false, cond, List, [], ◌∷◌, ◌++◌, Option, Some, None, Result, Ok, Err, ap, sym, ◌∙◌, subst, refl, ◌⊎◌, inl, inr}
+use Rattle.std.specs.Option.{IfSome, option_map}
+use Rattle.std.specs.Prelude.{OnOk, OnErr}
+use Rattle.std.specs.declared.alloc.AllocError.{AllocError}
+use Rattle.std.specs.declared.cmp.Ordering.{Ordering}
+use Rattle.std.specs.Ordering.{nat_cmp}
+use Rattle.std.specs.List.{All, Contains}
+use Rattle.std.specs.BTreeMap.{is_at}
+use Rattle.std.proofs.lemmas.Option.{same_Some}
+use Rattle.std.proofs.lemmas.List.Elements.{All-head, All-tail, All-contains, Contains-append_left, Contains-push}
+use Rattle.std.proofs.lemmas.Map.Lookups.{CmpEqualImpliesEq, exact_unsigned}
+use Rattle.std.proofs.lemmas.Map.Views.{tells_apart}
+use Rattle.review_table.specs.declared.table.Change.{Change}
+use Rattle.review_table.specs.Rows.{row_in, rows_of, change_of, after_change, changed}
+use Rattle.review_words.specs.History.{Identity}
+use Rattle.review_rows.specs.declared.rows.MemberKey.{MemberKey as Member}
+use Rattle.review_rows.specs.declared.rows.Delta.{Delta}
+use Rattle.review_rows.specs.declared.rows.Kept.{Kept}
+use Rattle.review_rows.specs.Rows.{Key, AccountKey, MemberKey, OddKey, AccountRow, Tables, member_cmp, member_row, member_change, account_change, after, kept_row}
+use Rattle.review_rows.specs.Shelf.{IsCommitted}
+use Rattle.review_shelves.specs.declared.changes.Changes.{Changes}
+use Rattle.review_shelves.specs.declared.keys.AnswerKey.{AnswerKey}
+use Rattle.review_shelves.specs.declared.keys.NameKey.{NameKey}
+use Rattle.review_shelves.specs.declared.keys.StoredAnswer.{StoredAnswer}
+use Rattle.review_shelves.specs.declared.tables.MemoryTables.{MemoryTables}
+use Rattle.review_shelves.specs.Desk.{Desk, desk_of, tables_of, row_of, stored_row, answer_cmp, name_cmp, IsNumber, IsIndexed, IsNumbered, IsSound, IsGiven, IsHeld, AreIndexed, KeepsNames, AreChangesOf, AreApplied}
+use Rattle.review_shelves.proofs.Orders.{exact_member, exact_answer, at_answer}
+
+-- names that are listed stay so
+more_listed : (names : List NameKey) (key : NameKey) (number : ℕ) (o : Option (List ℕ)) → IfSome o (λ name. Contains names (record { name = name; account = number })) → IfSome o (λ name. Contains (names ++ key ∷ []) (record { name = name; account = number }))
+more_listed names key number None h = tt
+more_listed names key number (Some name) h = Contains-append_left names (key ∷ []) (record { name = name; account = number }) h
+
+pub given_more : (names : List NameKey) (key : NameKey) (c : Change ℕ (List ℕ)) → IsGiven names c → IsGiven (names ++ key ∷ []) c
+given_more names key c h = (h.0, more_listed names key c.key c.row h.1)
+
+pub held_more : (accounts : List (ℕ × List ℕ)) (names : List NameKey) (key : NameKey) (c : Change ℕ (List ℕ)) → IsHeld accounts names c → IsHeld accounts (names ++ key ∷ []) c
+held_more accounts names key c h = more_listed names key c.key (row_in nat_cmp accounts c.key) h
+
+pub listed_here : (names : List NameKey) (number : ℕ) (name : List ℕ) (o : Option (List ℕ)) → o ≡ Some name → IfSome o (λ n. Contains (names ++ record { name = name; account = number } ∷ []) (record { name = n; account = number }))
+listed_here names number name o is =
+    subst (λ p. IfSome p (λ n. Contains (names ++ record { name = name; account = number } ∷ []) (record { name = n; account = number }))) (sym is) (Contains-push names (record { name = name; account = number }))
+
+-- what holds of each change holds of the one that is found
+found_first : {K X : Type 0} (P : K → Option X → Type 0) (b : Bool) (c : Change K X) (k : K) (rest : Option (Option X)) (row : Option X) → cond b (Some c.row) rest ≡ Some row → (b ≡ true → c.key ≡ k) → P c.key c.row → (rest ≡ Some row → P k row) → P k row
+found_first P true c k rest row is same here there = subst (λ r. P k r) (same_Some c.row row is) (subst (λ x. P x c.row) (same refl) here)
+found_first P false c k rest row is same here there = there is
+
+pub change_holds : {K X : Type 0} {R : K → K → Ordering} → CmpEqualImpliesEq R → (P : K → Option X → Type 0) (cs : List (Change K X)) → All (λ c. P c.key c.row) cs → (k : K) (row : Option X) → change_of R cs k ≡ Some row → P k row
+change_holds exact P [] all k row is = absurd (cc)
+change_holds {R = R} exact P (c ∷ cs) all k row is =
+    found_first P (is_at (R c.key) k) c k (change_of R cs k) row is (tells_apart exact c.key k) (All-head (λ x. P x.key x.row) c cs all) (change_holds exact P cs (All-tail (λ x. P x.key x.row) c cs all) k row)
+
+-- an account after changes is in the index, and a member is an account by its number
+account_indexed : (change : Option (Option (List ℕ))) (was : Option (List ℕ)) (name : List ℕ) (P : Type 0) → after_change change was ≡ Some name → ((row : Option (List ℕ)) → change ≡ Some row → row ≡ Some name → P) → (was ≡ Some name → P) → P
+account_indexed None was name P is put kept = kept is
+account_indexed (Some row) was name P is put kept = put row refl is
+
+pub applied_indexed : (delta : Delta) (kept : Kept) (changes : Changes) (given : List NameKey) (old new : MemoryTables) → AreChangesOf delta kept changes → All (IsGiven given) delta.accounts.items → AreIndexed (rows_of new.names) given
+    → KeepsNames (rows_of old.names) (rows_of new.names) → AreApplied (desk_of old) changes (desk_of new) → IsIndexed (rows_of old.accounts) (rows_of old.names) → IsIndexed (rows_of new.accounts) (rows_of new.names)
+applied_indexed delta kept changes given old new copies are listed keeps applied indexed number name is =
+    let G : Type 0 = IsNumber number × (row_in name_cmp (rows_of new.names) (record { name = name; account = number }) ≡ Some tt) in
+    let was = row_in nat_cmp (rows_of old.accounts) number in
+    let change = change_of nat_cmp delta.accounts.items number in
+    account_indexed change was name G
+    (ap (λ cs. changed nat_cmp cs number was) (sym copies.accounts) ∙ (sym (applied.accounts number) ∙ is))
+    (λ row found named.
+    let h = change_holds exact_unsigned (λ n r. IsNumber n × IfSome r (λ x. Contains given (record { name = x; account = n }))) delta.accounts.items are number row found in
+    let there : Contains given (record { name = name; account = number }) = subst (λ r. IfSome r (λ x. Contains given (record { name = x; account = number }))) named h.1 in
+    (h.0, All-contains (λ k. row_in name_cmp (rows_of new.names) k ≡ Some tt) given (record { name = name; account = number }) listed there))
+    (λ before. let h = indexed number name before in (h.0, keeps (record { name = name; account = number }) h.1))
+
+member_numbered : (change : Option (Option (Unit {0}))) (was : Option (Unit {0})) (P : Type 0) → after_change change was ≡ Some tt → ((row : Option (Unit {0})) → change ≡ Some row → P) → (was ≡ Some tt → P) → P
+member_numbered None was P is put kept = kept is
+member_numbered (Some row) was P is put kept = put row refl
+
+pub applied_numbered : (delta : Delta) (kept : Kept) (changes : Changes) (old new : Desk) → AreChangesOf delta kept changes → AreApplied old changes new → IsNumbered old.members → IsNumbered new.members
+applied_numbered delta kept changes old new copies applied numbered k is =
+    let was = row_in member_cmp old.members k in
+    member_numbered (change_of member_cmp delta.members.items k) was (IsNumber k.account)
+    (ap (λ cs. changed member_cmp cs k was) (sym copies.members) ∙ (sym (applied.members k) ∙ is))
+    (λ row found. change_holds exact_member (λ m _. IsNumber m.account) delta.members.items copies.numbered k row found)
+    (numbered k)
+
+-- the tables of the desk after changes
+account_after : (change : Option (Option (List ℕ))) (was : Option (List ℕ)) → option_map AccountRow (after_change change was) ≡ after_change (account_change change) (option_map AccountRow was)
+account_after None was = refl
+account_after (Some row) was = refl
+
+member_after : (change : Option (Option (Unit {0}))) (was : Option (Unit {0})) → member_row (after_change change was) ≡ after_change (member_change change) (member_row was)
+member_after None was = refl
+member_after (Some row) was = refl
+
+answer_after : (kept : Kept) (i : Identity) (b : Bool) (row was : Option StoredAnswer) → (b ≡ true → (kept_row kept).identity ≡ i) → stored_row (kept_row kept).identity row ≡ Some (kept_row kept)
+    → stored_row i (after_change (cond b (Some row) None) was) ≡ cond b (Some (kept_row kept)) (stored_row i was)
+answer_after kept i true row was same is = ap (λ j. stored_row j row) (sym (same refl)) ∙ is
+answer_after kept i false row was same is = refl
+
+pub committed : (delta : Delta) (kept : Kept) (changes : Changes) (old new : Desk) → AreChangesOf delta kept changes → AreApplied old changes new → IsCommitted (tables_of old) delta (kept_row kept) (tables_of new)
+committed delta kept changes old new copies applied = record {
+  row_is = rows;
+  answer_is = λ i.
+      let key : AnswerKey = record { caller = kept.caller; id = kept.id } in
+      let asked : AnswerKey = record { caller = i.caller; id = i.id } in
+      let was = row_in answer_cmp old.answers asked in
+      let c = copies.answers.0 in
+      ap (stored_row i) (applied.answers asked ∙ ap (λ cs. changed answer_cmp cs asked was) copies.answers.1 ∙ ap (λ k. after_change (cond (is_at (answer_cmp k) asked) (Some c.row) None) was) copies.answers.2.key)
+      ∙ answer_after kept i (is_at (answer_cmp key) asked) c.row was (λ same. ap (λ (k : AnswerKey). record { caller = k.caller; id = k.id }) (tells_apart exact_answer key asked same)) copies.answers.2.row
+      ∙ ap (λ b. cond b (Some (kept_row kept)) (stored_row i was)) (at_answer key asked);
+  version = refl;
+  requests = applied.requests;
+}
+  where
+    rows : (k : Key) → row_of new.accounts new.members k ≡ after delta k (row_of old.accounts old.members k)
+    rows (AccountKey n) = ap (option_map AccountRow) (applied.accounts n ∙ ap (λ cs. changed nat_cmp cs n (row_in nat_cmp old.accounts n)) copies.accounts) ∙ account_after (change_of nat_cmp delta.accounts.items n) (row_in nat_cmp old.accounts n)
+    rows (MemberKey group account) =
+        let k : Member = record { group = group; account = account } in
+        ap member_row (applied.members k ∙ ap (λ cs. changed member_cmp cs k (row_in member_cmp old.members k)) copies.members) ∙ member_after (change_of member_cmp delta.members.items k) (row_in member_cmp old.members k)
+    rows (OddKey o) = refl
+
+-- whether the changes were made or not
+pub made_sound : (delta : Delta) (kept : Kept) (changes : Changes) (given : List NameKey) (r : Result (Unit {0}) AllocError) (old new : MemoryTables) → AreChangesOf delta kept changes → All (IsGiven given) delta.accounts.items
+    → KeepsNames (rows_of old.names) (rows_of new.names) → OnOk r (AreIndexed (rows_of new.names) given) → OnOk r (AreApplied (desk_of old) changes (desk_of new)) → OnErr r (desk_of new ≡ desk_of old) → IsSound old → IsSound new
+made_sound delta kept changes given (Ok u) old new copies are keeps listed done same sound =
+    record { indexed = applied_indexed delta kept changes given old new copies are listed keeps done sound.indexed; numbered = applied_numbered delta kept changes (desk_of old) (desk_of new) copies done sound.numbered }
+made_sound delta kept changes given (Err e) old new copies are keeps listed done same sound =
+    record {
+      indexed = λ number name is. let was = sound.indexed number name (ap (λ (d : Desk). row_in nat_cmp d.accounts number) (sym same) ∙ is) in (was.0, keeps (record { name = name; account = number }) was.1);
+      numbered = subst (λ (d : Desk). IsNumbered d.members) (sym same) sound.numbered;
+    }
+
+pub made_committed : (delta : Delta) (kept : Kept) (changes : Changes) (r : Result (Unit {0}) AllocError) (old made new : Desk) → AreChangesOf delta kept changes → OnOk r (AreApplied old changes made) → new ≡ made → OnOk r (IsCommitted (tables_of old) delta (kept_row kept) (tables_of new))
+made_committed delta kept changes (Ok u) old made new copies done same = subst (λ d. IsCommitted (tables_of old) delta (kept_row kept) (tables_of d)) (sym same) (committed delta kept changes old made copies done)
+made_committed delta kept changes (Err e) old made new copies done same = tt
+
+pub unmade_same : (r : Result (Unit {0}) AllocError) (old made new : Desk) → OnErr r (made ≡ old) → new ≡ made → OnErr r (new ≡ old)
+unmade_same (Ok u) old made new undone same = tt
+unmade_same (Err e) old made new undone same = same ∙ undone
+
+-- a stop after the changes leaves the desk before them or after them
+pub made_stops : (delta : Delta) (kept : Kept) (r : Result (Unit {0}) AllocError) (old new : Desk) (t : Tables) → OnOk r (IsCommitted (tables_of old) delta (kept_row kept) (tables_of new)) → OnErr r (new ≡ old) → t ≡ tables_of new
+    → (t ≡ tables_of old) ⊎ IsCommitted (tables_of old) delta (kept_row kept) t
+made_stops delta kept (Ok u) old new t done same is = inr (subst (IsCommitted (tables_of old) delta (kept_row kept)) (sym is) done)
+made_stops delta kept (Err e) old new t done same is = inl (is ∙ ap tables_of same)

@@ -1,0 +1,24 @@
+use Rattle.std.proofs.Common.{◌≡◌, ◌∙◌, ap, inl, subst, arith}
+use Rattle.std.specs.Prelude.{OnOk, OnErr}
+use Rattle.review_rows.specs.Rows.{kept_row}
+use Rattle.review_rows.specs.Shelf.{IsCommitted}
+use Rattle.review_shelves.specs.Desk.{Desk, tables_of, desk_of}
+use Rattle.review_shelves.proofs.Lengths.{history_length}
+use Rattle.review_shelves.proofs.Applied.{made_stops}
+use Rattle.review_shelves.proofs.memory.MemoryShelfShelf.commit.Goals as goal
+
+pub returns-then-self-clause-damaged : goal.returns-then-self-clause-damaged
+returns-then-self-clause-damaged c = λ _ h hist v.
+    let long = history_length h hist in
+    let length = ap (λ (d : Desk). d.requests) c.self.view_is ∙ v.requests in
+    let greatest = c.if-self.true in
+    absurd (omega arith)
+
+pub returns-then-self-clause-stops : goal.returns-then-self-clause-stops
+returns-then-self-clause-stops c = λ _ t is. inl is
+
+pub returns-clause-stops : goal.returns-clause-stops
+returns-clause-stops c = λ _ t is.
+    made_stops c.args.delta.now c.args.kept.now c.commit.result c.args.self.now (desk_of c.commit.new.self) t
+    (subst (λ d. OnOk c.commit.result (IsCommitted (tables_of d) c.args.delta.now (kept_row c.args.kept.now) (tables_of (desk_of c.commit.new.self)))) c.self.view_is c.commit.ensures.done)
+    (subst (λ d. OnErr c.commit.result (desk_of c.commit.new.self ≡ d)) c.self.view_is c.commit.ensures.same) is

@@ -1,0 +1,11 @@
+use Rattle.std.proofs.Common.{◌≡◌, take}
+use Rattle.review_table.specs.Rows.{rows_of}
+use Rattle.review_shelves.specs.Desk.{desk_of, AreIndexed, KeepsNames}
+use Rattle.review_shelves.proofs.tables.MemoryTables.list_names.Given as goal
+
+abbrev pub invariant-loop-key : goal.invariant-loop-key
+invariant-loop-key l = record {
+  same : desk_of l.self ≡ desk_of l.fn.self;
+  kept : KeepsNames (rows_of l.fn.self.names) (rows_of l.self.names);
+  listed : AreIndexed (rows_of l.self.names) (take l.key-index l.names);
+}

@@ -1,0 +1,112 @@
+-- The desk that tables in memory hold.
+use Rattle.std.specs.Prelude.{ℕ, ◌≡◌, ◌≤◌, ◌+◌, List, [], ◌∷◌, Option, Some, None, IfSome, option_map, string_bytes}
+use Rattle.std.specs.List.{All, Contains}
+use Rattle.std.specs.declared.cmp.Ordering.{Ordering}
+use Rattle.std.specs.Ordering.{nat_cmp, ordering_then}
+use Rattle.std.specs.Cmp.Lexicographic.{slice_cmp}
+use Rattle.review_table.specs.declared.table.Change.{Change}
+use Rattle.review_table.specs.Rows.{row_in, rows_of, HavePlaces, changed}
+use Rattle.review_words.specs.History.{Identity}
+use Rattle.review_rows.specs.declared.rows.MemberKey.{MemberKey as Member}
+use Rattle.review_rows.specs.declared.rows.Delta.{Delta}
+use Rattle.review_rows.specs.declared.rows.Kept.{Kept}
+use Rattle.review_rows.specs.Rows.{Key, AccountKey, MemberKey, OddKey, Row, AccountRow, AnswerRow, Tables, member_cmp, member_row, kept_row}
+use Rattle.review_rows.specs.View.{tables_version}
+use Rattle.review_shelves.specs.declared.keys.NameKey.{NameKey}
+use Rattle.review_shelves.specs.declared.keys.AnswerKey.{AnswerKey}
+use Rattle.review_shelves.specs.declared.keys.StoredAnswer.{StoredAnswer}
+use Rattle.review_shelves.specs.declared.changes.Changes.{Changes}
+use Rattle.review_shelves.specs.declared.tables.MemoryTables.{MemoryTables}
+
+-- by name, then by number
+abbrev pub name_cmp : NameKey → NameKey → Ordering
+name_cmp a b = ordering_then (slice_cmp nat_cmp a.name b.name) (nat_cmp a.account b.account)
+
+-- by caller, then by id
+abbrev pub answer_cmp : AnswerKey → AnswerKey → Ordering
+answer_cmp a b = ordering_then (nat_cmp a.caller b.caller) (slice_cmp nat_cmp a.id b.id)
+
+-- the rows of the tables, without the index
+pub record Desk : Type 0 where
+  pub accounts : List (ℕ × List ℕ)
+  pub members : List (Member × Unit {0})
+  pub answers : List (AnswerKey × StoredAnswer)
+  pub requests : ℕ
+
+abbrev pub desk_of : MemoryTables → Desk
+desk_of t = record { accounts = rows_of t.accounts; members = rows_of t.members; answers = rows_of t.answers; requests = t.requests }
+
+abbrev pub stored_row : Identity → Option StoredAnswer → Option AnswerRow
+stored_row i None = None
+stored_row i (Some s) = Some (record { identity = i; request = s.request; content = string_bytes s.content; reply = string_bytes s.reply })
+
+-- the row of a key
+abbrev pub row_of : List (ℕ × List ℕ) → List (Member × Unit {0}) → Key → Option Row
+row_of accounts members (AccountKey number) = option_map AccountRow (row_in nat_cmp accounts number)
+row_of accounts members (MemberKey group account) = member_row (row_in member_cmp members (record { group = group; account = account }))
+row_of accounts members (OddKey o) = None
+
+-- the stored request of an identity
+abbrev pub answer_of : List (AnswerKey × StoredAnswer) → Identity → Option AnswerRow
+answer_of answers i = stored_row i (row_in answer_cmp answers (record { caller = i.caller; id = i.id }))
+
+abbrev pub tables_of : Desk → Tables
+tables_of d = record { row = row_of d.accounts d.members; answer = answer_of d.answers; version = tables_version; requests = d.requests }
+
+-- a number of an account
+abbrev pub IsNumber : ℕ → Type 0
+IsNumber n = (1 ≤ n) × (n ≤ 1000000)
+
+-- each account is in the index under its name
+abbrev pub IsIndexed : List (ℕ × List ℕ) → List (NameKey × Unit {0}) → Type 0
+IsIndexed accounts names = (number : ℕ) (name : List ℕ) → row_in nat_cmp accounts number ≡ Some name → IsNumber number × (row_in name_cmp names (record { name = name; account = number }) ≡ Some tt)
+
+-- each member is an account by its number
+abbrev pub IsNumbered : List (Member × Unit {0}) → Type 0
+IsNumbered members = (k : Member) → row_in member_cmp members k ≡ Some tt → IsNumber k.account
+
+-- what holds of the tables between any two calls
+pub record IsSound (t : MemoryTables) : Type 0 where
+  pub indexed : IsIndexed (rows_of t.accounts) (rows_of t.names)
+  pub numbered : IsNumbered (rows_of t.members)
+
+-- the name that an account had is listed
+abbrev pub IsHeld : List (ℕ × List ℕ) → List NameKey → Change ℕ (List ℕ) → Type 0
+IsHeld accounts names c = IfSome (row_in nat_cmp accounts c.key) (λ name. Contains names (record { name = name; account = c.key }))
+
+-- the name that an account gets is listed
+abbrev pub IsGiven : List NameKey → Change ℕ (List ℕ) → Type 0
+IsGiven names c = IsNumber c.key × IfSome c.row (λ name. Contains names (record { name = name; account = c.key }))
+
+-- the change puts a stored request
+pub record PutsAnswer (kept : Kept) (c : Change AnswerKey StoredAnswer) : Type 0 where
+  pub key : c.key ≡ record { caller = kept.caller; id = kept.id }
+  pub row : stored_row (kept_row kept).identity c.row ≡ Some (kept_row kept)
+
+-- the changes are those of the delta, and the request's row
+pub record AreChangesOf (delta : Delta) (kept : Kept) (changes : Changes) : Type 0 where
+  pub accounts : changes.accounts.items ≡ delta.accounts.items
+  pub members : changes.members.items ≡ delta.members.items
+  pub numbered : All (λ c. IsNumber c.key.account) delta.members.items
+  pub answers : (c : Change AnswerKey StoredAnswer) × (changes.answers.items ≡ c ∷ []) × PutsAnswer kept c
+
+-- each name of a list is in the index
+abbrev pub AreIndexed : List (NameKey × Unit {0}) → List NameKey → Type 0
+AreIndexed names keys = All (λ k. row_in name_cmp names k ≡ Some tt) keys
+
+-- the index loses no name
+abbrev pub KeepsNames : List (NameKey × Unit {0}) → List (NameKey × Unit {0}) → Type 0
+KeepsNames old new = (k : NameKey) → row_in name_cmp old k ≡ Some tt → row_in name_cmp new k ≡ Some tt
+
+-- there is a place for each row that changes
+pub record HasRoom (t : MemoryTables) (changes : Changes) : Type 0 where
+  pub accounts : HavePlaces nat_cmp t.accounts changes.accounts.items
+  pub members : HavePlaces member_cmp t.members changes.members.items
+  pub answers : HavePlaces answer_cmp t.answers changes.answers.items
+
+-- all rows are changed
+pub record AreApplied (old : Desk) (changes : Changes) (new : Desk) : Type 0 where
+  pub accounts : (k : ℕ) → row_in nat_cmp new.accounts k ≡ changed nat_cmp changes.accounts.items k (row_in nat_cmp old.accounts k)
+  pub members : (k : Member) → row_in member_cmp new.members k ≡ changed member_cmp changes.members.items k (row_in member_cmp old.members k)
+  pub answers : (k : AnswerKey) → row_in answer_cmp new.answers k ≡ changed answer_cmp changes.answers.items k (row_in answer_cmp old.answers k)
+  pub requests : new.requests ≡ old.requests + 1

@@ -1,0 +1,39 @@
+-- What shelves show that fail a call or shut, and which call that is.
+use Rattle.std.specs.Prelude.{ℕ, ◌+◌, ◌-◌, ◌≡◌, ◌==◌, Bool, true, false, min, None, Result, Err, if◌then◌else◌}
+use Rattle.review_rows.specs.declared.shelf.ShelfFault.{ShelfFault}
+use Rattle.review_rows.specs.declared.shelf.ShelfFault.TheVariants.{Store}
+use Rattle.review_rows.specs.Shelf.{Shown, CountsFaults, one_more, greatest_count}
+use Rattle.review_shelves.specs.declared.faulty.Turn.{Turn}
+use Rattle.review_shelves.specs.declared.faulty.Turn.TheVariants.{Ahead, Past}
+use Rattle.review_shelves.specs.declared.faulty.FaultyShelf.{FaultyShelf}
+
+-- the next call fails
+abbrev pub is_next : Turn → Bool
+is_next (Ahead n) = n == 1
+is_next Past = false
+
+-- after one more call
+abbrev pub after_call : Turn → Turn
+after_call (Ahead n) = if n == 1 then Past else Ahead (n - 1)
+after_call Past = Past
+
+abbrev pub is_past : Turn → Bool
+is_past (Ahead n) = false
+is_past Past = true
+
+-- what the shelf below shows, with one fault more once a call has failed
+abbrev pub failing : Bool → Shown → Shown
+failing failed s = record { tables = s.tables; is_honest = s.is_honest; faults = one_more failed s.faults; stops = s.stops }
+
+abbrev pub faulty : {T : Type 0} → (T → Shown) → FaultyShelf T → Shown
+faulty shown s = failing (is_past s.turn) (shown s.inner)
+
+-- The call whose turn it is answers Store, and the shelf below doesn't see it; any other is answered by the shelf below.
+pub record FailsInTurn {T X : Type 0} (shown : T → Shown) (old : FaultyShelf T) (result : Result X ShelfFault) (new : FaultyShelf T) : Type 0 where
+  pub turn : new.turn ≡ after_call old.turn
+  pub fails : is_next old.turn ≡ true → (result ≡ Err Store) × (new.inner ≡ old.inner)
+  pub passes : is_next old.turn ≡ false → CountsFaults result (shown old.inner).faults (shown new.inner).faults
+
+-- what is shown over another shelf, where it is shut or not
+abbrev pub shutting : Bool → ℕ → Shown → Shown
+shutting shut refused s = record { tables = if shut then None else s.tables; is_honest = s.is_honest; faults = min (s.faults + refused) greatest_count; stops = s.stops }

@@ -1,0 +1,152 @@
+//! What a delta and its request change in tables in memory, in copies of their own.
+ghost use Rattle.std.specs.Prelude.{◌≡◌, IfOk, OnOk};
+ghost use Rattle.std.specs.List.{All};
+ghost use Rattle.review_table.specs.Rows.{rows_of};
+ghost use Rattle.review_shelves.specs.Desk.{IsNumber, IsHeld, IsGiven, AreChangesOf, PutsAnswer};
+
+use crate::keys::{AnswerKey, NameKey, StoredAnswer};
+use review_rows::{Delta, Kept, MemberKey};
+use review_table::{Change, Key, Table};
+use review_words::{AccountName, AccountNo};
+use std::alloc::{AllocError, Global};
+
+/// The changes of a delta, and the row of its request.
+#[derive(Drop)]
+pub struct Changes {
+    pub accounts: Vec<Change<AccountNo, AccountName>>,
+    pub members: Vec<Change<MemberKey, ()>>,
+    pub answers: Vec<Change<AnswerKey, StoredAnswer>>,
+}
+
+impl Changes {
+    pub fn new(alloc: Global, delta: &Delta, kept: &Kept) -> Result<Changes, AllocError>
+        ensures { IfOk result (AreChangesOf delta.now kept.now) }
+    {
+        let accounts = copied_accounts(alloc, &delta.accounts)?;
+        let members = copied_members(alloc, &delta.members)?;
+        let mut answers = Vec::new(alloc);
+        answers.push(stored(alloc, kept)?)?;
+        Ok(Changes {
+            accounts,
+            members,
+            answers,
+        })
+    }
+}
+
+fn copied_accounts(
+    alloc: Global,
+    changes: &[Change<AccountNo, AccountName>],
+) -> Result<Vec<Change<AccountNo, AccountName>>, AllocError>
+    ensures copied { IfOk result (λ copies. copies.items ≡ changes.now) }
+{
+    let mut copies = Vec::new(alloc);
+    for change in changes {
+        copies.push(copied_account(alloc, change)?)?;
+    }
+    Ok(copies)
+}
+
+fn copied_account(
+    alloc: Global,
+    change: &Change<AccountNo, AccountName>,
+) -> Result<Change<AccountNo, AccountName>, AllocError>
+    ensures { IfOk result (λ copy. copy ≡ change.now) }
+{
+    let row = match &change.row {
+        Some(name) => Some(name.copy(alloc)?),
+        None => None,
+    };
+    Ok(Change {
+        key: change.key,
+        row,
+    })
+}
+
+fn copied_members(
+    alloc: Global,
+    changes: &[Change<MemberKey, ()>],
+) -> Result<Vec<Change<MemberKey, ()>>, AllocError>
+    ensures copied { IfOk result (λ copies. copies.items ≡ changes.now) }
+    ensures numbered { OnOk result (All (λ c. IsNumber c.key.account) changes.now) }
+{
+    let mut copies = Vec::new(alloc);
+    for change in changes {
+        copies.push(copied_member(alloc, change)?)?;
+    }
+    Ok(copies)
+}
+
+fn copied_member(
+    alloc: Global,
+    change: &Change<MemberKey, ()>,
+) -> Result<Change<MemberKey, ()>, AllocError>
+    ensures copied { IfOk result (λ copy. copy ≡ change.now) }
+    ensures numbered { IsNumber change.now.key.account }
+{
+    // A range over a group finds the member, since it is an account by its number.
+    let _ = change.key.account.get();
+    Ok(Change {
+        key: change.key.copy(alloc)?,
+        row: change.row,
+    })
+}
+
+fn stored(alloc: Global, kept: &Kept) -> Result<Change<AnswerKey, StoredAnswer>, AllocError>
+    ensures { IfOk result (PutsAnswer kept.now) }
+{
+    let key = AnswerKey {
+        caller: kept.caller,
+        id: kept.id.copy(alloc)?,
+    };
+    let row = StoredAnswer {
+        request: kept.request,
+        content: kept.content.clone()?,
+        reply: kept.reply.clone()?,
+    };
+    Ok(Change {
+        key,
+        row: Some(row),
+    })
+}
+
+/// The names that accounts have before they change, each with its account.
+pub fn names_held(
+    alloc: Global,
+    accounts: &Table<AccountNo, AccountName>,
+    changes: &[Change<AccountNo, AccountName>],
+) -> Result<Vec<NameKey>, AllocError>
+    ensures { IfOk result (λ names. All (IsHeld (rows_of accounts.now) names.items) changes.now) }
+{
+    let mut names = Vec::new(alloc);
+    for change in changes {
+        if let Some(name) = accounts.get(&change.key) {
+            names.push(NameKey {
+                name: name.copy(alloc)?,
+                account: change.key,
+            })?;
+        }
+    }
+    Ok(names)
+}
+
+/// The names that accounts get, each with its account.
+pub fn names_given(
+    alloc: Global,
+    changes: &[Change<AccountNo, AccountName>],
+) -> Result<Vec<NameKey>, AllocError>
+    ensures { IfOk result (λ names. All (IsGiven names.items) changes.now) }
+{
+    let mut names = Vec::new(alloc);
+    for change in changes {
+        // A range over a name finds the account by its number.
+        let _ = change.key.get();
+        if let Some(name) = &change.row {
+            names.push(NameKey {
+                name: name.copy(alloc)?,
+                account: change.key,
+            })?;
+        }
+    }
+    Ok(names)
+}

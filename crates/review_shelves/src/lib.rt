@@ -1,0 +1,16 @@
+//! Shelves: a desk in memory, and shelves over another one that fail a call or shut, for tests of what stands above.
+#![tactic(auto)]
+
+mod changes;
+mod faulty;
+mod keys;
+mod memory;
+mod shutting;
+mod tables;
+
+pub use faulty::FaultyShelf;
+pub use memory::MemoryShelf;
+pub use shutting::ShuttingShelf;
+
+#[cfg(test)]
+mod tests;

@@ -1,0 +1,311 @@
+//! The tables of a desk in memory, and what is read from them.
+ghost use Rattle.std.specs.Prelude.{◌≡◌, ◌≤◌, ◌||◌, ◌==◌, ℕ, Some, None, IfOk, OnOk, OnErr, ◌<◌, ◌^◌, ◌-◌, [], MatchOption, IsTrue, ◌↔◌, if◌then◌else◌, string_bytes};
+ghost use Rattle.std.specs.Option.{option_or};
+ghost use Rattle.std.specs.List.{All, list_any};
+ghost use Rattle.std.specs.Ordering.{nat_cmp};
+ghost use Rattle.std.specs.Str.{bytes_eq};
+ghost use Rattle.review_table.specs.Rows.{row_in, rows_of};
+ghost use Rattle.review_rows.specs.Rows.{member_cmp, is_member_key, is_group, kept_row, wanted_by, IsLastAccount, IsFoundWhereAsked, ArePicked};
+ghost use Rattle.review_rows.specs.Shelf.{IsRecalled, AreSelected, IsCommitted};
+ghost use Rattle.review_rows.specs.View.{IsView};
+ghost use Rattle.review_shelves.specs.Desk.{tables_of, desk_of, row_of, name_cmp, IsIndexed, IsNumbered, IsSound, AreIndexed, KeepsNames, HasRoom, AreApplied};
+
+use crate::changes::{Changes, names_given, names_held};
+use crate::keys::{AnswerKey, NameKey, StoredAnswer};
+use review_rows::{Delta, Kept, MemberKey, Need, Rows};
+use review_table::{Key, Table};
+use review_words::{AccountName, AccountNo, GroupName, RequestId, admin_name, administrators};
+use std::alloc::{AllocError, Global};
+
+/// The tables, with an index of the accounts by name. The index may have a name that its account has no more: who looks a
+/// name up asks the accounts.
+#[derive(Drop)]
+pub struct MemoryTables {
+    pub accounts: Table<AccountNo, AccountName>,
+    pub names: Table<NameKey, ()>,
+    pub members: Table<MemberKey, ()>,
+    pub answers: Table<AnswerKey, StoredAnswer>,
+    pub requests: u64,
+}
+
+impl MemoryTables {
+    /// The tables of no request: account 1 is `admin`, in the group `Administrators`.
+    pub fn new(alloc: Global) -> Result<MemoryTables, AllocError>
+        ensures sound { IfOk result IsSound }
+        ensures view { IfOk result (λ t. IsView [] (tables_of (desk_of t))) }
+    {
+        let mut accounts = Table::new(alloc);
+        accounts.put(AccountNo::new(1), admin_name(alloc)?)?;
+        let mut names = Table::new(alloc);
+        let key = NameKey {
+            name: admin_name(alloc)?,
+            account: AccountNo::new(1),
+        };
+        names.put(key, ())?;
+        let mut members = Table::new(alloc);
+        let key = MemberKey {
+            group: administrators(alloc)?,
+            account: AccountNo::new(1),
+        };
+        members.put(key, ())?;
+        Ok(MemoryTables {
+            accounts,
+            names,
+            members,
+            answers: Table::new(alloc),
+            requests: 0,
+        })
+    }
+
+    /// The stored request of an identity.
+    pub fn recall(
+        &self,
+        alloc: Global,
+        caller: AccountNo,
+        id: &RequestId,
+    ) -> Result<Option<Kept>, AllocError>
+        ensures { IfOk result (λ kept. IsRecalled (tables_of (desk_of self.now)) (record { caller = caller; id = id.now }) kept) }
+    {
+        let key = AnswerKey {
+            caller,
+            id: id.copy(alloc)?,
+        };
+        let Some(stored) = self.answers.get(&key) else {
+            return Ok(None);
+        };
+        let AnswerKey { caller, id } = key;
+        Ok(Some(Kept {
+            caller,
+            id,
+            request: stored.request,
+            content: stored.content.clone()?,
+            reply: stored.reply.clone()?,
+        }))
+    }
+
+    /// The rows that a need selects, and no others.
+    pub fn load(&self, alloc: Global, need: &Need) -> Result<Rows, AllocError>
+        requires indexed { IsIndexed (rows_of self.now.accounts) (rows_of self.now.names) }
+        requires numbered { IsNumbered (rows_of self.now.members) }
+        ensures { IfOk result (λ rows. AreSelected (tables_of (desk_of self.now)) need.now rows) }
+    {
+        let accounts = self.accounts_of(alloc, &need.accounts)?;
+        let mut members = self.members_of(alloc, &need.members)?;
+        if let Some(group) = &need.group {
+            self.add_group(alloc, group, &mut members)?;
+        }
+        let named = match &need.name {
+            Some(name) => self.named(alloc, name)?,
+            None => None,
+        };
+        Ok(Rows {
+            accounts,
+            members,
+            named,
+            last_account: self.last_account(),
+            requests: self.requests,
+        })
+    }
+
+    fn accounts_of(
+        &self,
+        alloc: Global,
+        numbers: &[AccountNo],
+    ) -> Result<Table<AccountNo, AccountName>, AllocError>
+        ensures { IfOk result (λ rows. (q : ℕ) → row_in nat_cmp (rows_of rows) q ≡ (if list_any (λ n. n == q) numbers.now then row_in nat_cmp (rows_of self.now.accounts) q else None)) }
+    {
+        let mut rows = Table::new(alloc);
+        for number in numbers {
+            if let Some(name) = self.accounts.get(number) {
+                rows.put(*number, name.copy(alloc)?)?;
+            }
+        }
+        Ok(rows)
+    }
+
+    fn members_of(
+        &self,
+        alloc: Global,
+        keys: &[MemberKey],
+    ) -> Result<Table<MemberKey, ()>, AllocError>
+        ensures { IfOk result (λ rows. (q : _) → row_in member_cmp (rows_of rows) q ≡ (if list_any (is_member_key q.group q.account) keys.now then row_in member_cmp (rows_of self.now.members) q else None)) }
+    {
+        let mut rows = Table::new(alloc);
+        for key in keys {
+            if self.members.get(key).is_some() {
+                rows.put(key.copy(alloc)?, ())?;
+            }
+        }
+        Ok(rows)
+    }
+
+    /// Adds all members of a group to rows.
+    fn add_group(
+        &self,
+        alloc: Global,
+        group: &GroupName,
+        rows: &mut Table<MemberKey, ()>,
+    ) -> Result<(), AllocError>
+        requires { IsNumbered (rows_of self.now.members) }
+        ensures { OnOk result ((q : _) → row_in member_cmp (rows_of rows.new) q ≡ option_or (if bytes_eq group.now q.group then row_in member_cmp (rows_of self.now.members) q else None) (row_in member_cmp (rows_of rows.old) q)) }
+    {
+        let from = MemberKey {
+            group: group.copy(alloc)?,
+            account: AccountNo::new(1),
+        };
+        let to = MemberKey {
+            group: group.copy(alloc)?,
+            account: AccountNo::new(1_000_000),
+        };
+        for (key, _) in self.members.select(alloc, from, to)? {
+            rows.put(key.copy(alloc)?, ())?;
+        }
+        Ok(())
+    }
+
+    /// The account that has a name.
+    fn named(&self, alloc: Global, name: &AccountName) -> Result<Option<AccountNo>, AllocError>
+        requires { IsIndexed (rows_of self.now.accounts) (rows_of self.now.names) }
+        ensures { IfOk result (λ found. MatchOption found ((n : ℕ) → row_in nat_cmp (rows_of self.now.accounts) n ≡ Some name.now → ⊥) (λ n. row_in nat_cmp (rows_of self.now.accounts) n ≡ Some name.now)) }
+    {
+        let from = NameKey {
+            name: name.copy(alloc)?,
+            account: AccountNo::new(1),
+        };
+        let to = NameKey {
+            name: name.copy(alloc)?,
+            account: AccountNo::new(1_000_000),
+        };
+        for (key, _) in self.names.select(alloc, from, to)? {
+            if self.has_name(key.account, name) {
+                return Ok(Some(key.account));
+            }
+        }
+        Ok(None)
+    }
+
+    /// Applies a delta and stores its request, or changes no row.
+    pub fn commit(&mut self, alloc: Global, delta: &Delta, kept: &Kept) -> Result<(), AllocError>
+        requires sound { IsSound self.old }
+        requires room { self.old.requests < 2 ^ 64 - 1 }
+        ensures sound { IsSound self.new }
+        ensures done { OnOk result (IsCommitted (tables_of (desk_of self.old)) delta.now (kept_row kept.now) (tables_of (desk_of self.new))) }
+        ensures same { OnErr result (desk_of self.new ≡ desk_of self.old) }
+    {
+        let held = names_held(alloc, &self.accounts, &delta.accounts)?;
+        let given = names_given(alloc, &delta.accounts)?;
+        let changes = Changes::new(alloc, delta, kept)?;
+        let made = self.make(alloc, &given, changes);
+        self.accounts.release(&delta.accounts);
+        self.members.release(&delta.members);
+        self.drop_names(&given);
+        self.drop_names(&held);
+        made
+    }
+
+    /// Makes changes, and lists the names that they give, or changes no row.
+    fn make(&mut self, alloc: Global, given: &[NameKey], changes: Changes) -> Result<(), AllocError>
+        requires { self.old.requests < 2 ^ 64 - 1 }
+        ensures kept { KeepsNames (rows_of self.old.names) (rows_of self.new.names) }
+        ensures listed { OnOk result (AreIndexed (rows_of self.new.names) given.now) }
+        ensures done { OnOk result (AreApplied (desk_of self.old) changes (desk_of self.new)) }
+        ensures same { OnErr result (desk_of self.new ≡ desk_of self.old) }
+    {
+        self.reserve(alloc, given, &changes)?;
+        self.apply(changes);
+        Ok(())
+    }
+
+    /// Makes room for changes and lists names in the index, which changes no other row. The request comes last: no place for it
+    /// stays where there is no memory.
+    fn reserve(
+        &mut self,
+        alloc: Global,
+        names: &[NameKey],
+        changes: &Changes,
+    ) -> Result<(), AllocError>
+        ensures same { desk_of self.new ≡ desk_of self.old }
+        ensures kept { KeepsNames (rows_of self.old.names) (rows_of self.new.names) }
+        ensures listed { OnOk result (AreIndexed (rows_of self.new.names) names.now) }
+        ensures room { OnOk result (HasRoom self.new changes.now) }
+    {
+        self.list_names(alloc, names)?;
+        self.accounts.reserve_all(alloc, &changes.accounts)?;
+        self.members.reserve_all(alloc, &changes.members)?;
+        self.answers.reserve_all(alloc, &changes.answers)?;
+        Ok(())
+    }
+
+    fn list_names(&mut self, alloc: Global, names: &[NameKey]) -> Result<(), AllocError>
+        ensures same { desk_of self.new ≡ desk_of self.old }
+        ensures kept { KeepsNames (rows_of self.old.names) (rows_of self.new.names) }
+        ensures listed { OnOk result (AreIndexed (rows_of self.new.names) names.now) }
+    {
+        for key in names {
+            self.names.put(key.copy(alloc)?, ())?;
+        }
+        Ok(())
+    }
+
+    /// Makes changes for which there is room.
+    fn apply(&mut self, changes: Changes)
+        requires room { HasRoom self.old changes }
+        requires number { self.old.requests < 2 ^ 64 - 1 }
+        ensures done { AreApplied (desk_of self.old) changes (desk_of self.new) }
+        ensures names { self.new.names ≡ self.old.names }
+    {
+        let Changes {
+            accounts,
+            members,
+            answers,
+        } = changes;
+        self.accounts.apply(accounts);
+        self.members.apply(members);
+        self.answers.apply(answers);
+        self.requests += 1;
+    }
+
+    /// Takes those of some names out of the index that their accounts don't have.
+    fn drop_names(&mut self, names: &[NameKey])
+        requires { IsIndexed (rows_of self.old.accounts) (rows_of self.old.names) }
+        ensures same { desk_of self.new ≡ desk_of self.old }
+        ensures indexed { IsIndexed (rows_of self.new.accounts) (rows_of self.new.names) }
+        ensures dropped { All (λ k. row_in name_cmp (rows_of self.new.names) k ≡ Some tt → row_in nat_cmp (rows_of self.new.accounts) k.account ≡ Some k.name) names.now }
+    {
+        for key in names {
+            self.drop_name(key);
+        }
+    }
+
+    /// Takes a name out of the index, unless its account has it.
+    fn drop_name(&mut self, key: &NameKey)
+        ensures same { desk_of self.new ≡ desk_of self.old }
+        ensures indexed { IsIndexed (rows_of self.old.accounts) (rows_of self.old.names) → IsIndexed (rows_of self.new.accounts) (rows_of self.new.names) }
+        ensures no_more { KeepsNames (rows_of self.new.names) (rows_of self.old.names) }
+        ensures dropped { row_in name_cmp (rows_of self.new.names) key.now ≡ Some tt → row_in nat_cmp (rows_of self.new.accounts) key.now.account ≡ Some key.now.name }
+    {
+        if !self.has_name(key.account, &key.name) {
+            self.names.remove(key);
+        }
+    }
+
+    /// Whether an account has a name.
+    pub fn has_name(&self, account: AccountNo, name: &AccountName) -> bool
+        ensures { IsTrue result ↔ (row_in nat_cmp (rows_of self.now.accounts) account ≡ Some name.now) }
+    {
+        match self.accounts.get(&account) {
+            Some(given) => given.as_str() == name.as_str(),
+            None => false,
+        }
+    }
+
+    /// The greatest number of an account, or 0 where there is none.
+    fn last_account(&self) -> u32
+        ensures { IsLastAccount (row_of (rows_of self.now.accounts) (rows_of self.now.members)) result }
+    {
+        match self.accounts.last_key() {
+            Some(number) => number.get(),
+            None => 0,
+        }
+    }
+}
