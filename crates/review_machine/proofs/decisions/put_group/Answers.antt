@@ -1,0 +1,43 @@
+use Rattle.std.proofs.Common.{true, false, refl, sym, ap, ◌∙◌}
+use Rattle.std.specs.List.{list_all}
+use Rattle.std.specs.Str.{bytes_eq}
+use Rattle.review_words.specs.Names.{registered_users}
+use Rattle.review_words.specs.declared.command.Command.TheVariants.{PutGroup}
+use Rattle.review_words.specs.declared.reply.Refusal.TheVariants.{NotAdmin, NameTaken, NoAccount}
+use Rattle.review_words.specs.History.{is_account}
+use Rattle.review_machine.proofs.Decided.{admin_is, accounts_are, refused_decided, put_decided, answer_put}
+use Rattle.review_machine.proofs.decisions.put_group.Goals as goal
+
+pub returns-then-not-admin-clause-decided : goal.returns-then-not-admin-clause-decided
+returns-then-not-admin-clause-decided c = λ h known l.
+    let a = c.args in
+    let admin = sym (admin_is h a.caller (PutGroup a.group.now a.members.now) a.rows.now l) ∙ (sym c.in_ok-admin.ensures ∙ c.if-not-admin.true) in
+    refused_decided h a.caller (PutGroup a.group.now a.members.now) c.nothing.result NotAdmin c.nothing.ensures.accounts c.nothing.ensures.members
+    (answer_put h a.caller a.group.now a.members.now true false (bytes_eq a.group.now registered_users) (list_all (is_account h) a.members.now) known admin refl refl)
+
+pub returns-then-eq-clause-decided : goal.returns-then-eq-clause-decided
+returns-then-eq-clause-decided c = λ h known l.
+    let a = c.args in
+    let admin = sym (admin_is h a.caller (PutGroup a.group.now a.members.now) a.rows.now l) ∙ (sym c.in_ok-admin.ensures ∙ c.if-not-admin.false) in
+    let taken = ap (λ t. bytes_eq t registered_users) (sym c.as_str.ensures.text) ∙ (sym c.eq.ensures ∙ c.if-eq.true) in
+    refused_decided h a.caller (PutGroup a.group.now a.members.now) c.nothing-then-eq.result NameTaken c.nothing-then-eq.ensures.accounts c.nothing-then-eq.ensures.members
+    (answer_put h a.caller a.group.now a.members.now true true true (list_all (is_account h) a.members.now) known admin taken refl)
+
+pub returns-then-not-have_accounts-clause-decided : goal.returns-then-not-have_accounts-clause-decided
+returns-then-not-have_accounts-clause-decided c = λ h known l.
+    let a = c.args in
+    let admin = sym (admin_is h a.caller (PutGroup a.group.now a.members.now) a.rows.now l) ∙ (sym c.in_ok-admin.ensures ∙ c.if-not-admin.false) in
+    let free = ap (λ t. bytes_eq t registered_users) (sym c.as_str.ensures.text) ∙ (sym c.eq.ensures ∙ c.if-eq.false) in
+    let absent = sym (accounts_are h a.caller a.group.now a.members.now a.rows.now l) ∙ (sym c.have_accounts.ensures ∙ c.if-not-have_accounts.true) in
+    refused_decided h a.caller (PutGroup a.group.now a.members.now) c.nothing-then-not-have_accounts.result NoAccount
+    c.nothing-then-not-have_accounts.ensures.accounts c.nothing-then-not-have_accounts.ensures.members
+    (answer_put h a.caller a.group.now a.members.now true true false false known admin free absent)
+
+pub returns-clause-decided : goal.returns-clause-decided
+returns-clause-decided c = λ h known l.
+    let a = c.args in
+    let admin = sym (admin_is h a.caller (PutGroup a.group.now a.members.now) a.rows.now l) ∙ (sym c.in_ok-admin.ensures ∙ c.if-not-admin.false) in
+    let free = ap (λ t. bytes_eq t registered_users) (sym c.as_str.ensures.text) ∙ (sym c.eq.ensures ∙ c.if-eq.false) in
+    let there = sym (accounts_are h a.caller a.group.now a.members.now a.rows.now l) ∙ (sym c.have_accounts.ensures ∙ c.if-not-have_accounts.false) in
+    put_decided h a.caller a.group.now a.members.now a.rows.now (record { accounts = c.new.result; members = c.in_ok-member_changes.field-0 }) l
+    known admin free there c.new.ensures.items c.in_ok-member_changes.ensures
