@@ -1,0 +1,168 @@
+//! A desk that keeps its history and nothing else.
+ghost use Rattle.std.specs.Prelude.{◌≡◌, [], ◌∷◌, IfOk, OnOk, OnErr, MatchOption, None, option_copied, option_map, true, false};
+ghost use Rattle.review_words.specs.History as words;
+ghost use Rattle.review_machine.specs.Replies.{IsTold, IsRepeat, entry_of, history_after};
+ghost use Rattle.review_words.specs.declared.command.Delivery.TheVariants.{Write};
+ghost use Rattle.std.specs.Str.{bytes_eq};
+ghost use Rattle.review_plain.specs.Plain.{history, shown};
+
+use crate::history::{Entry, answer};
+use review_words::{AccountNo, Command, Delivery, Reply, RequestId};
+use std::alloc::{AllocError, Global};
+use std::marker::Model;
+
+/// A desk whose only record is its history, the newest request first. Contracts see the history.
+#[derive(Drop)]
+pub struct PlainDesk {
+    entries: Vec<Entry>,
+}
+
+impl Model for PlainDesk {
+    ghost use Rattle.std.specs.Prelude.{List};
+    ghost use Rattle.review_words.specs.History.{Entry as HistoryEntry};
+    ghost use Rattle.review_plain.specs.Plain.{history};
+
+    ghost Value = { List HistoryEntry };
+
+    ghost view = { λ d. history d.entries.items };
+}
+
+impl PlainDesk {
+    /// The desk of the empty history.
+    pub fn new(alloc: Global) -> PlainDesk
+        ensures { result ≡ [] }
+    {
+        PlainDesk {
+            entries: Vec::new(alloc),
+        }
+    }
+
+    /// Takes one delivery: a repeat is told what is stored, another command under a stored identity that it is used, and a
+    /// first arrival its answer, which is stored. The only error is want of memory, and then nothing is taken.
+    pub fn deliver(&mut self, delivery: Delivery) -> Result<Reply, AllocError>
+        ensures told { IfOk result (λ r. IsTold self.old delivery r) }
+        ensures taken { IfOk result (λ r. self.new ≡ history_after self.old (delivery ∷ []) (r ∷ [])) }
+        ensures lost { OnErr result (self.new ≡ self.old) }
+    {
+        match delivery {
+            Delivery::Write {
+                caller,
+                id,
+                command,
+            } => self.write(caller, id, command),
+        }
+    }
+
+    fn write(
+        &mut self,
+        caller: AccountNo,
+        id: RequestId,
+        command: Command,
+    ) -> Result<Reply, AllocError>
+        ensures told { IfOk result (λ r. IsTold self.old (Write caller id command) r) }
+        ensures taken { IfOk result (λ r. self.new ≡ history_after self.old (Write caller id command ∷ []) (r ∷ [])) }
+        ensures lost { OnErr result (self.new ≡ self.old) }
+    {
+        if let Some(reply) = told(self.entries.as_slice(), caller, &id, &command) {
+            return Ok(reply);
+        }
+        let reply = answer(self.entries.as_slice(), caller, &command);
+        let kept = copied(&reply);
+        self.add(caller, id, command, kept)?;
+        Ok(reply)
+    }
+
+    fn add(
+        &mut self,
+        caller: AccountNo,
+        id: RequestId,
+        command: Command,
+        reply: Reply,
+    ) -> Result<(), AllocError>
+        ensures added { OnOk result (self.new ≡ entry_of caller id command reply ∷ self.old) }
+        ensures lost { OnErr result (self.new ≡ self.old) }
+    {
+        self.entries.insert(
+            0,
+            Entry {
+                caller,
+                id,
+                command,
+                reply,
+            },
+        )?;
+        Ok(())
+    }
+
+    /// The stored request of an identity.
+    pub fn stored(&self, caller: AccountNo, id: &RequestId) -> Option<&Entry>
+        ensures { option_map shown (option_copied result) ≡ words.stored self.now (record { caller = caller; id = id.now }) }
+    {
+        find(self.entries.as_slice(), caller, id)
+    }
+}
+
+fn find<'e>(entries: &'e [Entry], caller: AccountNo, id: &RequestId) -> Option<&'e Entry>
+    ensures { option_map shown (option_copied result) ≡ words.stored (history entries.now) (record { caller = caller; id = id.now }) }
+{
+    match entries {
+        [] => None,
+        [newest, earlier @ ..] => {
+            if newest.caller.get() == caller.get() && newest.id.as_str() == id.as_str() {
+                Some(newest)
+            } else {
+                find(earlier, caller, id)
+            }
+        }
+    }
+}
+
+// What a write is told whose identity is stored.
+fn told(entries: &[Entry], caller: AccountNo, id: &RequestId, command: &Command) -> Option<Reply>
+    ensures { MatchOption result (words.stored (history entries.now) (record { caller = caller; id = id.now }) ≡ None)
+        (λ r. MatchOption (words.stored (history entries.now) (record { caller = caller; id = id.now })) ⊥ (λ e. IsRepeat e command.now r)) }
+{
+    let stored = find(entries, caller, id)?;
+    if same(command, &stored.command) {
+        Some(stored.reply)
+    } else {
+        Some(Reply::IdentityReused)
+    }
+}
+
+fn same(one: &Command, other: &Command) -> bool
+    ensures same { result ≡ true → one.now ≡ other.now }
+    ensures different { result ≡ false → one.now ≡ other.now → ⊥ }
+{
+    match (one, other) {
+        (Command::CreateAccount { name }, Command::CreateAccount { name: given }) => {
+            name.as_str() == given.as_str()
+        }
+        (
+            Command::PutGroup { group, members },
+            Command::PutGroup {
+                group: put,
+                members: given,
+            },
+        ) => group.as_str() == put.as_str() && same_accounts(members.as_slice(), given.as_slice()),
+        _ => false,
+    }
+}
+
+fn same_accounts(one: &[AccountNo], other: &[AccountNo]) -> bool
+    ensures { result ≡ bytes_eq one.now other.now }
+{
+    match (one, other) {
+        ([], []) => true,
+        ([first, rest @ ..], [head, tail @ ..]) => {
+            first.get() == head.get() && same_accounts(rest, tail)
+        }
+        _ => false,
+    }
+}
+
+fn copied(reply: &Reply) -> Reply
+    ensures { result ≡ reply.now }
+{
+    *reply
+}
