@@ -1,0 +1,22 @@
+-- The command that a line and its body spell.
+use Rattle.std.specs.Prelude.{ℕ, List, if◌then◌else◌, Option, None, option_map, option_and_then, codes}
+use Rattle.std.specs.Str.{bytes_eq}
+use Rattle.serde_json.specs.Data.{Data}
+use Rattle.review_words.specs.declared.command.Command.{Command}
+use Rattle.review_words.specs.declared.command.Command.TheVariants.{CreateAccount, PutGroup}
+use Rattle.review_json.specs.Parts.{word_at, members_at}
+
+-- the body has the name
+unfoldable pub create_account : Data → Option Command
+create_account body = option_map (λ name. CreateAccount name) (word_at (codes "name") body)
+
+-- the line has the group, the body its members
+unfoldable pub put_group : Data → Data → Option Command
+put_group line body =
+    option_and_then (λ group. option_map (λ members. PutGroup group members) (members_at (codes "members") body)) (word_at (codes "group") line)
+
+-- the command of a name
+unfoldable pub command_named : List ℕ → Data → Data → Option Command
+command_named name line body =
+    if bytes_eq name (codes "CreateAccount") then create_account body
+    else (if bytes_eq name (codes "PutGroup") then put_group line body else None)

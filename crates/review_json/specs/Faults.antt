@@ -1,0 +1,9 @@
+-- The fault of a body in which a name is bad.
+use Rattle.review_words.specs.declared.names.BadName.{BadName}
+use Rattle.review_words.specs.declared.names.BadName.TheVariants as names
+use Rattle.review_json.specs.declared.fault.BadBody.{BadBody}
+use Rattle.review_json.specs.declared.fault.BadBody.TheVariants.{Form, Memory}
+
+abbrev pub body_fault : BadName → BadBody
+body_fault names.Form = Form
+body_fault names.Memory = Memory

@@ -1,0 +1,5 @@
+pub mod Faults
+pub mod Parts
+pub mod Commands
+pub mod Line
+pub mod Answer

@@ -1,0 +1,48 @@
+//! The commands, one function each: what is a part of its route stands in the line, the rest in the body.
+ghost use Rattle.serde_json.specs.View.{view};
+ghost use Rattle.review_json.specs.Parts.{Gives};
+ghost use Rattle.review_json.specs.Commands.{create_account, put_group, command_named};
+
+use crate::fault::BadBody;
+use crate::parts::{members_at, word_at};
+use review_words::Command;
+use serde_json::Value;
+use std::alloc::Global;
+
+/// A new account: `name` in the body.
+#[tactic(auto, unfolding(crate::specs::Commands::create_account))]
+pub fn create_account(alloc: Global, body: &Value) -> Result<Command, BadBody>
+    ensures { Gives result (create_account (view body.now)) }
+{
+    let name = word_at(alloc, "name", body)?;
+    Ok(Command::CreateAccount { name })
+}
+
+/// The members of a group: `group` in the line, `members` in the body.
+#[tactic(auto, unfolding(crate::specs::Commands::put_group))]
+pub fn put_group(alloc: Global, line: &Value, body: &Value) -> Result<Command, BadBody>
+    ensures { Gives result (put_group (view line.now) (view body.now)) }
+{
+    let group = word_at(alloc, "group", line)?;
+    let members = members_at(alloc, "members", body)?;
+    Ok(Command::PutGroup { group, members })
+}
+
+/// The command of a name.
+#[tactic(auto, unfolding(crate::specs::Commands::command_named))]
+pub fn command_named(
+    alloc: Global,
+    name: &str,
+    line: &Value,
+    body: &Value,
+) -> Result<Command, BadBody>
+    ensures { Gives result (command_named name.now (view line.now) (view body.now)) }
+{
+    if name == "CreateAccount" {
+        return create_account(alloc, body);
+    }
+    if name == "PutGroup" {
+        return put_group(alloc, line, body);
+    }
+    Err(BadBody::Form)
+}

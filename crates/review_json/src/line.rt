@@ -1,0 +1,83 @@
+//! The delivery that a line spells.
+ghost use Rattle.std.specs.Prelude.{◌≡◌, Some, None, Err, IfOk, codes};
+ghost use Rattle.serde_json.specs.View.{view};
+ghost use Rattle.review_json.specs.Parts.{Gives};
+ghost use Rattle.review_json.specs.Line.{value_spelled, command_in, delivery_in, delivery_spelled};
+
+use crate::commands::command_named;
+use crate::fault::BadBody;
+use crate::parts::{account_at, text_at, word_at};
+use review_words::{Command, Delivery};
+use serde_json::{Map, Value};
+use std::alloc::Global;
+
+#[tactic(auto, unfolding(crate::specs::Line::command_in, crate::specs::Line::body_in))]
+fn command_in(alloc: Global, line: &Value) -> Result<Command, BadBody>
+    ensures { Gives result (command_in (view line.now)) }
+{
+    let Some(name) = text_at("do", line) else {
+        return Err(BadBody::Form);
+    };
+    match line.get("body") {
+        Some(body) => {
+            if !body.is_object() {
+                return Err(BadBody::Form);
+            }
+            command_named(alloc, name, line, body)
+        }
+        None => {
+            let empty = Value::Object(Map::new(alloc));
+            command_named(alloc, name, line, &empty)
+        }
+    }
+}
+
+#[tactic(auto, unfolding(crate::specs::Line::delivery_in))]
+fn delivery_in(alloc: Global, line: &Value) -> Result<Delivery, BadBody>
+    ensures { Gives result (delivery_in (view line.now)) }
+{
+    let caller = account_at("caller", line)?;
+    let id = word_at(alloc, "id", line)?;
+    let command = command_in(alloc, line)?;
+    Ok(Delivery::Write {
+        caller,
+        id,
+        command,
+    })
+}
+
+/// The value of a text in UTF-8.
+pub fn value_of(alloc: Global, bytes: &[u8]) -> Result<Value, BadBody>
+    ensures ok { IfOk result (λ v. value_spelled bytes.now ≡ Some (view v)) }
+    ensures form { result ≡ Err BadBody.Form → value_spelled bytes.now ≡ None }
+{
+    let Ok(text) = str::from_utf8(bytes) else {
+        return Err(BadBody::Form);
+    };
+    match Value::from_str(alloc, text) {
+        Ok(value) => Ok(value),
+        Err(error) => {
+            if error.is_memory() {
+                Err(BadBody::Memory)
+            } else {
+                Err(BadBody::Form)
+            }
+        }
+    }
+}
+
+/// The delivery that the bytes of a line spell.
+///
+/// A line is an object with `caller`, a number; `id`, a name; `do`, the name of the command; the segments of the
+/// command's route, as `group`; and `body`, an object with the command's other parts, which is `{}` where it is absent.
+/// Members may come in any order; other members are ignored; of a key that is given twice the last value stays.
+/// A whole number is one that is written so: `2.0` and `1e0` are none. `null` isn't absent.
+///
+/// Form exactly where the line spells no delivery, which is also where any value in it can't be read.
+#[tactic(auto, unfolding(crate::specs::Line::delivery_spelled))]
+pub fn delivery_of_line(alloc: Global, bytes: &[u8]) -> Result<Delivery, BadBody>
+    ensures { Gives result (delivery_spelled bytes.now) }
+{
+    let line = value_of(alloc, bytes)?;
+    delivery_in(alloc, &line)
+}

@@ -1,0 +1,71 @@
+//! What the members of an object spell.
+ghost use Rattle.std.specs.Prelude.{◌≡◌, Some, None, Err, IfOk, option_map};
+ghost use Rattle.serde_json.specs.View.{view, items_view};
+ghost use Rattle.review_json.specs.Parts.{Gives, text_at, word_at, account_of, account_at, accounts_in, members_from, members_at};
+
+use crate::fault::BadBody;
+use review_words::{AccountNo, Members, Word};
+use serde_json::Value;
+use std::alloc::Global;
+
+/// The text of the member `key`, if it is one.
+#[tactic(auto, unfolding(crate::specs::Parts::text_at))]
+pub fn text_at<'a>(key: &str, value: &'a Value) -> Option<&'a str>
+    ensures { option_map (λ t. t.now) result ≡ text_at key.now (view value.now) }
+{
+    value.get(key).and_then(Value::as_str)
+}
+
+/// The name of the member `key`, a text of 1 to 64 plain characters.
+#[tactic(auto, unfolding(crate::specs::Parts::word_at))]
+pub fn word_at<K>(alloc: Global, key: &str, value: &Value) -> Result<Word<K>, BadBody>
+    ensures { Gives result (word_at key.now (view value.now)) }
+{
+    let text = text_at(key, value).ok_or(BadBody::Form)?;
+    Ok(Word::read(alloc, text)?)
+}
+
+/// The account of a whole number.
+pub fn account_of(value: &Value) -> Option<AccountNo>
+    ensures { result ≡ account_of (view value.now) }
+{
+    AccountNo::from_number(value.as_u64()?)
+}
+
+/// The account of the member `key`, a whole number.
+#[tactic(auto, unfolding(crate::specs::Parts::account_at))]
+pub fn account_at(key: &str, value: &Value) -> Result<AccountNo, BadBody>
+    ensures { Gives result (account_at key.now (view value.now)) }
+{
+    value.get(key).and_then(account_of).ok_or(BadBody::Form)
+}
+
+fn accounts_in(alloc: Global, list: &Vec<Value>) -> Result<Vec<AccountNo>, BadBody>
+    ensures ok { IfOk result (λ accounts. accounts_in (items_view list.now.items) ≡ Some accounts.items) }
+    ensures form { result ≡ Err BadBody.Form → accounts_in (items_view list.now.items) ≡ None }
+{
+    let mut accounts = Vec::new(alloc);
+    for value in list.iter() {
+        let account = account_of(value).ok_or(BadBody::Form)?;
+        accounts.push(account)?;
+    }
+    Ok(accounts)
+}
+
+fn members_from(alloc: Global, accounts: Vec<AccountNo>) -> Result<Members, BadBody>
+    ensures { Gives result (members_from accounts.items) }
+{
+    Ok(Members::from_vec(alloc, accounts)?)
+}
+
+/// The members of a group: the member `key`, a list of accounts in any order, each once or more often.
+#[tactic(auto, unfolding(crate::specs::Parts::members_at))]
+pub fn members_at(alloc: Global, key: &str, value: &Value) -> Result<Members, BadBody>
+    ensures { Gives result (members_at key.now (view value.now)) }
+{
+    let Some(list) = value.get(key).and_then(Value::as_array) else {
+        return Err(BadBody::Form);
+    };
+    let accounts = accounts_in(alloc, list)?;
+    members_from(alloc, accounts)
+}
