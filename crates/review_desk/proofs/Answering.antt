@@ -1,0 +1,149 @@
+-- The answers to lines, one by one.
+use Rattle.std.proofs.Common.{◌≡◌, ◌++◌, ℕ, List, [], ◌∷◌, length, refl, Option, Some, None, arith, sym, ap, subst, ◌∙◌, append_assoc, append-nil, length-append, take, inl}
+use Rattle.std.specs.Io.KnownBytes.{Appends, Keeps, append_known}
+use Rattle.std.proofs.KnownBytes.{Appends-nil, Appends-trans, Appends-kept, append_known-moved}
+use Rattle.review_words.specs.declared.command.Delivery.{Delivery}
+use Rattle.review_words.specs.declared.command.Delivery.TheVariants.{Write}
+use Rattle.review_words.specs.declared.reply.Reply.{Reply}
+use Rattle.review_words.specs.declared.reply.Reply.TheVariants.{NotTaken}
+use Rattle.review_words.specs.declared.reply.NotTaken.TheVariants.{Memory}
+use Rattle.review_words.specs.History.{Entry}
+use Rattle.review_rows.specs.Answer.{IsHistory}
+use Rattle.review_rows.specs.Shelf.{Shown, Views}
+use Rattle.review_machine.specs.Replies.{IsRun, history_after}
+use Rattle.review_machine.proofs.Going.{run_none, run_one, run-append}
+use Rattle.review_desk.specs.declared.apply.Asked.{Asked}
+use Rattle.review_desk.specs.declared.apply.Asked.TheVariants.{Nothing, Unreadable, Asks}
+use Rattle.review_desk.specs.Lines.{HasNoEnd, GaveLine}
+use Rattle.review_desk.specs.Answers.{asked, with_asked, deliveries, answered, answers, bad_line, reply_line, IsRunOf, AreAnswered, first_or_stopped}
+use Rattle.review_desk.proofs.LinesOf.{gave_more, gave_none}
+
+with_asked-append : (a : Asked) (ds es : List Delivery) → with_asked a (ds ++ es) ≡ with_asked a ds ++ es
+with_asked-append Nothing ds es = refl
+with_asked-append Unreadable ds es = refl
+with_asked-append (Asks d) ds es = refl
+
+deliveries-append : (lines more : List (List ℕ)) → deliveries (lines ++ more) ≡ deliveries lines ++ deliveries more
+deliveries-append [] more = refl
+deliveries-append (line ∷ lines) more = ap (with_asked (asked line)) (deliveries-append lines more) ∙ with_asked-append (asked line) (deliveries lines) (deliveries more)
+
+answered-append : (a : Asked) (lines more : List (List ℕ)) (rs qs : List Reply)
+    → ((ss : List Reply) → length ss ≡ length (deliveries lines) → answers (lines ++ more) (ss ++ qs) ≡ answers lines ss ++ answers more qs)
+    → length rs ≡ length (with_asked a (deliveries lines)) → answered a (rs ++ qs) (answers (lines ++ more)) ≡ answered a rs (answers lines) ++ answers more qs
+answered-append Nothing lines more rs qs later count = later rs count
+answered-append Unreadable lines more rs qs later count = ap (λ l. bad_line ++ l) (later rs count) ∙ sym (append_assoc bad_line (answers lines rs) (answers more qs))
+answered-append (Asks d) lines more [] qs later count = absurd (omega (arith, count))
+answered-append (Asks d) lines more (r ∷ rs) qs later count =
+    ap (λ l. reply_line r ++ l) (later rs (omega (arith, count))) ∙ sym (append_assoc (reply_line r) (answers lines rs) (answers more qs))
+
+answers-append : (lines more : List (List ℕ)) (qs rs : List Reply) → length rs ≡ length (deliveries lines) → answers (lines ++ more) (rs ++ qs) ≡ answers lines rs ++ answers more qs
+answers-append [] more qs [] count = refl
+answers-append [] more qs (r ∷ rs) count = absurd (omega (arith, count))
+answers-append (line ∷ lines) more qs rs count = answered-append (asked line) lines more rs qs (answers-append lines more qs) count
+
+-- before the first line
+pub started : (input left output : Option (List ℕ)) (s : Shown) → left ≡ input → AreAnswered [] [] input left output output s s
+started input left output s same = record {
+  count = refl;
+  read = gave_none input left same;
+  written = Appends-nil output;
+  ran = λ honest h hist v. run_none h s hist v;
+}
+
+-- the output stays
+pub kept : (lines : List (List ℕ)) (rs : List Reply) (input left before output after : Option (List ℕ)) (old new : Shown)
+    → AreAnswered lines rs input left before output old new → Keeps output after → AreAnswered lines rs input left before after old new
+kept lines rs input left before output after old new was stays = record {
+  count = was.count;
+  read = was.read;
+  written = Appends-kept _ _ _ _ was.written stays;
+  ran = was.ran;
+}
+
+pub sent_stays : (c d : Option (List ℕ)) (waiting rest : List ℕ) → Appends c d waiting → rest ≡ [] → Keeps (append_known c waiting) (append_known d rest)
+sent_stays c d waiting rest gone none = append_known-moved c d waiting rest waiting gone (sym (ap (λ l. waiting ++ l) none ∙ append-nil waiting))
+
+-- what is known of a writer's bytes does not change where more waits
+append_known-grown : (c : Option (List ℕ)) (waiting more text : List ℕ) → more ≡ waiting ++ text → Appends (append_known c waiting) (append_known c more) text
+append_known-grown None waiting more text added = tt
+append_known-grown (Some xs) waiting more text added = rw added (sym (append_assoc xs waiting text))
+
+pub counted : (lines more : List (List ℕ)) (rs qs : List Reply) → length rs ≡ length (deliveries lines) → length qs ≡ length (deliveries more) → length (rs ++ qs) ≡ length (deliveries (lines ++ more))
+counted lines more rs qs one other =
+    let all : length (deliveries (lines ++ more)) ≡ length (deliveries lines ++ deliveries more) = ap length (deliveries-append lines more) in
+    omega (arith, one, other, all, length-append rs qs, length-append (deliveries lines) (deliveries more))
+
+-- one run more
+pub ran_more : (lines : List (List ℕ)) (rs qs : List Reply) (bytes : List ℕ) (a : Asked) (old mid new : Shown) → IsRunOf lines rs old mid → a ≡ asked bytes
+    → (new.is_honest → mid.is_honest)
+    → (new.is_honest → (h : List Entry) → IsHistory h → Views h mid.tables → IsRun h (with_asked a []) qs mid new)
+    → IsRunOf (lines ++ bytes ∷ []) (rs ++ qs) old new
+ran_more lines rs qs bytes a old mid new was same honest ran = λ fair h hist v.
+    let first = was (honest fair) h hist v in
+    let next = ran fair (history_after h (deliveries lines) rs) first.history first.view in
+    let both : deliveries lines ++ with_asked a [] ≡ deliveries (lines ++ bytes ∷ []) =
+    ap (λ x. deliveries lines ++ with_asked x []) same ∙ sym (deliveries-append lines (bytes ∷ [])) in
+    subst (λ (ds : List Delivery). IsRun h ds (rs ++ qs) old new) both (run-append h (deliveries lines) (with_asked a []) rs qs old mid new first next)
+
+-- one line more, with its answer
+pub one_more : (lines : List (List ℕ)) (rs qs : List Reply) (bytes : List ℕ) (a : Asked) (input left after before c : Option (List ℕ)) (waiting more : List ℕ) (old mid new : Shown)
+    → AreAnswered lines rs input left before (append_known c waiting) old mid → a ≡ asked bytes → HasNoEnd bytes → GaveLine left after bytes
+    → length qs ≡ length (with_asked a [])
+    → (new.is_honest → mid.is_honest)
+    → (new.is_honest → (h : List Entry) → IsHistory h → Views h mid.tables → IsRun h (with_asked a []) qs mid new)
+    → more ≡ waiting ++ answered a qs (answers [])
+    → AreAnswered (lines ++ bytes ∷ []) (rs ++ qs) input after before (append_known c more) old new
+one_more lines rs qs bytes a input left after before c waiting more old mid new was same plain gave count honest ran added =
+    let text : more ≡ waiting ++ answers (bytes ∷ []) qs = added ∙ ap (λ x. waiting ++ answered x qs (answers [])) same in
+    let grown : Appends (append_known c waiting) (append_known c more) (answers (bytes ∷ []) qs) = append_known-grown c waiting more _ text in
+    record {
+      count = counted lines (bytes ∷ []) rs qs was.count (count ∙ ap (λ x. length (with_asked x [])) same);
+      read = gave_more input left after lines bytes was.read plain gave;
+      written = subst (Appends before (append_known c more)) (sym (answers-append lines (bytes ∷ []) qs rs was.count)) (Appends-trans _ _ _ _ _ was.written grown);
+      ran = ran_more lines rs qs bytes a old mid new was.ran same honest ran;
+    }
+
+-- the answer to a line that is no delivery
+pub told_bad : (a : Asked) (text : List ℕ) → a ≡ Unreadable → text ≡ bad_line → answered a [] (answers []) ≡ text
+told_bad a text is same = ap (λ x. answered x [] (answers [])) is ∙ (append-nil bad_line ∙ sym same)
+
+pub told_nothing : (a : Asked) → a ≡ Nothing → answered a [] (answers []) ≡ []
+told_nothing a is = ap (λ x. answered x [] (answers [])) is
+
+-- the answer to a delivery
+pub told_reply : (a : Asked) (d : Delivery) (r : Reply) (text : List ℕ) → a ≡ Asks d → text ≡ reply_line r → answered a (r ∷ []) (answers []) ≡ text
+told_reply a d r text is same = ap (λ x. answered x (r ∷ []) (answers [])) is ∙ (append-nil (reply_line r) ∙ sym same)
+
+-- what a line asked for was done, and Q holds of the replies
+abbrev pub Did : Asked → Shown → Shown → (List Reply → Type 0) → Type 0
+Did a s t Q = (replies : List Reply) × (length replies ≡ length (with_asked a []))
+    × (t.is_honest → (h : List Entry) → IsHistory h → Views h s.tables → IsRun h (with_asked a []) replies s t) × Q replies
+
+-- it asked for no delivery
+pub did_nothing : (a b : Asked) (s : Shown) (Q : List Reply → Type 0) → b ≡ a → with_asked b [] ≡ [] → Q [] → Did a s s Q
+did_nothing a b s Q same none q =
+    subst (λ (x : Asked). Did x s s Q) same
+    ([], sym (ap length none), (λ honest h hist v. subst (λ (ds : List Delivery). IsRun h ds [] s s) (sym none) (run_none h s hist v)), q)
+
+-- it asked for a delivery
+pub did_one : (a : Asked) (d : Delivery) (r : Reply) (s t : Shown) (Q : List Reply → Type 0) → Asks d ≡ a
+    → (t.is_honest → (h : List Entry) → IsHistory h → Views h s.tables → IsRun h (d ∷ []) (r ∷ []) s t) → Q (r ∷ []) → Did a s t Q
+did_one a d r s t Q same ran q = subst (λ (x : Asked). Did x s t Q) same (r ∷ [], refl, ran, q)
+
+-- a delivery that was not begun
+not_begun : (h : List Entry) (d : Delivery) (old new : Shown) → IsRun h [] [] old new → IsRun h (d ∷ []) (NotTaken Memory ∷ []) old new
+not_begun h (Write caller id command) old new was =
+    run-append h [] (Write caller id command ∷ []) [] (NotTaken Memory ∷ []) old new new was (run_one h (Write caller id command) (NotTaken Memory) new new
+    (record { right = refl; history = was.history; view = was.view; stops = λ t s. inl s; alone = λ n s. absurd s }))
+
+-- the reply of a run of one delivery
+pub ran_one : (h : List Entry) (d : Delivery) (rs : List Reply) (old new : Shown) → IsRun h (d ∷ []) rs old new → IsRun h (d ∷ []) (first_or_stopped rs ∷ []) old new
+ran_one h d [] old new was = absurd (omega (arith, was.right.replies))
+ran_one h d (r ∷ []) old new was = was
+ran_one h d (r ∷ (q ∷ rs)) old new was = absurd (omega (arith, was.right.replies))
+
+-- the same where the run stopped
+pub stopped_one : (h : List Entry) (d : Delivery) (rs : List Reply) (old new : Shown) → IsRun h (take (length rs) (d ∷ [])) rs old new → IsRun h (d ∷ []) (first_or_stopped rs ∷ []) old new
+stopped_one h d [] old new was = not_begun h d old new was
+stopped_one h d (r ∷ []) old new was = was
+stopped_one h d (r ∷ (q ∷ rs)) old new was = absurd (omega (arith, was.right.replies))

@@ -1,0 +1,5 @@
+pub mod Parts
+pub mod Begun
+pub mod Written
+pub mod LinesOf
+pub mod Answering

@@ -1,0 +1,14 @@
+use Rattle.std.proofs.Common.{◌≤◌, arith, ℕ, List, subst, take, drop, length, length-drop}
+use Rattle.std.specs.Io.KnownBytes.{Appends}
+use Rattle.review_desk.proofs.Written.{wrote_more}
+use Rattle.review_desk.proofs.output.write_whole.Goals as goal
+
+pub loop-start-preserved : goal.loop-start-preserved
+loop-start-preserved g c =
+    let rest = c.bytes_from.ensures in
+    let P : List ℕ → Type 0 = λ l. Appends (g.W.Write.contents c.loop-start.writer) (g.W.Write.contents c.write.new.self) (take c.in-Ok.count l) in
+    let bound : c.in-Ok.count ≤ length (drop c.loop-start.start c.args.bytes.now) = subst (λ (l : List ℕ). c.in-Ok.count ≤ length l) rest c.in-Ok.ensures.bound in
+    record {
+      within = omega (arith, length-drop c.loop-start.start c.args.bytes.now);
+      written = wrote_more _ _ _ _ _ _ c.loop-start.invariant.within c.loop-start.invariant.written (subst P rest c.in-Ok.ensures.bytes);
+    }

@@ -1,0 +1,61 @@
+//! What ends a command early, and how one ends otherwise.
+
+use crate::lines::LineFault;
+use std::alloc::AllocError;
+use std::fmt;
+use std::fmt::{Display, Formatter};
+
+/// What ends a command early.
+#[derive(Clone, Copy, Debug, PartialEq, Eq)]
+pub enum Fault {
+    /// There was no memory to read a line or to write its answer.
+    Memory,
+    /// The input failed, or had no end.
+    Input,
+    /// The output failed, or took no byte.
+    Output,
+}
+
+impl From<AllocError> for Fault {
+    fn from(_error: AllocError) -> Fault {
+        Fault::Memory
+    }
+}
+
+impl From<LineFault> for Fault {
+    fn from(fault: LineFault) -> Fault {
+        match fault {
+            LineFault::Input => Fault::Input,
+            LineFault::Memory => Fault::Memory,
+        }
+    }
+}
+
+impl Display for Fault {
+    fn fmt<W: fmt::Write>(&self, f: &mut Formatter<W>) -> fmt::Result {
+        f.write_str(match self {
+            Fault::Memory => "out of memory",
+            Fault::Input => "input fault",
+            Fault::Output => "output fault",
+        })
+    }
+}
+
+/// How a command ended that no fault cut short.
+#[derive(Clone, Copy, Debug, PartialEq, Eq)]
+pub enum Outcome {
+    /// Each line was a delivery, and was taken.
+    Complete,
+    /// A line was no delivery, or was not taken.
+    Incomplete,
+}
+
+impl Outcome {
+    /// How two parts of a command ended together.
+    pub fn and(self, other: Outcome) -> Outcome {
+        match self {
+            Outcome::Complete => other,
+            Outcome::Incomplete => Outcome::Incomplete,
+        }
+    }
+}

@@ -1,0 +1,6 @@
+//! What no clause says: whole runs of `apply_lines`, and each of its faults.
+
+mod faults;
+mod lines;
+mod rows;
+mod support;
