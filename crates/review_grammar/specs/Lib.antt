@@ -1,0 +1,6 @@
+pub mod Lexemes
+pub mod Scan
+pub mod Scanned
+pub mod Grammar
+pub mod Reading
+pub mod Views

@@ -1,0 +1,20 @@
+//! What the parser reads: words that were read, parentheses and signs.
+
+/// A token of an expression whose terms are of type W.
+#[derive(Debug, Drop)]
+pub enum Token<W> {
+    /// A term.
+    Word(W),
+    /// An opening parenthesis.
+    Open,
+    /// A closing parenthesis.
+    Close,
+    /// A minus directly before a term or a parenthesis.
+    Minus,
+    /// The word NOT.
+    Not,
+    /// The word AND.
+    And,
+    /// The word OR.
+    Or,
+}
