@@ -1,5 +1,5 @@
 -- The answers to lines, one by one.
-use Rattle.std.proofs.Common.{◌≡◌, ◌++◌, ℕ, List, [], ◌∷◌, length, refl, Option, Some, None, arith, sym, ap, subst, ◌∙◌, append_assoc, append-nil, length-append, take, inl}
+use Rattle.std.proofs.Common.{◌≡◌, ◌++◌, ◌&&◌, Bool, true, false, ℕ, List, [], ◌∷◌, length, refl, Option, Some, None, arith, sym, ap, subst, ◌∙◌, append_assoc, append-nil, length-append, take, inl}
 use Rattle.std.specs.Io.KnownBytes.{Appends, Keeps, append_known}
 use Rattle.std.proofs.KnownBytes.{Appends-nil, Appends-trans, Appends-kept, append_known-moved}
 use Rattle.review_words.specs.declared.command.Delivery.{Delivery}
@@ -15,8 +15,16 @@ use Rattle.review_machine.proofs.Going.{run_none, run_one, run-append}
 use Rattle.review_desk.specs.declared.apply.Asked.{Asked}
 use Rattle.review_desk.specs.declared.apply.Asked.TheVariants.{Nothing, Unreadable, Asks}
 use Rattle.review_desk.specs.Lines.{HasNoEnd, GaveLine}
-use Rattle.review_desk.specs.Answers.{asked, with_asked, deliveries, answered, answers, bad_line, reply_line, IsRunOf, AreAnswered, first_or_stopped}
-use Rattle.review_desk.proofs.LinesOf.{gave_more, gave_none}
+use Rattle.review_desk.specs.Answers.{asked, with_asked, deliveries, answered, answers, bad_line, reply_line, IsRunOf, first_or_stopped, is_taken, is_done, all_done}
+use Rattle.review_desk.proofs.LinesOf.{GaveLines, gave_more, gave_none}
+
+-- These lines were read, what they ask for was done, and their answers stand in the output.
+pub record AreAnswered (lines : List (List ℕ)) (replies : List Reply) (complete : Bool) (input left before output : Option (List ℕ)) (old new : Shown) : Type 0 where
+  pub count : length replies ≡ length (deliveries lines)
+  pub read : GaveLines input left lines
+  pub written : Appends before output (answers lines replies)
+  pub ran : IsRunOf lines replies old new
+  pub done : all_done lines replies ≡ complete
 
 with_asked-append : (a : Asked) (ds es : List Delivery) → with_asked a (ds ++ es) ≡ with_asked a ds ++ es
 with_asked-append Nothing ds es = refl
@@ -41,23 +49,43 @@ answers-append [] more qs [] count = refl
 answers-append [] more qs (r ∷ rs) count = absurd (omega (arith, count))
 answers-append (line ∷ lines) more qs rs count = answered-append (asked line) lines more rs qs (answers-append lines more qs) count
 
+is_done-append : (a : Asked) (lines more : List (List ℕ)) (rs qs : List Reply)
+    → ((ss : List Reply) → length ss ≡ length (deliveries lines) → all_done (lines ++ more) (ss ++ qs) ≡ (all_done lines ss && all_done more qs))
+    → length rs ≡ length (with_asked a (deliveries lines)) → is_done a (rs ++ qs) (all_done (lines ++ more)) ≡ (is_done a rs (all_done lines) && all_done more qs)
+is_done-append Nothing lines more rs qs later count = later rs count
+is_done-append Unreadable lines more rs qs later count = refl
+is_done-append (Asks d) lines more [] qs later count = absurd (omega (arith, count))
+is_done-append (Asks d) lines more (r ∷ rs) qs later count =
+    ap (λ b. is_taken r && b) (later rs (omega (arith, count))) ∙ and_again (is_taken r) (all_done lines rs) (all_done more qs)
+  where
+    and_again : (a b c : Bool) → (a && (b && c)) ≡ ((a && b) && c)
+    and_again true b c = refl
+    and_again false b c = refl
+
+all_done-append : (lines more : List (List ℕ)) (qs rs : List Reply) → length rs ≡ length (deliveries lines) → all_done (lines ++ more) (rs ++ qs) ≡ (all_done lines rs && all_done more qs)
+all_done-append [] more qs [] count = refl
+all_done-append [] more qs (r ∷ rs) count = absurd (omega (arith, count))
+all_done-append (line ∷ lines) more qs rs count = is_done-append (asked line) lines more rs qs (all_done-append lines more qs) count
+
 -- before the first line
-pub started : (input left output : Option (List ℕ)) (s : Shown) → left ≡ input → AreAnswered [] [] input left output output s s
+pub started : (input left output : Option (List ℕ)) (s : Shown) → left ≡ input → AreAnswered [] [] true input left output output s s
 started input left output s same = record {
   count = refl;
   read = gave_none input left same;
   written = Appends-nil output;
   ran = λ honest h hist v. run_none h s hist v;
+  done = refl;
 }
 
 -- the output stays
-pub kept : (lines : List (List ℕ)) (rs : List Reply) (input left before output after : Option (List ℕ)) (old new : Shown)
-    → AreAnswered lines rs input left before output old new → Keeps output after → AreAnswered lines rs input left before after old new
-kept lines rs input left before output after old new was stays = record {
+pub kept : (lines : List (List ℕ)) (rs : List Reply) (done : Bool) (input left before output after : Option (List ℕ)) (old new : Shown)
+    → AreAnswered lines rs done input left before output old new → Keeps output after → AreAnswered lines rs done input left before after old new
+kept lines rs done input left before output after old new was stays = record {
   count = was.count;
   read = was.read;
   written = Appends-kept _ _ _ _ was.written stays;
   ran = was.ran;
+  done = was.done;
 }
 
 pub sent_stays : (c d : Option (List ℕ)) (waiting rest : List ℕ) → Appends c d waiting → rest ≡ [] → Keeps (append_known c waiting) (append_known d rest)
@@ -86,21 +114,24 @@ ran_more lines rs qs bytes a old mid new was same honest ran = λ fair h hist v.
     subst (λ (ds : List Delivery). IsRun h ds (rs ++ qs) old new) both (run-append h (deliveries lines) (with_asked a []) rs qs old mid new first next)
 
 -- one line more, with its answer
-pub one_more : (lines : List (List ℕ)) (rs qs : List Reply) (bytes : List ℕ) (a : Asked) (input left after before c : Option (List ℕ)) (waiting more : List ℕ) (old mid new : Shown)
-    → AreAnswered lines rs input left before (append_known c waiting) old mid → a ≡ asked bytes → HasNoEnd bytes → GaveLine left after bytes
+pub one_more : (lines : List (List ℕ)) (rs qs : List Reply) (bytes : List ℕ) (a : Asked) (done now all : Bool) (input left after before c : Option (List ℕ)) (waiting more : List ℕ) (old mid new : Shown)
+    → AreAnswered lines rs done input left before (append_known c waiting) old mid → a ≡ asked bytes → HasNoEnd bytes → GaveLine left after bytes
     → length qs ≡ length (with_asked a [])
     → (new.is_honest → mid.is_honest)
     → (new.is_honest → (h : List Entry) → IsHistory h → Views h mid.tables → IsRun h (with_asked a []) qs mid new)
-    → more ≡ waiting ++ answered a qs (answers [])
-    → AreAnswered (lines ++ bytes ∷ []) (rs ++ qs) input after before (append_known c more) old new
-one_more lines rs qs bytes a input left after before c waiting more old mid new was same plain gave count honest ran added =
-    let text : more ≡ waiting ++ answers (bytes ∷ []) qs = added ∙ ap (λ x. waiting ++ answered x qs (answers [])) same in
+    → (more ≡ waiting ++ answered a qs (answers [])) × (now ≡ is_done a qs (all_done []))
+    → all ≡ (done && now)
+    → AreAnswered (lines ++ bytes ∷ []) (rs ++ qs) all input after before (append_known c more) old new
+one_more lines rs qs bytes a done now all input left after before c waiting more old mid new was same plain gave count honest ran added both =
+    let text : more ≡ waiting ++ answers (bytes ∷ []) qs = added.0 ∙ ap (λ x. waiting ++ answered x qs (answers [])) same in
     let grown : Appends (append_known c waiting) (append_known c more) (answers (bytes ∷ []) qs) = append_known-grown c waiting more _ text in
     record {
       count = counted lines (bytes ∷ []) rs qs was.count (count ∙ ap (λ x. length (with_asked x [])) same);
       read = gave_more input left after lines bytes was.read plain gave;
       written = subst (Appends before (append_known c more)) (sym (answers-append lines (bytes ∷ []) qs rs was.count)) (Appends-trans _ _ _ _ _ was.written grown);
       ran = ran_more lines rs qs bytes a old mid new was.ran same honest ran;
+      done = all_done-append lines (bytes ∷ []) qs rs was.count
+          ∙ ((λ i. was.done i && (ap (λ x. is_done x qs (all_done [])) (sym same) ∙ sym added.1) i) ∙ sym both);
     }
 
 -- the answer to a line that is no delivery
@@ -109,6 +140,14 @@ told_bad a text is same = ap (λ x. answered x [] (answers [])) is ∙ (append-n
 
 pub told_nothing : (a : Asked) → a ≡ Nothing → answered a [] (answers []) ≡ []
 told_nothing a is = ap (λ x. answered x [] (answers [])) is
+
+-- the delivery was taken or not
+pub done_reply : (a : Asked) (d : Delivery) (r : Reply) → a ≡ Asks d → is_done a (r ∷ []) (all_done []) ≡ is_taken r
+done_reply a d r is = ap (λ x. is_done x (r ∷ []) (all_done [])) is ∙ and_true (is_taken r)
+  where
+    and_true : (b : Bool) → (b && true) ≡ b
+    and_true true = refl
+    and_true false = refl
 
 -- the answer to a delivery
 pub told_reply : (a : Asked) (d : Delivery) (r : Reply) (text : List ℕ) → a ≡ Asks d → text ≡ reply_line r → answered a (r ∷ []) (answers []) ≡ text

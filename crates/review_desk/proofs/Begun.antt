@@ -6,7 +6,11 @@ use Rattle.std.proofs.lemmas.Bool.Decides.{nat_tests}
 use Rattle.std.specs.Io.KnownBytes.{Consumes, IsAtEnd, prepend_known}
 use Rattle.std.proofs.KnownBytes.{Consumes-nil, Consumes-trans}
 use Rattle.review_desk.specs.declared.lines.Line.{Line}
-use Rattle.review_desk.specs.Lines.{IsLineOf, HasNoEnd, GavePart, IsBegun, IsNext, line_feed}
+use Rattle.review_desk.specs.Lines.{IsLineOf, HasNoEnd, GavePart, IsNext, line_feed}
+
+-- a line that was begun has these bytes so far
+abbrev pub IsBegun : Option (List ℕ) → Option (List ℕ) → Line → Type 0
+IsBegun old new line = (bytes : List ℕ) × IsLineOf line bytes × HasNoEnd bytes × Consumes old new bytes
 
 pub begun : (a : Option (List ℕ)) (line : Line) → IsLineOf line [] → IsBegun a a line
 begun a line is = ([], is, (λ k d lt. absurd (omega (arith, lt))), Consumes-nil a)

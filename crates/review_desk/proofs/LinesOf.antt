@@ -3,7 +3,13 @@ use Rattle.std.proofs.Common.{◌≡◌, ◌<◌, ◌++◌, ◌==◌, ℕ, List,
 use Rattle.std.proofs.lemmas.Bool.Decides.{nat_tests}
 use Rattle.std.specs.Io.KnownBytes.{IsAtEnd}
 use Rattle.review_desk.specs.Lines.{HasNoEnd, GaveLine, line_feed}
-use Rattle.review_desk.specs.Answers.{lines_of, GaveLines, HasLines, HasFirst}
+use Rattle.review_desk.specs.Answers.{lines_of, HasLines, HasFirst}
+
+-- an input began with these lines
+abbrev pub GaveLines : Option (List ℕ) → Option (List ℕ) → List (List ℕ) → Type 0
+GaveLines None new lines = Unit {0}
+GaveLines (Some xs) None lines = ⊥
+GaveLines (Some xs) (Some ys) lines = lines_of xs ≡ lines ++ lines_of ys
 
 differs : (b : ℕ) → (b ≡ line_feed → ⊥) → (b == line_feed) ≡ false
 differs b other = grind (arith, nat_tests)

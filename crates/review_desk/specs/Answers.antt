@@ -1,7 +1,7 @@
 -- What the lines of an input ask for, and what is answered to them.
-use Rattle.std.specs.Prelude.{◌≡◌, ◌==◌, ℕ, ◌++◌, List, [], ◌∷◌, length, nat_lt, if◌then◌else◌, Option, Some, None, codes}
+use Rattle.std.specs.Prelude.{◌≡◌, ◌==◌, ℕ, ◌++◌, ◌&&◌, Bool, true, false, List, [], ◌∷◌, length, nat_lt, if◌then◌else◌, Option, Some, None, codes}
 use Rattle.std.specs.List.{list_all}
-use Rattle.std.specs.Io.KnownBytes.{Appends, IsAtEnd}
+use Rattle.std.specs.Io.KnownBytes.{IsAtEnd}
 use Rattle.serde_json.specs.Written.{compact_text}
 use Rattle.review_words.specs.declared.command.Delivery.{Delivery}
 use Rattle.review_words.specs.declared.reply.Reply.{Reply}
@@ -13,6 +13,8 @@ use Rattle.review_rows.specs.Shelf.{Shown, Views}
 use Rattle.review_machine.specs.Replies.{IsRun}
 use Rattle.review_json.specs.Line.{delivery_spelled}
 use Rattle.review_json.specs.Answer.{reply_data}
+use Rattle.review_desk.specs.declared.fault.Outcome.{Outcome}
+use Rattle.review_desk.specs.declared.fault.Outcome.TheVariants.{Complete, Incomplete}
 use Rattle.review_desk.specs.declared.apply.Asked.{Asked}
 use Rattle.review_desk.specs.declared.apply.Asked.TheVariants.{Nothing, Unreadable, Asks}
 use Rattle.review_desk.specs.Lines.{most_bytes, line_feed, is_space, HasNoEnd, GaveLine}
@@ -63,11 +65,26 @@ abbrev pub answers : List (List ℕ) → List Reply → List ℕ
 answers [] rs = []
 answers (line ∷ lines) rs = answered (asked line) rs (answers lines)
 
--- an input began with these lines
-abbrev pub GaveLines : Option (List ℕ) → Option (List ℕ) → List (List ℕ) → Type 0
-GaveLines None new lines = Unit {0}
-GaveLines (Some xs) None lines = ⊥
-GaveLines (Some xs) (Some ys) lines = lines_of xs ≡ lines ++ lines_of ys
+-- whether a reply says that its delivery was taken
+abbrev pub is_taken : Reply → Bool
+is_taken (NotTaken cause) = false
+is_taken _ = true
+
+abbrev pub is_done : Asked → List Reply → (List Reply → Bool) → Bool
+is_done Nothing rs later = later rs
+is_done Unreadable rs later = false
+is_done (Asks d) [] later = false
+is_done (Asks d) (r ∷ rs) later = is_taken r && later rs
+
+-- whether each line was blank, or a delivery that was taken
+abbrev pub all_done : List (List ℕ) → List Reply → Bool
+all_done [] rs = true
+all_done (line ∷ lines) rs = is_done (asked line) rs (all_done lines)
+
+-- whether an outcome says so
+abbrev pub is_complete : Outcome → Bool
+is_complete Complete = true
+is_complete Incomplete = false
 
 -- these are all lines of an input
 abbrev pub HasLines : Option (List ℕ) → List (List ℕ) → Type 0
@@ -82,13 +99,6 @@ HasFirst (Some xs) lines = (more : List (List ℕ)) × (lines_of xs ≡ lines ++
 -- from the tables of any history, the deliveries of these lines were a run with these replies
 abbrev pub IsRunOf : List (List ℕ) → List Reply → Shown → Shown → Type 0
 IsRunOf lines replies old new = new.is_honest → (h : List Entry) → IsHistory h → Views h old.tables → IsRun h (deliveries lines) replies old new
-
--- These lines were read, what they ask for was done, and their answers stand in the output.
-pub record AreAnswered (lines : List (List ℕ)) (replies : List Reply) (input left before output : Option (List ℕ)) (old new : Shown) : Type 0 where
-  pub count : length replies ≡ length (deliveries lines)
-  pub read : GaveLines input left lines
-  pub written : Appends before output (answers lines replies)
-  pub ran : IsRunOf lines replies old new
 
 -- the reply of a run of one delivery, which has none where there was no memory to begin
 abbrev pub first_or_stopped : List Reply → Reply

@@ -35,10 +35,6 @@ abbrev pub IsNext : Option (List ℕ) → Option (List ℕ) → Option Line → 
 IsNext old new None = IsAtEnd old × IsAtEnd new
 IsNext old new (Some line) = (bytes : List ℕ) × IsLineOf line bytes × HasNoEnd bytes × GaveLine old new bytes
 
--- a line that was begun has these bytes so far
-abbrev pub IsBegun : Option (List ℕ) → Option (List ℕ) → Line → Type 0
-IsBegun old new line = (bytes : List ℕ) × IsLineOf line bytes × HasNoEnd bytes × Consumes old new bytes
-
 -- the bytes of a piece up to the end of a line, or all where no line ends in it
 abbrev pub GavePart : Bool → List ℕ → List ℕ → List ℕ → Type 0
 GavePart true old new part = old ≡ part ++ line_feed ∷ new

@@ -8,7 +8,7 @@ ghost use Rattle.review_rows.specs.Answer.{IsHistory};
 ghost use Rattle.review_rows.specs.Shelf.{Views};
 ghost use Rattle.review_machine.specs.Replies.{IsRun};
 ghost use Rattle.review_desk.specs.Lines.{is_space, IsLineOf};
-ghost use Rattle.review_desk.specs.Answers.{asked, with_asked, reply_line, bad_line, answered, answers, deliveries, HasLines, HasFirst, IsRunOf, IsNextAsked, first_or_stopped};
+ghost use Rattle.review_desk.specs.Answers.{asked, with_asked, reply_line, bad_line, answered, answers, deliveries, HasLines, HasFirst, is_taken, is_done, all_done, is_complete, IsRunOf, IsNextAsked, first_or_stopped};
 
 use crate::fault::{Fault, Outcome};
 use crate::lines::{Line, Lines};
@@ -89,7 +89,9 @@ fn reply_line(alloc: Global, reply: &Reply) -> Result<String, AllocError>
     Ok(text)
 }
 
-fn outcome_of(reply: Reply) -> Outcome {
+fn outcome_of(reply: Reply) -> Outcome
+    ensures { is_complete result ≡ is_taken reply }
+{
     match reply {
         Reply::NotTaken(_) => Outcome::Incomplete,
         Reply::Done(_) | Reply::Refused(_) | Reply::IdentityReused => Outcome::Complete,
@@ -108,7 +110,7 @@ fn answer<S: Shelf>(
     ensures answered { (replies : List Reply) × (length replies ≡ length (with_asked asked []))
         × ((S.state shelf.new).is_honest → (h : List Entry) → IsHistory h → Views h (S.state shelf.old).tables →
         IsRun h (with_asked asked []) replies (S.state shelf.old) (S.state shelf.new))
-        × OnOk result (output.new.waiting.items ≡ output.old.waiting.items ++ answered asked replies (answers [])) }
+        × IfOk result (λ outcome. (output.new.waiting.items ≡ output.old.waiting.items ++ answered asked replies (answers [])) × (is_complete outcome ≡ is_done asked replies (all_done []))) }
 {
     match asked {
         Asked::Nothing => Ok(Outcome::Complete),
@@ -145,8 +147,9 @@ fn answer_lines<R: Read + Drop, W: Write, S: Shelf>(
 ) -> Result<Outcome, Fault>
     ensures honest { (S.state shelf.new).is_honest → (S.state shelf.old).is_honest }
     ensures ran { (lines : List (List ℕ)) × (replies : List Reply) × HasFirst (R.remaining reader) lines × (length replies ≡ length (deliveries lines)) × IsRunOf lines replies (S.state shelf.old) (S.state shelf.new)
-        × OnOk result (HasLines (R.remaining reader) lines
-        × Appends (append_known (W.contents writer.old) output.old.waiting.items) (append_known (W.contents writer.new) output.new.waiting.items) (answers lines replies)) }
+        × IfOk result (λ outcome. HasLines (R.remaining reader) lines
+        × Appends (append_known (W.contents writer.old) output.old.waiting.items) (append_known (W.contents writer.new) output.new.waiting.items) (answers lines replies)
+        × (is_complete outcome ≡ all_done lines replies)) }
 {
     let mut lines = Lines::new(alloc, reader)?;
     let mut outcome = Outcome::Complete;
@@ -164,7 +167,7 @@ fn answer_lines<R: Read + Drop, W: Write, S: Shelf>(
 /// its reply, or `{"fault":"BAD_LINE"}` for a line that is no delivery or has more than 400,000 bytes. Blank lines are
 /// skipped. Each answer is written and flushed before more input is waited for.
 ///
-/// Incomplete where a line was no delivery, or was not taken. A fault ends it early: want of memory for a line or the text
+/// Complete exactly where each line was blank, or a delivery that was taken. A fault ends it early: want of memory for a line or the text
 /// of its answer; a reader that fails, or that hasn't ended after 1,000,000,000 reads; a writer that fails or takes no byte.
 /// What was answered before stands, and so does a delivery that was taken and not answered.
 ///
@@ -179,7 +182,8 @@ pub fn apply_lines<R: Read, W: Write, S: Shelf>(
 ) -> Result<Outcome, Fault>
     ensures honest { (S.state shelf.new).is_honest → (S.state shelf.old).is_honest }
     ensures ran { (lines : List (List ℕ)) × (replies : List Reply) × HasFirst (R.remaining reader.old) lines × (length replies ≡ length (deliveries lines)) × IsRunOf lines replies (S.state shelf.old) (S.state shelf.new)
-        × OnOk result (HasLines (R.remaining reader.old) lines × Appends (W.contents writer.old) (W.contents writer.new) (answers lines replies)) }
+        × IfOk result (λ outcome. HasLines (R.remaining reader.old) lines × Appends (W.contents writer.old) (W.contents writer.new) (answers lines replies)
+        × (is_complete outcome ≡ all_done lines replies)) }
 {
     let mut output = Output::new(alloc);
     let outcome = answer_lines(alloc, reader, writer, &mut output, shelf);

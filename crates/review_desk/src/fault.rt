@@ -1,4 +1,6 @@
 //! What ends a command early, and how one ends otherwise.
+ghost use Rattle.std.specs.Prelude.{◌≡◌, ◌&&◌};
+ghost use Rattle.review_desk.specs.Answers.{is_complete};
 
 use crate::lines::LineFault;
 use std::alloc::AllocError;
@@ -52,7 +54,9 @@ pub enum Outcome {
 
 impl Outcome {
     /// How two parts of a command ended together.
-    pub fn and(self, other: Outcome) -> Outcome {
+    pub fn and(self, other: Outcome) -> Outcome
+        ensures { is_complete result ≡ (is_complete self && is_complete other) }
+    {
         match self {
             Outcome::Complete => other,
             Outcome::Incomplete => Outcome::Incomplete,

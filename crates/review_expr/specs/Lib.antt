@@ -1,3 +1,6 @@
-pub mod Patterns
-pub mod Holds
-pub mod Labels
+pub mod Codes
+pub mod Tokens
+pub mod Expressions
+pub mod Faults
+pub mod Printed
+pub mod Exprs

@@ -1,128 +1,65 @@
-//! The terms of submit requirements and of copy conditions.
+//! How the terms of requirements and of copy conditions are spelled.
 
-use crate::pattern::Pattern;
-use review_words::{AccountNo, BranchName, GroupName, LabelName, Path};
+use crate::spelled::{Respelled, Spelled};
+use review_grammar::WordFault;
+use review_spelling::{push_copy, push_requirement, read_copy, read_requirement};
+use review_terms::{CopyTerm, RequirementTerm};
+use std::alloc::{AllocError, Global};
 
-/// The value that a vote is compared with.
-#[derive(Clone, Copy, Debug, PartialEq, Eq)]
-pub enum VoteValue {
-    /// The greatest value of the label.
-    Max,
-    /// The least value of the label.
-    Min,
-    /// Any value that is stored.
-    Any,
-    /// This value.
-    Exactly(i8),
+impl Spelled for RequirementTerm {
+    ghost use Rattle.review_spelling.specs.Printed.{requirement_word};
+    ghost use Rattle.review_spelling.specs.Words.{requirement_reading, IsDeep, IsPattern};
+
+    ghost reading = { requirement_reading };
+
+    ghost is_deep = { IsDeep };
+
+    ghost is_pattern = { IsPattern };
+
+    ghost spelling = { requirement_word };
+
+    fn read(alloc: Global, word: &str) -> Result<RequirementTerm, WordFault> {
+        read_requirement(alloc, word)
+    }
+
+    fn push(&self, text: &mut String) -> Result<(), AllocError> {
+        push_requirement(text, self)
+    }
 }
 
-/// How a vote's value is compared.
-#[derive(Clone, Copy, Debug, PartialEq, Eq)]
-pub enum Comparison {
-    /// `=V`
-    Is(VoteValue),
-    /// `>=N`
-    AtLeast(i8),
-    /// `>N`
-    Above(i8),
-    /// `<=N`
-    AtMost(i8),
-    /// `<N`
-    Below(i8),
+impl Respelled for RequirementTerm {
+    ghost use Rattle.review_spelling.proofs.RequirementWords.{requirement_again, requirement_stands};
+
+    ghost reads_again = { requirement_again };
+
+    ghost one_word = { requirement_stands };
 }
 
-/// Whose votes count.
-#[derive(Drop)]
-pub enum Voters {
-    /// Everyone's.
-    Everyone,
-    /// `user=non_uploader`: those of all but the uploader of the current patch set.
-    NonUploader,
-    /// `user=owner`
-    Owner,
-    /// `user=A`
-    Account(AccountNo),
-    /// `group=G`
-    Group(GroupName),
+impl Spelled for CopyTerm {
+    ghost use Rattle.review_spelling.specs.Printed.{copy_word};
+    ghost use Rattle.review_spelling.specs.Words.{copy_reading};
+
+    ghost reading = { copy_reading };
+
+    ghost is_deep = { λ _. ⊥ };
+
+    ghost is_pattern = { λ _. ⊥ };
+
+    ghost spelling = { copy_word };
+
+    fn read(alloc: Global, word: &str) -> Result<CopyTerm, WordFault> {
+        read_copy(alloc, word)
+    }
+
+    fn push(&self, text: &mut String) -> Result<(), AllocError> {
+        push_copy(text, self)
+    }
 }
 
-/// How many accounts are asked for.
-#[derive(Clone, Copy, Debug, PartialEq, Eq)]
-pub enum Count {
-    /// `count=K`
-    Exactly(u8),
-    /// `count>=K`
-    AtLeast(u8),
-    /// `count>K`
-    Above(u8),
-}
+impl Respelled for CopyTerm {
+    ghost use Rattle.review_spelling.proofs.CopyWords.{copy_again, copy_stands};
 
-/// `label:L..`: so many accounts gave the label such a vote; at least one where no count is named.
-#[derive(Drop)]
-pub struct LabelTerm {
-    /// The label.
-    pub label: LabelName,
-    /// Which votes count.
-    pub comparison: Comparison,
-    /// Whose votes count.
-    pub voters: Voters,
-    /// How many accounts are asked for.
-    pub count: Option<Count>,
-}
+    ghost reads_again = { copy_again };
 
-/// A term of a submit requirement.
-#[derive(Drop)]
-pub enum RequirementTerm {
-    /// `is:true`, `is:false`
-    Always(bool),
-    /// `label:L..`
-    Label(LabelTerm),
-    /// `uploaderin:G`
-    UploaderIn(GroupName),
-    /// `ownerin:G`
-    OwnerIn(GroupName),
-    /// `branch:B`
-    Branch(BranchName),
-    /// `branch:^RE`
-    BranchMatches(Pattern),
-    /// `path:P`
-    Path(Path),
-    /// `path:^RE`, `file:^RE`
-    PathMatches(Pattern),
-    /// `file:N`: N stands between slashes of a path.
-    File(Path),
-    /// `has:unresolved`
-    Unresolved,
-}
-
-/// What a new patch set changed.
-#[derive(Clone, Copy, Debug, PartialEq, Eq)]
-pub enum ChangeKind {
-    /// `NO_CHANGE`
-    NoChange,
-    /// `NO_CODE_CHANGE`
-    NoCodeChange,
-    /// `TRIVIAL_REBASE`
-    TrivialRebase,
-    /// `TRIVIAL_REBASE_WITH_MESSAGE_UPDATE`
-    TrivialRebaseWithMessageUpdate,
-    /// `MERGE_FIRST_PARENT_UPDATE`
-    MergeFirstParentUpdate,
-    /// `REWORK`
-    Rework,
-}
-
-/// A term of a copy condition.
-#[derive(Drop)]
-pub enum CopyTerm {
-    /// `is:MIN`, `is:MAX`, `is:ANY`, `is:N`
-    Value(VoteValue),
-    /// `changekind:K`
-    Kind(ChangeKind),
-    /// `approverin:G`
-    ApproverIn(GroupName),
-    /// `uploaderin:G`
-    UploaderIn(GroupName),
-    /// `has:unchanged-files`
-    UnchangedFiles,
+    ghost one_word = { copy_stands };
 }

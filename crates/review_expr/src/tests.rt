@@ -1,240 +1,254 @@
 use super::*;
-use review_grammar::Node;
-use review_words::{AccountNo, BranchName, GroupName, Groups, LabelName, Members, Path, Paths};
+use review_terms::{ChangeFacts, ChangeKind, ValueRange, VoteFacts};
+use review_words::{AccountNo, BranchName, Groups, Path, Paths};
 use std::alloc::Global;
 use std::collections::BTreeMap;
 use std::test::Fail;
+
+/// The text of what was parsed, or the name and the place of its fault.
+fn shown(alloc: Global, parsed: Result<Expr, ParseFault>) -> Result<String, Fail> {
+    match parsed {
+        Ok(expr) => Ok(print(alloc, &expr)?),
+        Err(ParseFault::Text(fault)) => {
+            let name = fault.code.name();
+            let place = fault.place;
+            Ok(format!(in alloc; "{name} {place}")?)
+        }
+        Err(_) => Ok(String::from_str(alloc, "not read")?),
+    }
+}
+
+fn requirement(alloc: Global, text: &str) -> Result<String, Fail> {
+    shown(alloc, parse_requirement(alloc, text))
+}
+
+/// A text so many times, before, round or behind another.
+fn repeated(
+    alloc: Global,
+    front: &str,
+    middle: &str,
+    back: &str,
+    count: usize,
+) -> Result<String, Fail> {
+    let mut text = String::new(alloc);
+    for _ in 0..count {
+        text.push_str(front)?;
+    }
+    text.push_str(middle)?;
+    for _ in 0..count {
+        text.push_str(back)?;
+    }
+    Ok(text)
+}
+
+#[test]
+fn expressions_are_printed(rt: HostRuntime) -> Result<(), Fail> {
+    let alloc = rt.alloc();
+    for (text, printed) in [
+        (
+            "label:Code-Review+2 -(is:true)",
+            "label:Code-Review=2 AND NOT is:true",
+        ),
+        (
+            "label:Code-Review=MAX,count>=2,group=Core",
+            "label:Code-Review=MAX,group=Core,count>=2",
+        ),
+        ("-(-is:true)", "NOT NOT is:true"),
+        (
+            "path:\"a b\" has:unresolved",
+            "path:\"a b\" AND has:unresolved",
+        ),
+        ("((is:true))", "is:true"),
+        ("file:^x\tOR\r\nis:false", "path:^x OR is:false"),
+        (
+            "(is:true OR is:false) NOT(has:unresolved is:true)",
+            "(is:true OR is:false) AND NOT (has:unresolved AND is:true)",
+        ),
+    ] {
+        let found = requirement(alloc, text)?;
+        assert_eq!(rt; found.as_str(), printed, "of {text}");
+        let again = requirement(alloc, printed)?;
+        assert_eq!(rt; again.as_str(), printed, "again of {text}");
+    }
+    Ok(())
+}
+
+#[test]
+fn words_have_faults(rt: HostRuntime) -> Result<(), Fail> {
+    let alloc = rt.alloc();
+    for (text, fault) in [
+        ("x", "BAD_TERM 0"),
+        ("is:true -x", "BAD_TERM 8"),
+        ("(x)", "BAD_TERM 1"),
+        ("is:true x", "BAD_TERM 8"),
+        ("is:maybe", "BAD_VALUE 0"),
+        ("is:true -is:maybe", "BAD_VALUE 8"),
+        ("(is:maybe)", "BAD_VALUE 1"),
+        ("is:true is:maybe", "BAD_VALUE 8"),
+        ("label:A=0", "ZERO 0"),
+        ("is:true -label:A=0", "ZERO 8"),
+        ("(label:A=0)", "ZERO 1"),
+        ("is:true AND label:Code-Review<1", "ZERO 12"),
+        ("x is:maybe label:A=0", "BAD_TERM 0"),
+        ("label:A=0 is:maybe x", "ZERO 0"),
+        ("path:\"^(\"", "BAD_VALUE 0"),
+        ("--is:true", "BAD_TERM 0"),
+        ("- is:true", "BAD_TERM 0"),
+        ("is:true -", "BAD_TERM 8"),
+        ("(-)", "BAD_TERM 1"),
+        ("is:true - (is:true)", "BAD_TERM 8"),
+        ("is:true --(is:true)", "BAD_TERM 8"),
+        ("is:true -AND", "BAD_TERM 0"),
+        ("NOT -NOT is:true", "BAD_TERM 0"),
+    ] {
+        let found = requirement(alloc, text)?;
+        assert_eq!(rt; found.as_str(), fault, "of {text}");
+    }
+    Ok(())
+}
+
+#[test]
+fn texts_have_faults(rt: HostRuntime) -> Result<(), Fail> {
+    let alloc = rt.alloc();
+    for (text, fault) in [
+        ("", "EMPTY 0"),
+        (" \t\r\n", "EMPTY 0"),
+        ("path:^(", "UNBALANCED 0"),
+        ("path:\"a", "UNBALANCED 0"),
+        ("x is:true)", "UNBALANCED 0"),
+        ("is:true AND", "BAD_TERM 0"),
+        ("is:true ()", "BAD_TERM 0"),
+        ("is:true AND is:true OR is:false", "MIXED 0"),
+        ("is:true is:true OR is:false", "MIXED 0"),
+        ("is:true (is:true OR is:false is:true)", "MIXED 0"),
+    ] {
+        let found = requirement(alloc, text)?;
+        assert_eq!(rt; found.as_str(), fault, "of {text}");
+    }
+    Ok(())
+}
+
+#[test]
+fn texts_have_limits(rt: HostRuntime) -> Result<(), Fail> {
+    let alloc = rt.alloc();
+    let deepest = repeated(alloc, "(", "is:true", ")", 31)?;
+    assert_eq!(rt; requirement(alloc, &deepest)?.as_str(), "is:true");
+    let deeper = repeated(alloc, "(", "is:true", ")", 32)?;
+    assert_eq!(rt; requirement(alloc, &deeper)?.as_str(), "TOO_DEEP 0");
+    let mixed = repeated(alloc, "(", "is:true is:true OR is:true", ")", 32)?;
+    assert_eq!(rt; requirement(alloc, &mixed)?.as_str(), "TOO_DEEP 0");
+    let wrong = repeated(alloc, "(", "AND", ")", 32)?;
+    assert_eq!(rt; requirement(alloc, &wrong)?.as_str(), "BAD_TERM 0");
+    let longest = repeated(alloc, "", "is:true ", " ", 4088)?;
+    assert_eq!(rt; longest.len(), 4096);
+    assert_eq!(rt; requirement(alloc, &longest)?.as_str(), "is:true");
+    let longer = repeated(alloc, "", "is:true ", " ", 4089)?;
+    assert_eq!(rt; requirement(alloc, &longer)?.as_str(), "TOO_LONG 0");
+    let blank = repeated(alloc, "", "", " ", 4097)?;
+    assert_eq!(rt; requirement(alloc, &blank)?.as_str(), "TOO_LONG 0");
+    Ok(())
+}
+
+#[test]
+fn copy_conditions_are_read(rt: HostRuntime) -> Result<(), Fail> {
+    let alloc = rt.alloc();
+    for (text, found) in [
+        ("is:0", "ZERO 0"),
+        ("is:MAX OR -is:+1", "is:MAX OR NOT is:1"),
+        ("changekind:REWORK label:A=1", "BAD_TERM 18"),
+        ("has:unchanged-files", "has:unchanged-files"),
+    ] {
+        let printed = shown(alloc, parse_copy(alloc, text))?;
+        assert_eq!(rt; printed.as_str(), found, "of {text}");
+    }
+    Ok(())
+}
 
 fn account(number: u64) -> Result<AccountNo, Fail> {
     Ok(AccountNo::from_number(number).ok_or("no account")?)
 }
 
-/// Group Core with account 3.
-fn groups(alloc: Global) -> Result<Groups, Fail> {
-    let mut accounts = Vec::new(alloc);
-    accounts.push(account(3)?)?;
-    let members = Members::from_vec(alloc, accounts)?;
-    let mut groups = BTreeMap::new(alloc);
-    groups.insert(GroupName::read(alloc, "Core")?, members)?;
-    Ok(Groups(groups))
-}
-
-/// A change of account 2 on branch main, sent by account 3, with votes 2 of accounts 3 and 4 and
-/// -1 of account 5 on Code-Review.
-fn change(alloc: Global) -> Result<ChangeFacts, Fail> {
-    let mut votes = BTreeMap::new(alloc);
-    votes.insert(account(3)?, 2i8)?;
-    votes.insert(account(4)?, 2)?;
-    votes.insert(account(5)?, -1)?;
-    let mut labels = BTreeMap::new(alloc);
-    labels.insert(LabelName::read(alloc, "Code-Review")?, votes)?;
-    let mut ranges = BTreeMap::new(alloc);
-    let range = ValueRange {
-        least: -2,
-        greatest: 2,
-    };
-    ranges.insert(LabelName::read(alloc, "Code-Review")?, range)?;
+/// A change of account 1 with one path.
+fn change(alloc: Global, path: &str) -> Result<Facts, Fail> {
     let mut paths = Vec::new(alloc);
-    paths.push(Path::read(alloc, "docs/a b.md")?)?;
-    paths.push(Path::read(alloc, "src/lib.rs")?)?;
-    Ok(ChangeFacts {
-        votes: labels,
-        ranges,
+    paths.push(Path::read(alloc, path)?)?;
+    Ok(Facts::Change(ChangeFacts {
+        votes: BTreeMap::new(alloc),
+        ranges: BTreeMap::new(alloc),
         paths: Paths::from_vec(alloc, paths)?,
-        owner: account(2)?,
-        uploader: account(3)?,
+        owner: account(1)?,
+        uploader: account(1)?,
         branch: BranchName::read(alloc, "main")?,
-        unresolved: true,
-        groups: groups(alloc)?,
-    })
+        unresolved: false,
+        groups: Groups(BTreeMap::new(alloc)),
+    }))
 }
 
-fn holds(alloc: Global, term: RequirementTerm) -> Result<bool, Fail> {
-    let facts = change(alloc)?;
-    Ok(eval(alloc, &Node::Term(term), &facts)?)
-}
-
-fn label_holds(
-    alloc: Global,
-    comparison: Comparison,
-    voters: Voters,
-    count: Option<Count>,
-) -> Result<bool, Fail> {
-    let label = LabelName::read(alloc, "Code-Review")?;
-    let term = LabelTerm {
-        label,
-        comparison,
-        voters,
-        count,
-    };
-    holds(alloc, RequirementTerm::Label(term))
-}
-
-#[test]
-fn labels(rt: HostRuntime) -> Result<(), Fail> {
-    let alloc = rt.alloc();
-    let max = Comparison::Is(VoteValue::Max);
-    let min = Comparison::Is(VoteValue::Min);
-    assert!(rt; label_holds(alloc, max, Voters::Everyone, None)?);
-    assert!(rt; !label_holds(alloc, min, Voters::Everyone, None)?);
-    assert!(rt; label_holds(alloc, max, Voters::Everyone, Some(Count::Exactly(2)))?);
-    assert!(rt; label_holds(alloc, max, Voters::NonUploader, Some(Count::Exactly(1)))?);
-    assert!(rt; !label_holds(alloc, max, Voters::Owner, None)?);
-    assert!(rt; label_holds(alloc, max, Voters::Account(account(4)?), None)?);
-    let core = GroupName::read(alloc, "Core")?;
-    assert!(rt; !label_holds(alloc, max, Voters::Group(core), Some(Count::Above(1)))?);
-    assert!(rt;
-        label_holds(
-            alloc,
-            Comparison::Is(VoteValue::Any),
-            Voters::Everyone,
-            Some(Count::AtLeast(3))
-        )?
-    );
-    assert!(rt; label_holds(alloc, Comparison::Below(0), Voters::Everyone, None)?);
-    assert!(rt; !label_holds(alloc, Comparison::AtMost(-2), Voters::Everyone, None)?);
-    assert!(rt; label_holds(alloc, Comparison::Above(1), Voters::Everyone, None)?);
-    assert!(rt; !label_holds(alloc, Comparison::AtLeast(3), Voters::Everyone, None)?);
-    assert!(rt;
-        label_holds(
-            alloc,
-            Comparison::Is(VoteValue::Exactly(-1)),
-            Voters::Everyone,
-            None
-        )?
-    );
-    Ok(())
-}
-
-#[test]
-fn places(rt: HostRuntime) -> Result<(), Fail> {
-    let alloc = rt.alloc();
-    for (text, whole) in [
-        ("docs/.*", true),
-        ("docs", false),
-        ("src/lib.rs", true),
-        ("a|src/.*", true),
-    ] {
-        let term = RequirementTerm::PathMatches(Pattern::read(alloc, text)?);
-        assert_eq!(rt; holds(alloc, term)?, whole, "of {text}");
-    }
-    for (text, whole) in [("main", true), ("mai", false), ("m|n", false)] {
-        let term = RequirementTerm::BranchMatches(Pattern::read(alloc, text)?);
-        assert_eq!(rt; holds(alloc, term)?, whole, "of {text}");
-    }
-    for (text, has) in [
-        ("lib.rs", true),
-        ("src", true),
-        ("lib", false),
-        ("docs/a b.md", false),
-    ] {
-        let term = RequirementTerm::File(Path::read(alloc, text)?);
-        assert_eq!(rt; holds(alloc, term)?, has, "of {text}");
-    }
-    assert!(rt;
-        holds(
-            alloc,
-            RequirementTerm::Path(Path::read(alloc, "src/lib.rs")?)
-        )?
-    );
-    assert!(rt; !holds(alloc, RequirementTerm::Path(Path::read(alloc, "src")?))?);
-    assert!(rt;
-        holds(
-            alloc,
-            RequirementTerm::Branch(BranchName::read(alloc, "main")?)
-        )?
-    );
-    assert!(rt; matches!(Pattern::read(alloc, "a)|(?:b"), Err(PatternFault::Syntax)));
-    assert_eq!(rt; Pattern::read(alloc, "a+")?.as_str(), "a+");
-    Ok(())
-}
-
-#[test]
-fn people(rt: HostRuntime) -> Result<(), Fail> {
-    let alloc = rt.alloc();
-    assert!(rt;
-        holds(
-            alloc,
-            RequirementTerm::UploaderIn(GroupName::read(alloc, "Core")?)
-        )?
-    );
-    assert!(rt;
-        !holds(
-            alloc,
-            RequirementTerm::OwnerIn(GroupName::read(alloc, "Core")?)
-        )?
-    );
-    assert!(rt; holds(alloc, RequirementTerm::Unresolved)?);
-    let facts = change(alloc)?;
-    let mut members = Vec::new(alloc);
-    members.push(Node::Term(RequirementTerm::Always(true)))?;
-    members.push(Node::Term(RequirementTerm::Always(false)))?;
-    assert!(rt; eval(alloc, &Node::Or(members), &facts)?);
-    let mut members = Vec::new(alloc);
-    members.push(Node::Term(RequirementTerm::Unresolved))?;
-    members.push(Node::Not(Box::new(alloc, Node::Term(RequirementTerm::Always(true)))?))?;
-    assert!(rt; !eval(alloc, &Node::And(members), &facts)?);
-    Ok(())
-}
-
-fn copies(alloc: Global, term: CopyTerm) -> Result<bool, Fail> {
-    let facts = VoteFacts {
-        value: -2,
-        voter: account(3)?,
+/// A vote of 2, its label's greatest value, at a rework.
+fn vote(alloc: Global) -> Result<Facts, Fail> {
+    Ok(Facts::Vote(VoteFacts {
+        value: 2,
+        voter: account(1)?,
         range: ValueRange {
             least: -2,
             greatest: 2,
         },
-        kind: ChangeKind::TrivialRebase,
-        uploader: account(2)?,
+        kind: ChangeKind::Rework,
+        uploader: account(1)?,
         unchanged_files: false,
-        groups: groups(alloc)?,
-    };
-    Ok(eval(alloc, &Node::Term(term), &facts)?)
+        groups: Groups(BTreeMap::new(alloc)),
+    }))
 }
 
 #[test]
-fn copy_conditions(rt: HostRuntime) -> Result<(), Fail> {
+fn expressions_are_judged(rt: HostRuntime) -> Result<(), Fail> {
     let alloc = rt.alloc();
-    assert!(rt; copies(alloc, CopyTerm::Value(VoteValue::Min))?);
-    assert!(rt; !copies(alloc, CopyTerm::Value(VoteValue::Max))?);
-    assert!(rt; copies(alloc, CopyTerm::Kind(ChangeKind::Rework))?);
-    assert!(rt;
-        copies(
-            alloc,
-            CopyTerm::Kind(ChangeKind::TrivialRebaseWithMessageUpdate)
-        )?
-    );
-    assert!(rt; !copies(alloc, CopyTerm::Kind(ChangeKind::NoCodeChange))?);
-    assert!(rt; !copies(alloc, CopyTerm::Kind(ChangeKind::MergeFirstParentUpdate))?);
-    assert!(rt; copies(alloc, CopyTerm::ApproverIn(GroupName::read(alloc, "Core")?))?);
-    assert!(rt; !copies(alloc, CopyTerm::UploaderIn(GroupName::read(alloc, "Core")?))?);
-    assert!(rt; !copies(alloc, CopyTerm::UnchangedFiles)?);
+    let docs = change(alloc, "docs/a")?;
+    let inner = change(alloc, "src/docs/a")?;
+    for (text, of_docs, of_inner) in [
+        ("path:^docs/.*", true, false),
+        ("file:docs", true, true),
+        ("path:\"^(src/)?docs/.*\"", true, true),
+        ("path:docs", false, false),
+        ("NOT path:^docs/.* OR has:unresolved", false, true),
+    ] {
+        let expr = parse_requirement(alloc, text).ok().ok_or("no expression")?;
+        assert_eq!(rt; eval(alloc, &expr, &docs).ok(), Some(of_docs), "of {text}");
+        assert_eq!(rt;
+            eval(alloc, &expr, &inner).ok(),
+            Some(of_inner),
+            "of {text}"
+        );
+    }
+    let vote = vote(alloc)?;
+    for (text, held) in [("is:MAX", true), ("is:MIN OR changekind:NO_CHANGE", false)] {
+        let expr = parse_copy(alloc, text).ok().ok_or("no expression")?;
+        assert_eq!(rt; eval(alloc, &expr, &vote).ok(), Some(held), "of {text}");
+        assert_eq!(rt; eval(alloc, &expr, &docs).ok(), Some(false), "of {text}");
+    }
     Ok(())
 }
 
 #[test]
-fn labels_are_named_once(rt: HostRuntime) -> Result<(), Fail> {
+fn labels_are_named(rt: HostRuntime) -> Result<(), Fail> {
     let alloc = rt.alloc();
-    let mut members = Vec::new(alloc);
-    for name in ["Verified", "Code-Review", "Verified"] {
-        let term = LabelTerm {
-            label: LabelName::read(alloc, name)?,
-            comparison: Comparison::Is(VoteValue::Max),
-            voters: Voters::Everyone,
-            count: None,
-        };
-        members.push(Node::Term(RequirementTerm::Label(term)))?;
+    let text = "label:Code-Review+2 -(is:true label:A>1) NOT label:A=ANY";
+    let expr = parse_requirement(alloc, text).ok().ok_or("no expression")?;
+    let mut names = String::new(alloc);
+    for label in &labels_of(alloc, &expr)? {
+        names.push_str(label.as_str())?;
+        names.push_str(" ")?;
     }
-    members.push(Node::Term(RequirementTerm::Unresolved))?;
-    let node = Node::Not(Box::new(alloc, Node::And(members))?);
-    let labels = labels_of(alloc, &node)?;
-    assert_eq!(rt; labels.len(), 2);
-    let mut shown = String::new(alloc);
-    for label in &labels {
-        shown.push_str(label.as_str())?;
-        shown.push_str(" ")?;
-    }
-    assert_eq!(rt; shown.as_str(), "Code-Review Verified ");
+    assert_eq!(rt; names.as_str(), "A Code-Review ");
+    let copy = parse_copy(alloc, "is:1").ok().ok_or("no expression")?;
+    assert_eq!(rt; labels_of(alloc, &copy)?.len(), 0);
+    Ok(())
+}
+
+#[test]
+fn codes_are_numbered(rt: HostRuntime) -> Result<(), Fail> {
+    assert_eq!(rt; ExprCode::Empty.number(), 1);
+    assert_eq!(rt; ExprCode::TooLong.number(), 8);
+    assert_eq!(rt; ExprCode::BadValue.name(), "BAD_VALUE");
     Ok(())
 }

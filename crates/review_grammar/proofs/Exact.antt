@@ -15,8 +15,8 @@ Cuts (Within place w quoted) at ls text = (more rest : List ℕ) × (later : Lis
 -- white space in front
 blank_front : (at c : ℕ) (ls : List Lexeme) (cs : List ℕ) → is_blank c ≡ true → IsCut (at + 1) ls cs → IsCut at ls (c ∷ cs)
 blank_front at c [] cs b h = rw b h
-blank_front at c (Open ∷ ls) cs b h =
-    (c ∷ h.0, h.1, (rw b h.2), ap (λ xs. c ∷ xs) h.3, subst (λ n. IsCut n ls h.1) (omega arith) h.4)
+blank_front at c (Open place ∷ ls) cs b h =
+    (c ∷ h.0, h.1, (rw b h.2), ap (λ xs. c ∷ xs) h.3, h.4 ∙ omega arith, h.5)
 blank_front at c (Close ∷ ls) cs b h =
     (c ∷ h.0, h.1, (rw b h.2), ap (λ xs. c ∷ xs) h.3, subst (λ n. IsCut n ls h.1) (omega arith) h.4)
 blank_front at c (Word place w ∷ ls) cs b h =
@@ -38,7 +38,7 @@ begins_sound : (blank opens closes : Bool) (at c : ℕ) (ls : List Lexeme) (cs :
     Cuts (begins_by blank opens closes at c).1 (at + 1) ls cs → IsCut at ((begins_by blank opens closes at c).0 ++ ls) (c ∷ cs)
 begins_sound true opens closes at c ls cs b o k h = blank_front at c ls cs b h
 begins_sound false true closes at c ls cs b o k h =
-    ([], cs, refl, ap (λ x. x ∷ cs) (equal c 40 o), subst (λ n. IsCut n ls cs) (omega arith) h)
+    ([], cs, refl, ap (λ x. x ∷ cs) (equal c 40 o), omega arith, h)
 begins_sound false false true at c ls cs b o k h =
     ([], cs, refl, ap (λ x. x ∷ cs) (equal c 41 k), subst (λ n. IsCut n ls cs) (omega arith) h)
 begins_sound false false false at c ls cs b o k h = word_front at c ls cs (rw (b, o, k) refl) h
@@ -160,8 +160,10 @@ scan_word (c ∷ cs) rest place w false at h e =
 
 pub scan_again : (ls : List Lexeme) (at : ℕ) (text : List ℕ) → IsCut at ls text → scan Between at text ≡ Some ls
 scan_again [] at text h = ap (scan Between at) (sym (append-nil text)) ∙ scan_blank text [] at h
-scan_again (Open ∷ ls) at text h =
-    ap (scan Between at) h.3 ∙ scan_blank h.0 (40 ∷ h.1) at h.2 ∙ ap (put (Open ∷ [])) (scan_again ls (at + length h.0 + 1) h.1 h.4)
+scan_again (Open place ∷ ls) at text h =
+    ap (scan Between at) h.3 ∙ scan_blank h.0 (40 ∷ h.1) at h.2
+    ∙ ap (λ n. put (Open n ∷ []) (scan Between (n + 1) h.1)) (sym h.4)
+    ∙ ap (put (Open place ∷ [])) (scan_again ls (place + 1) h.1 h.5)
 scan_again (Close ∷ ls) at text h =
     ap (scan Between at) h.3 ∙ scan_blank h.0 (41 ∷ h.1) at h.2 ∙ ap (put (Close ∷ [])) (scan_again ls (at + length h.0 + 1) h.1 h.4)
 scan_again (Word place w ∷ ls) at text h =

@@ -108,7 +108,7 @@ abbrev pub more_if : Bool → ℕ → ℕ
 more_if true n = n + 1
 more_if false n = n
 
--- a term is 1 deep; NOT, a minus and a pair of parentheses are each one more than what they hold
+-- a term is 1 deep; NOT, a minus and a pair of parentheses are each one more than what they hold; a list is as deep as its deepest member
 abbrev mutual
   pub depth : {A : Type 0} → Unary A → ℕ
   depth (Leaf negated a) = more_if negated 1

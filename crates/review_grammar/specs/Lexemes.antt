@@ -4,7 +4,8 @@ use Rattle.std.specs.Prelude.{◌≡◌, ℕ, zero, suc, ◌+◌, Bool, true, fa
 pub data Lexeme : Type 0 where
   -- a word: where it starts, and its bytes
   Word : (place : ℕ) (bytes : List ℕ) → Lexeme
-  Open : Lexeme
+  -- an opening parenthesis: where it stands
+  Open : (place : ℕ) → Lexeme
   Close : Lexeme
 
 -- space, tab, line feed and carriage return
@@ -32,7 +33,7 @@ ends (c ∷ cs) = is_end c
 -- The text is these lexemes, with white space round them, where its first byte stands at the place.
 abbrev pub IsCut : ℕ → List Lexeme → List ℕ → Type 0
 IsCut at [] text = IsTrue (all_blank text)
-IsCut at (Open ∷ ls) text = (blank rest : List ℕ) × IsTrue (all_blank blank) × (text ≡ blank ++ 40 ∷ rest) × IsCut (at + length blank + 1) ls rest
+IsCut at (Open place ∷ ls) text = (blank rest : List ℕ) × IsTrue (all_blank blank) × (text ≡ blank ++ 40 ∷ rest) × (place ≡ at + length blank) × IsCut (place + 1) ls rest
 IsCut at (Close ∷ ls) text = (blank rest : List ℕ) × IsTrue (all_blank blank) × (text ≡ blank ++ 41 ∷ rest) × IsCut (at + length blank + 1) ls rest
 IsCut at (Word place w ∷ ls) text = (blank : List ℕ) × (c : ℕ) × (cs rest : List ℕ) × IsTrue (all_blank blank)
     × (w ≡ c ∷ cs) × IsTrue (runs false w) × IsTrue (ends rest) × (place ≡ at + length blank) × (text ≡ blank ++ (w ++ rest)) × IsCut (place + length w) ls rest
@@ -40,7 +41,7 @@ IsCut at (Word place w ∷ ls) text = (blank : List ℕ) × (c : ℕ) × (cs res
 -- each parenthesis has its other half, where so many stand unclosed in front
 abbrev pub balanced : ℕ → List Lexeme → Bool
 balanced unclosed [] = unclosed == 0
-balanced unclosed (Open ∷ ls) = balanced (suc unclosed) ls
+balanced unclosed (Open place ∷ ls) = balanced (suc unclosed) ls
 balanced zero (Close ∷ ls) = false
 balanced (suc unclosed) (Close ∷ ls) = balanced unclosed ls
 balanced unclosed (Word place w ∷ ls) = balanced unclosed ls

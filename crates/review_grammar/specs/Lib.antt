@@ -4,3 +4,4 @@ pub mod Scanned
 pub mod Grammar
 pub mod Reading
 pub mod Views
+pub mod Words

@@ -11,7 +11,7 @@ pub data Mode : Type 0 where
 -- a byte outside words, by whether it is blank and which parenthesis it is: what it gives, and the mode after it
 abbrev pub begins_by : Bool → Bool → Bool → ℕ → ℕ → List Lexeme × Mode
 begins_by true opens closes at c = ([], Between)
-begins_by false true closes at c = (Open ∷ [], Between)
+begins_by false true closes at c = (Open at ∷ [], Between)
 begins_by false false true at c = (Close ∷ [], Between)
 begins_by false false false at c = ([], Within at (c ∷ []) (c == 34))
 

@@ -11,11 +11,17 @@ use Rattle.review_grammar.specs.Scan.{Mode, Between, Within, begins, step}
 -- a piece of this text
 abbrev pub lexeme : List ℕ → Piece → Lexeme
 lexeme text (piece.Word start end) = Word start (slice_range text start end)
-lexeme text piece.Open = Open
+lexeme text (piece.Open place) = Open place
 lexeme text piece.Close = Close
 
 abbrev pub lexemes : List ℕ → List Piece → List Lexeme
 lexemes text = map (lexeme text)
+
+-- a word ends within the text
+abbrev pub IsWithin : List ℕ → Piece → Type 0
+IsWithin text (piece.Word start end) = end ≤ length text
+IsWithin text (piece.Open place) = Unit {0}
+IsWithin text piece.Close = Unit {0}
 
 -- The text is not cut, for this cause: it has more than 4,096 bytes, or no lexeme, or no lexemes whose parentheses match make it; or memory ran out.
 abbrev pub IsUncut : List ℕ → CutFault → Type 0

@@ -1,18 +1,20 @@
 //! Cutting a text into words and parentheses.
 ghost use Rattle.std.specs.Prelude.{◌≡◌, ◌≤◌, ◌<◌, ◌+◌, ◌++◌, ℕ, List, None, length, slice_index, IfOk, IfErr, IsTrue};
+ghost use Rattle.std.specs.List.{All};
 ghost use Rattle.review_grammar.specs.Lexemes.{IsCut, balanced, all_blank, is_blank};
-ghost use Rattle.review_grammar.specs.Scanned.{lexemes, IsUncut, IsUnscanned, IsBehind, scanner_at, begun, advanced};
+ghost use Rattle.review_grammar.specs.Scanned.{lexemes, IsUncut, IsWithin, IsUnscanned, IsBehind, scanner_at, begun, advanced};
 
 use std::alloc::{AllocError, AllocFailed, Global};
 
 /// The most bytes that a text has.
 pub const MOST_BYTES: usize = 4096;
 
-/// A word, by its first byte and the byte after it, or a parenthesis.
+/// A word, by its first byte and the byte after it, an opening parenthesis, by its place, or a
+/// closing one.
 #[derive(Clone, Copy, Debug, PartialEq, Eq)]
 pub enum Piece {
     Word(usize, usize),
-    Open,
+    Open(usize),
     Close,
 }
 
@@ -72,15 +74,17 @@ impl Scanner {
     fn begin(mut self, text: &[u8], at: usize) -> Result<Scanner, AllocError>
         requires within { at < length text.now }
         requires outside { self.start ≡ None }
+        requires held { All (IsWithin text.now) self.pieces.items }
         ensures moved { IfOk result (λ s. scanner_at text.now (at + 1) s ≡ begun (lexemes text.now self.pieces.items) at (slice_index text.now at)) }
         ensures behind { IfOk result (λ s. IsBehind s (at + 1)) }
+        ensures held { IfOk result (λ s. All (IsWithin text.now) s.pieces.items) }
     {
         let byte = text[at];
         if is_blank(byte) {
             return Ok(self);
         }
         if byte == b'(' {
-            self.pieces.push(Piece::Open)?;
+            self.pieces.push(Piece::Open(at))?;
             return Ok(self);
         }
         if byte == b')' {
@@ -97,8 +101,10 @@ impl Scanner {
     fn step(mut self, text: &[u8], at: usize) -> Result<Scanner, AllocError>
         requires within { at < length text.now }
         requires behind { IsBehind self at }
+        requires held { All (IsWithin text.now) self.pieces.items }
         ensures moved { IfOk result (λ s. scanner_at text.now (at + 1) s ≡ advanced (scanner_at text.now at self) at (slice_index text.now at)) }
         ensures behind { IfOk result (λ s. IsBehind s (at + 1)) }
+        ensures held { IfOk result (λ s. All (IsWithin text.now) s.pieces.items) }
     {
         let byte = text[at];
         let Some(start) = self.start else {
@@ -121,6 +127,7 @@ impl Scanner {
 /// The pieces of a text, whatever its length and its parentheses.
 fn scanned(alloc: Global, text: &[u8]) -> Result<Vec<Piece>, CutFault>
     ensures cut { IfOk result (λ v. IsCut 0 (lexemes text.now v.items) text.now) }
+    ensures within { IfOk result (λ v. All (IsWithin text.now) v.items) }
     ensures fault { IfErr result (IsUnscanned text.now) }
 {
     let mut scanner = Scanner {
@@ -149,7 +156,7 @@ fn is_balanced(pieces: &[Piece]) -> bool
     for piece in pieces {
         match piece {
             Piece::Word(_, _) => {}
-            Piece::Open => unclosed += 1,
+            Piece::Open(_) => unclosed += 1,
             Piece::Close => {
                 if unclosed == 0 {
                     return false;
@@ -165,6 +172,7 @@ fn is_balanced(pieces: &[Piece]) -> bool
 /// match. The first of TooLong, Empty and Unbalanced that applies is answered.
 pub fn cut(alloc: Global, text: &[u8]) -> Result<Vec<Piece>, CutFault>
     ensures cut { IfOk result (λ v. IsCut 0 (lexemes text.now v.items) text.now) }
+    ensures within { IfOk result (λ v. All (IsWithin text.now) v.items) }
     ensures balanced { IfOk result (λ v. IsTrue (balanced 0 (lexemes text.now v.items))) }
     ensures some { IfOk result (λ v. 1 ≤ length v.items) }
     ensures short { IfOk result (λ v. length text.now ≤ 4096) }

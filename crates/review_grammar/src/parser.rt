@@ -257,7 +257,7 @@ fn take_sign<W: Drop>(tokens: &mut VecDeque<Token<W>>) -> Prefix
 fn unary<W: Drop>(
     alloc: Global,
     tokens: &mut VecDeque<Token<W>>,
-    fuel: usize,
+    fuel: u128,
 ) -> Result<Part<W>, Refusal>
     ensures { Gives (λ p. (part_view p, toks tokens.new.items)) result (option_map seen (unary fuel (toks tokens.old.items))) }
 {
@@ -284,7 +284,7 @@ fn unary<W: Drop>(
 fn primary<W: Drop>(
     alloc: Global,
     tokens: &mut VecDeque<Token<W>>,
-    fuel: usize,
+    fuel: u128,
 ) -> Result<Part<W>, Refusal>
     ensures { Gives (λ p. (part_view p, toks tokens.new.items)) result (option_map seen (primary false (members fuel) (toks tokens.old.items))) }
 {
@@ -306,7 +306,7 @@ fn members<W: Drop>(
     alloc: Global,
     run: Run<W>,
     tokens: &mut VecDeque<Token<W>>,
-    fuel: usize,
+    fuel: u128,
 ) -> Result<Run<W>, Refusal>
     ensures { Gives (λ r. (run_view r, toks tokens.new.items)) result (option_map (seen_all (run_view run)) (members fuel (toks tokens.old.items))) }
 {
@@ -324,14 +324,13 @@ fn members<W: Drop>(
     }
 }
 
-/// The tree of at most 4,096 tokens, as many as a text within its limit has, or the first fault
-/// that applies.
+/// The tree of tokens, or the first fault that applies. Parentheses within one another take stack,
+/// the more the larger W is: with the terms of requirements some 300 levels overflow 8 MiB.
 pub fn parse<W: Drop>(alloc: Global, mut tokens: VecDeque<Token<W>>) -> Result<Node<W>, ShapeFault>
-    requires few { length tokens.items ≤ 4096 }
     ensures tree { IfOk result (λ node. HasTree (toks tokens.items) (view node)) }
     ensures fault { IfErr result (IsShapeFault (toks tokens.items)) }
 {
-    let fuel = 2 * tokens.len() + 1;
+    let fuel = 2 * (tokens.len() as u128) + 1;
     let run = match members(alloc, Run::new(alloc), &mut tokens, fuel) {
         Ok(run) => run,
         Err(Refusal::Grammar) => return Err(ShapeFault::BadTerm),

@@ -38,9 +38,9 @@ fn texts_are_cut(rt: HostRuntime) -> Result<(), Fail> {
     let alloc = rt.alloc();
     for (text, shown) in [
         ("is:true", "[Word(0, 7)]"),
-        (" a\t(b)\r\n", "[Word(1, 2), Open, Word(4, 5), Close]"),
+        (" a\t(b)\r\n", "[Word(1, 2), Open(3), Word(4, 5), Close]"),
         ("a\"b (c\"d e", "[Word(0, 8), Word(9, 10)]"),
-        ("-(\"\")", "[Word(0, 1), Open, Word(2, 4), Close]"),
+        ("-(\"\")", "[Word(0, 1), Open(1), Word(2, 4), Close]"),
     ] {
         let cut = pieces(alloc, text)?;
         assert_eq!(rt; cut.as_str(), shown, "of {text}");

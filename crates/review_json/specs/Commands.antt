@@ -2,18 +2,19 @@
 use Rattle.std.specs.Prelude.{ℕ, List, if◌then◌else◌, Option, None, option_map, option_and_then, codes}
 use Rattle.std.specs.Str.{bytes_eq}
 use Rattle.serde_json.specs.Data.{Data}
+use Rattle.review_words.specs.Names.{is_word}
 use Rattle.review_words.specs.declared.command.Command.{Command}
 use Rattle.review_words.specs.declared.command.Command.TheVariants.{CreateAccount, PutGroup}
-use Rattle.review_json.specs.Parts.{word_at, members_at}
+use Rattle.review_json.specs.Parts.{name_at, members_at}
 
 -- the body has the name
 unfoldable pub create_account : Data → Option Command
-create_account body = option_map (λ name. CreateAccount name) (word_at (codes "name") body)
+create_account body = option_map (λ name. CreateAccount name) (name_at is_word (codes "name") body)
 
 -- the line has the group, the body its members
 unfoldable pub put_group : Data → Data → Option Command
 put_group line body =
-    option_and_then (λ group. option_map (λ members. PutGroup group members) (members_at (codes "members") body)) (word_at (codes "group") line)
+    option_and_then (λ group. option_map (λ members. PutGroup group members) (members_at (codes "members") body)) (name_at is_word (codes "group") line)
 
 -- the command of a name
 unfoldable pub command_named : List ℕ → Data → Data → Option Command

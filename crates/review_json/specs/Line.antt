@@ -4,10 +4,11 @@ use Rattle.std.specs.Str.{is_utf8}
 use Rattle.serde_json.specs.Data.{Data, object, no_members}
 use Rattle.serde_json.specs.Read.{read}
 use Rattle.serde_json.specs.Find.{get, as_object}
+use Rattle.review_words.specs.Names.{is_word}
 use Rattle.review_words.specs.declared.command.Command.{Command}
 use Rattle.review_words.specs.declared.command.Delivery.{Delivery}
 use Rattle.review_words.specs.declared.command.Delivery.TheVariants.{Write}
-use Rattle.review_json.specs.Parts.{text_at, word_at, account_at}
+use Rattle.review_json.specs.Parts.{text_at, name_at, account_at}
 use Rattle.review_json.specs.Commands.{command_named}
 
 -- the value of a text in UTF-8
@@ -30,7 +31,7 @@ command_in line = option_and_then (λ name. option_and_then (λ body. command_na
 -- the caller, the request's id and the command
 unfoldable pub delivery_in : Data → Option Delivery
 delivery_in line =
-    option_and_then (λ caller. option_and_then (λ id. option_map (λ command. Write caller id command) (command_in line)) (word_at (codes "id") line)) (account_at (codes "caller") line)
+    option_and_then (λ caller. option_and_then (λ id. option_map (λ command. Write caller id command) (command_in line)) (name_at is_word (codes "id") line)) (account_at (codes "caller") line)
 
 -- the delivery that the bytes of a line spell
 unfoldable pub delivery_spelled : List ℕ → Option Delivery

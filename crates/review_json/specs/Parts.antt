@@ -1,8 +1,8 @@
 -- What the members of an object spell.
-use Rattle.std.specs.Prelude.{◌≡◌, ℕ, List, [], ◌∷◌, length, nat_le, if◌then◌else◌, Option, Some, None, option_map, option_and_then, Result, Ok, Err}
+use Rattle.std.specs.Prelude.{◌≡◌, ℕ, Bool, List, [], ◌∷◌, length, nat_le, if◌then◌else◌, Option, Some, None, option_map, option_and_then, Result, Ok, Err}
 use Rattle.serde_json.specs.Data.{Data, Items, no_items, item}
 use Rattle.serde_json.specs.Find.{get, as_u64, as_number, as_str, as_array}
-use Rattle.review_words.specs.Names.{is_word, is_account_number, set_of, most_members}
+use Rattle.review_words.specs.Names.{is_account_number, set_of, most_members}
 use Rattle.review_json.specs.declared.fault.BadBody.{BadBody}
 use Rattle.review_json.specs.declared.fault.BadBody.TheVariants.{Form, Memory}
 
@@ -16,12 +16,12 @@ Gives (Err Memory) spelled = Unit {0}
 unfoldable pub text_at : List ℕ → Data → Option (List ℕ)
 text_at key d = option_and_then as_str (get key d)
 
-abbrev pub word_from : List ℕ → Option (List ℕ)
-word_from text = if is_word text then Some text else None
+abbrev pub formed : (List ℕ → Bool) → List ℕ → Option (List ℕ)
+formed is_form text = if is_form text then Some text else None
 
--- the name of a member, which is a text of a name's form
-unfoldable pub word_at : List ℕ → Data → Option (List ℕ)
-word_at key d = option_and_then word_from (text_at key d)
+-- the name of a member, which is a text of the name's form
+unfoldable pub name_at : (List ℕ → Bool) → List ℕ → Data → Option (List ℕ)
+name_at is_form key d = option_and_then (formed is_form) (text_at key d)
 
 abbrev pub account_from : ℕ → Option ℕ
 account_from n = if is_account_number n then Some n else None

@@ -4,7 +4,7 @@ ghost use Rattle.review_json.specs.Parts.{Gives};
 ghost use Rattle.review_json.specs.Commands.{create_account, put_group, command_named};
 
 use crate::fault::BadBody;
-use crate::parts::{members_at, word_at};
+use crate::parts::{members_at, name_at};
 use review_words::Command;
 use serde_json::Value;
 use std::alloc::Global;
@@ -14,7 +14,7 @@ use std::alloc::Global;
 pub fn create_account(alloc: Global, body: &Value) -> Result<Command, BadBody>
     ensures { Gives result (create_account (view body.now)) }
 {
-    let name = word_at(alloc, "name", body)?;
+    let name = name_at(alloc, "name", body)?;
     Ok(Command::CreateAccount { name })
 }
 
@@ -23,7 +23,7 @@ pub fn create_account(alloc: Global, body: &Value) -> Result<Command, BadBody>
 pub fn put_group(alloc: Global, line: &Value, body: &Value) -> Result<Command, BadBody>
     ensures { Gives result (put_group (view line.now) (view body.now)) }
 {
-    let group = word_at(alloc, "group", line)?;
+    let group = name_at(alloc, "group", line)?;
     let members = members_at(alloc, "members", body)?;
     Ok(Command::PutGroup { group, members })
 }

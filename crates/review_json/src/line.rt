@@ -6,7 +6,7 @@ ghost use Rattle.review_json.specs.Line.{value_spelled, command_in, delivery_in,
 
 use crate::commands::command_named;
 use crate::fault::BadBody;
-use crate::parts::{account_at, text_at, word_at};
+use crate::parts::{account_at, name_at, text_at};
 use review_words::{Command, Delivery};
 use serde_json::{Map, Value};
 use std::alloc::Global;
@@ -37,7 +37,7 @@ fn delivery_in(alloc: Global, line: &Value) -> Result<Delivery, BadBody>
     ensures { Gives result (delivery_in (view line.now)) }
 {
     let caller = account_at("caller", line)?;
-    let id = word_at(alloc, "id", line)?;
+    let id = name_at(alloc, "id", line)?;
     let command = command_in(alloc, line)?;
     Ok(Delivery::Write {
         caller,

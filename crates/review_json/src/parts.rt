@@ -1,10 +1,10 @@
 //! What the members of an object spell.
 ghost use Rattle.std.specs.Prelude.{◌≡◌, Some, None, Err, IfOk, option_map};
 ghost use Rattle.serde_json.specs.View.{view, items_view};
-ghost use Rattle.review_json.specs.Parts.{Gives, text_at, word_at, account_of, account_at, accounts_in, members_from, members_at};
+ghost use Rattle.review_json.specs.Parts.{Gives, text_at, name_at, account_of, account_at, accounts_in, members_from, members_at};
 
 use crate::fault::BadBody;
-use review_words::{AccountNo, Members, Word};
+use review_words::{AccountNo, Form, Members, Name};
 use serde_json::Value;
 use std::alloc::Global;
 
@@ -16,13 +16,13 @@ pub fn text_at<'a>(key: &str, value: &'a Value) -> Option<&'a str>
     value.get(key).and_then(Value::as_str)
 }
 
-/// The name of the member `key`, a text of 1 to 64 plain characters.
-#[tactic(auto, unfolding(crate::specs::Parts::word_at))]
-pub fn word_at<K>(alloc: Global, key: &str, value: &Value) -> Result<Word<K>, BadBody>
-    ensures { Gives result (word_at key.now (view value.now)) }
+/// The name of the member `key`, a text of the name's form.
+#[tactic(auto, unfolding(crate::specs::Parts::name_at))]
+pub fn name_at<F: Form>(alloc: Global, key: &str, value: &Value) -> Result<Name<F>, BadBody>
+    ensures { Gives result (name_at F.is_form key.now (view value.now)) }
 {
     let text = text_at(key, value).ok_or(BadBody::Form)?;
-    Ok(Word::read(alloc, text)?)
+    Ok(Name::read(alloc, text)?)
 }
 
 /// The account of a whole number.

@@ -8,6 +8,11 @@ use std::test::Fail;
 const ANN: &str =
     "{\"caller\":1,\"id\":\"a1\",\"do\":\"CreateAccount\",\"body\":{\"name\":\"ann\"}}";
 
+/// Account 2.
+fn second() -> Result<AccountNo, Fail> {
+    Ok(AccountNo::from_number(2).ok_or("no account")?)
+}
+
 /// The content text of the command that a line spells, or what is wrong with the line.
 fn content_of(alloc: Global, line: &[u8]) -> Result<String, BadBody> {
     let Delivery::Write { command, .. } = delivery_of_line(alloc, line)?;
@@ -129,10 +134,7 @@ fn counts_members_without_doubles(rt: HostRuntime) -> Result<(), Fail> {
 #[test]
 fn writes_answers(rt: HostRuntime) -> Result<(), Fail> {
     let cases = [
-        (
-            Reply::Done(Answer::Account(AccountNo::new(2))),
-            "{\"account\":2}",
-        ),
+        (Reply::Done(Answer::Account(second()?)), "{\"account\":2}"),
         (Reply::Done(Answer::Nothing), "{}"),
         (
             Reply::Refused(Refusal::UnknownCaller),

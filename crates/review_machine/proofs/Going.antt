@@ -1,8 +1,8 @@
 -- A run goes on by one delivery.
-use Rattle.std.proofs.Common.{◌≡◌, ℕ, zero, suc, ◌+◌, ◌-◌, ◌<◌, ◌≤◌, add-zero, take, drop, List, [], ◌∷◌, ◌++◌, length, get_or, Bool, true, false, cond, ◌||◌, refl, sym, ap, ◌∙◌, subst, inl, inr, ⊎_elim, arith, length-append}
+use Rattle.std.proofs.Common.{◌≡◌, ℕ, zero, suc, ◌+◌, ◌-◌, ◌<◌, ◌≤◌, take, List, [], ◌∷◌, ◌++◌, length, get_or, Bool, true, false, cond, ◌||◌, refl, sym, ap, ◌∙◌, subst, inl, inr, ⊎_elim, arith, length-append}
 use Rattle.std.specs.Prelude.{is_some}
 use Rattle.std.proofs.lemmas.Bool.{cases_Bool, cases_lt}
-use Rattle.std.proofs.lemmas.List.{get_or_append_left, get_or-append-add, take-append-le, length-drop}
+use Rattle.std.proofs.lemmas.List.{get_or_append_left, get_or-append-add, take-append-le}
 use Rattle.std.proofs.Math.Seq.{take-append-add}
 use Rattle.review_words.specs.declared.command.Delivery.{Delivery}
 use Rattle.review_words.specs.declared.command.Delivery.TheVariants.{Write}
@@ -10,7 +10,7 @@ use Rattle.review_words.specs.declared.reply.Reply.{Reply}
 use Rattle.review_words.specs.declared.reply.Reply.TheVariants.{Done, Refused, IdentityReused, NotTaken}
 use Rattle.review_words.specs.History.{Entry, Identity, stored, is_same}
 use Rattle.review_rows.specs.Answer.{IsHistory}
-use Rattle.review_machine.specs.Replies.{taken, with_taken, with_write, LeavesSince, first_arrivals as first, arrivals_after as first_after, has_identity, history_after, with_entries as hist, entry_of, IsRight, AreRight, IsServed, IsRun, StopsWithin, HasEffect}
+use Rattle.review_machine.specs.Replies.{taken, with_taken, with_write, StopGoesOnFrom, first_arrivals as first, arrivals_after as first_after, has_identity, history_after, with_entries as hist, entry_of, IsRight, AreRight, AreJoined, IsServed, IsRun, StopsWithin, HasEffect}
 use Rattle.review_rows.specs.Shelf.{Shown, Views}
 use Rattle.review_rows.specs.Rows.{Tables}
 use Rattle.review_machine.proofs.Histories.{same_from, stored_here, stored_there}
@@ -107,54 +107,46 @@ pub history_after-append : (h0 : List Entry) (ds es : List Delivery) (rs ss : Li
     history_after h0 (ds ++ es) (rs ++ ss) ≡ history_after (history_after h0 ds rs) es ss
 history_after-append h0 ds es rs ss same = ap (λ xs. hist h0 (first h0 xs)) (taken-append ds es rs ss same) ∙ first-append h0 (taken ds rs) (taken es ss)
 
--- the counts of two runs, of which the second begins where the first one ends
-joined_counts : (cs os : List ℕ) (n j : ℕ) → length cs ≡ n + 1 → 0 < length os → get_or cs n 0 ≡ get_or os 0 0 → get_or (cs ++ drop 1 os) (n + j) 0 ≡ get_or os j 0
-joined_counts cs [] n j long some meet = absurd (omega arith)
-joined_counts cs (o ∷ os) n zero long some meet = ap (λ k. get_or (cs ++ os) k 0) (add-zero n) ∙ (get_or_append_left cs os 0 n (omega arith) ∙ meet)
-joined_counts cs (o ∷ os) n (suc j) long some meet =
-    let there : n + suc j ≡ length cs + j = omega arith in
-    ap (λ k. get_or (cs ++ os) k 0) there ∙ get_or-append-add cs os j 0
+-- counts of two runs, of which the second begins where the first one ends
+joined-append : (from mid to : ℕ) (cs os : List (ℕ × ℕ)) → AreJoined from cs mid → AreJoined mid os to → AreJoined from (cs ++ os) to
+joined-append from mid to [] os one other = subst (λ n. AreJoined n os to) one other
+joined-append from mid to (c ∷ cs) os one other = (one.0, joined-append c.1 mid to cs os one.1 other)
 
-right_at : (h0 : List Entry) (ds : List Delivery) (rs : List Reply) {h : List Entry} {d d' : Delivery} {r r' : Reply} {b b' a a' : ℕ} →
-    history_after h0 ds rs ≡ h → d ≡ d' → r ≡ r' → b ≡ b' → a ≡ a' → IsRight h d r b a → IsRight (history_after h0 ds rs) d' r' b' a'
-right_at h0 ds rs p u v x y = subst (λ (t : List Entry × Delivery × Reply × ℕ × ℕ). IsRight t.0 t.1 t.2 t.3 t.4) (λ i. (sym p i, u i, v i, x i, y i))
+right_at : (h0 : List Entry) (ds : List Delivery) (rs : List Reply) {h : List Entry} {d d' : Delivery} {r r' : Reply} {c c' : ℕ × ℕ} →
+    history_after h0 ds rs ≡ h → d ≡ d' → r ≡ r' → c ≡ c' → IsRight h d r c.0 c.1 → IsRight (history_after h0 ds rs) d' r' c'.0 c'.1
+right_at h0 ds rs p u v x = subst (λ (t : List Entry × Delivery × Reply × (ℕ × ℕ)). IsRight t.0 t.1 t.2 (t.3).0 (t.3).1) (λ i. (sym p i, u i, v i, x i))
 
-module _ (h0 : List Entry) (ds es : List Delivery) (rs ss : List Reply) (cs os : List ℕ) (one : AreRight h0 ds rs cs) (other : AreRight (history_after h0 ds rs) es ss os)
-    (meet : get_or cs (length ds) 0 ≡ get_or os 0 0) where
-  count_late : (j : ℕ) → get_or (cs ++ drop 1 os) (length ds + j) 0 ≡ get_or os j 0
-  count_late j = let a = one.counted in let b = other.counted in joined_counts cs os (length ds) j (omega arith) (omega arith) meet
-
-  early : (i : ℕ) (d : Delivery) (r : Reply) → i < length ds →
-      IsRight (history_after h0 (take i (ds ++ es)) (take i (rs ++ ss))) (get_or (ds ++ es) i d) (get_or (rs ++ ss) i r) (get_or (cs ++ drop 1 os) i 0) (get_or (cs ++ drop 1 os) (i + 1) 0)
-  early i d r below =
+module _ (h0 : List Entry) (ds es : List Delivery) (rs ss : List Reply) (cs os : List (ℕ × ℕ)) (one : AreRight h0 ds rs cs) (other : AreRight (history_after h0 ds rs) es ss os) where
+  early : (i : ℕ) (d : Delivery) (r : Reply) (c : ℕ × ℕ) → i < length ds →
+      IsRight (history_after h0 (take i (ds ++ es)) (take i (rs ++ ss))) (get_or (ds ++ es) i d) (get_or (rs ++ ss) i r) (get_or (cs ++ os) i c).0 (get_or (cs ++ os) i c).1
+  early i d r c below =
       let same = one.replies in
       let long = one.counted in
       right_at h0 (take i (ds ++ es)) (take i (rs ++ ss))
       (λ k. history_after h0 (take-append-le i ds es (omega arith) k) (take-append-le i rs ss (omega arith) k))
       (sym (get_or_append_left ds es d i below))
       (sym (get_or_append_left rs ss r i (omega arith)))
-      (sym (get_or_append_left cs (drop 1 os) 0 i (omega arith)))
-      (sym (get_or_append_left cs (drop 1 os) 0 (i + 1) (omega arith)))
-      (one.each i d r below)
+      (sym (get_or_append_left cs os c i (omega arith)))
+      (one.each i d r c below)
 
-  late : (j : ℕ) (d : Delivery) (r : Reply) → j < length es →
+  late : (j : ℕ) (d : Delivery) (r : Reply) (c : ℕ × ℕ) → j < length es →
       IsRight (history_after h0 (take (length ds + j) (ds ++ es)) (take (length ds + j) (rs ++ ss))) (get_or (ds ++ es) (length ds + j) d) (get_or (rs ++ ss) (length ds + j) r)
-      (get_or (cs ++ drop 1 os) (length ds + j) 0) (get_or (cs ++ drop 1 os) (length ds + j + 1) 0)
-  late j d r below =
+      (get_or (cs ++ os) (length ds + j) c).0 (get_or (cs ++ os) (length ds + j) c).1
+  late j d r c below =
       let same = one.replies in
+      let long = one.counted in
       let taken_rs : take (length ds + j) (rs ++ ss) ≡ rs ++ take j ss = ap (λ n. take (n + j) (rs ++ ss)) (sym same) ∙ take-append-add rs ss j in
       let got_rs : get_or (rs ++ ss) (length ds + j) r ≡ get_or ss j r = ap (λ n. get_or (rs ++ ss) (n + j) r) (sym same) ∙ get_or-append-add rs ss j r in
-      let next : length ds + j + 1 ≡ length ds + (j + 1) = omega arith in
+      let got_cs : get_or (cs ++ os) (length ds + j) c ≡ get_or os j c = ap (λ n. get_or (cs ++ os) (n + j) c) (sym long) ∙ get_or-append-add cs os j c in
       right_at h0 (take (length ds + j) (ds ++ es)) (take (length ds + j) (rs ++ ss))
       ((λ k. history_after h0 (take-append-add ds es j k) (taken_rs k)) ∙ history_after-append h0 ds (take j es) rs (take j ss) same)
       (sym (get_or-append-add ds es j d))
       (sym got_rs)
-      (sym (count_late j))
-      (sym (ap (λ n. get_or (cs ++ drop 1 os) n 0) next ∙ count_late (j + 1)))
-      (other.each j d r below)
+      (sym got_cs)
+      (other.each j d r c below)
 
   -- replies of two lists are right for both
-  pub right-append : AreRight h0 (ds ++ es) (rs ++ ss) (cs ++ drop 1 os)
+  pub right-append : AreRight h0 (ds ++ es) (rs ++ ss) (cs ++ os)
   right-append =
       let same = one.replies in
       let again = other.replies in
@@ -162,14 +154,14 @@ module _ (h0 : List Entry) (ds es : List Delivery) (rs ss : List Reply) (cs os :
       let longer = other.counted in
       record {
         replies = omega (arith, length-append rs ss, length-append ds es);
-        counted = omega (arith, length-append cs (drop 1 os), length-append ds es, length-drop 1 os);
-        each = λ i d r below. ⊎_elim
-            (λ (lt : i < length ds). early i d r lt)
+        counted = omega (arith, length-append cs os, length-append ds es);
+        each = λ i d r c below. ⊎_elim
+            (λ (lt : i < length ds). early i d r c lt)
             (λ (ge : length ds ≤ i).
             let is : length ds + (i - length ds) ≡ i = omega arith in
             let less : i - length ds < length es = omega (arith, length-append ds es) in
             subst (λ n. IsRight (history_after h0 (take n (ds ++ es)) (take n (rs ++ ss))) (get_or (ds ++ es) n d) (get_or (rs ++ ss) n r)
-            (get_or (cs ++ drop 1 os) n 0) (get_or (cs ++ drop 1 os) (n + 1) 0)) is (late (i - length ds) d r less))
+            (get_or (cs ++ os) n c).0 (get_or (cs ++ os) n c).1) is (late (i - length ds) d r c less))
             (cases_lt i (length ds));
       }
 
@@ -203,31 +195,26 @@ pub run-append : (h0 : List Entry) (ds es : List Delivery) (rs ss : List Reply) 
     IsRun h0 ds rs old mid → IsRun (history_after h0 ds rs) es ss mid new → IsRun h0 (ds ++ es) (rs ++ ss) old new
 run-append h0 ds es rs ss old mid new one other =
     let grown = history_after-append h0 ds es rs ss one.right.replies in
-    let meet : get_or one.counts (length ds) 0 ≡ get_or other.counts 0 0 = one.ends ∙ sym other.starts in
-    let long = one.right.counted in
     record {
       history = subst IsHistory (sym grown) other.history;
       view = subst (λ h. Views h new.tables) (sym grown) other.view;
-      counts = one.counts ++ drop 1 other.counts;
-      right = right-append h0 ds es rs ss one.counts other.counts one.right other.right meet;
-      starts = get_or_append_left one.counts (drop 1 other.counts) 0 0 (omega arith) ∙ one.starts;
-      ends = ap (λ n. get_or (one.counts ++ drop 1 other.counts) n 0) (length-append ds es)
-          ∙ (count_late h0 ds es rs ss one.counts other.counts one.right other.right meet (length es) ∙ other.ends);
+      counts = one.counts ++ other.counts;
+      right = right-append h0 ds es rs ss one.counts other.counts one.right other.right;
+      joined = joined-append old.faults mid.faults new.faults one.counts other.counts one.joined other.joined;
       stops = λ t x. ⊎_elim
           (λ (y : mid.stops t). ⊎_elim (λ (z : old.stops t). inl z) (λ (w : StopsWithin h0 ds rs t). inr (stops_early h0 ds es rs ss t one.right.replies w)) (one.stops t y))
           (λ (w : StopsWithin (history_after h0 ds rs) es ss t). inr (stops_late h0 ds es rs ss t one.right.replies w))
           (other.stops t x);
-      since = λ since. subst (λ h. LeavesSince h new) (sym grown) (other.since (one.since since));
+      since = λ since. subst (λ h. StopGoesOnFrom h new) (sym grown) (other.since (one.since since));
     }
 
 pub run_none : (h : List Entry) (s : Shown) → IsHistory h → Views h s.tables → IsRun h [] [] s s
 run_none h s history view = record {
   history = history;
   view = view;
-  counts = s.faults ∷ [];
-  right = record { replies = refl; counted = omega arith; each = λ i d r below. absurd (omega arith) };
-  starts = refl;
-  ends = refl;
+  counts = [];
+  right = record { replies = refl; counted = refl; each = λ i d r c below. absurd (omega arith) };
+  joined = refl;
   stops = λ t x. inl x;
   since = λ since. since;
 }
@@ -237,15 +224,15 @@ pub run_one : (h : List Entry) (d : Delivery) (r : Reply) (old new : Shown) → 
 run_one h d r old new served = record {
   history = served.history;
   view = served.view;
-  counts = old.faults ∷ new.faults ∷ [];
-  right = record { replies = refl; counted = omega arith; each = only };
-  starts = refl;
-  ends = refl;
+  counts = (old.faults, new.faults) ∷ [];
+  right = record { replies = refl; counted = refl; each = only };
+  joined = (refl, refl);
   stops = λ t x. ⊎_elim (λ (y : old.stops t). inl y) (λ (e : HasEffect h d t). inr (0, d, omega arith, e)) (served.stops t x);
   since = leaves_since h d r old new served;
 }
   where
-    only : (i : ℕ) (c : Delivery) (s : Reply) → i < length (d ∷ []) →
-        IsRight (history_after h (take i (d ∷ [])) (take i (r ∷ []))) (get_or (d ∷ []) i c) (get_or (r ∷ []) i s) (get_or (old.faults ∷ new.faults ∷ []) i 0) (get_or (old.faults ∷ new.faults ∷ []) (i + 1) 0)
-    only zero c s below = served.right
-    only (suc i) c s below = absurd (omega arith)
+    only : (i : ℕ) (c : Delivery) (s : Reply) (n : ℕ × ℕ) → i < length (d ∷ []) →
+        IsRight (history_after h (take i (d ∷ [])) (take i (r ∷ []))) (get_or (d ∷ []) i c) (get_or (r ∷ []) i s)
+        (get_or ((old.faults, new.faults) ∷ []) i n).0 (get_or ((old.faults, new.faults) ∷ []) i n).1
+    only zero c s n below = served.right
+    only (suc i) c s n below = absurd (omega arith)

@@ -17,7 +17,7 @@ use Rattle.review_rows.specs.declared.rows.Need.{Need}
 use Rattle.review_rows.specs.declared.rows.Rows.{Rows}
 use Rattle.review_rows.specs.Rows.{Key, Row, AnswerRow, Tables, Wanted, ArePicked, wanted_by, after}
 use Rattle.review_rows.specs.Answer.{IsHistory, IsAnswer, checks, done, first_failing, most_requests}
-use Rattle.review_rows.specs.View.{IsLoaded, IsView, IsDecided, fact, answered, answer_row}
+use Rattle.review_rows.specs.View.{IsLoaded, IsView, IsDecided, fact, stored_answer, answer_row}
 use Rattle.review_rows.specs.Shelf.{IsCommitted, AreSelected}
 use Rattle.review_machine.specs.Decisions.{WantsAs}
 
@@ -63,13 +63,13 @@ history_length [] hist = omega arith
 history_length (e ∷ h) hist = let below = hist.2 in omega arith
 
 -- the entry of a stored answer
-pub recalled : (h : List Entry) (a : AnswerRow) (i : Identity) → IsHistory h → answered h i ≡ Some a →
+pub recalled : (h : List Entry) (a : AnswerRow) (i : Identity) → IsHistory h → stored_answer h i ≡ Some a →
     (e : Entry) × (stored h i ≡ Some e) × (a.content ≡ content_text e.command) × (a.reply ≡ reply_text e.reply) × IsStored e.reply
 recalled [] a i hist there = absurd (cc)
 recalled (e ∷ h) a i hist there =
     ⊎_elim
     (λ (t : is_same e.identity i ≡ true).
-    let is : Some (answer_row e (length h + 1)) ≡ Some a = sym (ap (λ b. cond b (Some (answer_row e (length h + 1))) (answered h i)) t) ∙ there in
+    let is : Some (answer_row e (length h + 1)) ≡ Some a = sym (ap (λ b. cond b (Some (answer_row e (length h + 1))) (stored_answer h i)) t) ∙ there in
     let row : answer_row e (length h + 1) ≡ a = cc in (
       e,
       stored_here e h i t,
@@ -78,19 +78,19 @@ recalled (e ∷ h) a i hist there =
       answer_stored h e.identity.caller e.command e.reply hist.1,
     ))
     (λ (f : is_same e.identity i ≡ false).
-    let r = recalled h a i hist.3 (sym (ap (λ b. cond b (Some (answer_row e (length h + 1))) (answered h i)) f) ∙ there) in
+    let r = recalled h a i hist.3 (sym (ap (λ b. cond b (Some (answer_row e (length h + 1))) (stored_answer h i)) f) ∙ there) in
     (r.0, stored_there e h i f ∙ r.1, r.2, r.3, r.4))
     (cases_Bool (is_same e.identity i))
 
 -- an identity with no stored answer is new
-pub not_recalled : (h : List Entry) (i : Identity) → answered h i ≡ None → stored h i ≡ None
+pub not_recalled : (h : List Entry) (i : Identity) → stored_answer h i ≡ None → stored h i ≡ None
 not_recalled [] i none = refl
 not_recalled (e ∷ h) i none =
     ⊎_elim
     (λ (t : is_same e.identity i ≡ true).
-    let is : Some (answer_row e (length h + 1)) ≡ None = sym (ap (λ b. cond b (Some (answer_row e (length h + 1))) (answered h i)) t) ∙ none in absurd (cc))
+    let is : Some (answer_row e (length h + 1)) ≡ None = sym (ap (λ b. cond b (Some (answer_row e (length h + 1))) (stored_answer h i)) t) ∙ none in absurd (cc))
     (λ (f : is_same e.identity i ≡ false).
-    stored_there e h i f ∙ not_recalled h i (sym (ap (λ b. cond b (Some (answer_row e (length h + 1))) (answered h i)) f) ∙ none))
+    stored_there e h i f ∙ not_recalled h i (sym (ap (λ b. cond b (Some (answer_row e (length h + 1))) (stored_answer h i)) f) ∙ none))
     (cases_Bool (is_same e.identity i))
 
 -- what is stored under an identity has it

@@ -2,9 +2,13 @@
 use denote.Ref.{Bor}
 use Rattle.std.proofs.Common.{◌≡◌, ℕ, ◌+◌, ◌<◌, ◌==◌, List, [], ◌∷◌, ◌++◌, length, get_or, take, map, Bool, true, false, cond, not, ◌&&◌, ◌||◌, refl, sym, ap, ◌∙◌, ⊎_elim, Option, Some, None, eqb-true, eq-eqb}
 use Rattle.std.specs.Prelude.{is_some}
-use Rattle.std.specs.List.{filter, list_any}
+use Rattle.std.specs.List.{filter, list_any, AllByRecursion, IsDistinct}
+use Rattle.std.specs.List.Sorted.{IsStrictlySortedBy}
+use Rattle.std.specs.Map.{keys_of}
+use Rattle.std.proofs.lemmas.Map.Keys.{IsDistinct-head, IsDistinct-tail, IsDistinct-from_sorted}
+use Rattle.std.proofs.lemmas.Map.Made.{IsDistinct-keys_filter}
 use Rattle.std.specs.Str.{bytes_eq}
-use Rattle.std.specs.Ordering.{nat_cmp}
+use Rattle.std.specs.Ordering.{nat_cmp, eq_by_cmp}
 use Rattle.std.specs.Cmp.{tied_then, unsigned_tied}
 use Rattle.std.specs.Cmp.Lexicographic.{slice_cmp}
 use Rattle.std.specs.Map.Iter.{deref_pair}
@@ -18,7 +22,7 @@ use Rattle.review_table.specs.declared.table.Change.{Change}
 use Rattle.review_table.specs.Rows.{after_change, change_of, row_in}
 use Rattle.review_rows.specs.declared.rows.MemberKey.{MemberKey as Member}
 use Rattle.review_rows.specs.Rows.{MemberRow, member_change, member_cmp}
-use Rattle.review_machine.specs.Decisions.{added, dropped, leaves, is_held, member_of}
+use Rattle.review_machine.specs.Decisions.{added, dropped, leaves, is_held, member_of, NamesOnce}
 
 abbrev add_change : List ℕ → ℕ → Change Member (Unit {0})
 add_change group a = record { key = member_of group a; row = Some tt }
@@ -172,3 +176,77 @@ members_after group members before held g a same =
     ∙ (row_after (bytes_eq group g) (list_any (λ m. m == a) members) (list_any (λ m. m == a) before) (is_held held k) same
     ∙ sym (ap (λ c. after_change (member_change c) (cond (list_any (λ m. m == a) before) (Some MemberRow) None))
     (change_of-append (added group held members) (dropped group members held) k ∙ (λ i. or_else (change_of-added group held members k i) (change_of-dropped group members held k i)))))
+
+-- each member is named once
+held_rest : (b : Bool) (o : Option (Unit {0})) → is_some (cond b (Some tt) o) ≡ false → (b ≡ false) × (is_some o ≡ false)
+held_rest true o f = absurd (cc)
+held_rest false o f = (refl, f)
+
+drop_none : (b : Bool) (e : Member × Unit {0}) (es : List (Member × Unit {0})) (q : Member) → is_at (member_cmp e.0) q ≡ false → change_of member_cmp (map drop_change es) q ≡ None →
+    change_of member_cmp (map drop_change (cond b (e ∷ es) es)) q ≡ None
+drop_none true e es q f none = rw f none
+drop_none false e es q f none = none
+
+-- who is not held is not dropped
+none_dropped : (group members : List ℕ) (q : Member) (held : List (Member × Unit {0})) → is_held held q ≡ false → change_of member_cmp (dropped group members held) q ≡ None
+none_dropped group members q [] f = refl
+none_dropped group members q (e ∷ held) f =
+    let parts = held_rest (is_at (member_cmp q) e.0) (row_in member_cmp held q) f in
+    drop_none (leaves group members e.0) e (filter (λ d. leaves group members d.0) held) q (member_sym e.0 q ∙ parts.0) (none_dropped group members q held parts.1)
+
+none_of : (q : Member) (es : List (Member × Unit {0})) → AllByRecursion (λ y. eq_by_cmp member_cmp q y ≡ false) (keys_of es) → change_of member_cmp (map drop_change es) q ≡ None
+none_of q [] all = refl
+none_of q (e ∷ es) all = let f = member_sym e.0 q ∙ all.0 in rw f (none_of q es all.1)
+
+dropped_once : (es : List (Member × Unit {0})) → IsDistinct (eq_by_cmp member_cmp) (keys_of es) → NamesOnce member_cmp (map drop_change es)
+dropped_once [] d = tt
+dropped_once (e ∷ es) d =
+    (none_of e.0 es (IsDistinct-head (eq_by_cmp member_cmp) e.0 (keys_of es) d), dropped_once es (IsDistinct-tail (eq_by_cmp member_cmp) e.0 (keys_of es) d))
+
+and_false : (a b : Bool) → b ≡ false → (a && b) ≡ false
+and_false true b f = f
+and_false false b f = refl
+
+-- different accounts of a group
+apart : (group : List ℕ) (a b : ℕ) → eq_by_cmp nat_cmp a b ≡ false → is_at (member_cmp (member_of group b)) (member_of group a) ≡ false
+apart group a b f =
+    member_sym (member_of group b) (member_of group a)
+    ∙ (member_tied (member_of group a) (member_of group b) ∙ and_false (bytes_eq group group) (a == b) (sym (unsigned_tied a b) ∙ f))
+
+add_none : (b : Bool) (group : List ℕ) (m : ℕ) (ms : List ℕ) (ds : List (Change Member (Unit {0}))) (q : Member) → is_at (member_cmp (member_of group m)) q ≡ false →
+    change_of member_cmp (map (add_change group) ms ++ ds) q ≡ None → change_of member_cmp (map (add_change group) (cond b (m ∷ ms) ms) ++ ds) q ≡ None
+add_none true group m ms ds q f none = rw f none
+add_none false group m ms ds q f none = none
+
+none_added : (group : List ℕ) (p : ℕ → Bool) (a : ℕ) (ms : List ℕ) (ds : List (Change Member (Unit {0}))) → AllByRecursion (λ y. eq_by_cmp nat_cmp a y ≡ false) ms →
+    change_of member_cmp ds (member_of group a) ≡ None → change_of member_cmp (map (add_change group) (filter p ms) ++ ds) (member_of group a) ≡ None
+none_added group p a [] ds all none = none
+none_added group p a (m ∷ ms) ds all none =
+    add_none (p m) group m (filter p ms) ds (member_of group a) (apart group a m all.0) (none_added group p a ms ds all.1 none)
+
+add_once : (b : Bool) (group : List ℕ) (m : ℕ) (ms : List ℕ) (ds : List (Change Member (Unit {0}))) →
+    (b ≡ true → change_of member_cmp (map (add_change group) ms ++ ds) (member_of group m) ≡ None) → NamesOnce member_cmp (map (add_change group) ms ++ ds) →
+    NamesOnce member_cmp (map (add_change group) (cond b (m ∷ ms) ms) ++ ds)
+add_once true group m ms ds none rest = (none refl, rest)
+add_once false group m ms ds none rest = rest
+
+not_true : (b : Bool) → not b ≡ true → b ≡ false
+not_true true e = absurd (cc)
+not_true false e = refl
+
+added_once : (group members : List ℕ) (held : List (Member × Unit {0})) (ms : List ℕ) → IsDistinct (eq_by_cmp nat_cmp) ms → NamesOnce member_cmp (dropped group members held) →
+    NamesOnce member_cmp (added group held ms ++ dropped group members held)
+added_once group members held [] d once = once
+added_once group members held (m ∷ ms) d once =
+    let p : ℕ → Bool = λ n. not (is_held held (member_of group n)) in
+    add_once (p m) group m (filter p ms) (dropped group members held)
+    (λ t. none_added group p m ms (dropped group members held) (IsDistinct-head (eq_by_cmp nat_cmp) m ms d)
+    (none_dropped group members (member_of group m) held (not_true (is_held held (member_of group m)) t)))
+    (added_once group members held ms (IsDistinct-tail (eq_by_cmp nat_cmp) m ms d) once)
+
+pub changes_once : (group members : List ℕ) (held : List (Member × Unit {0})) → IsStrictlySortedBy nat_cmp members → IsStrictlySortedBy member_cmp (keys_of held) →
+    NamesOnce member_cmp (added group held members ++ dropped group members held)
+changes_once group members held sorted rows =
+    added_once group members held members (IsDistinct-from_sorted nat_cmp members sorted)
+    (dropped_once (filter (λ e. leaves group members e.0) held)
+    (IsDistinct-keys_filter (eq_by_cmp member_cmp) (λ e. leaves group members e.0) held (IsDistinct-from_sorted member_cmp (keys_of held) rows)))

@@ -11,7 +11,7 @@ use Rattle.review_words.specs.declared.reply.Reply.{Reply}
 use Rattle.review_words.specs.declared.reply.Reply.TheVariants.{Done, Refused, IdentityReused, NotTaken}
 use Rattle.review_words.specs.History.{Entry, Identity, stored, is_same}
 use Rattle.review_rows.specs.Answer.{IsHistory, IsAnswer}
-use Rattle.review_machine.specs.Replies.{IsTold, IsRight, AreRight, IsRepeat, history_after, with_entries as hist, has_identity, first_arrivals as first, arrivals_after as first_after, taken, with_taken, entry_of}
+use Rattle.review_machine.specs.Replies.{IsTold, IsRight, AreRight, IsToldOfStored, history_after, with_entries as hist, has_identity, first_arrivals as first, arrivals_after as first_after, taken, with_taken, entry_of}
 use Rattle.review_machine.specs.Restart.{WasTaken, WereTaken, AgreeFor, AgreeOnWrites, RestartCompletes, RestartKeepsHistory, RepliesFollowHistory}
 use Rattle.review_machine.proofs.Histories.{answer_stored, stored_stays, stored_here, stored_there, same_to}
 use Rattle.review_machine.proofs.Served.{new_history, same_history, same_command}
@@ -37,10 +37,10 @@ grown h (e ∷ es) =
     (g.0 ++ e ∷ [], g.1 ∙ sym (append_assoc g.0 (e ∷ []) h))
 
 told_at : (h : List Entry) (caller : ℕ) (id : List ℕ) (command : Command) (reply : Reply) (o : Option Entry) → stored h (record { caller = caller; id = id }) ≡ o →
-    IsTold h (Write caller id command) reply → MatchOption o (IsAnswer h caller command reply) (λ e. IsRepeat e command reply)
-told_at h caller id command reply o is told = subst (λ o. MatchOption o (IsAnswer h caller command reply) (λ e. IsRepeat e command reply)) is told
+    IsTold h (Write caller id command) reply → MatchOption o (IsAnswer h caller command reply) (λ e. IsToldOfStored e command reply)
+told_at h caller id command reply o is told = subst (λ o. MatchOption o (IsAnswer h caller command reply) (λ e. IsToldOfStored e command reply)) is told
 
-one_repeat : (e : Entry) (command : Command) (r s : Reply) → IsRepeat e command r → IsRepeat e command s → r ≡ s
+one_repeat : (e : Entry) (command : Command) (r s : Reply) → IsToldOfStored e command r → IsToldOfStored e command s → r ≡ s
 one_repeat e command r s a b =
     ⊎_elim (λ (c : command ≡ e.command). a.equal c ∙ sym (b.equal c)) (λ (n : command ≡ e.command → ⊥). a.other n ∙ sym (b.other n)) (same_command command e.command)
 
@@ -162,7 +162,7 @@ keeps_history h0 es1 es2 =
 
 -- the reply that a history has for a write
 abbrev IsToldBy : List Entry → Delivery → Reply → Type 0
-IsToldBy h (Write caller id command) reply = MatchOption (stored h (record { caller = caller; id = id })) ⊥ (λ e. IsRepeat e command reply)
+IsToldBy h (Write caller id command) reply = MatchOption (stored h (record { caller = caller; id = id })) ⊥ (λ e. IsToldOfStored e command reply)
 
 abbrev AreToldBy : List Entry → List Delivery → List Reply → Type 0
 AreToldBy h [] rs = Unit {0}
@@ -172,12 +172,12 @@ AreToldBy h (d ∷ ds) (r ∷ rs) = IsToldBy h d r × AreToldBy h ds rs
 told_by : (g h more : List Entry) (d : Delivery) (r : Reply) → IsHistory h → h ≡ more ++ history_after g (d ∷ []) (r ∷ []) → IsTold g d r → IsToldBy h d r
 told_by g h more (Write caller id command) r hist is a = at (stored g (record { caller = caller; id = id })) refl
   where
-    stays : (e : Entry) → stored (history_after g (Write caller id command ∷ []) (r ∷ [])) (record { caller = caller; id = id }) ≡ Some e → IsRepeat e command r → IsToldBy h (Write caller id command) r
+    stays : (e : Entry) → stored (history_after g (Write caller id command ∷ []) (r ∷ [])) (record { caller = caller; id = id }) ≡ Some e → IsToldOfStored e command r → IsToldBy h (Write caller id command) r
     stays e some told =
         let there : stored h (record { caller = caller; id = id }) ≡ Some e =
         subst (λ x. stored x (record { caller = caller; id = id }) ≡ Some e) (sym is)
         (stored_stays more (history_after g (Write caller id command ∷ []) (r ∷ [])) (record { caller = caller; id = id }) e (subst IsHistory is hist) some) in
-        subst (λ o. MatchOption o ⊥ (λ e. IsRepeat e command r)) (sym there) told
+        subst (λ o. MatchOption o ⊥ (λ e. IsToldOfStored e command r)) (sym there) told
 
     at : (o : Option Entry) → stored g (record { caller = caller; id = id }) ≡ o → IsToldBy h (Write caller id command) r
     at None none =
@@ -200,7 +200,7 @@ all_told_by g h (d ∷ ds) (r ∷ rs) hist is a =
 both_told : (h : List Entry) (d : Delivery) (r s : Reply) → IsToldBy h d r → IsToldBy h d s → AgreeFor d r s
 both_told h (Write caller id command) r s a b = at (stored h (record { caller = caller; id = id })) a b
   where
-    at : (o : Option Entry) → MatchOption o ⊥ (λ e. IsRepeat e command r) → MatchOption o ⊥ (λ e. IsRepeat e command s) → r ≡ s
+    at : (o : Option Entry) → MatchOption o ⊥ (λ e. IsToldOfStored e command r) → MatchOption o ⊥ (λ e. IsToldOfStored e command s) → r ≡ s
     at None a b = absurd a
     at (Some e) a b = one_repeat e command r s a b
 
@@ -225,10 +225,10 @@ given_told h d (Refused x) before after given right = right.0
 given_told h d IdentityReused before after given right = right.0
 given_told h d (NotTaken c) before after given right = absurd given
 
-each_told : (h : List Entry) (ds : List Delivery) (rs : List Reply) (counts : List ℕ) → AreRight h ds rs counts → WereTaken rs → EachTold h ds rs
+each_told : (h : List Entry) (ds : List Delivery) (rs : List Reply) (counts : List (ℕ × ℕ)) → AreRight h ds rs counts → WereTaken rs → EachTold h ds rs
 each_told h ds rs counts right given i d r below =
     let lengths = right.replies in
-    given_told (history_after h (take i ds) (take i rs)) (get_or ds i d) (get_or rs i r) _ _ (given_at rs i r given (omega arith)) (right.each i d r below)
+    given_told (history_after h (take i ds) (take i rs)) (get_or ds i d) (get_or rs i r) _ _ (given_at rs i r given (omega arith)) (right.each i d r (0, 0) below)
 
 in_turn : (h : List Entry) (ds : List Delivery) (rs : List Reply) → length rs ≡ length ds → WereTaken rs → EachTold h ds rs → AreTold h ds rs
 in_turn h [] [] same given each = tt
@@ -241,7 +241,7 @@ in_turn h (d ∷ ds) (r ∷ rs) same given each = (
       (λ i c s below. subst (λ g. IsTold g (get_or ds i c) (get_or rs i s)) (history_cons h d (take i ds) r (take i rs)) (each (suc i) c s (omega arith))),
 )
 
-told_right : (h : List Entry) (ds : List Delivery) (rs : List Reply) (counts : List ℕ) → AreRight h ds rs counts → WereTaken rs → AreTold h ds rs
+told_right : (h : List Entry) (ds : List Delivery) (rs : List Reply) (counts : List (ℕ × ℕ)) → AreRight h ds rs counts → WereTaken rs → AreTold h ds rs
 told_right h ds rs counts right given = in_turn h ds rs right.replies given (each_told h ds rs counts right given)
 
 pub follow_history : RepliesFollowHistory

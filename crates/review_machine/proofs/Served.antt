@@ -23,9 +23,9 @@ use Rattle.review_rows.specs.declared.rows.Rows.{Rows}
 use Rattle.review_rows.specs.Rows.{AnswerRow, Tables, Wanted, wanted_by}
 use Rattle.review_rows.specs.Answer.{IsHistory, IsAnswer, most_requests}
 use Rattle.review_rows.specs.View.{IsLoaded, IsView, IsDecided, answer_row}
-use Rattle.review_rows.specs.Shelf.{IsCommitted, AreSelected, Shown, Shows, Views, StaysOrShuts, LeavesAlone, AddsNoStop, IsCounted, Blames, cause_of}
+use Rattle.review_rows.specs.Shelf.{IsCommitted, AreSelected, Shown, Shows, Views, StaysOrShuts, StopLeavesOwnTables, AddsNoStop, IsCounted, Blames, cause_of}
 use Rattle.review_machine.specs.Decisions.{WantsAs}
-use Rattle.review_machine.specs.Replies.{history_after, with_entries as hist, entry_of, IsRight, IsTold, IsRepeat, IsServed, IsToldAgain, IsLawful, reply_of, IsNew, HasEffect, LeavesSince, LeavesEntered, IsEntered, GoesOn}
+use Rattle.review_machine.specs.Replies.{history_after, with_entries as hist, entry_of, IsRight, IsTold, IsToldOfStored, IsServed, IsToldAgain, IsLawful, reply_of, IsNew, HasEffect, StopGoesOnFrom, StopHasEntry, IsEntered, GoesOn}
 use Rattle.review_machine.proofs.Histories.{loaded, recalled, not_recalled, view_grows, answer_stored, stored_stays, stored_here, same_to, stored_identity}
 
 -- a new identity adds its entry, and an old one nothing
@@ -110,14 +110,14 @@ effect h (Some t) new delta row caller id command reply hist v none room d is c 
 pub first_served : (h : List Entry) (delta : Delta) (row : AnswerRow) (caller : ℕ) (id : List ℕ) (command : Command) (reply : Reply) (old new : Shown) →
     IsHistory h → Views h old.tables → stored h (record { caller = caller; id = id }) ≡ None → length h < most_requests → IsDecided h caller command delta reply →
     row ≡ answer_row (entry_of caller id command reply) (length h + 1) → Shows old.tables (λ t. Shows new.tables (IsCommitted t delta row)) →
-    LeavesAlone new → new.faults ≡ old.faults → ((t : Tables) → new.stops t → old.stops t ⊎ HasEffect h (Write caller id command) t) →
+    StopLeavesOwnTables new → new.faults ≡ old.faults → ((t : Tables) → new.stops t → old.stops t ⊎ HasEffect h (Write caller id command) t) →
     IsServed h (Write caller id command) reply old new
 first_served h delta row caller id command reply old new hist v none room d is c alone same stops =
     let s : IsStored reply = answer_stored h caller command reply d.reply_is in
     let grown = new_history h caller id command reply s none in
     record {
       right = right_from_told h (Write caller id command) reply old.faults new.faults (inl s)
-          (subst (λ o. MatchOption o (IsAnswer h caller command reply) (λ e. IsRepeat e command reply)) (sym none) d.reply_is) same;
+          (subst (λ o. MatchOption o (IsAnswer h caller command reply) (λ e. IsToldOfStored e command reply)) (sym none) d.reply_is) same;
       history = subst IsHistory (sym grown) (none, d.reply_is, room, hist);
       view = subst (λ x. Views x new.tables) (sym grown) (shown old.tables new.tables v c);
       stops = stops;
@@ -130,13 +130,13 @@ first_served h delta row caller id command reply old new hist v none room d is c
     shown (Some t) (Some u) v c = view_grows h t u delta row caller id command reply v d c is
 
 old_served : (h : List Entry) (caller : ℕ) (id : List ℕ) (command : Command) (reply : Reply) (e : Entry) (old new : Shown) →
-    IsHistory h → Views h new.tables → stored h (record { caller = caller; id = id }) ≡ Some e → IsStored reply ⊎ (reply ≡ IdentityReused) → IsRepeat e command reply →
+    IsHistory h → Views h new.tables → stored h (record { caller = caller; id = id }) ≡ Some e → IsStored reply ⊎ (reply ≡ IdentityReused) → IsToldOfStored e command reply →
     new.faults ≡ old.faults → AddsNoStop old new → IsServed h (Write caller id command) reply old new
 old_served h caller id command reply e old new hist v some kind told same adds =
     let stays = same_history h caller id command reply e some in
     record {
       right = right_from_told h (Write caller id command) reply old.faults new.faults kind
-          (subst (λ o. MatchOption o (IsAnswer h caller command reply) (λ e. IsRepeat e command reply)) (sym some) told) same;
+          (subst (λ o. MatchOption o (IsAnswer h caller command reply) (λ e. IsToldOfStored e command reply)) (sym some) told) same;
       history = subst IsHistory (sym stays) hist;
       view = subst (λ x. Views x new.tables) (sym stays) v;
       stops = λ t x. inl (adds t x);
@@ -180,7 +180,7 @@ grows_or_stays h (Write caller id command) reply before after right = at (stored
   where
     kept : stored h (record { caller = caller; id = id }) ≡ None → (reply : Reply) → IsTold h (Write caller id command) reply → IsStored reply
     kept none reply told =
-        answer_stored h caller command reply (subst (λ o. MatchOption o (IsAnswer h caller command reply) (λ e. IsRepeat e command reply)) none told)
+        answer_stored h caller command reply (subst (λ o. MatchOption o (IsAnswer h caller command reply) (λ e. IsToldOfStored e command reply)) none told)
 
     at : (o : Option Entry) → stored h (record { caller = caller; id = id }) ≡ o → (reply : Reply) → IsRight h (Write caller id command) reply before after →
         ((stored h (record { caller = caller; id = id }) ≡ None) × IsStored reply) ⊎ (history_after h (Write caller id command ∷ []) (reply ∷ []) ≡ h)
@@ -194,8 +194,8 @@ effect_goes_on : (h : List Entry) (d : Delivery) (t : Tables) → HasEffect h d 
 effect_goes_on h (Write caller id command) t e = (entry_of caller id command e.0 ∷ [], e.1, e.2)
 
 -- what a stop leaves goes on from the history after the delivery
-pub leaves_since : (h : List Entry) (d : Delivery) (reply : Reply) (old new : Shown) → IsServed h d reply old new → LeavesSince h old →
-    LeavesSince (history_after h (d ∷ []) (reply ∷ [])) new
+pub leaves_since : (h : List Entry) (d : Delivery) (reply : Reply) (old new : Shown) → IsServed h d reply old new → StopGoesOnFrom h old →
+    StopGoesOnFrom (history_after h (d ∷ []) (reply ∷ [])) new
 leaves_since h d reply old new s since t x =
     ⊎_elim
     (λ (grew : IsNew h d × IsStored reply). ([], s.history, alone_is (s.alone grew.0 grew.1 t x)))
@@ -222,7 +222,7 @@ told_of h d IdentityReused before after s right = absurd s
 told_of h d (NotTaken c) before after s right = absurd s
 
 -- what is stored under the identity of a command that was told a stored reply is that command, with that reply
-repeat_is : (i : Identity) (e : Entry) (command : Command) (reply : Reply) → IsStored reply → e.identity ≡ i → IsRepeat e command reply → e ≡ record { identity = i; command = command; reply = reply }
+repeat_is : (i : Identity) (e : Entry) (command : Command) (reply : Reply) → IsStored reply → e.identity ≡ i → IsToldOfStored e command reply → e ≡ record { identity = i; command = command; reply = reply }
 repeat_is i e command reply s same told =
     ⊎_elim
     (λ (c : command ≡ e.command). let r = told.equal c in λ k. record { identity = same k; command = sym c k; reply = sym r k })
@@ -238,14 +238,14 @@ entered h (Write caller id command) reply old new s r = at (stored h (record { c
         subst (IsEntered (Write caller id command) reply) (sym (new_history h caller id command reply r none))
         (stored_here (entry_of caller id command reply) h (record { caller = caller; id = id }) (same_to (record { caller = caller; id = id }) (record { caller = caller; id = id }) refl))
     at (Some e) some =
-        let told = subst (λ o. MatchOption o (IsAnswer h caller command reply) (λ e. IsRepeat e command reply)) some (told_of h (Write caller id command) reply old.faults new.faults r s.right) in
+        let told = subst (λ o. MatchOption o (IsAnswer h caller command reply) (λ e. IsToldOfStored e command reply)) some (told_of h (Write caller id command) reply old.faults new.faults r s.right) in
         subst (IsEntered (Write caller id command) reply) (sym (same_history h caller id command reply e some))
         (some ∙ ap Some (repeat_is (record { caller = caller; id = id }) e command reply r (stored_identity h (record { caller = caller; id = id }) e some) told))
 
 entered_stays : (more h : List Entry) (d : Delivery) (reply : Reply) → IsHistory (more ++ h) → IsEntered d reply h → IsEntered d reply (more ++ h)
 entered_stays more h (Write caller id command) reply hist e = stored_stays more h (record { caller = caller; id = id }) (entry_of caller id command reply) hist e
 
-pub leaves_entered : (h : List Entry) (d : Delivery) (reply : Reply) (old new : Shown) → IsServed h d reply old new → LeavesSince h old → LeavesEntered d reply new
+pub leaves_entered : (h : List Entry) (d : Delivery) (reply : Reply) (old new : Shown) → IsServed h d reply old new → StopGoesOnFrom h old → StopHasEntry d reply new
 leaves_entered h d reply old new s since r t x =
     let g = leaves_since h d reply old new s since t x in
     (g.0 ++ history_after h (d ∷ []) (reply ∷ []), g.1, g.2, entered_stays g.0 (history_after h (d ∷ []) (reply ∷ [])) d reply g.1 (entered h d reply old new s r))
@@ -268,10 +268,10 @@ err_reply (Ok x) c e = let f = e.0 in absurd (cc)
 err_reply (Err d) c e = ap NotTaken (sym e.1)
 
 -- both that are said of stops
-pub stopped : (h : List Entry) (d : Delivery) (reply : Reply) (old new : Shown) → IsServed h d reply old new → LeavesSince h old →
-    LeavesSince (history_after h (d ∷ []) (reply ∷ [])) new × LeavesEntered d reply new
+pub stopped : (h : List Entry) (d : Delivery) (reply : Reply) (old new : Shown) → IsServed h d reply old new → StopGoesOnFrom h old →
+    StopGoesOnFrom (history_after h (d ∷ []) (reply ∷ [])) new × StopHasEntry d reply new
 stopped h d reply old new s since = (leaves_since h d reply old new s since, leaves_entered h d reply old new s since)
 
 -- a shelf that shows the tables of a history, and leaves them alone at a stop, leaves only those
-pub alone_since : (h : List Entry) (s : Shown) → IsHistory h → Views h s.tables → LeavesAlone s → LeavesSince h s
+pub alone_since : (h : List Entry) (s : Shown) → IsHistory h → Views h s.tables → StopLeavesOwnTables s → StopGoesOnFrom h s
 alone_since h s hist v alone t x = ([], hist, subst (Views h) (alone t x) v)

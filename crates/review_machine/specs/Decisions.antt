@@ -1,10 +1,13 @@
 -- What a command wants of the tables, and what it changes in a group.
-use Rattle.std.specs.Prelude.{ℕ, ◌≡◌, List, Some, None, Bool, not, map, ◌&&◌, ◌==◌, is_some}
+use Rattle.std.specs.Prelude.{ℕ, ◌≡◌, List, [], ◌∷◌, Some, None, Bool, not, map, ◌&&◌, ◌==◌, is_some}
+use Rattle.std.specs.declared.cmp.Ordering.{Ordering}
+use Rattle.std.specs.Ordering.{nat_cmp}
 use Rattle.std.specs.List.{filter, list_any}
 use Rattle.std.specs.Str.{bytes_eq}
-use Rattle.review_table.specs.Rows.{row_in}
+use Rattle.review_table.specs.Rows.{row_in, change_of}
 use Rattle.review_table.specs.declared.table.Change.{Change}
 use Rattle.review_rows.specs.declared.rows.MemberKey.{MemberKey as Member}
+use Rattle.review_rows.specs.declared.rows.Delta.{Delta}
 use Rattle.review_rows.specs.Rows.{Key, Wanted, member_cmp}
 
 -- the same is wanted
@@ -31,3 +34,12 @@ leaves group members k = bytes_eq group k.group && not (list_any (λ n. n == k.a
 -- the members of a group that are to leave it
 abbrev pub dropped : List ℕ → List ℕ → List (Member × Unit {0}) → List (Change Member (Unit {0}))
 dropped group members held = map (λ e. record { key = e.0; row = None }) (filter (λ e. leaves group members e.0) held)
+
+-- no change names the key of one before it
+abbrev pub NamesOnce : {K X : Type 0} → (K → K → Ordering) → List (Change K X) → Type 0
+NamesOnce cmp [] = Unit {0}
+NamesOnce cmp (c ∷ cs) = (change_of cmp cs c.key ≡ None) × NamesOnce cmp cs
+
+-- a delta names each key once
+abbrev pub NamesEachOnce : Delta → Type 0
+NamesEachOnce delta = NamesOnce nat_cmp delta.accounts.items × NamesOnce member_cmp delta.members.items

@@ -1,5 +1,5 @@
 -- Deliveries that each act once: which are first arrivals, what history they leave, and which replies are right.
-use Rattle.std.specs.Prelude.{ℕ, ◌<◌, ◌≡◌, List, [], ◌∷◌, ◌++◌, Option, Some, None, Bool, ◌||◌, is_some, IsSome, length, take, slice_index, slice_index_or, Result, Ok, Err, ◌+◌, if◌then◌else◌, ◌⊎◌, MatchOption}
+use Rattle.std.specs.Prelude.{ℕ, ◌<◌, ◌≤◌, ◌≡◌, List, [], ◌∷◌, ◌++◌, Option, Some, None, Bool, ◌||◌, is_some, length, take, slice_index_or, Result, Ok, Err, ◌+◌, if◌then◌else◌, ◌⊎◌, MatchOption}
 use Rattle.review_words.specs.declared.command.Command.{Command}
 use Rattle.review_words.specs.declared.command.Delivery.{Delivery}
 use Rattle.review_words.specs.declared.command.Delivery.TheVariants.{Write}
@@ -11,8 +11,8 @@ use Rattle.review_words.specs.History.{Entry, Identity, stored, is_same}
 use Rattle.review_words.specs.Texts.{content_text, reply_text, IsStored}
 use Rattle.review_rows.specs.Answer.{IsHistory, IsAnswer, most_requests}
 use Rattle.review_rows.specs.Rows.{Key, Tables, AnswerRow}
-use Rattle.review_rows.specs.View.{IsView}
-use Rattle.review_rows.specs.Shelf.{greatest_count, Shown, Shows, Views, StaysOrShuts, LeavesAlone}
+use Rattle.review_rows.specs.View.{IsView, answer_row}
+use Rattle.review_rows.specs.Shelf.{greatest_count, Shown, Shows, Views, StaysOrShuts, StopLeavesOwnTables}
 
 -- a delivery that was taken, as an entry
 abbrev pub entry_of : ℕ → List ℕ → Command → Reply → Entry
@@ -67,13 +67,13 @@ IsLawful h d Pattern before after = ⊥
 IsLawful h (Write caller id command) Full before after = (stored h (record { caller = caller; id = id }) ≡ None) × (length h ≡ most_requests) × (after ≡ before)
 
 -- what a write is told whose identity is stored: the stored reply where the command is the same, otherwise that the identity is used
-pub record IsRepeat (e : Entry) (command : Command) (reply : Reply) : Type 0 where
+pub record IsToldOfStored (e : Entry) (command : Command) (reply : Reply) : Type 0 where
   pub equal : command ≡ e.command → reply ≡ e.reply
   pub other : (command ≡ e.command → ⊥) → reply ≡ IdentityReused
 
 -- what a delivery is told after the history
 abbrev pub IsTold : List Entry → Delivery → Reply → Type 0
-IsTold h (Write caller id command) reply = MatchOption (stored h (record { caller = caller; id = id })) (IsAnswer h caller command reply) (λ e. IsRepeat e command reply)
+IsTold h (Write caller id command) reply = MatchOption (stored h (record { caller = caller; id = id })) (IsAnswer h caller command reply) (λ e. IsToldOfStored e command reply)
 
 -- the right reply after the history
 abbrev pub IsRight : List Entry → Delivery → Reply → ℕ → ℕ → Type 0
@@ -82,13 +82,18 @@ IsRight h d (Done a) before after = IsTold h d (Done a) × (after ≡ before)
 IsRight h d (Refused r) before after = IsTold h d (Refused r) × (after ≡ before)
 IsRight h d IdentityReused before after = IsTold h d IdentityReused × (after ≡ before)
 
--- Each reply is right after the history that the deliveries before it left. There are counts of faults before each and at the end
--- that fit; d and r are what an index past the end would give.
-pub record AreRight (h0 : List Entry) (ds : List Delivery) (rs : List Reply) (counts : List ℕ) : Type 0 where
+-- Each reply is right after the history that the deliveries before it left, where the count of faults went from one number to another
+-- meanwhile; d, r and c are what an index past the end would give.
+pub record AreRight (h0 : List Entry) (ds : List Delivery) (rs : List Reply) (counts : List (ℕ × ℕ)) : Type 0 where
   pub replies : length rs ≡ length ds
-  pub counted : length counts ≡ length ds + 1
-  pub each : (i : ℕ) (d : Delivery) (r : Reply) → i < length ds →
-      IsRight (history_after h0 (take i ds) (take i rs)) (slice_index_or ds i d) (slice_index_or rs i r) (slice_index counts i) (slice_index counts (i + 1))
+  pub counted : length counts ≡ length ds
+  pub each : (i : ℕ) (d : Delivery) (r : Reply) (c : ℕ × ℕ) → i < length ds →
+      IsRight (history_after h0 (take i ds) (take i rs)) (slice_index_or ds i d) (slice_index_or rs i r) (slice_index_or counts i c).0 (slice_index_or counts i c).1
+
+-- the count of faults went from one number to another in these steps
+abbrev pub AreJoined : ℕ → List (ℕ × ℕ) → ℕ → Type 0
+AreJoined from [] to = to ≡ from
+AreJoined from (c ∷ cs) to = (c.0 ≡ from) × AreJoined c.1 cs to
 
 -- a first arrival
 abbrev pub IsNew : List Entry → Delivery → Type 0
@@ -104,23 +109,23 @@ pub record IsServed (h : List Entry) (d : Delivery) (reply : Reply) (old new : S
   pub history : IsHistory (history_after h (d ∷ []) (reply ∷ []))
   pub view : Views (history_after h (d ∷ []) (reply ∷ [])) new.tables
   pub stops : (t : Tables) → new.stops t → old.stops t ⊎ HasEffect h d t
-  pub alone : IsNew h d → IsStored reply → LeavesAlone new
+  pub alone : IsNew h d → IsStored reply → StopLeavesOwnTables new
 
 -- the tables of a history that goes on from this one
 abbrev pub GoesOn : List Entry → Tables → Type 0
 GoesOn h t = (more : List Entry) × IsHistory (more ++ h) × IsView (more ++ h) t
 
 -- a stop leaves only such tables
-abbrev pub LeavesSince : List Entry → Shown → Type 0
-LeavesSince h s = (t : Tables) → s.stops t → GoesOn h t
+abbrev pub StopGoesOnFrom : List Entry → Shown → Type 0
+StopGoesOnFrom h s = (t : Tables) → s.stops t → GoesOn h t
 
 -- the write is an entry, with this reply
 abbrev pub IsEntered : Delivery → Reply → List Entry → Type 0
 IsEntered (Write caller id command) reply h = stored h (record { caller = caller; id = id }) ≡ Some (entry_of caller id command reply)
 
 -- once it was answered, a stop leaves only tables of histories that have the write
-abbrev pub LeavesEntered : Delivery → Reply → Shown → Type 0
-LeavesEntered d reply s = IsStored reply → (t : Tables) → s.stops t → (h : List Entry) × IsHistory h × IsView h t × IsEntered d reply h
+abbrev pub StopHasEntry : Delivery → Reply → Shown → Type 0
+StopHasEntry d reply s = IsStored reply → (t : Tables) → s.stops t → (h : List Entry) × IsHistory h × IsView h t × IsEntered d reply h
 
 -- the tables after some first part of the deliveries and the whole effect of the next
 abbrev pub StopsWithin : List Entry → List Delivery → List Reply → Tables → Type 0
@@ -130,13 +135,12 @@ StopsWithin h0 ds rs t = (i : ℕ) × (d : Delivery) × (i < length ds) × HasEf
 pub record IsRun (h0 : List Entry) (ds : List Delivery) (rs : List Reply) (old new : Shown) : Type 0 where
   pub history : IsHistory (history_after h0 ds rs)
   pub view : Views (history_after h0 ds rs) new.tables
-  pub counts : List ℕ
+  pub counts : List (ℕ × ℕ)
   pub right : AreRight h0 ds rs counts
-  pub starts : slice_index counts 0 ≡ old.faults
-  pub ends : slice_index counts (length ds) ≡ new.faults
+  pub joined : AreJoined old.faults counts new.faults
   -- a stop leaves what it could leave at the start, or the tables with the whole effect of a first arrival among these
   pub stops : (t : Tables) → new.stops t → old.stops t ⊎ StopsWithin h0 ds rs t
-  pub since : LeavesSince h0 old → LeavesSince (history_after h0 ds rs) new
+  pub since : StopGoesOnFrom h0 old → StopGoesOnFrom (history_after h0 ds rs) new
 
 abbrev pub reply_of : Result Reply Cause → Reply
 reply_of (Ok reply) = reply
@@ -150,11 +154,28 @@ IsToldAgain row content (Err Memory) = Unit {0}
 IsToldAgain row content (Err Damaged) = (reply : Reply) → IsStored reply → reply_text reply ≡ row.reply → ⊥
 IsToldAgain row content (Err _) = ⊥
 
--- On any tables whatever: what is not taken leaves them, though a fault may shut the store; a used identity leaves them.
-abbrev pub LeavesUntaken : Reply → Option Tables → Option Tables → Type 0
-LeavesUntaken IdentityReused old new = new ≡ old
-LeavesUntaken (NotTaken cause) old new = StaysOrShuts old new
-LeavesUntaken _ old new = Unit {0}
+-- the identity is stored, and so is its request
+abbrev pub HasStored : Identity → Option Tables → (AnswerRow → Type 0) → Type 0
+HasStored i tables IsSo = Shows tables (λ t. (row : AnswerRow) × (t.answer i ≡ Some row) × IsSo row)
+
+-- the stored request has this command and this reply
+abbrev pub HasTexts : Command → Reply → AnswerRow → Type 0
+HasTexts command reply row = (row.content ≡ content_text command) × (row.reply ≡ reply_text reply)
+
+-- the stored request has another command
+abbrev pub HasOtherContent : Command → AnswerRow → Type 0
+HasOtherContent command row = row.content ≡ content_text command → ⊥
+
+-- On any tables whatever: a delivery is not taken for a full history only where its identity is new and the last number is given.
+abbrev pub IsFullWhereSaid : Identity → Cause → Option Tables → Type 0
+IsFullWhereSaid i Full tables = Shows tables (λ t. (t.answer i ≡ None) × (most_requests ≤ t.requests))
+IsFullWhereSaid i _ tables = Unit {0}
+
+-- On any tables whatever: what is not taken leaves them, though a fault may shut the store; so does a clash, where the identity is stored with another command.
+abbrev pub KeepsUntaken : Delivery → Reply → Option Tables → Option Tables → Type 0
+KeepsUntaken (Write caller id command) IdentityReused old new = HasStored (record { caller = caller; id = id }) old (HasOtherContent command) × (new ≡ old)
+KeepsUntaken (Write caller id command) (NotTaken cause) old new = IsFullWhereSaid (record { caller = caller; id = id }) cause old × StaysOrShuts old new
+KeepsUntaken d _ old new = Unit {0}
 
 -- no row is changed
 abbrev pub SameRows : Tables → Tables → Type 0
@@ -165,27 +186,23 @@ abbrev pub KeepsRows : Reply → Tables → Tables → Type 0
 KeepsRows (Refused r) t u = SameRows t u
 KeepsRows _ t u = Unit {0}
 
--- the stored request of a write that was taken
-abbrev pub row_of : Identity → Command → Reply → Tables → AnswerRow
-row_of i command reply t = record { identity = i; request = t.requests + 1; content = content_text command; reply = reply_text reply }
-
 -- the request is stored beside the others under the next number, and a refusal does nothing else
 pub record StoresRequest (i : Identity) (command : Command) (reply : Reply) (t u : Tables) : Type 0 where
   pub new : t.answer i ≡ None
-  pub answer_is : (j : Identity) → u.answer j ≡ (if is_same i j then Some (row_of i command reply t) else t.answer j)
+  pub answer_is : (j : Identity) → u.answer j ≡ (if is_same i j then Some (answer_row (record { identity = i; command = command; reply = reply }) (t.requests + 1)) else t.answer j)
   pub version : u.version ≡ t.version
   pub requests : u.requests ≡ t.requests + 1
   pub rows : KeepsRows reply t u
 
--- the identity was stored, and nothing is changed; or the request is stored
-abbrev pub IsRepeatedOrStored : Identity → Command → Reply → Option Tables → Option Tables → Type 0
-IsRepeatedOrStored i command reply old new =
-    (Shows old (λ t. IsSome (t.answer i)) × (new ≡ old)) ⊎ Shows old (λ t. Shows new (StoresRequest i command reply t))
+-- the identity was stored with this command and this reply, and nothing is changed; or the request is stored
+abbrev pub IsFoundOrStored : Identity → Command → Reply → Option Tables → Option Tables → Type 0
+IsFoundOrStored i command reply old new =
+    (HasStored i old (HasTexts command reply) × (new ≡ old)) ⊎ Shows old (λ t. Shows new (StoresRequest i command reply t))
 
--- On any tables whatever: what Done and Refused did to them.
+-- On any tables whatever: after Done and Refused the request stands in them once, with this reply.
 abbrev pub StoresOnce : Delivery → Reply → Option Tables → Option Tables → Type 0
-StoresOnce (Write caller id command) (Done a) old new = IsRepeatedOrStored (record { caller = caller; id = id }) command (Done a) old new
-StoresOnce (Write caller id command) (Refused r) old new = IsRepeatedOrStored (record { caller = caller; id = id }) command (Refused r) old new
+StoresOnce (Write caller id command) (Done a) old new = IsFoundOrStored (record { caller = caller; id = id }) command (Done a) old new
+StoresOnce (Write caller id command) (Refused r) old new = IsFoundOrStored (record { caller = caller; id = id }) command (Refused r) old new
 StoresOnce d _ old new = Unit {0}
 
 -- On any tables whatever: a run is made of such steps, one a delivery.
@@ -193,7 +210,7 @@ abbrev pub AreSteps : List Delivery → List Reply → Option Tables → Option 
 AreSteps [] [] old new = new ≡ old
 AreSteps [] (r ∷ rs) old new = ⊥
 AreSteps (d ∷ ds) [] old new = ⊥
-AreSteps (d ∷ ds) (r ∷ rs) old new = (between : Option Tables) × LeavesUntaken r old between × StoresOnce d r old between × AreSteps ds rs between new
+AreSteps (d ∷ ds) (r ∷ rs) old new = (between : Option Tables) × KeepsUntaken d r old between × StoresOnce d r old between × AreSteps ds rs between new
 
 -- On any shelf whatever: a store fault is answered only where the count rose or stood at its greatest value, a pattern fault never, and
 -- with any other reply the count stays.

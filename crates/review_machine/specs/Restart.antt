@@ -1,5 +1,5 @@
 -- Runs one after the other, and a run that begins again after a stop.
-use Rattle.std.specs.Prelude.{ℕ, ◌≡◌, List, [], ◌∷◌, ◌++◌, length, drop, slice_index}
+use Rattle.std.specs.Prelude.{ℕ, ◌≡◌, List, [], ◌∷◌, ◌++◌, length}
 use Rattle.review_words.specs.declared.command.Delivery.{Delivery}
 use Rattle.review_words.specs.declared.command.Delivery.TheVariants.{Write}
 use Rattle.review_words.specs.declared.reply.Reply.{Reply}
@@ -29,11 +29,12 @@ AgreeOnWrites (d ∷ ds) [] ss = Unit {0}
 AgreeOnWrites (d ∷ ds) (r ∷ rs) [] = Unit {0}
 AgreeOnWrites (d ∷ ds) (r ∷ rs) (s ∷ ss) = AgreeFor d r s × AgreeOnWrites ds rs ss
 
--- A run of one list followed by a run of another is the run of both: the same history, and replies that are right for both.
+-- A run of one list followed by a run of another is the run of both, also on another shelf with the same tables: the same history, and
+-- replies that are right for both.
 abbrev pub RunsCompose : Type 0
-RunsCompose = (h0 : List Entry) (ds es : List Delivery) (rs ss : List Reply) (counts others : List ℕ) →
-    AreRight h0 ds rs counts → AreRight (history_after h0 ds rs) es ss others → slice_index counts (length ds) ≡ slice_index others 0 →
-    (history_after h0 (ds ++ es) (rs ++ ss) ≡ history_after (history_after h0 ds rs) es ss) × AreRight h0 (ds ++ es) (rs ++ ss) (counts ++ drop 1 others)
+RunsCompose = (h0 : List Entry) (ds es : List Delivery) (rs ss : List Reply) (counts others : List (ℕ × ℕ)) →
+    AreRight h0 ds rs counts → AreRight (history_after h0 ds rs) es ss others →
+    (history_after h0 (ds ++ es) (rs ++ ss) ≡ history_after (history_after h0 ds rs) es ss) × AreRight h0 (ds ++ es) (rs ++ ss) (counts ++ others)
 
 -- Requests that come again, after some first part of them stood, give the history of the whole. An entry carries the reply that was
 -- given, so a choice that was made stays.
@@ -43,14 +44,14 @@ RestartKeepsHistory = (h0 es1 es2 : List Entry) →
 
 -- Two runs of the same deliveries that leave the same history gave the same replies to writes.
 abbrev pub RepliesFollowHistory : Type 0
-RepliesFollowHistory = (h0 h last : List Entry) (ds : List Delivery) (rs ss : List Reply) (counts others : List ℕ) → IsHistory last →
+RepliesFollowHistory = (h0 h last : List Entry) (ds : List Delivery) (rs ss : List Reply) (counts others : List (ℕ × ℕ)) → IsHistory last →
     AreRight h0 ds rs counts → WereTaken rs → AreRight h ds ss others → WereTaken ss →
     last ≡ history_after h0 ds rs → last ≡ history_after h ds ss → AgreeOnWrites ds rs ss
 
 -- Where each command has one answer: where some first part of a run stood when it stopped, the whole run from there gives the same
 -- history and the same replies to writes.
 abbrev pub RestartCompletes : Type 0
-RestartCompletes = (h0 h : List Entry) (ds1 ds2 : List Delivery) (rs1 rs2 ss : List Reply) (counts others : List ℕ) →
+RestartCompletes = (h0 h : List Entry) (ds1 ds2 : List Delivery) (rs1 rs2 ss : List Reply) (counts others : List (ℕ × ℕ)) →
     IsHistory h → h ≡ history_after h0 ds1 rs1 → length rs1 ≡ length ds1 →
     AreRight h0 (ds1 ++ ds2) (rs1 ++ rs2) counts → WereTaken (rs1 ++ rs2) → AreRight h (ds1 ++ ds2) ss others → WereTaken ss →
     AgreeOnWrites (ds1 ++ ds2) (rs1 ++ rs2) ss × (history_after h (ds1 ++ ds2) ss ≡ history_after h0 (ds1 ++ ds2) (rs1 ++ rs2))

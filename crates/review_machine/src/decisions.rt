@@ -2,6 +2,7 @@
 ghost use Rattle.std.specs.Prelude.{◌≡◌, ◌++◌, ◌∷◌, ℕ, List, [], IfOk, IfErr, OnOk, is_some, map, true};
 ghost use Rattle.std.specs.Map.Iter.{deref_pair};
 ghost use Rattle.std.specs.List.{list_all};
+ghost use Rattle.std.specs.List.Sorted.{IsStrictlySortedBy};
 ghost use Rattle.std.specs.Ordering.{nat_cmp};
 ghost use Rattle.review_table.specs.Rows.{row_in, rows_of};
 ghost use Rattle.review_words.specs.Names.{administrators};
@@ -11,7 +12,7 @@ ghost use Rattle.review_words.specs.declared.command.Command.TheVariants.{Create
 ghost use Rattle.review_words.specs.declared.reply.NotTaken.TheVariants.{Memory};
 ghost use Rattle.review_rows.specs.Rows.{wanted_by, HasNoEffect, member_cmp};
 ghost use Rattle.review_rows.specs.View.{needed, IsLoaded, IsDecided};
-ghost use Rattle.review_machine.specs.Decisions.{WantsAs, added, dropped};
+ghost use Rattle.review_machine.specs.Decisions.{WantsAs, NamesOnce, NamesEachOnce, added, dropped};
 
 use review_rows::{Delta, MemberKey, Need, Rows};
 use review_table::{Change, Key};
@@ -20,9 +21,6 @@ use review_words::{
     administrators,
 };
 use std::alloc::{AllocError, Global};
-
-/// The most accounts of a desk.
-const MOST_ACCOUNTS: u32 = 1_000_000;
 
 /// What a command needs of the tables: the caller's account and those that it names, whether the caller is an
 /// administrator, and what it is to change.
@@ -61,7 +59,7 @@ pub fn need_of(alloc: Global, caller: AccountNo, command: &Command) -> Result<Ne
 }
 
 /// The reply to a command and what it changes: the first check that fails refuses, in the order of the command's checks; a
-/// refusal changes nothing. The only error is want of memory.
+/// refusal changes nothing, and each key is named once. The only error is want of memory.
 pub fn decide(
     alloc: Global,
     rows: &Rows,
@@ -72,6 +70,7 @@ pub fn decide(
     ensures cause { IfErr result (λ e. e ≡ Memory) }
     ensures stored { IfOk result (λ r. IsStored r.1) }
     ensures refused { IfOk result (λ r. HasNoEffect r.1 r.0) }
+    ensures once { IfOk result (λ r. NamesEachOnce r.0) }
 {
     let known = has_account(rows, caller);
     if !known {
@@ -93,6 +92,7 @@ fn create_account(
     ensures cause { IfErr result (λ e. e ≡ Memory) }
     ensures stored { IfOk result (λ r. IsStored r.1) }
     ensures refused { IfOk result (λ r. HasNoEffect r.1 r.0) }
+    ensures once { IfOk result (λ r. NamesEachOnce r.0) }
 {
     let admin = is_admin(alloc, rows, caller)?;
     if !admin {
@@ -101,10 +101,9 @@ fn create_account(
     if rows.named.is_some() {
         return Ok((nothing(alloc), Reply::Refused(Refusal::NameTaken)));
     }
-    if rows.last_account >= MOST_ACCOUNTS {
+    let Some(number) = AccountNo::after(rows.last_account) else {
         return Ok((nothing(alloc), Reply::Refused(Refusal::Limit)));
-    }
-    let number = AccountNo::new(rows.last_account + 1);
+    };
     let mut delta = nothing(alloc);
     delta.accounts.push(Change {
         key: number,
@@ -124,6 +123,7 @@ fn put_group(
     ensures cause { IfErr result (λ e. e ≡ Memory) }
     ensures stored { IfOk result (λ r. IsStored r.1) }
     ensures refused { IfOk result (λ r. HasNoEffect r.1 r.0) }
+    ensures once { IfOk result (λ r. NamesEachOnce r.0) }
 {
     let admin = is_admin(alloc, rows, caller)?;
     if !admin {
@@ -184,7 +184,8 @@ fn member_changes(
     group: &GroupName,
     members: &Members,
 ) -> Result<Vec<Change<MemberKey, ()>>, AllocError>
-    ensures { IfOk result (λ v. v.items ≡ added group.now (rows_of rows.now.members) members.now ++ dropped group.now members.now (rows_of rows.now.members)) }
+    ensures changes { IfOk result (λ v. v.items ≡ added group.now (rows_of rows.now.members) members.now ++ dropped group.now members.now (rows_of rows.now.members)) }
+    ensures once { IfOk result (λ v. NamesOnce member_cmp v.items) }
 {
     let mut changes = add_members(alloc, rows, group, members)?;
     let held = rows.members.rows(alloc)?;
@@ -199,7 +200,8 @@ fn add_members(
     group: &GroupName,
     members: &Members,
 ) -> Result<Vec<Change<MemberKey, ()>>, AllocError>
-    ensures { IfOk result (λ v. v.items ≡ added group.now (rows_of rows.now.members) members.now) }
+    ensures changes { IfOk result (λ v. v.items ≡ added group.now (rows_of rows.now.members) members.now) }
+    ensures ordered { IfOk result (λ v. IsStrictlySortedBy nat_cmp members.now) }
 {
     let mut changes = Vec::new(alloc);
     for account in members.as_slice() {

@@ -6,7 +6,7 @@ ghost use Rattle.review_words.specs.declared.command.Delivery.TheVariants.{Write
 ghost use Rattle.review_rows.specs.Answer.{IsHistory};
 ghost use Rattle.review_rows.specs.Rows.{kept_row};
 ghost use Rattle.review_rows.specs.Shelf.{Shows, Views};
-ghost use Rattle.review_machine.specs.Replies.{IsServed, IsToldAgain, LeavesUntaken, StoresOnce, CountsReply, LeavesSince, LeavesEntered, history_after, reply_of};
+ghost use Rattle.review_machine.specs.Replies.{IsServed, IsToldAgain, KeepsUntaken, StoresOnce, CountsReply, StopGoesOnFrom, StopHasEntry, history_after, reply_of};
 
 use crate::decisions::{decide, need_of};
 use review_rows::{Kept, Shelf};
@@ -27,8 +27,9 @@ const MOST_REQUESTS: u64 = 9_007_199_254_740_991;
 /// the answer; after an answer it leaves only tables that have the request.
 ///
 /// On any tables whatever, what isn't taken and a used identity leave them as they are, and Done and Refused either found
-/// the identity stored, and left them, or stored the request beside the others; a refusal changes no row. A store fault is
-/// answered only where the shelf counted one.
+/// the identity stored with this command and this reply, and left them, or stored the request beside the others; a refusal
+/// changes no row. An identity is used only where it is stored with another command, a history full only where the identity
+/// is new and the last number given. A store fault is answered only where the shelf counted one.
 ///
 /// Premises: the clauses on tables hold where the store returned what was written to it, and once a fault has shut it nothing is
 /// said of tables; the clause on counts holds always.
@@ -36,11 +37,11 @@ pub fn deliver<S: Shelf>(alloc: Global, shelf: &mut S, delivery: &Delivery) -> R
     ensures honest { (S.state shelf.new).is_honest → (S.state shelf.old).is_honest }
     ensures served { (S.state shelf.new).is_honest → (h : List Entry) → IsHistory h → Views h (S.state shelf.old).tables →
         IsServed h delivery.now result (S.state shelf.old) (S.state shelf.new) }
-    ensures unchanged { (S.state shelf.new).is_honest → LeavesUntaken result (S.state shelf.old).tables (S.state shelf.new).tables }
+    ensures unchanged { (S.state shelf.new).is_honest → KeepsUntaken delivery.now result (S.state shelf.old).tables (S.state shelf.new).tables }
     ensures once { (S.state shelf.new).is_honest → StoresOnce delivery.now result (S.state shelf.old).tables (S.state shelf.new).tables }
     ensures counted { CountsReply result (S.state shelf.old).faults (S.state shelf.new).faults }
-    ensures stopped { (S.state shelf.new).is_honest → (h : List Entry) → IsHistory h → Views h (S.state shelf.old).tables → LeavesSince h (S.state shelf.old) →
-        LeavesSince (history_after h (delivery.now ∷ []) (result ∷ [])) (S.state shelf.new) × LeavesEntered delivery.now result (S.state shelf.new) }
+    ensures stopped { (S.state shelf.new).is_honest → (h : List Entry) → IsHistory h → Views h (S.state shelf.old).tables → StopGoesOnFrom h (S.state shelf.old) →
+        StopGoesOnFrom (history_after h (delivery.now ∷ []) (result ∷ [])) (S.state shelf.new) × StopHasEntry delivery.now result (S.state shelf.new) }
 {
     serve(alloc, shelf, delivery)
 }
@@ -49,7 +50,7 @@ fn serve<S: Shelf>(alloc: Global, shelf: &mut S, delivery: &Delivery) -> Reply
     ensures honest { (S.state shelf.new).is_honest → (S.state shelf.old).is_honest }
     ensures served { (S.state shelf.new).is_honest → (h : List Entry) → IsHistory h → Views h (S.state shelf.old).tables →
         IsServed h delivery.now result (S.state shelf.old) (S.state shelf.new) }
-    ensures unchanged { (S.state shelf.new).is_honest → LeavesUntaken result (S.state shelf.old).tables (S.state shelf.new).tables }
+    ensures unchanged { (S.state shelf.new).is_honest → KeepsUntaken delivery.now result (S.state shelf.old).tables (S.state shelf.new).tables }
     ensures once { (S.state shelf.new).is_honest → StoresOnce delivery.now result (S.state shelf.old).tables (S.state shelf.new).tables }
     ensures counted { CountsReply result (S.state shelf.old).faults (S.state shelf.new).faults }
 {
@@ -81,7 +82,7 @@ fn write<S: Shelf>(
     ensures honest { (S.state shelf.new).is_honest → (S.state shelf.old).is_honest }
     ensures served { (S.state shelf.new).is_honest → (h : List Entry) → IsHistory h → Views h (S.state shelf.old).tables →
         IsServed h (Write caller id.now command.now) (reply_of result) (S.state shelf.old) (S.state shelf.new) }
-    ensures unchanged { (S.state shelf.new).is_honest → LeavesUntaken (reply_of result) (S.state shelf.old).tables (S.state shelf.new).tables }
+    ensures unchanged { (S.state shelf.new).is_honest → KeepsUntaken (Write caller id.now command.now) (reply_of result) (S.state shelf.old).tables (S.state shelf.new).tables }
     ensures once { (S.state shelf.new).is_honest → StoresOnce (Write caller id.now command.now) (reply_of result) (S.state shelf.old).tables (S.state shelf.new).tables }
     ensures counted { CountsReply (reply_of result) (S.state shelf.old).faults (S.state shelf.new).faults }
 {
@@ -120,7 +121,8 @@ fn first_arrival<S: Shelf>(
     ensures served { (S.state shelf.new).is_honest → (h : List Entry) → IsHistory h → Views h (S.state shelf.old).tables →
         stored h (record { caller = caller; id = id.now }) ≡ None →
         IsServed h (Write caller id.now command.now) (reply_of result) (S.state shelf.old) (S.state shelf.new) }
-    ensures unchanged { (S.state shelf.new).is_honest → LeavesUntaken (reply_of result) (S.state shelf.old).tables (S.state shelf.new).tables }
+    ensures unchanged { (S.state shelf.new).is_honest → Shows (S.state shelf.old).tables (λ t. t.answer (record { caller = caller; id = id.now }) ≡ None) →
+        KeepsUntaken (Write caller id.now command.now) (reply_of result) (S.state shelf.old).tables (S.state shelf.new).tables }
     ensures once { (S.state shelf.new).is_honest → Shows (S.state shelf.old).tables (λ t. t.answer (record { caller = caller; id = id.now }) ≡ None) →
         StoresOnce (Write caller id.now command.now) (reply_of result) (S.state shelf.old).tables (S.state shelf.new).tables }
     ensures counted { CountsReply (reply_of result) (S.state shelf.old).faults (S.state shelf.new).faults }

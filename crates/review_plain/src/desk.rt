@@ -1,7 +1,7 @@
 //! A desk that keeps its history and nothing else.
 ghost use Rattle.std.specs.Prelude.{◌≡◌, [], ◌∷◌, IfOk, OnOk, OnErr, MatchOption, None, option_copied, option_map, true, false};
 ghost use Rattle.review_words.specs.History as words;
-ghost use Rattle.review_machine.specs.Replies.{IsTold, IsRepeat, entry_of, history_after};
+ghost use Rattle.review_machine.specs.Replies.{IsTold, IsToldOfStored, entry_of, history_after};
 ghost use Rattle.review_words.specs.declared.command.Delivery.TheVariants.{Write};
 ghost use Rattle.std.specs.Str.{bytes_eq};
 ghost use Rattle.review_plain.specs.Plain.{history, shown};
@@ -120,7 +120,7 @@ fn find<'e>(entries: &'e [Entry], caller: AccountNo, id: &RequestId) -> Option<&
 // What a write is told whose identity is stored.
 fn told(entries: &[Entry], caller: AccountNo, id: &RequestId, command: &Command) -> Option<Reply>
     ensures { MatchOption result (words.stored (history entries.now) (record { caller = caller; id = id.now }) ≡ None)
-        (λ r. MatchOption (words.stored (history entries.now) (record { caller = caller; id = id.now })) ⊥ (λ e. IsRepeat e command.now r)) }
+        (λ r. MatchOption (words.stored (history entries.now) (record { caller = caller; id = id.now })) ⊥ (λ e. IsToldOfStored e command.now r)) }
 {
     let stored = find(entries, caller, id)?;
     if same(command, &stored.command) {

@@ -106,7 +106,10 @@ pub fn answer(entries: &[Entry], caller: AccountNo, command: &Command) -> Reply
             if count >= 1_000_000 {
                 return Reply::Refused(Refusal::Limit);
             }
-            Reply::Done(Answer::Account(AccountNo::new(count as u32 + 1)))
+            match AccountNo::after(count as u32) {
+                Some(number) => Reply::Done(Answer::Account(number)),
+                None => Reply::Refused(Refusal::Limit),
+            }
         }
         Command::PutGroup { group, members } => {
             if group.as_str() == "Registered-Users" {

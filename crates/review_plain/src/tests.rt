@@ -11,6 +11,11 @@ use review_words::{
 use std::alloc::Global;
 use std::test::Fail;
 
+/// Account 2.
+fn second() -> Result<AccountNo, Fail> {
+    Ok(AccountNo::from_number(2).ok_or("no account")?)
+}
+
 /// A sequence of numbers that looks random and is the same in each run.
 #[derive(Drop)]
 struct Numbers(u64);
@@ -59,7 +64,7 @@ fn delivery(alloc: Global, seed: u64) -> Result<Delivery, Fail> {
     let caller = if numbers.below(4) == 0 {
         account(&mut numbers, 60)?
     } else {
-        AccountNo::new(1)
+        AccountNo::first()
     };
     Ok(Delivery::Write {
         caller,
@@ -100,7 +105,7 @@ fn a_script_of_a_thousand_deliveries(rt: HostRuntime) -> Result<(), Fail> {
 
 fn create(alloc: Global, id: &str, name: &str) -> Result<Delivery, Fail> {
     Ok(Delivery::Write {
-        caller: AccountNo::new(1),
+        caller: AccountNo::first(),
         id: RequestId::read(alloc, id)?,
         command: Command::CreateAccount {
             name: AccountName::read(alloc, name)?,
@@ -120,7 +125,7 @@ fn a_repeat_and_a_clash(rt: HostRuntime) -> Result<(), Fail> {
     let Ok(replies) = run_in_memory(alloc, &mut shelf, &deliveries) else {
         return Err("no memory for the replies")?;
     };
-    let second = Reply::Done(Answer::Account(AccountNo::new(2)));
+    let second = Reply::Done(Answer::Account(second()?));
     assert_eq!(rt;
         replies.as_slice(),
         [second, Reply::IdentityReused, second].as_slice()
@@ -155,7 +160,7 @@ fn the_last_account(rt: HostRuntime) -> Result<(), Fail> {
         let delta = accounts_from(alloc, first.max(1))?;
         let id = format!(in alloc; "fill-{batch}")?;
         let kept = Kept {
-            caller: AccountNo::new(1),
+            caller: AccountNo::first(),
             id: RequestId::read(alloc, id.as_str())?,
             request: u64::from(batch).saturating_add(1),
             content: String::from_str(alloc, "")?,
@@ -173,7 +178,7 @@ fn the_last_account(rt: HostRuntime) -> Result<(), Fail> {
         return Err("no memory for the replies")?;
     };
     let wanted = [
-        Reply::Done(Answer::Account(AccountNo::new(1_000_000))),
+        Reply::Done(Answer::Account(AccountNo::last())),
         Reply::Refused(Refusal::Limit),
     ];
     assert_eq!(rt; replies.as_slice(), wanted.as_slice());

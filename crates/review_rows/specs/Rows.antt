@@ -123,8 +123,9 @@ abbrev pub IsFoundByName : (Key → Option Row) → List ℕ → Option ℕ → 
 IsFoundByName row name (Some number) = IsNamed row name number
 IsFoundByName row name None = (number : ℕ) → IsNamed row name number → ⊥
 
+-- the account of the name that is asked for; none where no name is
 abbrev pub IsFoundWhereAsked : (Key → Option Row) → Option (List ℕ) → Option ℕ → Type 0
-IsFoundWhereAsked row None found = Unit {0}
+IsFoundWhereAsked row None found = found ≡ None
 IsFoundWhereAsked row (Some name) found = IsFoundByName row name found
 
 -- the greatest number of an account, or 0 where there is none

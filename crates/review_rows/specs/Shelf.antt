@@ -99,8 +99,8 @@ abbrev pub AddsNoStop : Shown → Shown → Type 0
 AddsNoStop old new = (t : Tables) → new.stops t → old.stops t
 
 -- a stop leaves the tables in use and no others
-abbrev pub LeavesAlone : Shown → Type 0
-LeavesAlone s = (t : Tables) → s.stops t → s.tables ≡ Some t
+abbrev pub StopLeavesOwnTables : Shown → Type 0
+StopLeavesOwnTables s = (t : Tables) → s.stops t → s.tables ≡ Some t
 
 -- A shelf in memory, which never faults and has no store to fail it. A stop is taken to leave its tables, as if the memory outlived it:
 -- that is of use only below a shelf that counts on it.

@@ -24,9 +24,9 @@ abbrev pub answer_row : Entry → ℕ → AnswerRow
 answer_row e number = record { identity = e.identity; request = number; content = content_text e.command; reply = reply_text e.reply }
 
 -- the stored request of an identity
-abbrev pub answered : List Entry → Identity → Option AnswerRow
-answered [] i = None
-answered (e ∷ h) i = if is_same e.identity i then Some (answer_row e (length h + 1)) else answered h i
+abbrev pub stored_answer : List Entry → Identity → Option AnswerRow
+stored_answer [] i = None
+stored_answer (e ∷ h) i = if is_same e.identity i then Some (answer_row e (length h + 1)) else stored_answer h i
 
 -- the version of the tables
 abbrev pub tables_version : ℕ
@@ -35,7 +35,7 @@ tables_version = 1
 -- the tables have just what the history says
 pub record IsView (h : List Entry) (t : Tables) : Type 0 where
   pub row_is : (k : Key) → t.row k ≡ fact h k
-  pub answer_is : (i : Identity) → t.answer i ≡ answered h i
+  pub answer_is : (i : Identity) → t.answer i ≡ stored_answer h i
   pub version : t.version ≡ tables_version
   pub requests : t.requests ≡ length h
 

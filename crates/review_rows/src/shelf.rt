@@ -37,7 +37,7 @@ impl From<ShelfFault> for NotTaken {
 /// leave before the call, or what the call's success leaves.
 pub trait Shelf {
     ghost use Rattle.review_rows.specs.Rows.{Tables, kept_row};
-    ghost use Rattle.review_rows.specs.Shelf.{Shown, Shows, StaysOrShuts, IsRecalled, AreSelected, IsCommitted, CountsFaults, KeepsTables, BlamesTables, AddsNoStop, LeavesAlone, greatest_count};
+    ghost use Rattle.review_rows.specs.Shelf.{Shown, Shows, StaysOrShuts, IsRecalled, AreSelected, IsCommitted, CountsFaults, KeepsTables, BlamesTables, AddsNoStop, StopLeavesOwnTables, greatest_count};
 
     /// The tables, whether the store was honest, its count of faults, and what a stop may leave.
     ghost state: { Self → Shown };
@@ -69,7 +69,7 @@ pub trait Shelf {
     fn commit(&mut self, alloc: Global, delta: &Delta, kept: &Kept) -> Result<(), ShelfFault>
         ensures honest { (state self.new).is_honest → (state self.old).is_honest }
         ensures done { (state self.new).is_honest → OnOk result (Shows (state self.old).tables (λ t. Shows (state self.new).tables (IsCommitted t delta.now (kept_row kept.now)))) }
-        ensures alone { (state self.new).is_honest → OnOk result (LeavesAlone (state self.new)) }
+        ensures alone { (state self.new).is_honest → OnOk result (StopLeavesOwnTables (state self.new)) }
         ensures undone { (state self.new).is_honest → OnErr result (StaysOrShuts (state self.old).tables (state self.new).tables) }
         ensures damaged { (state self.new).is_honest → BlamesTables result (state self.old).tables }
         ensures stops { (state self.new).is_honest → (t : Tables) → (state self.new).stops t →

@@ -73,5 +73,3 @@ row_between_numbers a b n row h =
     between_of (slice_cmp nat_cmp a b) (nat_cmp 1 n) (nat_cmp 1000000 n) row (λ x is. numbered n (h x is)) ∙ ap (λ t. cond t row None) (is_eq-slice_cmp a b)
 
 -- the bounds of a range are in order
-pub forward : (a : List ℕ) → is_gt (ordering_then (slice_cmp nat_cmp a a) (nat_cmp 1 1000000)) ≡ false
-forward a = let e = tied_itself nat_list_cmp_total a in rw e refl

@@ -6,6 +6,7 @@ use Rattle.review_rows.specs.Shelf.{Shown, CountsFaults, one_more, greatest_coun
 use Rattle.review_shelves.specs.declared.faulty.Turn.{Turn}
 use Rattle.review_shelves.specs.declared.faulty.Turn.TheVariants.{Ahead, Past}
 use Rattle.review_shelves.specs.declared.faulty.FaultyShelf.{FaultyShelf}
+use Rattle.review_shelves.specs.declared.shutting.ShuttingShelf.{ShuttingShelf}
 
 -- the next call fails
 abbrev pub is_next : Turn → Bool
@@ -34,6 +35,15 @@ pub record FailsInTurn {T X : Type 0} (shown : T → Shown) (old : FaultyShelf T
   pub fails : is_next old.turn ≡ true → (result ≡ Err Store) × (new.inner ≡ old.inner)
   pub passes : is_next old.turn ≡ false → CountsFaults result (shown old.inner).faults (shown new.inner).faults
 
--- what is shown over another shelf, where it is shut or not
-abbrev pub shutting : Bool → ℕ → Shown → Shown
-shutting shut refused s = record { tables = if shut then None else s.tables; is_honest = s.is_honest; faults = min (s.faults + refused) greatest_count; stops = s.stops }
+-- what is shown over another shelf, where it is shut or not, and refused so many calls
+abbrev pub shut_or_not : Bool → ℕ → Shown → Shown
+shut_or_not shut refused s = record { tables = if shut then None else s.tables; is_honest = s.is_honest; faults = min (s.faults + refused) greatest_count; stops = s.stops }
+
+abbrev pub shutting : {T : Type 0} → (T → Shown) → ShuttingShelf T → Shown
+shutting shown s = shut_or_not (is_past s.turn) s.refused (shown s.inner)
+
+-- Whose turn it is then: once that is past, the shelf is shut and the call answers Store; before, it is answered by the shelf below.
+pub record ShutsInTurn {T X : Type 0} (shown : T → Shown) (old : ShuttingShelf T) (result : Result X ShelfFault) (next : Turn) (new : ShuttingShelf T) : Type 0 where
+  pub turn : new.turn ≡ next
+  pub refuses : is_past next ≡ true → result ≡ Err Store
+  pub passes : is_past next ≡ false → CountsFaults result (shown old.inner).faults (shown new.inner).faults

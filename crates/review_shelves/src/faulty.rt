@@ -58,7 +58,7 @@ impl<T: Shelf> FaultyShelf<T> {
 
 impl<T: Shelf> Shelf for FaultyShelf<T> {
     ghost use Rattle.review_rows.specs.Rows.{Tables, kept_row};
-    ghost use Rattle.review_rows.specs.Shelf.{Shows, StaysOrShuts, IsRecalled, AreSelected, IsCommitted, CountsFaults, KeepsTables, BlamesTables, AddsNoStop, LeavesAlone};
+    ghost use Rattle.review_rows.specs.Shelf.{Shows, StaysOrShuts, IsRecalled, AreSelected, IsCommitted, CountsFaults, KeepsTables, BlamesTables, AddsNoStop, StopLeavesOwnTables};
     ghost use Rattle.review_shelves.specs.Faults.{faulty, is_past, FailsInTurn};
     ghost use Rattle.review_shelves.specs.Fits.{one_more_fits};
 
@@ -102,7 +102,7 @@ impl<T: Shelf> Shelf for FaultyShelf<T> {
     fn commit(&mut self, alloc: Global, delta: &Delta, kept: &Kept) -> Result<(), ShelfFault>
         ensures honest { (faulty T.state self.new).is_honest → (faulty T.state self.old).is_honest }
         ensures done { (faulty T.state self.new).is_honest → OnOk result (Shows (faulty T.state self.old).tables (λ t. Shows (faulty T.state self.new).tables (IsCommitted t delta.now (kept_row kept.now)))) }
-        ensures alone { (faulty T.state self.new).is_honest → OnOk result (LeavesAlone (faulty T.state self.new)) }
+        ensures alone { (faulty T.state self.new).is_honest → OnOk result (StopLeavesOwnTables (faulty T.state self.new)) }
         ensures undone { (faulty T.state self.new).is_honest → OnErr result (StaysOrShuts (faulty T.state self.old).tables (faulty T.state self.new).tables) }
         ensures damaged { (faulty T.state self.new).is_honest → BlamesTables result (faulty T.state self.old).tables }
         ensures stops { (faulty T.state self.new).is_honest → (t : Tables) → (faulty T.state self.new).stops t →

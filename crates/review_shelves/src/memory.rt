@@ -1,6 +1,6 @@
 //! A desk in memory.
 ghost use Rattle.std.specs.Prelude.{◌≡◌, [], IfOk};
-ghost use Rattle.review_rows.specs.Shelf.{Shows, LeavesAlone};
+ghost use Rattle.review_rows.specs.Shelf.{Shows, StopLeavesOwnTables};
 ghost use Rattle.review_rows.specs.View.{IsView};
 
 use crate::tables::MemoryTables;
@@ -30,7 +30,7 @@ impl MemoryShelf {
     /// The desk of no request: account 1 is `admin`, in the group `Administrators`.
     pub fn new(alloc: Global) -> Result<MemoryShelf, AllocError>
         ensures view { IfOk result (λ s. Shows (⟦<MemoryShelf as Shelf>⟧.state s).tables (IsView [])) }
-        ensures stops { IfOk result (λ s. LeavesAlone (⟦<MemoryShelf as Shelf>⟧.state s)) }
+        ensures stops { IfOk result (λ s. StopLeavesOwnTables (⟦<MemoryShelf as Shelf>⟧.state s)) }
     {
         Ok(MemoryShelf {
             tables: MemoryTables::new(alloc)?,

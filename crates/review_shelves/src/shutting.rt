@@ -1,6 +1,8 @@
-ghost use Rattle.std.specs.Prelude.{◌≡◌, true, false, ℕ, ◌+◌, ◌≤◌, ◌<◌, ◌⊎◌};
+ghost use Rattle.std.specs.Prelude.{◌≡◌, true, false, ℕ, ◌+◌, ◌≤◌, ◌<◌, ◌⊎◌, IfOk, OnOk, OnErr};
 ghost use Rattle.review_rows.specs.Shelf.{ShowsAs, greatest_count};
+ghost use Rattle.review_shelves.specs.Faults.{is_past};
 
+use crate::faulty::Turn;
 use review_rows::{Delta, Kept, Need, Rows, Shelf, ShelfFault};
 use review_words::{AccountNo, RequestId};
 use std::alloc::Global;
@@ -10,76 +12,112 @@ use std::alloc::Global;
 #[derive(Drop)]
 pub struct ShuttingShelf<T> {
     inner: T,
-    left: u64,
-    shut: bool,
+    turn: Turn,
     refused: u64,
 }
 
 impl<T: Shelf> ShuttingShelf<T> {
     /// The k-th commit shuts the shelf, counted from 1; with 0 none does.
     pub fn new(inner: T, k: u64) -> ShuttingShelf<T>
-        ensures { ShowsAs (⟦<ShuttingShelf<T> as Shelf>⟧.state result) (T.state inner) }
+        ensures shows { ShowsAs (⟦<ShuttingShelf<T> as Shelf>⟧.state result) (T.state inner) }
+        ensures inner { result.inner ≡ inner }
+        ensures turn { result.turn ≡ Turn.Ahead k }
     {
         ShuttingShelf {
             inner,
-            left: k,
-            shut: false,
+            turn: Turn::Ahead(k),
             refused: 0,
         }
     }
 
+    fn is_shut(&self) -> bool
+        ensures { result ≡ is_past self.now.turn }
+    {
+        matches!(self.turn, Turn::Past)
+    }
+
+    // Is shut from now on, and counts a refused call.
     fn refuse(&mut self)
         ensures inner { self.new.inner ≡ self.old.inner }
-        ensures shut { self.new.shut ≡ true }
+        ensures shut { self.new.turn ≡ Turn.Past }
         ensures refused { (self.old.refused < self.new.refused) ⊎ ((self.old.refused ≡ greatest_count) × (self.new.refused ≡ self.old.refused)) }
     {
-        self.shut = true;
+        self.turn = Turn::Past;
         self.refused = self.refused.saturating_add(1);
     }
 }
 
 impl<T: Shelf> Shelf for ShuttingShelf<T> {
-    ghost use Rattle.review_shelves.specs.Faults.{shutting};
+    ghost use Rattle.review_rows.specs.Rows.{Tables, kept_row};
+    ghost use Rattle.review_rows.specs.Shelf.{Shows, StaysOrShuts, IsRecalled, AreSelected, IsCommitted, CountsFaults, KeepsTables, BlamesTables, AddsNoStop, StopLeavesOwnTables};
+    ghost use Rattle.review_shelves.specs.Faults.{shutting, after_call, ShutsInTurn};
     ghost use Rattle.review_shelves.specs.Fits.{sum_fits};
 
-    ghost state = { λ s. shutting s.shut s.refused (T.state s.inner) };
+    ghost state = { shutting T.state };
 
     fn recall(
         &mut self,
         alloc: Global,
         caller: AccountNo,
         id: &RequestId,
-    ) -> Result<Option<Kept>, ShelfFault> {
-        if self.shut {
+    ) -> Result<Option<Kept>, ShelfFault>
+        ensures honest { (shutting T.state self.new).is_honest → (shutting T.state self.old).is_honest }
+        ensures found { (shutting T.state self.new).is_honest → IfOk result (λ kept. Shows (shutting T.state self.old).tables (λ t. IsRecalled t (record { caller = caller; id = id.now }) kept)) }
+        ensures tables { (shutting T.state self.new).is_honest → KeepsTables result (shutting T.state self.old).tables (shutting T.state self.new).tables }
+        ensures damaged { (shutting T.state self.new).is_honest → BlamesTables result (shutting T.state self.old).tables }
+        ensures stops { (shutting T.state self.new).is_honest → AddsNoStop (shutting T.state self.old) (shutting T.state self.new) }
+        ensures counted { CountsFaults result (shutting T.state self.old).faults (shutting T.state self.new).faults }
+        ensures in_turn { ShutsInTurn T.state self.old result self.old.turn self.new }
+    {
+        if self.is_shut() {
             self.refuse();
             return Err(ShelfFault::Store);
         }
         self.inner.recall(alloc, caller, id)
     }
 
-    fn load(&mut self, alloc: Global, need: &Need) -> Result<Rows, ShelfFault> {
-        if self.shut {
+    fn load(&mut self, alloc: Global, need: &Need) -> Result<Rows, ShelfFault>
+        ensures honest { (shutting T.state self.new).is_honest → (shutting T.state self.old).is_honest }
+        ensures found { (shutting T.state self.new).is_honest → IfOk result (λ rows. Shows (shutting T.state self.old).tables (λ t. AreSelected t need.now rows)) }
+        ensures tables { (shutting T.state self.new).is_honest → KeepsTables result (shutting T.state self.old).tables (shutting T.state self.new).tables }
+        ensures damaged { (shutting T.state self.new).is_honest → BlamesTables result (shutting T.state self.old).tables }
+        ensures stops { (shutting T.state self.new).is_honest → AddsNoStop (shutting T.state self.old) (shutting T.state self.new) }
+        ensures counted { CountsFaults result (shutting T.state self.old).faults (shutting T.state self.new).faults }
+        ensures in_turn { ShutsInTurn T.state self.old result self.old.turn self.new }
+    {
+        if self.is_shut() {
             self.refuse();
             return Err(ShelfFault::Store);
         }
         self.inner.load(alloc, need)
     }
 
-    fn commit(&mut self, alloc: Global, delta: &Delta, kept: &Kept) -> Result<(), ShelfFault> {
-        if self.shut {
-            self.refuse();
-            return Err(ShelfFault::Store);
+    fn commit(&mut self, alloc: Global, delta: &Delta, kept: &Kept) -> Result<(), ShelfFault>
+        ensures honest { (shutting T.state self.new).is_honest → (shutting T.state self.old).is_honest }
+        ensures done { (shutting T.state self.new).is_honest → OnOk result (Shows (shutting T.state self.old).tables (λ t. Shows (shutting T.state self.new).tables (IsCommitted t delta.now (kept_row kept.now)))) }
+        ensures alone { (shutting T.state self.new).is_honest → OnOk result (StopLeavesOwnTables (shutting T.state self.new)) }
+        ensures undone { (shutting T.state self.new).is_honest → OnErr result (StaysOrShuts (shutting T.state self.old).tables (shutting T.state self.new).tables) }
+        ensures damaged { (shutting T.state self.new).is_honest → BlamesTables result (shutting T.state self.old).tables }
+        ensures stops { (shutting T.state self.new).is_honest → (t : Tables) → (shutting T.state self.new).stops t →
+            (shutting T.state self.old).stops t ⊎ Shows (shutting T.state self.old).tables (λ was. IsCommitted was delta.now (kept_row kept.now) t) }
+        ensures counted { CountsFaults result (shutting T.state self.old).faults (shutting T.state self.new).faults }
+        ensures in_turn { ShutsInTurn T.state self.old result (after_call self.old.turn) self.new }
+    {
+        match self.turn {
+            Turn::Past => {
+                self.refuse();
+                Err(ShelfFault::Store)
+            }
+            Turn::Ahead(1) => {
+                let _done = self.inner.commit(alloc, delta, kept);
+                self.refuse();
+                Err(ShelfFault::Store)
+            }
+            Turn::Ahead(n) => {
+                self.turn = Turn::Ahead(n.saturating_sub(1));
+                self.inner.commit(alloc, delta, kept)
+            }
         }
-        if self.left == 0 {
-            return self.inner.commit(alloc, delta, kept);
-        }
-        self.left -= 1;
-        let done = self.inner.commit(alloc, delta, kept);
-        if self.left == 0 {
-            self.refuse();
-            return Err(ShelfFault::Store);
-        }
-        done
     }
 
     fn faults(&self) -> u64 {

@@ -35,17 +35,17 @@ impl MemoryTables {
         ensures view { IfOk result (λ t. IsView [] (tables_of (desk_of t))) }
     {
         let mut accounts = Table::new(alloc);
-        accounts.put(AccountNo::new(1), admin_name(alloc)?)?;
+        accounts.put(AccountNo::first(), admin_name(alloc)?)?;
         let mut names = Table::new(alloc);
         let key = NameKey {
             name: admin_name(alloc)?,
-            account: AccountNo::new(1),
+            account: AccountNo::first(),
         };
         names.put(key, ())?;
         let mut members = Table::new(alloc);
         let key = MemberKey {
             group: administrators(alloc)?,
-            account: AccountNo::new(1),
+            account: AccountNo::first(),
         };
         members.put(key, ())?;
         Ok(MemoryTables {
@@ -151,11 +151,11 @@ impl MemoryTables {
     {
         let from = MemberKey {
             group: group.copy(alloc)?,
-            account: AccountNo::new(1),
+            account: AccountNo::first(),
         };
         let to = MemberKey {
             group: group.copy(alloc)?,
-            account: AccountNo::new(1_000_000),
+            account: AccountNo::last(),
         };
         for (key, _) in self.members.select(alloc, from, to)? {
             rows.put(key.copy(alloc)?, ())?;
@@ -170,11 +170,11 @@ impl MemoryTables {
     {
         let from = NameKey {
             name: name.copy(alloc)?,
-            account: AccountNo::new(1),
+            account: AccountNo::first(),
         };
         let to = NameKey {
             name: name.copy(alloc)?,
-            account: AccountNo::new(1_000_000),
+            account: AccountNo::last(),
         };
         for (key, _) in self.names.select(alloc, from, to)? {
             if self.has_name(key.account, name) {

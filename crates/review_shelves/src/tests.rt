@@ -1,9 +1,14 @@
 use super::{FaultyShelf, MemoryShelf, ShuttingShelf};
 use review_rows::{Delta, Kept, MemberKey, Need, Rows, Shelf, ShelfFault};
 use review_table::Change;
-use review_words::{AccountNo, Word};
+use review_words::{AccountNo, Name};
 use std::alloc::Global;
 use std::test::Fail;
+
+/// Account 2.
+fn second() -> Result<AccountNo, Fail> {
+    Ok(AccountNo::from_number(2).ok_or("no account")?)
+}
 
 /// A need of nothing.
 fn no_need(alloc: Global) -> Need {
@@ -18,7 +23,7 @@ fn no_need(alloc: Global) -> Need {
 
 fn administrator(alloc: Global, account: AccountNo) -> Result<MemberKey, Fail> {
     Ok(MemberKey {
-        group: Word::read(alloc, "Administrators")?,
+        group: Name::read(alloc, "Administrators")?,
         account,
     })
 }
@@ -27,16 +32,16 @@ fn administrator(alloc: Global, account: AccountNo) -> Result<MemberKey, Fail> {
 fn second_account(alloc: Global, name: &str) -> Result<Delta, Fail> {
     let mut accounts = Vec::new(alloc);
     accounts.push(Change {
-        key: AccountNo::new(2),
-        row: Some(Word::read(alloc, name)?),
+        key: second()?,
+        row: Some(Name::read(alloc, name)?),
     })?;
     let mut members = Vec::new(alloc);
     members.push(Change {
-        key: administrator(alloc, AccountNo::new(1))?,
+        key: administrator(alloc, AccountNo::first())?,
         row: None,
     })?;
     members.push(Change {
-        key: administrator(alloc, AccountNo::new(2))?,
+        key: administrator(alloc, second()?)?,
         row: Some(()),
     })?;
     Ok(Delta { accounts, members })
@@ -44,8 +49,8 @@ fn second_account(alloc: Global, name: &str) -> Result<Delta, Fail> {
 
 fn request(alloc: Global, id: &str) -> Result<Kept, Fail> {
     Ok(Kept {
-        caller: AccountNo::new(1),
-        id: Word::read(alloc, id)?,
+        caller: AccountNo::first(),
+        id: Name::read(alloc, id)?,
         request: 1,
         content: String::from_str(alloc, "content")?,
         reply: String::from_str(alloc, "reply")?,
@@ -70,7 +75,7 @@ fn account_of<S: Shelf>(
     name: &str,
 ) -> Result<Result<Option<AccountNo>, ShelfFault>, Fail> {
     let need = Need {
-        name: Some(Word::read(alloc, name)?),
+        name: Some(Name::read(alloc, name)?),
         ..no_need(alloc)
     };
     Ok(match shelf.load(alloc, &need) {
@@ -85,8 +90,8 @@ fn reply_of<S: Shelf>(
     shelf: &mut S,
     id: &str,
 ) -> Result<Result<Option<String>, ShelfFault>, Fail> {
-    let id = Word::read(alloc, id)?;
-    Ok(match shelf.recall(alloc, AccountNo::new(1), &id) {
+    let id = Name::read(alloc, id)?;
+    Ok(match shelf.recall(alloc, AccountNo::first(), &id) {
         Ok(Some(kept)) => Ok(Some(kept.reply)),
         Ok(None) => Ok(None),
         Err(fault) => Err(fault),
@@ -96,10 +101,11 @@ fn reply_of<S: Shelf>(
 /// The rows of accounts 1 and 2, of account 1 as an administrator, and of all administrators.
 fn rows_of_two<S: Shelf>(alloc: Global, shelf: &mut S) -> Result<Rows, Fail> {
     let mut need = no_need(alloc);
-    need.accounts.push(AccountNo::new(1))?;
-    need.accounts.push(AccountNo::new(2))?;
-    need.members.push(administrator(alloc, AccountNo::new(1))?)?;
-    need.group = Some(Word::read(alloc, "Administrators")?);
+    need.accounts.push(AccountNo::first())?;
+    need.accounts.push(second()?)?;
+    need.members
+        .push(administrator(alloc, AccountNo::first())?)?;
+    need.group = Some(Name::read(alloc, "Administrators")?);
     need.last_account = true;
     Ok(shelf.load(alloc, &need)?)
 }
@@ -129,9 +135,9 @@ fn a_new_desk_has_its_administrator(rt: HostRuntime) -> Result<(), Fail> {
     let alloc = rt.alloc();
     let mut shelf = new_desk(alloc)?;
     let rows = rows_of_two(alloc, &mut shelf)?;
-    assert!(rt; has_name(&rows, AccountNo::new(1), "admin"));
-    assert!(rt; !has_name(&rows, AccountNo::new(2), "ann"));
-    assert!(rt; is_administrator(alloc, &rows, AccountNo::new(1))?);
+    assert!(rt; has_name(&rows, AccountNo::first(), "admin"));
+    assert!(rt; !has_name(&rows, second()?, "ann"));
+    assert!(rt; is_administrator(alloc, &rows, AccountNo::first())?);
     assert_eq!(rt; rows.last_account, 1);
     assert_eq!(rt; rows.requests, 0);
     Ok(())
@@ -143,9 +149,9 @@ fn a_commit_is_found_again(rt: HostRuntime) -> Result<(), Fail> {
     let mut shelf = new_desk(alloc)?;
     commit_second(alloc, &mut shelf, "ann")??;
     let rows = rows_of_two(alloc, &mut shelf)?;
-    assert!(rt; has_name(&rows, AccountNo::new(2), "ann"));
-    assert!(rt; !is_administrator(alloc, &rows, AccountNo::new(1))?);
-    assert!(rt; is_administrator(alloc, &rows, AccountNo::new(2))?);
+    assert!(rt; has_name(&rows, second()?, "ann"));
+    assert!(rt; !is_administrator(alloc, &rows, AccountNo::first())?);
+    assert!(rt; is_administrator(alloc, &rows, second()?)?);
     assert_eq!(rt; rows.last_account, 2);
     assert_eq!(rt; rows.requests, 1);
     Ok(())
@@ -169,10 +175,7 @@ fn a_name_that_is_given_up_is_free(rt: HostRuntime) -> Result<(), Fail> {
     commit_second(alloc, &mut shelf, "ann")??;
     commit_second(alloc, &mut shelf, "bob")??;
     assert_eq!(rt; account_of(alloc, &mut shelf, "ann")??, None);
-    assert_eq!(rt;
-        account_of(alloc, &mut shelf, "bob")??,
-        Some(AccountNo::new(2))
-    );
+    assert_eq!(rt; account_of(alloc, &mut shelf, "bob")??, Some(second()?));
     Ok(())
 }
 

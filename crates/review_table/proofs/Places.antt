@@ -5,11 +5,12 @@ use Rattle.std.specs.declared.cmp.Ordering.TheVariants.{Less, Equal, Greater}
 use Rattle.std.specs.Ordering.{is_eq, match_ordering, eq_by_cmp}
 use Rattle.std.specs.Prelude.{◌↔◌}
 use Rattle.std.specs.Option.{IsSome, is_some}
+use Rattle.std.proofs.lemmas.List.Elements.{All-head, All-tail, filter-append}
 use Rattle.std.specs.Map.{lookup, keys_of, remove_entry}
-use Rattle.std.specs.List.{filter, AllByRecursion, IsDistinct, Contains}
+use Rattle.std.specs.List.{filter, All, AllByRecursion, IsDistinct, Contains}
 use Rattle.std.specs.List.Sorted.{IsStrictlySortedBy}
 use Rattle.std.specs.Cmp.{IsTotalOrder, eq_by_cmp_equiv, Equal-is}
-use Rattle.std.specs.Ordering.{ordering_then, is_le, is_lt}
+use Rattle.std.specs.Ordering.{ordering_then, ordering_reverse, is_le, is_lt}
 use Rattle.std.specs.BTreeMap.Range.{range_contains}
 use Rattle.std.specs.declared.ops.Bound.TheVariants.{Included}
 use Rattle.std.proofs.lemmas.Cmp.{tied_itself, alike_right}
@@ -20,7 +21,7 @@ use Rattle.std.proofs.lemmas.Map.Keys.{IsDistinct-head, IsDistinct-tail, IsDisti
 use Rattle.std.proofs.lemmas.Map.Entries.{none_past_head, lookup-filter-keys}
 use Rattle.std.specs.BTreeMap.{is_at, insert_entry}
 use Rattle.review_table.specs.declared.table.Change.{Change}
-use Rattle.review_table.specs.Rows.{flat, row_at, row_in, with_row, rows_of, changed, change_of, after_change}
+use Rattle.review_table.specs.Rows.{flat, row_at, row_in, with_row, rows_of, changed, change_of, after_change, has_place, placed, HavePlaces}
 
 inserted : {K X : Type 0} (o : Ordering) (k : K) (e : K × Option X) (t rest : List (K × Option X)) (l : Option (Option X)) → cond (is_eq o) (Some e.1) l ≡ None
     → (l ≡ None → rows_of rest ≡ rows_of t) → rows_of (match_ordering o ((k, None) ∷ e ∷ t) ((e.0, None) ∷ t) (e ∷ rest)) ≡ rows_of (e ∷ t)
@@ -191,3 +192,42 @@ in_range_alike o from to q k e i = is_le (sym (alike_right o q k from e) i) && n
 pub row_between : {K X : Type 0} {R : K → K → Ordering} → IsTotalOrder R → (from to : K) (rows : List (K × X)) (q : K) → row_in R (filter (λ e. range_contains R (Included from) (Included to) e.0) rows) q ≡ cond (range_contains R (Included from) (Included to) q) (row_in R rows q) None
 row_between {R = R} o from to rows q =
     lookup-filter-keys (is_at (R q)) (range_contains R (Included from) (Included to)) (range_contains R (Included from) (Included to) q) (λ k at. in_range_alike o from to q k ((Equal-is _).0 at)) rows
+
+-- where all keys have places, all changes are made
+filter_here : {X : Type 0} (b : Bool) (x : X) (xs ys : List X) → b ≡ true → ys ≡ xs → cond b (x ∷ ys) ys ≡ x ∷ xs
+filter_here true x xs ys here same = ap (λ l. x ∷ l) same
+filter_here false x xs ys here same = absurd (cc)
+
+filter_all : {X : Type 0} (p : X → Bool) (xs : List X) → All (λ x. p x ≡ true) xs → filter p xs ≡ xs
+filter_all p [] all = refl
+filter_all p (x ∷ xs) all =
+    filter_here (p x) x xs (filter p xs) (All-head (λ y. p y ≡ true) x xs all) (filter_all p xs (All-tail (λ y. p y ≡ true) x xs all))
+
+pub all_placed : {K X : Type 0} (cmp : K → K → Ordering) (t : List (K × Option X)) (cs : List (Change K X)) → HavePlaces cmp t cs → placed cmp t cs ≡ cs
+all_placed cmp t cs places = filter_all (λ c. has_place cmp t c.key) cs places
+
+-- one change more, which is made where its key has a place
+changed_pushed_if : {K X : Type 0} (cmp : K → K → Ordering) (b : Bool) (cs : List (Change K X)) (c : Change K X) (q : K) (o : Option X) →
+    changed cmp (cs ++ cond b (c ∷ []) []) q o ≡ changed cmp cs q (cond (b && is_at (cmp c.key) q) c.row o)
+changed_pushed_if cmp true cs c q o = changed_pushed cmp cs c q o
+changed_pushed_if cmp false cs c q o = ap (λ l. changed cmp l q o) (append-nil cs)
+
+pub placed_pushed : {K X : Type 0} (cmp : K → K → Ordering) (t : List (K × Option X)) (cs : List (Change K X)) (c : Change K X) (q : K) (o : Option X) →
+    changed cmp (placed cmp t (cs ++ c ∷ [])) q o ≡ changed cmp (placed cmp t cs) q (cond (has_place cmp t c.key && is_at (cmp c.key) q) c.row o)
+placed_pushed cmp t cs c q o =
+    ap (λ l. changed cmp l q o) (filter-append (λ d. has_place cmp t d.key) cs (c ∷ [])) ∙ changed_pushed_if cmp (has_place cmp t c.key) (placed cmp t cs) c q o
+
+-- between a key and one before it there is none
+none_between : {K : Type 0} {R : K → K → Ordering} → IsTotalOrder R → (from to q : K) → R to from ≡ Less → (o : Ordering) → R from q ≡ o → range_contains R (Included from) (Included to) q ≡ false
+none_between o from to q less Less e = let t = o.trans to from q less e in rw (e, t) refl
+none_between o from to q less Equal e = let t = sym (alike_right o from q to e) ∙ less in rw (e, t) refl
+none_between o from to q less Greater e = rw e refl
+
+filter_none : {X : Type 0} (p : X → Bool) (xs : List X) → ((x : X) → p x ≡ false) → filter p xs ≡ []
+filter_none p [] none = refl
+filter_none p (x ∷ xs) none = let e = none x in rw e (filter_none p xs none)
+
+pub select_none : {K X : Type 0} {R : K → K → Ordering} → IsTotalOrder R → (from to : K) (rows : List (K × X)) → R from to ≡ Greater → filter (λ e. range_contains R (Included from) (Included to) e.0) rows ≡ []
+select_none {R = R} o from to rows greater =
+    let less : R to from ≡ Less = o.antisymm to from ∙ ap ordering_reverse greater in
+    filter_none (λ e. range_contains R (Included from) (Included to) e.0) rows (λ e. none_between o from to e.0 less (R from e.0) refl)

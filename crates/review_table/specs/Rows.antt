@@ -1,9 +1,9 @@
 -- Places by key, each with a row or none; the rows are what callers see.
-use Rattle.std.specs.Prelude.{◌≡◌, List, [], ◌∷◌, Option, Some, None, IsSome, if◌then◌else◌}
+use Rattle.std.specs.Prelude.{◌≡◌, List, [], ◌∷◌, Option, Some, None, Bool, true, is_some, if◌then◌else◌}
 use Rattle.std.specs.declared.cmp.Ordering.{Ordering}
 use Rattle.std.specs.Map.{lookup}
 use Rattle.std.specs.BTreeMap.{is_at}
-use Rattle.std.specs.List.{All}
+use Rattle.std.specs.List.{All, filter}
 use Rattle.review_table.specs.declared.table.Change.{Change}
 
 -- a row that may be missing twice over
@@ -29,13 +29,21 @@ rows_of (e ∷ t) = with_row e.0 e.1 (rows_of t)
 abbrev pub row_in : {K X : Type 0} → (K → K → Ordering) → List (K × X) → K → Option X
 row_in cmp rows k = lookup (is_at (cmp k)) rows
 
+-- whether a key has a place
+abbrev pub has_place : {K X : Type 0} → (K → K → Ordering) → List (K × Option X) → K → Bool
+has_place cmp t k = is_some (lookup (is_at (cmp k)) t)
+
 -- a key has a place
 abbrev pub HasPlace : {K X : Type 0} → (K → K → Ordering) → List (K × Option X) → K → Type 0
-HasPlace cmp t k = IsSome (lookup (is_at (cmp k)) t)
+HasPlace cmp t k = has_place cmp t k ≡ true
 
 -- each key that changes has a place
 abbrev pub HavePlaces : {K X : Type 0} → (K → K → Ordering) → List (K × Option X) → List (Change K X) → Type 0
 HavePlaces cmp t changes = All (λ c. HasPlace cmp t c.key) changes
+
+-- the changes whose keys have places
+abbrev pub placed : {K X : Type 0} → (K → K → Ordering) → List (K × Option X) → List (Change K X) → List (Change K X)
+placed cmp t changes = filter (λ c. has_place cmp t c.key) changes
 
 -- a key has a place without a row
 abbrev pub IsEmptyPlace : {K X : Type 0} → (K → K → Ordering) → List (K × Option X) → K → Type 0

@@ -1,4 +1,4 @@
-ghost use Rattle.std.specs.Prelude.{◌≡◌, ◌++◌, List, Option, Some, None, [], IfOk, IfErr, IfSome, IsNone, OnOk, OnErr, ◌↔◌, map, length, option_copied, if◌then◌else◌, Result, Ok, Err, IsSome};
+ghost use Rattle.std.specs.Prelude.{◌≡◌, ◌++◌, ◌&&◌, List, Option, Some, None, [], IfOk, IfErr, IfSome, IsNone, OnOk, OnErr, ◌↔◌, map, length, option_copied, if◌then◌else◌, Result, Ok, Err, IsSome};
 ghost use Rattle.std.specs.Ordering.{eq_by_cmp};
 ghost use Rattle.std.specs.List.{All, IsDistinct, filter};
 ghost use Rattle.std.specs.List.Sorted.{IsStrictlySortedBy};
@@ -8,10 +8,11 @@ ghost use Rattle.std.specs.BTreeMap.{is_at};
 ghost use Rattle.std.specs.BTreeMap.Range.{IsLeBy, range_contains};
 ghost use Rattle.std.specs.declared.ops.Bound.TheVariants.{Included};
 ghost use Rattle.std.specs.declared.cmp.Ordering.TheVariants.{Less};
-ghost use Rattle.review_table.specs.Rows.{row_at, row_in, rows_of, HasPlace, HavePlaces, IsEmptyPlace, changed};
+ghost use Rattle.review_table.specs.Rows.{row_at, row_in, rows_of, HasPlace, HavePlaces, IsEmptyPlace, changed, has_place, placed};
 ghost use Rattle.review_table.specs.declared.table.BadRows.TheVariants.{Double};
 
 use std::alloc::{AllocError, AllocFailed, Global};
+use std::cmp::Ordering;
 use std::collections::BTreeMap;
 use std::marker::Model;
 
@@ -98,11 +99,21 @@ impl<K: Key, V: Drop> Table<K, V> {
         Ok(())
     }
 
-    /// Puts or takes away a row.
+    /// Makes a change, where its key has a place.
     fn set(&mut self, key: K, row: Option<V>)
+        ensures rows { (q : K) → row_at K.cmp self.new q ≡ (if has_place K.cmp self.old key && is_at (K.cmp key) q then row else row_at K.cmp self.old q) }
+        ensures stay { (q : K) → has_place K.cmp self.new q ≡ has_place K.cmp self.old q }
+    {
+        if self.places.contains_key(&key) {
+            self.set_place(key, row);
+        }
+    }
+
+    /// Puts or takes away the row at a place.
+    fn set_place(&mut self, key: K, row: Option<V>)
         requires { HasPlace K.cmp self.old key }
         ensures rows { (q : K) → row_at K.cmp self.new q ≡ (if is_at (K.cmp key) q then row else row_at K.cmp self.old q) }
-        ensures stay { (q : K) → HasPlace K.cmp self.old q → HasPlace K.cmp self.new q }
+        ensures stay { (q : K) → has_place K.cmp self.new q ≡ has_place K.cmp self.old q }
     {
         let _ = self.places.insert(key, row);
     }
@@ -134,10 +145,10 @@ impl<K: Key, V: Drop> Table<K, V> {
         Ok(())
     }
 
-    /// Makes the changes, for which `reserve_all` made the places. It can't fail.
+    /// Makes the changes whose keys have places: after `reserve_all` all of them, and it can't fail.
     pub fn apply(&mut self, changes: Vec<Change<K, V>>)
-        requires { HavePlaces K.cmp self.old changes.items }
-        ensures { (q : K) → row_in K.cmp (rows_of self.new) q ≡ changed K.cmp changes.items q (row_in K.cmp (rows_of self.old) q) }
+        ensures placed { (q : K) → row_in K.cmp (rows_of self.new) q ≡ changed K.cmp (placed K.cmp self.old changes.items) q (row_in K.cmp (rows_of self.old) q) }
+        ensures all { HavePlaces K.cmp self.old changes.items → (q : K) → row_in K.cmp (rows_of self.new) q ≡ changed K.cmp changes.items q (row_in K.cmp (rows_of self.old) q) }
     {
         self.once();
         self.set_all(changes);
@@ -211,8 +222,7 @@ impl<K: Key, V: Drop> Table<K, V> {
     }
 
     fn set_all(&mut self, changes: Vec<Change<K, V>>)
-        requires { HavePlaces K.cmp self.old changes.items }
-        ensures { (q : K) → row_at K.cmp self.new q ≡ changed K.cmp changes.items q (row_at K.cmp self.old q) }
+        ensures { (q : K) → row_at K.cmp self.new q ≡ changed K.cmp (placed K.cmp self.old changes.items) q (row_at K.cmp self.old q) }
     {
         let mut left = changes;
         while let Some(change) = left.pop() {
@@ -264,8 +274,24 @@ impl<K: Key, V: Drop> Table<K, V> {
         Ok(rows)
     }
 
-    /// The rows whose keys lie between two, these included, in the order of their keys.
+    /// The rows whose keys lie between two, these included, in the order of their keys. None where
+    /// the first key is behind the second.
     pub fn select<'a>(
+        &'a self,
+        alloc: Global,
+        from: K,
+        to: K,
+    ) -> Result<Vec<(&'a K, &'a V)>, AllocError>
+        ensures rows { IfOk result (λ rows. map deref_pair rows.items ≡ filter (λ e. range_contains K.cmp (Included from) (Included to) e.0) (rows_of self.now)) }
+        ensures found { IfOk result (λ rows. (q : K) → row_in K.cmp (map deref_pair rows.items) q ≡ (if range_contains K.cmp (Included from) (Included to) q then row_in K.cmp (rows_of self.now) q else None)) }
+    {
+        match from.cmp(&to) {
+            Ordering::Greater => Ok(Vec::new(alloc)),
+            Ordering::Less | Ordering::Equal => self.select_ordered(alloc, from, to),
+        }
+    }
+
+    fn select_ordered<'a>(
         &'a self,
         alloc: Global,
         from: K,

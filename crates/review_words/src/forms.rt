@@ -52,6 +52,17 @@ impl<F: Form> Name<F> {
         })
     }
 
+    /// The name that a text is which is known to be of the form.
+    pub(crate) fn of_form(text: String) -> Name<F>
+        requires { IsTrue (F.is_form (string_bytes text)) }
+        ensures { result ≡ string_bytes text }
+    {
+        Name {
+            text,
+            form: PhantomData,
+        }
+    }
+
     /// The text.
     pub fn as_str(&self) -> &str
         ensures text { result.now ≡ self.now }

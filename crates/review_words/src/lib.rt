@@ -20,8 +20,7 @@ pub use forms::{Form, Name};
 pub use groups::{Groups, Paths};
 pub use laws::{content_tells, reply_tells};
 pub use names::{
-    AccountName, AccountNo, BadName, GroupName, Members, RequestId, Word, admin_name,
-    administrators,
+    AccountName, AccountNo, BadName, GroupName, Members, RequestId, admin_name, administrators,
 };
 pub use places::{BranchName, CommitName, LabelName, Path, ProjectName};
 pub use reply::{Answer, NotTaken, Refusal, Reply};

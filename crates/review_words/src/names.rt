@@ -1,5 +1,5 @@
 //! Names and numbers of fixed forms. Contracts see a name's bytes, and a number itself.
-ghost use Rattle.std.specs.Prelude.{◌≡◌, ◌≤◌, ◌<◌, ◌==◌, ℕ, List, Bool, Option, Some, None, Err, true, false, IfOk, IfErr, IfSome, length, IsTrue, if◌then◌else◌, refl, string_bytes};
+ghost use Rattle.std.specs.Prelude.{◌≡◌, ◌+◌, ◌≤◌, ◌<◌, ◌==◌, ℕ, List, Bool, Option, Some, None, Err, true, false, IfOk, IfErr, IfSome, length, IsTrue, if◌then◌else◌, refl, string_bytes};
 ghost use Rattle.std.specs.List.{list_all, list_any};
 ghost use Rattle.std.specs.Cmp.Lexicographic.{pointwise, slice_cmp, nat_list_eq_equiv, nat_list_cmp_total, texts_ties, texts_po};
 ghost use Rattle.std.specs.Ordering.{nat_cmp};
@@ -9,6 +9,7 @@ ghost use Rattle.review_words.specs.Names.{administrators, admin_name, is_word, 
 ghost use Rattle.review_words.specs.Texts.{numeral};
 ghost use Rattle.review_words.specs.Reading.{account_of};
 
+use crate::forms::{Form, Name};
 use crate::numbers::read_number;
 use std::alloc::{AllocError, AllocFailed, Global};
 use std::cmp::Ordering;
@@ -89,14 +90,32 @@ impl AccountNo {
         read_account(text.as_bytes()).ok_or(BadName::Form)
     }
 
-    /// The account of a number that is known to be from 1 to 1,000,000.
+    /// The account after one of a number, or none where that is the last.
     #[tactic(auto, unfolding(crate::specs::Names::is_account_number))]
-    pub fn new(number: u32) -> AccountNo
-        requires least { 1 ≤ number }
-        requires most { number ≤ 1000000 }
-        ensures { result ≡ number }
+    pub fn after(last: u32) -> Option<AccountNo>
+        ensures some { IfSome result (λ n. (n ≡ last + 1) × (last < 1000000)) }
+        ensures none { result ≡ None → 1000000 ≤ last }
     {
-        AccountNo { number }
+        if last >= 1_000_000 {
+            return None;
+        }
+        Some(AccountNo { number: last + 1 })
+    }
+
+    /// The first account, whose number is 1.
+    #[tactic(auto, unfolding(crate::specs::Names::is_account_number))]
+    pub fn first() -> AccountNo
+        ensures { result ≡ 1 }
+    {
+        AccountNo { number: 1 }
+    }
+
+    /// The last account that there can be, whose number is 1,000,000.
+    #[tactic(auto, unfolding(crate::specs::Names::is_account_number))]
+    pub fn last() -> AccountNo
+        ensures { result ≡ 1000000 }
+    {
+        AccountNo { number: 1_000_000 }
     }
 
     /// The number, from 1 to 1,000,000.
@@ -110,44 +129,26 @@ impl AccountNo {
     }
 }
 
-/// What a word names: an account.
+/// The form of an account's name: 1 to 64 of `A-Z a-z 0-9 . _ -`.
 #[derive(Debug, Drop)]
 pub struct OfAccount;
 
-/// What a word names: a group.
+/// The form of a group's name, which is that of an account's.
 #[derive(Debug, Drop)]
 pub struct OfGroup;
 
-/// What a word names: a request.
+/// The form of a request's id, which is that of an account's name.
 #[derive(Debug, Drop)]
 pub struct OfRequest;
 
 /// The name of an account.
-pub type AccountName = Word<OfAccount>;
+pub type AccountName = Name<OfAccount>;
 
 /// The name of a group.
-pub type GroupName = Word<OfGroup>;
+pub type GroupName = Name<OfGroup>;
 
 /// The id that a caller gives a request.
-pub type RequestId = Word<OfRequest>;
-
-/// A name of 1 to 64 of `A-Z a-z 0-9 . _ -`. Contracts see its bytes.
-#[derive(Debug, Drop)]
-pub struct Word<K> {
-    text: String,
-    of: PhantomData<K>,
-}
-
-impl<K> Model for Word<K> {
-    ghost use Rattle.std.specs.Prelude.{ℕ, List, IsTrue, string_bytes};
-    ghost use Rattle.review_words.specs.Names.{is_word};
-
-    ghost Value = { List ℕ };
-
-    ghost view = { λ w. string_bytes w.text };
-
-    ghost invariant = { λ w. IsTrue (is_word (string_bytes w.text)) };
-}
+pub type RequestId = Name<OfRequest>;
 
 fn is_plain(byte: u8) -> bool
     ensures { result ≡ is_plain byte }
@@ -170,77 +171,27 @@ fn is_word(text: &str) -> bool
     1 <= length && length <= 64 && plain
 }
 
-impl<K> Word<K> {
-    /// The name whose bytes a text has. Form exactly where the text isn't 1 to 64 of
-    /// `A-Z a-z 0-9 . _ -`; Memory where there was no memory for the copy that the name keeps.
-    pub fn read(alloc: Global, text: &str) -> Result<Word<K>, BadName>
-        ensures ok { IfOk result (λ w. (w ≡ text.now) × (is_word text.now ≡ true)) }
-        ensures form { result ≡ Err BadName.Form → is_word text.now ≡ false }
-    {
-        if !is_word(text) {
-            return Err(BadName::Form);
-        }
-        Ok(Word {
-            text: String::from_str(alloc, text)?,
-            of: PhantomData,
-        })
-    }
+impl Form for OfAccount {
+    ghost is_form = { is_word };
 
-    /// The text, 1 to 64 bytes.
-    pub fn as_str(&self) -> &str
-        ensures text { result.now ≡ self.now }
-        ensures form { is_word self.now ≡ true }
-    {
-        self.text.as_str()
-    }
-
-    /// The same name once more. An error where there was no memory for it.
-    pub fn copy(&self, alloc: Global) -> Result<Word<K>, AllocError>
-        ensures { IfOk result (λ w. w ≡ self.now) }
-    {
-        let text = String::from_str(alloc, self.as_str())?;
-        Ok(Word {
-            text,
-            of: PhantomData,
-        })
+    fn is_met(text: &str) -> bool {
+        is_word(text)
     }
 }
 
-impl<K> PartialEq for Word<K> {
-    ghost eq = { pointwise ◌==◌ };
+impl Form for OfGroup {
+    ghost is_form = { is_word };
 
-    ghost laws = { Cmp.partial_equiv_from_equiv nat_list_eq_equiv };
-
-    fn eq(&self, other: &Self) -> bool {
-        self.as_str() == other.as_str()
+    fn is_met(text: &str) -> bool {
+        is_word(text)
     }
 }
 
-impl<K> Eq for Word<K> {
-    ghost laws = { nat_list_eq_equiv };
-}
+impl Form for OfRequest {
+    ghost is_form = { is_word };
 
-impl<K> PartialOrd for Word<K> {
-    ghost partial_cmp = { λ x y. Some (slice_cmp nat_cmp x y) };
-
-    ghost laws = { texts_po };
-
-    fn partial_cmp(&self, other: &Self) -> Option<Ordering> {
-        Some(self.cmp(other))
-    }
-}
-
-impl<K> Ord for Word<K> {
-    ghost cmp = { slice_cmp nat_cmp };
-
-    ghost total = { nat_list_cmp_total };
-
-    ghost matches_partial_cmp = { λ x y. refl };
-
-    ghost matches_eq = { texts_ties };
-
-    fn cmp(&self, other: &Self) -> Ordering {
-        self.as_str().cmp(other.as_str())
+    fn is_met(text: &str) -> bool {
+        is_word(text)
     }
 }
 
@@ -251,10 +202,7 @@ pub fn administrators(alloc: Global) -> Result<GroupName, AllocError>
     ensures { IfOk result (λ w. w ≡ administrators) }
 {
     let text = String::from_str(alloc, "Administrators")?;
-    Ok(Word {
-        text,
-        of: PhantomData,
-    })
+    Ok(Name::of_form(text))
 }
 
 /// The name of account 1, `admin`. An error where there was no memory for it.
@@ -263,10 +211,7 @@ pub fn admin_name(alloc: Global) -> Result<AccountName, AllocError>
     ensures { IfOk result (λ w. w ≡ admin_name) }
 {
     let text = String::from_str(alloc, "admin")?;
-    Ok(Word {
-        text,
-        of: PhantomData,
-    })
+    Ok(Name::of_form(text))
 }
 
 /// The account whose number the bytes are, if they are one.

@@ -52,7 +52,8 @@ fn reply_texts(rt: HostRuntime) -> Result<(), Fail> {
     ] {
         let written = reply_text(alloc, &reply)?;
         assert_eq!(rt; written.as_str(), text);
-        assert_eq!(rt; read_reply(alloc, text)?, reply, "of {text}");
+        let read = read_reply(alloc, text)?;
+        assert_eq!(rt; read, reply);
     }
     for reply in [Reply::IdentityReused, Reply::NotTaken(NotTaken::Full)] {
         let written = reply_text(alloc, &reply)?;
@@ -109,7 +110,10 @@ fn account_numbers(rt: HostRuntime) -> Result<(), Fail> {
     ] {
         assert_eq!(rt; AccountNo::read(text), Err(BadName::Form), "of {text}");
     }
-    assert_eq!(rt; AccountNo::new(7).get(), 7);
+    assert_eq!(rt; AccountNo::first().get(), 1);
+    assert_eq!(rt; AccountNo::after(999_999), Some(AccountNo::last()));
+    assert_eq!(rt; AccountNo::after(1_000_000), None);
+    assert_eq!(rt; AccountNo::last().get(), 1_000_000);
     assert_eq!(rt; AccountNo::from_number(0), None);
     assert_eq!(rt; AccountNo::from_number(1_000_001), None);
     Ok(())

@@ -166,6 +166,7 @@ fn read_fields(fields: &[&[u8]]) -> Option<Reply>
 pub fn read_reply(alloc: Global, text: &str) -> Result<Reply, BadReply>
     ensures ok { IfOk result (λ r. IsStored r × (reply_text r ≡ text.now)) }
     ensures form { IfErr result (λ e. e ≡ Form → (r : Reply) → IsStored r → reply_text r ≡ text.now → ⊥) }
+    ensures back { (r : Reply) → IsStored r → reply_text r ≡ text.now → IfOk result (λ s. s ≡ r) }
 {
     let Some(fields) = cut(alloc, text.as_bytes())? else {
         return Err(BadReply::Form);

@@ -1,6 +1,6 @@
-use Rattle.std.proofs.Common.{rules, refl, sym, ap, ◌++◌, ◌∙◌}
-use Rattle.review_desk.proofs.Answering.{did_nothing, did_one, told_bad, told_reply}
-use Rattle.review_desk.specs.Answers.{bad_line}
+use Rattle.std.proofs.Common.{rules, [], refl, sym, ap, ◌++◌, ◌∙◌}
+use Rattle.review_desk.proofs.Answering.{did_nothing, did_one, told_bad, told_reply, done_reply}
+use Rattle.review_desk.specs.Answers.{bad_line, is_done, all_done}
 use Rattle.review_desk.proofs.apply.answer.Goals as goal
 
 pub returns-in_err-add-in-Unreadable-clause-answered :
@@ -20,11 +20,15 @@ pub returns-in_ok-add-in-Unreadable-clause-answered :
     goal.returns-in_ok-add-in-Unreadable-clause-answered
 unfolding bad_line
 returns-in_ok-add-in-Unreadable-clause-answered g c =
-    did_nothing _ _ _ _ (sym c.in-Unreadable.is) refl
-    (c.in_ok-add-in-Unreadable.ensures.added ∙ ap (λ l. c.args.output.now.waiting.items ++ l) (sym (told_bad c.args.asked _ c.in-Unreadable.is refl)))
+    did_nothing _ _ _ _ (sym c.in-Unreadable.is) refl (
+      c.in_ok-add-in-Unreadable.ensures.added ∙ ap (λ l. c.args.output.now.waiting.items ++ l) (sym (told_bad c.args.asked _ c.in-Unreadable.is refl)),
+      ap (λ x. is_done x [] (all_done [])) (sym c.in-Unreadable.is),
+    )
 
 pub returns-in_ok-add-in-Asks-clause-answered : goal.returns-in_ok-add-in-Asks-clause-answered
 returns-in_ok-add-in-Asks-clause-answered g c =
     let line = c.as_str.ensures.value ∙ c.in_ok-line-in-Asks.ensures in
-    did_one _ _ _ _ _ _ (sym c.in-Asks.is) c.reply_to-reply.ensures.ran
-    (c.in_ok-add-in-Asks.ensures.added ∙ ap (λ l. c.args.output.now.waiting.items ++ l) (sym (told_reply c.args.asked c.in-Asks.delivery c.reply_to-reply.result _ c.in-Asks.is line)))
+    did_one _ _ _ _ _ _ (sym c.in-Asks.is) c.reply_to-reply.ensures.ran (
+      c.in_ok-add-in-Asks.ensures.added ∙ ap (λ l. c.args.output.now.waiting.items ++ l) (sym (told_reply c.args.asked c.in-Asks.delivery c.reply_to-reply.result _ c.in-Asks.is line)),
+      c.outcome_of.ensures ∙ sym (done_reply c.args.asked c.in-Asks.delivery c.reply_to-reply.result c.in-Asks.is),
+    )

@@ -1,4 +1,4 @@
-use Rattle.std.proofs.Common.{rules, ◌++◌, ◌∷◌, ◌∙◌, [], refl, ap, length, subst, Some, None, Option}
+use Rattle.std.proofs.Common.{rules, ◌++◌, ◌∷◌, ◌∙◌, [], refl, ap, length, sym, subst, Some, None, Option}
 use Rattle.std.specs.Io.KnownBytes.{prepend_known}
 use Rattle.review_machine.proofs.Going.{run_none}
 use Rattle.review_desk.specs.declared.apply.Asked.{Asked}
@@ -34,11 +34,11 @@ returns-clause-ran g c =
 pub returns-in_default-clause-ran : goal.returns-in_default-clause-ran
 returns-in_default-clause-ran g c =
     let was = c.loop.invariant.so_far in
-    let now = kept _ _ _ _ _ _ _ _ _ was.2 c.in_ok-send_unless.ensures in
+    let now = kept _ _ _ _ _ _ _ _ _ _ was.2 c.in_ok-send_unless.ensures in
     let left = prepend_known c.loop.lines.piece (g.R.Read.remaining c.loop.lines.reader) in
     let rest = prepend_known c.next_asked.new.lines.piece (g.R.Read.remaining c.next_asked.new.lines.reader) in
     let end : IsNextAsked left rest None = subst (λ (o : Option Asked). IsNextAsked left rest o) c.in_default.is c.in_ok-asked.ensures in
-    (was.0, was.1, gave_first _ _ _ was.2.read, was.2.count, was.2.ran, (gave_all _ _ _ was.2.read end.0, now.written))
+    (was.0, was.1, gave_first _ _ _ was.2.read, was.2.count, was.2.ran, (gave_all _ _ _ was.2.read end.0, now.written, sym was.2.done))
 
 pub returns-in_err-answer-clause-ran : goal.returns-in_err-answer-clause-ran
 returns-in_err-answer-clause-ran g c =
@@ -58,7 +58,7 @@ returns-in_err-answer-clause-ran g c =
 pub loop-preserved : goal.loop-preserved
 loop-preserved g c =
     let was = c.loop.invariant.so_far in
-    let now = kept _ _ _ _ _ _ _ _ _ was.2 c.in_ok-send_unless.ensures in
+    let now = kept _ _ _ _ _ _ _ _ _ _ was.2 c.in_ok-send_unless.ensures in
     let left = prepend_known c.loop.lines.piece (g.R.Read.remaining c.loop.lines.reader) in
     let rest = prepend_known c.next_asked.new.lines.piece (g.R.Read.remaining c.next_asked.new.lines.reader) in
     let next : IsNextAsked left rest (Some c.in-Some.asked) = subst (λ (o : Option Asked). IsNextAsked left rest o) c.in-Some.is c.in_ok-asked.ensures in
@@ -68,6 +68,6 @@ loop-preserved g c =
       so_far = (
         was.0 ++ next.0 ∷ [],
         was.1 ++ did.0,
-        one_more _ _ _ next.0 c.in-Some.asked _ _ _ _ _ _ _ _ _ _ now next.1 next.2 next.3 did.1 c.in_ok-answer.ensures.honest did.2 did.3,
+        one_more _ _ _ next.0 c.in-Some.asked _ _ _ _ _ _ _ _ _ _ _ _ _ now next.1 next.2 next.3 did.1 c.in_ok-answer.ensures.honest did.2 did.3 c.and-outcome.ensures,
       );
     }

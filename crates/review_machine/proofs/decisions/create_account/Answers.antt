@@ -23,15 +23,15 @@ returns-then-is_some-clause-decided c = λ h known l.
     refused_decided h a.caller (CreateAccount a.name.now) c.nothing-then-is_some.result NameTaken c.nothing-then-is_some.ensures.accounts c.nothing-then-is_some.ensures.members
     (answer_create h a.caller a.name.now true true true (nat_lt (account_count h) 1000000) known admin taken refl)
 
-pub returns-then-rows-ge-MOST_ACCOUNTS-clause-decided : goal.returns-then-rows-ge-MOST_ACCOUNTS-clause-decided
-returns-then-rows-ge-MOST_ACCOUNTS-clause-decided c = λ h known l.
+pub returns-in_default-clause-decided : goal.returns-in_default-clause-decided
+returns-in_default-clause-decided c = λ h known l.
     let a = c.args in
     let admin = sym (admin_is h a.caller (CreateAccount a.name.now) a.rows.now l) ∙ (sym c.in_ok-admin.ensures ∙ c.if-not-admin.false) in
     let free = sym (found_taken h a.name.now a.rows.now.named l.picked.named) ∙ (sym c.is_some.ensures ∙ c.if-is_some.false) in
     let last : a.rows.now.last_account ≡ account_count h = last_is h a.rows.now.last_account (l.picked.last_account refl) in
-    let full = c.if-rows-ge-MOST_ACCOUNTS.true in
-    refused_decided h a.caller (CreateAccount a.name.now) c.nothing-then-rows-ge-MOST_ACCOUNTS.result Limit
-    c.nothing-then-rows-ge-MOST_ACCOUNTS.ensures.accounts c.nothing-then-rows-ge-MOST_ACCOUNTS.ensures.members
+    let full = c.after.ensures.none c.in_default.is in
+    refused_decided h a.caller (CreateAccount a.name.now) c.nothing-in_default.result Limit
+    c.nothing-in_default.ensures.accounts c.nothing-in_default.ensures.members
     (answer_create h a.caller a.name.now true true false false known admin free (le-ltb (account_count h) 1000000 (omega arith)))
 
 pub returns-clause-decided : goal.returns-clause-decided
@@ -40,10 +40,11 @@ returns-clause-decided c = λ h known l.
     let admin = sym (admin_is h a.caller (CreateAccount a.name.now) a.rows.now l) ∙ (sym c.in_ok-admin.ensures ∙ c.if-not-admin.false) in
     let free = sym (found_taken h a.name.now a.rows.now.named l.picked.named) ∙ (sym c.is_some.ensures ∙ c.if-is_some.false) in
     let last : a.rows.now.last_account ≡ account_count h = last_is h a.rows.now.last_account (l.picked.last_account refl) in
-    let room = c.if-rows-ge-MOST_ACCOUNTS.false in
-    let number : c.new-number.result ≡ account_count h + 1 = c.new-number.ensures ∙ ap (λ k. k + 1) last in
+    let given = c.in-Some.ensures.some in
+    let room = given.1 in
+    let number : c.in-Some.number ≡ account_count h + 1 = given.0 ∙ ap (λ k. k + 1) last in
     let empty = c.nothing-delta.ensures in
-    let row : c.push.new.self.items ≡ record { key = c.new-number.result; row = Some a.name.now } ∷ [] =
-    c.in_ok-push.ensures.items ∙ (λ i. empty.accounts i ++ record { key = c.new-number.result; row = Some (c.in_ok-copy.ensures i) } ∷ []) in
-    create_decided h a.caller a.name.now (record { accounts = c.push.new.self; members = c.nothing-delta.result.members }) c.new-number.result
+    let row : c.push.new.self.items ≡ record { key = c.in-Some.number; row = Some a.name.now } ∷ [] =
+    c.in_ok-push.ensures.items ∙ (λ i. empty.accounts i ++ record { key = c.in-Some.number; row = Some (c.in_ok-copy.ensures i) } ∷ []) in
+    create_decided h a.caller a.name.now (record { accounts = c.push.new.self; members = c.nothing-delta.result.members }) c.in-Some.number
     known admin free (lt-ltb (account_count h) 1000000 (omega arith)) number row empty.members

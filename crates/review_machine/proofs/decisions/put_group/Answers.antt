@@ -40,4 +40,4 @@ returns-clause-decided c = λ h known l.
     let free = ap (λ t. bytes_eq t registered_users) (sym c.as_str.ensures.text) ∙ (sym c.eq.ensures ∙ c.if-eq.false) in
     let there = sym (accounts_are h a.caller a.group.now a.members.now a.rows.now l) ∙ (sym c.have_accounts.ensures ∙ c.if-not-have_accounts.false) in
     put_decided h a.caller a.group.now a.members.now a.rows.now (record { accounts = c.new.result; members = c.in_ok-member_changes.field-0 }) l
-    known admin free there c.new.ensures.items c.in_ok-member_changes.ensures
+    known admin free there c.new.ensures.items c.in_ok-member_changes.ensures.changes

@@ -11,7 +11,7 @@ use Rattle.review_machine.specs.Replies.{entry_of, IsServed}
 use Rattle.review_machine.proofs.Histories.{history_length}
 use Rattle.review_machine.proofs.Served.{first_served, not_taken_served, fault_served, after_read, views_stay, effect, loaded_shown, err_reply}
 use Rattle.review_words.specs.History.{Identity}
-use Rattle.review_machine.proofs.Effects.{stores_once, stored_shown}
+use Rattle.review_machine.proofs.Effects.{stores_once, stored_shown, full_keeps, fault_keeps, decided_keeps}
 use Rattle.review_machine.proofs.deliveries.first_arrival.Goals as goal
 
 pub returns-then-rows-ge-MOST_REQUESTS-clause-served : goal.returns-then-rows-ge-MOST_REQUESTS-clause-served
@@ -80,4 +80,4 @@ returns-clause-once g c = λ honest none.
     (stored_shown i a.command.now c.in_ok-delta.reply c.in_ok-delta.delta c.in_ok-need.need c.in_ok-rows.rows _
     (g.S.Shelf.state a.shelf.now).tables (g.S.Shelf.state c.load.new.self).tables (g.S.Shelf.state c.commit.new.self).tables
     (c.in_ok-rows.ensures.tables (y.honest honest)) none (c.in_ok-rows.ensures.found (y.honest honest)) c.in_ok-delta.ensures.refused (y.done honest)
-    (λ n e t k. record { identity = record { caller = a.caller; id = c.in_ok-id.ensures k }; request = e k + 1; content = c.requires k; reply = c.in_ok-text.ensures k }))
+    (λ n e k. record { identity = record { caller = a.caller; id = c.in_ok-id.ensures k }; request = e k + 1; content = c.requires k; reply = c.in_ok-text.ensures k }))

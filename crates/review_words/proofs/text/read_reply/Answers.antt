@@ -1,7 +1,9 @@
 use Rattle.std.proofs.Common.{◌≡◌, List, ℕ, map, sym, ap, ◌∙◌, Bor}
 use Rattle.std.specs.Str.{bytes_eq}
+use Rattle.std.proofs.lemmas.Slice.Eq.{bytes_eq-Decides}
 use Rattle.review_words.specs.Texts.{reply_fields}
 use Rattle.review_words.proofs.Replies.{short_reply, never_uncut, cut_to, never_unread, never_changed}
+use Rattle.review_words.proofs.Fields.{reply_text-injective}
 use Rattle.review_words.proofs.text.read_reply.Goals as goal
 
 pub returns-in_default-clause-form : goal.returns-in_default-clause-form
@@ -25,3 +27,8 @@ returns-clause-form c = λ e r stored text.
     let fields = ap (map now) c.deref.ensures.value ∙ cut in
     let differs : bytes_eq c.as_str.result.now c.args.text.now ≡ c.eq.result = sym c.eq.ensures in
     never_changed r c.in-Some-read_fields.reply (map now c.deref.result.now) c.as_str.result.now c.args.text.now stored fields c.in-Some-read_fields.ensures.reply (c.as_str.ensures.value ∙ c.in_ok-again.ensures) text (differs ∙ c.if-eq.false)
+
+pub returns-then-eq-clause-back : goal.returns-then-eq-clause-back
+returns-then-eq-clause-back c = λ r stored text.
+    reply_text-injective c.in-Some-read_fields.reply r c.in-Some-read_fields.ensures.stored stored
+    (sym c.in_ok-again.ensures ∙ (sym c.as_str.ensures.value ∙ ((bytes_eq-Decides c.as_str.result.now c.args.text.now).0 (sym c.eq.ensures ∙ c.if-eq.true) ∙ sym text)))

@@ -1,5 +1,5 @@
 use Rattle.std.specs.Io.KnownBytes.{prepend_known}
-use Rattle.review_desk.specs.Lines.{IsBegun}
+use Rattle.review_desk.proofs.Begun.{IsBegun}
 use Rattle.review_desk.proofs.lines.Lines.next_line.Given as goal
 
 abbrev pub invariant-loop : goal.invariant-loop

@@ -9,16 +9,16 @@ use Rattle.review_shelves.specs.Desk.{name_cmp}
 use Rattle.review_shelves.proofs.First.{HasAccount, HasName, HasMember, first_indexed, first_numbered, first_view}
 use Rattle.review_shelves.proofs.tables.MemoryTables.new.Goals as goal
 
-account : (c : goal.After-new-4) → HasAccount (rows_of c.put.new.self)
-account c = λ q. c.in_ok-put.ensures.ok q ∙ (λ i. cond (is_at (nat_cmp (c.new.ensures i)) q) (Some (c.in_ok-admin_name.ensures i)) (row_in nat_cmp (rows_of (c.new-accounts.ensures i)) q))
+account : (c : goal.After-new) → HasAccount (rows_of c.put.new.self)
+account c = λ q. c.in_ok-put.ensures.ok q ∙ (λ i. cond (is_at (nat_cmp (c.first.ensures i)) q) (Some (c.in_ok-admin_name.ensures i)) (row_in nat_cmp (rows_of (c.new-accounts.ensures i)) q))
 
-named : (c : goal.After-new-4) → HasName (rows_of c.put-2.new.self)
+named : (c : goal.After-new) → HasName (rows_of c.put-2.new.self)
 named c = λ q. c.in_ok-put-2.ensures.ok q
-    ∙ (λ i. let k : NameKey = record { name = c.in_ok-admin_name-2.ensures i; account = c.new-2.ensures i } in cond (is_at (name_cmp k) q) (Some tt) (row_in name_cmp (rows_of (c.new-names.ensures i)) q))
+    ∙ (λ i. let k : NameKey = record { name = c.in_ok-admin_name-2.ensures i; account = c.first-2.ensures i } in cond (is_at (name_cmp k) q) (Some tt) (row_in name_cmp (rows_of (c.new-names.ensures i)) q))
 
-member : (c : goal.After-new-4) → HasMember (rows_of c.put-3.new.self)
+member : (c : goal.After-new) → HasMember (rows_of c.put-3.new.self)
 member c = λ q. c.in_ok-put-3.ensures.ok q
-    ∙ (λ i. let k : MemberKey = record { group = c.in_ok-administrators.ensures i; account = c.new-3.ensures i } in cond (is_at (member_cmp k) q) (Some tt) (row_in member_cmp (rows_of (c.new-members.ensures i)) q))
+    ∙ (λ i. let k : MemberKey = record { group = c.in_ok-administrators.ensures i; account = c.first-3.ensures i } in cond (is_at (member_cmp k) q) (Some tt) (row_in member_cmp (rows_of (c.new-members.ensures i)) q))
 
 pub returns-clause-sound : goal.returns-clause-sound
 returns-clause-sound c = record {
@@ -27,4 +27,4 @@ returns-clause-sound c = record {
 }
 
 pub returns-clause-view : goal.returns-clause-view
-returns-clause-view c = first_view (rows_of c.put.new.self) (rows_of c.put-3.new.self) (rows_of c.new-4.result) (account c) (member c) (ap rows_of c.new-4.ensures)
+returns-clause-view c = first_view (rows_of c.put.new.self) (rows_of c.put-3.new.self) (rows_of c.new.result) (account c) (member c) (ap rows_of c.new.ensures)

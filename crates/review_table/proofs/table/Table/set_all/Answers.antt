@@ -1,18 +1,20 @@
-use Rattle.std.proofs.Common.{◌∙◌, ap, sym}
-use Rattle.std.proofs.lemmas.List.Elements.{All-weaker, All-pop}
-use Rattle.review_table.specs.Rows.{row_at, HasPlace, changed}
-use Rattle.review_table.proofs.Places.{changed_pushed}
+use Rattle.std.proofs.Common.{◌∙◌, ap, sym, cond, ◌&&◌}
+use Rattle.std.specs.BTreeMap.{is_at}
+use Rattle.review_table.specs.Rows.{row_at, placed, changed}
+use Rattle.review_table.proofs.Places.{placed_pushed}
 use Rattle.review_table.proofs.table.Table.set_all.Goals as goal
 
 pub loop-change-preserved : goal.loop-change-preserved
 loop-change-preserved g c =
     let R = g.K.Ord.cmp in
     let left = c.pop.new.self.items in
-    let old = c.loop-change.self in
+    let was = c.loop-change.self in
+    let start = c.args.self.now in
+    let change = c.in-Some.change in
     record {
-      rows = λ q. ap (changed R left q) (c.set.ensures.rows q) ∙ (sym (changed_pushed R left c.in-Some.change q (row_at R old q))
-          ∙ (ap (λ cs. changed R cs q (row_at R old q)) (sym c.in-Some.ensures.items) ∙ c.loop-change.invariant.rows q));
-      places =
-          let kept = All-pop (λ ch. HasPlace R old ch.key) c.loop-change.left.items left c.pop.result c.pop.ensures.items c.loop-change.invariant.places in
-          All-weaker (λ ch. HasPlace R old ch.key) (λ ch. HasPlace R c.set.new.self ch.key) (λ ch. c.set.ensures.stay ch.key) left kept.0;
+      rows = λ q. ap (changed R (placed R start left) q) (c.set.ensures.rows q)
+          ∙ (ap (λ b. changed R (placed R start left) q (cond (b && is_at (R change.key) q) change.row (row_at R was q))) (c.loop-change.invariant.places change.key)
+          ∙ (sym (placed_pushed R start left change q (row_at R was q))
+          ∙ (ap (λ cs. changed R (placed R start cs) q (row_at R was q)) (sym c.in-Some.ensures.items) ∙ c.loop-change.invariant.rows q)));
+      places = λ q. c.set.ensures.stay q ∙ c.loop-change.invariant.places q;
     }

@@ -1,0 +1,43 @@
+-- Expressions by their kinds.
+use Rattle.std.specs.Prelude.{ℕ, Bool, false, List, []}
+use Rattle.review_grammar.specs.Views.{view}
+use Rattle.review_terms.specs.Holds.{holds, requirement_holds, copy_holds}
+use Rattle.review_terms.specs.Labels.{labels}
+use Rattle.review_spelling.specs.Printed.{requirement_word, copy_word}
+use Rattle.review_spelling.specs.Words.{requirement_reading, copy_reading}
+use Rattle.review_expr.specs.Expressions.{HasExpr}
+use Rattle.review_expr.specs.Printed.{printed}
+use Rattle.review_expr.specs.declared.expr.Expr.{Expr}
+use Rattle.review_expr.specs.declared.expr.Expr.TheVariants as expr
+use Rattle.review_expr.specs.declared.expr.Facts.{Facts}
+use Rattle.review_expr.specs.declared.expr.Facts.TheVariants as facts
+
+-- The text is this expression of a submit requirement.
+abbrev pub IsRequirementOf : List ℕ → Expr → Type 0
+IsRequirementOf text (expr.Requirement e) = HasExpr requirement_reading text (view e.node)
+IsRequirementOf text (expr.Copy e) = ⊥
+
+-- The text is this copy condition.
+abbrev pub IsCopyOf : List ℕ → Expr → Type 0
+IsCopyOf text (expr.Requirement e) = ⊥
+IsCopyOf text (expr.Copy e) = HasExpr copy_reading text (view e.node)
+
+-- no word of a copy condition has a pattern, be it deep or refused
+abbrev pub NeverDeep : List ℕ → Type 0
+NeverDeep w = ⊥
+
+-- the text of an expression
+abbrev pub expr_text : Expr → List ℕ
+expr_text (expr.Requirement e) = printed requirement_word (view e.node)
+expr_text (expr.Copy e) = printed copy_word (view e.node)
+
+-- the labels that an expression names
+abbrev pub labels_in : Expr → List (List ℕ)
+labels_in (expr.Requirement e) = labels (view e.node)
+labels_in (expr.Copy e) = []
+
+-- an expression holds by facts of its kind, and by no others
+abbrev pub holds_for : Facts → Expr → Bool
+holds_for (facts.Change f) (expr.Requirement e) = holds (requirement_holds f) (view e.node)
+holds_for (facts.Vote f) (expr.Copy e) = holds (copy_holds f) (view e.node)
+holds_for f e = false

@@ -1,0 +1,6 @@
+pub mod View
+pub mod Rights
+pub mod Spelled
+pub mod Expressions
+pub mod Faults
+pub mod Reading

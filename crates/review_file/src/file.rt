@@ -1,0 +1,273 @@
+//! A project file.
+ghost use Rattle.std.specs.Prelude.{◌≡◌, find, option_copied, option_map, string_bytes};
+ghost use Rattle.std.specs.Str.{bytes_eq};
+ghost use Rattle.review_file.specs.Rights.{greatest_value, least_value};
+
+use review_words::{GroupName, LabelName};
+use std::marker::Model;
+
+/// The groups that have a right.
+#[derive(Debug, Drop)]
+pub struct Access {
+    pub(crate) create: Vec<GroupName>,
+    pub(crate) upload: Vec<GroupName>,
+    pub(crate) submit: Vec<GroupName>,
+    pub(crate) abandon: Vec<GroupName>,
+}
+
+impl Model for Access {
+    ghost use Rattle.review_file.specs.View.{AccessView};
+
+    ghost Value = { AccessView };
+
+    ghost view = { λ a. record { create = a.create.items; upload = a.upload.items; submit = a.submit.items; abandon = a.abandon.items } };
+}
+
+/// A value of a label, from -20 to 20, and what it means.
+#[derive(Debug, Drop)]
+pub struct LabelValue {
+    pub(crate) value: i8,
+    pub(crate) text: String,
+}
+
+impl Model for LabelValue {
+    ghost use Rattle.std.specs.Prelude.{List, ℕ, ℤ, string_bytes};
+
+    ghost Value = { ℤ × List ℕ };
+
+    ghost view = { λ v. (v.value, string_bytes v.text) };
+}
+
+impl LabelValue {
+    /// The value, in a file that was read from -20 to 20.
+    pub fn value(&self) -> i8
+        ensures { result ≡ self.now.0 }
+    {
+        self.value
+    }
+
+    /// What the value means, in a file that was read at most 256 bytes.
+    pub fn text(&self) -> &str
+        ensures { result.now ≡ self.now.1 }
+    {
+        self.text.as_str()
+    }
+}
+
+/// A range of a label's values that a group is granted.
+#[derive(Debug, Drop)]
+pub struct Grant {
+    /// The group.
+    pub group: GroupName,
+    /// The least value of the range.
+    pub least: i8,
+    /// The greatest value of the range.
+    pub greatest: i8,
+}
+
+/// A label. E is what its copy condition was read as.
+#[derive(Debug, Drop)]
+pub struct Label<E> {
+    pub(crate) name: LabelName,
+    pub(crate) values: Vec<LabelValue>,
+    pub(crate) grants: Vec<Grant>,
+    pub(crate) copy_condition: Option<E>,
+}
+
+impl<E> Model for Label<E> {
+    ghost use Rattle.review_file.specs.View.{LabelView};
+
+    ghost Value = { LabelView E };
+
+    ghost view = { λ l. record { name = l.name; values = l.values.items; grants = l.grants.items; copy_condition = l.copy_condition } };
+}
+
+impl<E> Label<E> {
+    /// The name.
+    pub fn name(&self) -> &LabelName
+        ensures { result.now ≡ self.now.name }
+    {
+        &self.name
+    }
+
+    /// The values, in the order of the bytes of their keys.
+    pub fn values(&self) -> &[LabelValue]
+        ensures { result.now ≡ self.now.values }
+    {
+        &self.values
+    }
+
+    /// The least value, which `MIN` means. This is Gerrit's.
+    pub fn least(&self) -> i8
+        ensures { result ≡ least_value self.now.values }
+    {
+        let mut least = 0;
+        for value in &self.values {
+            least = least.min(value.value);
+        }
+        least
+    }
+
+    /// The greatest value, which `MAX` means. This is Gerrit's.
+    pub fn greatest(&self) -> i8
+        ensures { result ≡ greatest_value self.now.values }
+    {
+        let mut greatest = 0;
+        for value in &self.values {
+            greatest = greatest.max(value.value);
+        }
+        greatest
+    }
+
+    /// The ranges that groups are granted, in the order of the groups' bytes.
+    pub fn grants(&self) -> &[Grant]
+        ensures { result.now ≡ self.now.grants }
+    {
+        &self.grants
+    }
+
+    /// When a vote is copied to a new patch set; none: never.
+    pub fn copy_condition(&self) -> Option<&E>
+        ensures { option_copied result ≡ self.now.copy_condition }
+    {
+        self.copy_condition.as_ref()
+    }
+}
+
+fn shown(text: &Option<String>) -> Option<&str>
+    ensures { option_copied result ≡ option_map string_bytes text.now }
+{
+    match text {
+        Some(text) => Some(text.as_str()),
+        None => None,
+    }
+}
+
+/// A submit requirement. E is what its expressions were read as.
+#[derive(Debug, Drop)]
+pub struct Requirement<E> {
+    pub(crate) name: LabelName,
+    pub(crate) description: Option<String>,
+    pub(crate) applicable_if: Option<E>,
+    pub(crate) submittable_if: E,
+    pub(crate) override_if: Option<E>,
+    pub(crate) can_override_in_child_projects: bool,
+}
+
+impl<E> Model for Requirement<E> {
+    ghost use Rattle.std.specs.Prelude.{option_map, string_bytes};
+    ghost use Rattle.review_file.specs.View.{RequirementView};
+
+    ghost Value = { RequirementView E };
+
+    ghost view = { λ r. record {
+      name = r.name;
+      description = option_map string_bytes r.description;
+      applicable_if = r.applicable_if;
+      submittable_if = r.submittable_if;
+      override_if = r.override_if;
+      can_override_in_child_projects = r.can_override_in_child_projects;
+    } };
+}
+
+impl<E> Requirement<E> {
+    /// The name.
+    pub fn name(&self) -> &LabelName
+        ensures { result.now ≡ self.now.name }
+    {
+        &self.name
+    }
+
+    /// The description, in a file that was read at most 1,024 bytes.
+    pub fn description(&self) -> Option<&str>
+        ensures { option_copied result ≡ self.now.description }
+    {
+        shown(&self.description)
+    }
+
+    /// To which changes it applies; none: to every change.
+    pub fn applicable_if(&self) -> Option<&E>
+        ensures { option_copied result ≡ self.now.applicable_if }
+    {
+        self.applicable_if.as_ref()
+    }
+
+    /// When a change satisfies it.
+    pub fn submittable_if(&self) -> &E
+        ensures { result.now ≡ self.now.submittable_if }
+    {
+        &self.submittable_if
+    }
+
+    /// When it is overridden; none: never.
+    pub fn override_if(&self) -> Option<&E>
+        ensures { option_copied result ≡ self.now.override_if }
+    {
+        self.override_if.as_ref()
+    }
+
+    /// Whether child projects may have another requirement of this name.
+    pub fn can_override_in_child_projects(&self) -> bool
+        ensures { result ≡ self.now.can_override_in_child_projects }
+    {
+        self.can_override_in_child_projects
+    }
+}
+
+/// A project file. E is what its expressions were read as.
+#[derive(Debug, Drop)]
+pub struct ProjectFile<E> {
+    pub(crate) description: Option<String>,
+    pub(crate) access: Access,
+    pub(crate) labels: Vec<Label<E>>,
+    pub(crate) requirements: Vec<Requirement<E>>,
+}
+
+impl<E> Model for ProjectFile<E> {
+    ghost use Rattle.std.specs.Prelude.{option_map, string_bytes};
+    ghost use Rattle.review_file.specs.View.{FileView};
+
+    ghost Value = { FileView E };
+
+    ghost view = { λ f. record {
+      description = option_map string_bytes f.description;
+      access = f.access;
+      labels = f.labels.items;
+      requirements = f.requirements.items;
+    } };
+}
+
+impl<E> ProjectFile<E> {
+    /// The description, in a file that was read at most 1,024 bytes.
+    pub fn description(&self) -> Option<&str>
+        ensures { option_copied result ≡ self.now.description }
+    {
+        shown(&self.description)
+    }
+
+    /// The labels, by name.
+    pub fn labels(&self) -> &[Label<E>]
+        ensures { result.now ≡ self.now.labels }
+    {
+        &self.labels
+    }
+
+    /// The label of a name, if the file has it.
+    pub fn label(&self, name: &LabelName) -> Option<&Label<E>>
+        ensures { option_copied result ≡ find (λ l. bytes_eq l.name name.now) self.now.labels }
+    {
+        for label in &self.labels {
+            if label.name == *name {
+                return Some(label);
+            }
+        }
+        None
+    }
+
+    /// The submit requirements, by name.
+    pub fn requirements(&self) -> &[Requirement<E>]
+        ensures { result.now ≡ self.now.requirements }
+    {
+        &self.requirements
+    }
+}

@@ -1,0 +1,40 @@
+//! Project files: the access rights, labels and submit requirements of a project, read from TOML.
+//!
+//! ```toml
+//! [access]
+//! create = ["Registered-Users"]
+//! [label.Code-Review]
+//! copyCondition = "is:MIN"
+//! values = {-1 = "Prefer not", 0 = "No score", "+1" = "Approved"}
+//! grant = {Core = [-1, 1]}
+//! [submit-requirement.Code-Review]
+//! submittableIf = "label:Code-Review=MAX"
+//! ```
+//!
+//! [`read_file`] gives the file that a text spells, or the first of its faults in the order of
+//! [`FileCode`]; its contract says which. [`covers`], [`range_of`] and [`may`] ask a file and take no
+//! memory. What an expression is, and why a text is none, is said by the type that implements
+//! [`Condition`].
+#![tactic(auto)]
+
+mod access;
+pub mod condition;
+pub mod expression;
+pub mod fault;
+pub mod file;
+mod labels;
+pub mod read;
+mod requirements;
+pub mod rights;
+mod unknown;
+
+pub use condition::Condition;
+pub use expression::{ExprCode, ExprFault, ParseFault};
+pub use fault::{FileCode, FileFault, ReadFault};
+pub use file::{Access, Grant, Label, LabelValue, ProjectFile, Requirement};
+pub use read::read_file;
+pub use review_document::limits::{MOST_BYTES, MOST_DESCRIPTION, MOST_PARTS, MOST_TEXT};
+pub use rights::{Right, covers, may, range_of};
+
+#[cfg(test)]
+mod tests;

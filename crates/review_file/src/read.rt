@@ -1,0 +1,109 @@
+//! Reading a project file.
+ghost use Rattle.std.specs.Prelude.{◌≡◌, ◌≢◌, IfOk, IfErr};
+ghost use Rattle.toml.specs.View.{table_view, view};
+ghost use Rattle.toml.specs.Data.{table};
+ghost use Rattle.review_file.specs.Expressions.{IsFile, IsStoppedBy};
+ghost use Rattle.review_file.specs.Reading.{IsFaultless, IsRead, IsReadFault, IsDocumentFault, first_fault, plain};
+ghost use Rattle.review_file.specs.Spelled.{spelled};
+
+use crate::access::read_access;
+use crate::condition::Condition;
+use crate::expression::ParseFault;
+use crate::fault::{FileCode, FileFault, ReadFault};
+use crate::file::ProjectFile;
+use crate::labels::labels_in;
+use crate::requirements::requirements_in;
+use crate::unknown::has_unknown_label;
+use review_document::document::copied_text;
+use review_document::keys::{has_unknown_key, lacks_key};
+use review_document::limits::{MOST_BYTES, is_past_limits};
+use review_document::names::has_bad_name;
+use review_document::values::{has_bad_values, has_value_twice};
+use std::alloc::{AllocError, Global};
+use toml::Value;
+
+/// The first fault of a document but those of its expressions and its limits.
+fn first_fault(alloc: Global, file: &Value) -> Result<Option<FileCode>, AllocError>
+    ensures { IfOk result (λ code. code ≡ first_fault (view file.now)) }
+{
+    if has_unknown_key(file) {
+        return Ok(Some(FileCode::UnknownKey));
+    }
+    if lacks_key(file) {
+        return Ok(Some(FileCode::Missing));
+    }
+    if has_bad_name(alloc, file)? {
+        return Ok(Some(FileCode::BadName));
+    }
+    if has_value_twice(file) {
+        return Ok(Some(FileCode::Twice));
+    }
+    if has_bad_values(file) {
+        return Ok(Some(FileCode::BadValues));
+    }
+    Ok(None)
+}
+
+/// The file that a document without first faults spells.
+fn file_in<E: Condition>(alloc: Global, file: &Value) -> Result<ProjectFile<E>, ParseFault>
+    ensures read { IfOk result (IsFile E.grammar (spelled (view file.now))) }
+    ensures fault { IfErr result (λ f. f ≢ ParseFault.Memory → IsStoppedBy E.grammar (spelled (view file.now)) f) }
+{
+    let description = copied_text(alloc, file, "description")?;
+    let access = read_access(alloc, file)?;
+    let labels = labels_in(alloc, file)?;
+    let requirements = requirements_in(alloc, file)?;
+    Ok(ProjectFile {
+        description,
+        access,
+        labels,
+        requirements,
+    })
+}
+
+fn refused(code: FileCode) -> ReadFault
+    ensures { result ≡ plain code }
+{
+    ReadFault::File(FileFault { code, expr: None })
+}
+
+#[tactic(auto, using(crate::proofs::Verdicts::least_first))]
+fn read_document<E: Condition>(alloc: Global, file: &Value) -> Result<ProjectFile<E>, ReadFault>
+    ensures read { IfOk result (IsFaultless E.grammar (view file.now)) }
+    ensures fault { IfErr result (IsDocumentFault E.grammar (view file.now)) }
+{
+    if let Some(code) = first_fault(alloc, file)? {
+        return Err(refused(code));
+    }
+    let read = file_in(alloc, file)?;
+    if has_unknown_label(alloc, &read)? {
+        return Err(refused(FileCode::UnknownLabel));
+    }
+    if is_past_limits(file) {
+        return Err(refused(FileCode::Limit));
+    }
+    Ok(read)
+}
+
+/// Reads a project file. E is what its expressions are read as. A text that is none is refused for
+/// the first fault that applies, in the order of [`FileCode`], but for one of more than 65,536
+/// bytes, which isn't looked at and is refused for its length. The empty text is a file without
+/// rights, labels and requirements.
+pub fn read_file<E: Condition>(alloc: Global, text: &str) -> Result<ProjectFile<E>, ReadFault>
+    ensures read { IfOk result (IsRead E.grammar text.now) }
+    ensures fault { IfErr result (IsReadFault E.grammar text.now) }
+{
+    if text.len() > MOST_BYTES {
+        return Err(refused(FileCode::Limit));
+    }
+    match toml::table_from_str(alloc, text) {
+        Ok(table) => read_document(alloc, &Value::Table(table)),
+        Err(error) => {
+            if error.is_memory() {
+                Err(ReadFault::Memory)
+            } else {
+                Err(refused(FileCode::Toml))
+            }
+        }
+    }
+}

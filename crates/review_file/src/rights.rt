@@ -1,0 +1,133 @@
+//! What a project file gives an account, and when one file covers another.
+ghost use Rattle.std.specs.Prelude.{◌≡◌, ◌&&◌, ℤ, pos, map, filter, find, fold};
+ghost use Rattle.std.specs.Int.{int_min, int_max};
+ghost use Rattle.std.specs.List.{list_all, list_any};
+ghost use Rattle.std.specs.Ordering.{int_eq};
+ghost use Rattle.std.specs.Str.{bytes_eq};
+ghost use Rattle.review_words.specs.Groups.{has_account};
+ghost use Rattle.review_file.specs.Rights.{covers, granted, grants_of, greatest_of, groups_of, has_values, is_covered, least_of, may};
+
+use crate::file::{Access, Grant, Label, LabelValue, ProjectFile};
+use review_words::{AccountNo, GroupName, Groups, LabelName};
+
+/// What the groups of a project's file may do.
+#[derive(Clone, Copy, Debug, PartialEq, Eq)]
+pub enum Right {
+    /// Make a change.
+    Create,
+    /// Send a patch set of another's change.
+    Upload,
+    /// Submit a change.
+    Submit,
+    /// Abandon another's change, and restore it.
+    Abandon,
+}
+
+fn has_value(values: &[LabelValue], value: i8) -> bool
+    ensures { result ≡ list_any (λ w. int_eq w.0 value) values.now }
+{
+    values.iter().any(|other| other.value == value)
+}
+
+fn has_values(new: &[LabelValue], old: &[LabelValue]) -> bool
+    ensures { result ≡ has_values new.now old.now }
+{
+    old.iter().all(|value| has_value(new, value.value))
+}
+
+fn is_covered<E>(new: &[Label<E>], label: &Label<E>) -> bool
+    ensures { result ≡ is_covered new.now label.now }
+{
+    new.iter().any(|other| other.name == label.name && has_values(&other.values, &label.values))
+}
+
+/// Whether each label of the old file stands in the new one with at least its values. This takes
+/// no memory.
+pub fn covers<E>(old: &ProjectFile<E>, new: &ProjectFile<E>) -> bool
+    ensures { result ≡ covers old.now new.now }
+{
+    old.labels
+        .iter()
+        .all(|label| is_covered(&new.labels, label))
+}
+
+fn groups_of(access: &Access, right: Right) -> &[GroupName]
+    ensures { result.now ≡ groups_of right access.now }
+{
+    match right {
+        Right::Create => &access.create,
+        Right::Upload => &access.upload,
+        Right::Submit => &access.submit,
+        Right::Abandon => &access.abandon,
+    }
+}
+
+impl<E> ProjectFile<E> {
+    /// The groups that have a right, in the order of the file.
+    pub fn groups(&self, right: Right) -> &[GroupName]
+        ensures { result.now ≡ groups_of right self.now.access }
+    {
+        groups_of(&self.access, right)
+    }
+}
+
+/// Whether an account is in one of the groups that have a right. This takes no memory.
+pub fn may<E>(file: &ProjectFile<E>, right: Right, account: AccountNo, groups: &Groups) -> bool
+    ensures { result ≡ may file.now right account groups.now.0 }
+{
+    file.groups(right)
+        .iter()
+        .any(|group| groups.has(group, account))
+}
+
+fn grants_of<'f, E>(file: &'f ProjectFile<E>, label: &LabelName) -> &'f [Grant]
+    ensures { result.now ≡ grants_of file.now label.now }
+{
+    match file.label(label) {
+        Some(found) => found.grants(),
+        None => &[],
+    }
+}
+
+fn least_of(grants: &[Grant], account: AccountNo, groups: &Groups) -> i8
+    ensures { result ≡ least_of (filter (λ g. has_account groups.now.0 g.group account) grants.now) }
+{
+    let mut least = 0;
+    for grant in grants {
+        if groups.has(&grant.group, account) {
+            least = least.min(grant.least);
+        }
+    }
+    least
+}
+
+fn greatest_of(grants: &[Grant], account: AccountNo, groups: &Groups) -> i8
+    ensures { result ≡ greatest_of (filter (λ g. has_account groups.now.0 g.group account) grants.now) }
+{
+    let mut greatest = 0;
+    for grant in grants {
+        if groups.has(&grant.group, account) {
+            greatest = greatest.max(grant.greatest);
+        }
+    }
+    greatest
+}
+
+/// The range of a label's values that an account may vote: from the least of 0 and the least
+/// values of the ranges granted to its groups to the greatest of 0 and their greatest values. A
+/// label that the file hasn't gives from 0 to 0. This takes no memory.
+pub fn range_of<E>(
+    file: &ProjectFile<E>,
+    label: &LabelName,
+    account: AccountNo,
+    groups: &Groups,
+) -> (i8, i8)
+    ensures least { result.0 ≡ least_of (granted file.now label.now account groups.now.0) }
+    ensures greatest { result.1 ≡ greatest_of (granted file.now label.now account groups.now.0) }
+{
+    let grants = grants_of(file, label);
+    (
+        least_of(grants, account, groups),
+        greatest_of(grants, account, groups),
+    )
+}

@@ -1,0 +1,76 @@
+//! Labels that a file's requirements name and the file hasn't.
+ghost use Rattle.std.specs.Prelude.{◌≡◌, IfOk, Bool, false, not};
+ghost use Rattle.std.specs.List.{list_any};
+ghost use Rattle.std.specs.Option.{option_map_or};
+ghost use Rattle.std.specs.Str.{bytes_eq};
+ghost use Rattle.review_file.specs.Expressions.{has_unknown_label, names_other, requires_other};
+
+use crate::condition::Condition;
+use crate::file::{Label, ProjectFile, Requirement};
+use review_words::LabelName;
+use std::alloc::{AllocError, Global};
+
+fn has_label<E>(labels: &[Label<E>], name: &LabelName) -> bool
+    ensures { result ≡ list_any (λ l. bytes_eq l.name name.now) labels.now }
+{
+    labels.iter().any(|label| label.name == *name)
+}
+
+/// Whether an expression names another label than these.
+fn names_other<E: Condition>(
+    alloc: Global,
+    labels: &[Label<E>],
+    expression: &E,
+) -> Result<bool, AllocError>
+    ensures { IfOk result (λ b. b ≡ names_other E.grammar labels.now expression.now) }
+{
+    let names = expression.labels_of(alloc)?;
+    for name in &names {
+        if !has_label(labels, name) {
+            return Ok(true);
+        }
+    }
+    Ok(false)
+}
+
+fn may_name_other<E: Condition>(
+    alloc: Global,
+    labels: &[Label<E>],
+    expression: &Option<E>,
+) -> Result<bool, AllocError>
+    ensures { IfOk result (λ b. b ≡ option_map_or (names_other E.grammar labels.now) expression.now false) }
+{
+    match expression {
+        Some(expression) => names_other(alloc, labels, expression),
+        None => Ok(false),
+    }
+}
+
+fn requires_other<E: Condition>(
+    alloc: Global,
+    labels: &[Label<E>],
+    requirement: &Requirement<E>,
+) -> Result<bool, AllocError>
+    ensures { IfOk result (λ b. b ≡ requires_other E.grammar labels.now requirement.now) }
+{
+    let applicable = may_name_other(alloc, labels, &requirement.applicable_if)?;
+    let submittable = names_other(alloc, labels, &requirement.submittable_if)?;
+    let overriding = may_name_other(alloc, labels, &requirement.override_if)?;
+    Ok(applicable || submittable || overriding)
+}
+
+/// Whether a requirement names a label that the file hasn't. An error where there was no memory to
+/// find out.
+pub fn has_unknown_label<E: Condition>(
+    alloc: Global,
+    file: &ProjectFile<E>,
+) -> Result<bool, AllocError>
+    ensures { IfOk result (λ b. b ≡ has_unknown_label E.grammar file.now) }
+{
+    for requirement in &file.requirements {
+        if requires_other(alloc, &file.labels, requirement)? {
+            return Ok(true);
+        }
+    }
+    Ok(false)
+}

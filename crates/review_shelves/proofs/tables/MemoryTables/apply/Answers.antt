@@ -1,0 +1,10 @@
+use Rattle.std.proofs.Common.{refl}
+use Rattle.review_shelves.proofs.tables.MemoryTables.apply.Goals as goal
+
+pub returns-clause-done : goal.returns-clause-done
+returns-clause-done c = record {
+  accounts = c.apply.ensures.all c.requires.room.accounts;
+  members = c.apply-2.ensures.all c.requires.room.members;
+  answers = c.apply-3.ensures.all c.requires.room.answers;
+  requests = refl;
+}

@@ -1,0 +1,63 @@
+-- When a text is a pattern, and when it matches a whole text.
+use Rattle.std.specs.Prelude.{◌≡◌, ◌⊎◌, ◌<◌, ◌&&◌, ℕ, List, ◌++◌, codes, Bool, true, false, Option, Some, None, is_some, IsSomeAnd, chars}
+use Rattle.regex_hir.specs.Re.{Re}
+use Rattle.regex_syntax.specs.Brackets.{Nested}
+use Rattle.regex_syntax.specs.Grammar.{Names, read}
+use Rattle.regex.specs.Patterns.{default_config, find_str}
+use Rattle.regex.specs.Strings.{regex_source, regex_config, IsReadFromSource}
+use Rattle.regex.specs.declared.string.regex.Regex.{Regex}
+use Rattle.review_terms.specs.declared.pattern.PatternFault.{PatternFault}
+use Rattle.review_terms.specs.declared.pattern.PatternFault.TheVariants.{Syntax, Engine, Memory}
+
+-- the pattern held to the whole of a text
+abbrev pub anchored : List ℕ → List ℕ
+anchored re = codes "\\A(?:" ++ re ++ codes ")\\z"
+
+-- what the grammar of `regex` reads in a text has a match in the other
+abbrev pub found_by : Option (Nested Re × Names) → List ℕ → Bool
+found_by None hay = false
+found_by (Some found) hay = is_some (find_str found.0.value hay 0)
+
+abbrev pub has_match : List ℕ → List ℕ → Bool
+has_match source hay = found_by (read default_config (chars source)) hay
+
+-- the whole text matches
+abbrev pub matches_whole : List ℕ → List ℕ → Bool
+matches_whole re text = has_match (anchored re) text
+
+-- the grammar of `regex` reads the text
+unfoldable pub is_read : List ℕ → Bool
+is_read source = is_some (read default_config (chars source))
+
+-- a pattern: the text is read alone, and held to the whole
+unfoldable pub is_pattern : List ℕ → Bool
+is_pattern re = is_read re && is_read (anchored re)
+
+-- the grammar of `regex` reads the text, and it nests deeper than the engine reads
+unfoldable pub IsTooDeep : List ℕ → Type 0
+IsTooDeep source = IsSomeAnd (read default_config (chars source)) (λ found. default_config.nest_limit < found.0.depth)
+
+-- the one free place: a pattern that nests deeper than the engine reads, alone or held to the whole
+abbrev pub IsDeepPattern : List ℕ → Type 0
+IsDeepPattern re = IsTooDeep re ⊎ IsTooDeep (anchored re)
+
+-- a pattern, which the engine may refuse all the same, as for its size
+abbrev pub IsEnginePattern : List ℕ → Type 0
+IsEnginePattern re = is_pattern re ≡ true
+
+abbrev pub IsReadFrom : List ℕ → Regex → Type 0
+IsReadFrom source r = (regex_source r ≡ source) × (regex_config r ≡ default_config) × IsReadFromSource r
+
+abbrev pub IsHeld : List ℕ → Regex → Type 0
+IsHeld text r = IsReadFrom (anchored text) r
+
+-- which fault may be given for one text, and for a pattern
+abbrev pub IsRefusedBy : List ℕ → PatternFault → Type 0
+IsRefusedBy source Syntax = (is_read source ≡ false) ⊎ IsTooDeep source
+IsRefusedBy source Engine = is_read source ≡ true
+IsRefusedBy source Memory = Unit {0}
+
+abbrev pub IsLawful : List ℕ → PatternFault → Type 0
+IsLawful re Syntax = (is_pattern re ≡ false) ⊎ IsDeepPattern re
+IsLawful re Engine = IsEnginePattern re
+IsLawful re Memory = Unit {0}
