@@ -1,9 +1,10 @@
 //! What is in a branch.
-ghost use Rattle.std.specs.Prelude.{◌≡◌, ◌==◌};
+ghost use Rattle.std.specs.Prelude.{◌≡◌, ◌==◌, IfOk};
 ghost use Rattle.std.specs.Cmp.Lexicographic.{pointwise, lists_equiv, nat_list_eq_equiv};
 ghost use Rattle.std.specs.Cmp as Cmp;
 
 use crate::places::CommitName;
+use std::alloc::{AllocError, Global};
 use std::marker::Model;
 
 /// The commits that were recorded as bases of a branch, in the order of recording. Contracts see
@@ -27,6 +28,17 @@ impl Bases {
         ensures { result ≡ commits.items }
     {
         Bases { commits }
+    }
+
+    /// The same bases once more. An error where there was no memory for them.
+    pub fn copy(&self, alloc: Global) -> Result<Bases, AllocError>
+        ensures { IfOk result (λ b. b ≡ self.now) }
+    {
+        let mut commits = Vec::new(alloc);
+        for commit in &self.commits {
+            commits.push(commit.copy(alloc)?)?;
+        }
+        Ok(Bases { commits })
     }
 
     /// The commits, in the order of recording.
