@@ -2,17 +2,17 @@
 ghost use Rattle.std.specs.Prelude.{◌≡◌, List, IfOk, IfErr, true};
 ghost use Rattle.review_words.specs.Texts.{IsStored};
 ghost use Rattle.review_words.specs.History.{Entry, is_account};
-ghost use Rattle.review_words.specs.declared.command.Command.TheVariants.{RecordBase};
+ghost use Rattle.review_words.specs.declared.command.Command.TheVariants.{PutProject, RecordBase};
 ghost use Rattle.review_words.specs.declared.reply.NotTaken.TheVariants.{Memory};
 ghost use Rattle.review_rows.specs.Rows.{HasNoEffect};
 ghost use Rattle.review_rows.specs.View.{needed, IsLoaded, IsDecided};
-ghost use Rattle.review_machine.specs.Decisions.{NamesEachOnce};
+ghost use Rattle.review_machine.specs.Decisions.{IsUndecided, NamesEachOnce};
 
 use crate::callers::is_admin;
 use crate::deltas::{nothing, refused};
 use review_rows::{Base, Delta, Rows};
 use review_words::{
-    AccountNo, Answer, BranchName, CommitName, NotTaken, ProjectName, Refusal, Reply,
+    AccountNo, Answer, BranchName, CommitName, FileText, NotTaken, ProjectName, Refusal, Reply,
 };
 use std::alloc::Global;
 
@@ -54,4 +54,21 @@ pub fn record_base(
         commit: commit.copy(alloc)?,
     });
     Ok((delta, Reply::Done(Answer::Nothing)))
+}
+
+// STAND-IN
+pub fn put_project(
+    alloc: Global,
+    rows: &Rows,
+    caller: AccountNo,
+    project: &ProjectName,
+    file: &FileText,
+) -> Result<(Delta, Reply), NotTaken>
+    ensures decided { IfOk result (λ r. (h : List Entry) → is_account h caller ≡ true → IsLoaded h (needed caller (PutProject project.now file.now)) rows.now → IsDecided h caller (PutProject project.now file.now) r.0 r.1) }
+    ensures cause { IfErr result (IsUndecided caller (PutProject project.now file.now) rows.now) }
+    ensures stored { IfOk result (λ r. IsStored r.1) }
+    ensures refused { IfOk result (λ r. HasNoEffect r.1 r.0) }
+    ensures once { IfOk result (λ r. NamesEachOnce r.0) }
+{
+    Err(NotTaken::Memory)
 }
