@@ -1,9 +1,10 @@
 //! What is in a branch.
-ghost use Rattle.std.specs.Prelude.{◌≡◌, ◌==◌};
+ghost use Rattle.std.specs.Prelude.{◌≡◌, ◌==◌, ◌++◌, ◌∷◌, [], ◌↔◌, IsTrue, IfOk, OnOk, OnErr};
 ghost use Rattle.std.specs.Cmp.Lexicographic.{pointwise, lists_equiv, nat_list_eq_equiv};
 ghost use Rattle.std.specs.Cmp as Cmp;
 
 use crate::places::CommitName;
+use std::alloc::{AllocError, Global};
 use std::marker::Model;
 
 /// The commits that were recorded as bases of a branch, in the order of recording. Contracts see
@@ -27,6 +28,42 @@ impl Bases {
         ensures { result ≡ commits.items }
     {
         Bases { commits }
+    }
+
+    /// No bases.
+    pub fn new(alloc: Global) -> Bases
+        ensures { result ≡ [] }
+    {
+        Bases {
+            commits: Vec::new(alloc),
+        }
+    }
+
+    /// Adds a commit after the others. An `Err` changes nothing.
+    pub fn push(&mut self, commit: CommitName) -> Result<(), AllocError>
+        ensures ok { OnOk result (self.new ≡ self.old ++ commit ∷ []) }
+        ensures err { OnErr result (self.new ≡ self.old) }
+    {
+        self.commits.push(commit)?;
+        Ok(())
+    }
+
+    /// Whether there are none.
+    pub fn is_empty(&self) -> bool
+        ensures { IsTrue result ↔ (self.now ≡ []) }
+    {
+        self.commits.is_empty()
+    }
+
+    /// The same bases once more. An error where there was no memory for them.
+    pub fn copy(&self, alloc: Global) -> Result<Bases, AllocError>
+        ensures { IfOk result (λ b. b ≡ self.now) }
+    {
+        let mut commits = Vec::new(alloc);
+        for commit in &self.commits {
+            commits.push(commit.copy(alloc)?)?;
+        }
+        Ok(Bases { commits })
     }
 
     /// The commits, in the order of recording.
