@@ -32,4 +32,6 @@ pub use laws::{
 pub use spelled::{Respelled, Spelled};
 
 #[cfg(test)]
+mod page;
+#[cfg(test)]
 mod tests;

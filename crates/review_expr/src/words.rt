@@ -30,7 +30,7 @@ fn read_token<T: Spelled>(alloc: Global, word: &str) -> Result<Token<T>, WordFau
         return Ok(Token::Not);
     }
     match T::read(alloc, word) {
-        Ok(term) => Ok(Token::Word(term)),
+        Ok(term) => Ok(Token::Word(Box::new(alloc, term)?)),
         Err(fault) => Err(fault),
     }
 }
