@@ -35,7 +35,7 @@ fn has_values(new: &[LabelValue], old: &[LabelValue]) -> bool
     old.iter().all(|value| has_value(new, value.value))
 }
 
-fn is_covered<E>(new: &[Label<E>], label: &Label<E>) -> bool
+fn is_covered(new: &[Label], label: &Label) -> bool
     ensures { result ≡ is_covered new.now label.now }
 {
     new.iter().any(|other| other.name == label.name && has_values(&other.values, &label.values))
@@ -43,12 +43,11 @@ fn is_covered<E>(new: &[Label<E>], label: &Label<E>) -> bool
 
 /// Whether each label of the old file stands in the new one with at least its values. This takes
 /// no memory.
-pub fn covers<E>(old: &ProjectFile<E>, new: &ProjectFile<E>) -> bool
+pub fn covers(old: &ProjectFile, new: &ProjectFile) -> bool
     ensures { result ≡ covers old.now new.now }
 {
-    old.labels
-        .iter()
-        .all(|label| is_covered(&new.labels, label))
+    let labels = new.labels();
+    old.labels().iter().all(|label| is_covered(labels, label))
 }
 
 fn groups_of(access: &Access, right: Right) -> &[GroupName]
@@ -62,17 +61,17 @@ fn groups_of(access: &Access, right: Right) -> &[GroupName]
     }
 }
 
-impl<E> ProjectFile<E> {
+impl ProjectFile {
     /// The groups that have a right, in the order of the file.
     pub fn groups(&self, right: Right) -> &[GroupName]
         ensures { result.now ≡ groups_of right self.now.access }
     {
-        groups_of(&self.access, right)
+        groups_of(self.access(), right)
     }
 }
 
 /// Whether an account is in one of the groups that have a right. This takes no memory.
-pub fn may<E>(file: &ProjectFile<E>, right: Right, account: AccountNo, groups: &Groups) -> bool
+pub fn may(file: &ProjectFile, right: Right, account: AccountNo, groups: &Groups) -> bool
     ensures { result ≡ may file.now right account groups.now.0 }
 {
     file.groups(right)
@@ -80,7 +79,7 @@ pub fn may<E>(file: &ProjectFile<E>, right: Right, account: AccountNo, groups: &
         .any(|group| groups.has(group, account))
 }
 
-fn grants_of<'f, E>(file: &'f ProjectFile<E>, label: &LabelName) -> &'f [Grant]
+fn grants_of<'f>(file: &'f ProjectFile, label: &LabelName) -> &'f [Grant]
     ensures { result.now ≡ grants_of file.now label.now }
 {
     match file.label(label) {
@@ -116,8 +115,8 @@ fn greatest_of(grants: &[Grant], account: AccountNo, groups: &Groups) -> i8
 /// The range of a label's values that an account may vote: from the least of 0 and the least
 /// values of the ranges granted to its groups to the greatest of 0 and their greatest values. A
 /// label that the file hasn't gives from 0 to 0. This takes no memory.
-pub fn range_of<E>(
-    file: &ProjectFile<E>,
+pub fn range_of(
+    file: &ProjectFile,
     label: &LabelName,
     account: AccountNo,
     groups: &Groups,
