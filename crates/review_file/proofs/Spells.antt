@@ -1,8 +1,8 @@
 -- A text that is refused for a pattern spells one.
-use Rattle.std.proofs.Common.{◌≡◌, ℕ, Bool, true, false, List, [], ◌∷◌, ◌⊎◌, inl, inr, Option, Some, None, refl, subst}
+use Rattle.std.proofs.Common.{◌≡◌, ℕ, Bool, true, false, List, [], ◌∷◌, inl, inr, Option, Some, None, refl, subst}
 use Rattle.std.specs.Prelude.{length, nat_lt}
 use Rattle.std.specs.Bool.{MatchBool}
-use Rattle.toml.specs.Data.{Members, table}
+use Rattle.toml.specs.Data.{Members}
 use Rattle.toml.specs.Parse.{parse_document}
 use Rattle.review_document.specs.Limits.{most_bytes}
 use Rattle.review_expr.specs.declared.fault.ParseFault.TheVariants as parse
@@ -10,10 +10,9 @@ use Rattle.review_expr.specs.Exprs.{IsCopyOf, IsRequirementOf}
 use Rattle.review_file.specs.declared.fault.ReadFault.{ReadFault}
 use Rattle.review_file.specs.declared.fault.ReadFault.TheVariants.{Pattern}
 use Rattle.review_file.specs.declared.fault.FileCode.TheVariants.{Toml, Limit}
-use Rattle.review_file.specs.Expressions.{IsNoCopy, IsNoRequirement, FirstFault, IsStoppedBy, copy_texts, requirement_texts}
-use Rattle.review_file.specs.Patterns.{HasPattern, SomePattern, SpellsPattern}
+use Rattle.review_file.specs.Expressions.{IsNoCopy, IsNoRequirement, FirstFault}
+use Rattle.review_file.specs.Patterns.{SomePattern, SpellsPattern}
 use Rattle.review_file.specs.Reading.{plain, IsRefused, IsReadFault}
-use Rattle.review_file.specs.Spelled.{spelled}
 
 -- no copy condition is refused for a pattern
 no_copy : (texts : List (List ℕ)) → FirstFault IsCopyOf IsNoCopy texts parse.Pattern → ⊥

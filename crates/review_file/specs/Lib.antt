@@ -5,4 +5,5 @@ pub mod Expressions
 pub mod Codes
 pub mod Faults
 pub mod Reading
+pub mod Sound
 pub mod Patterns

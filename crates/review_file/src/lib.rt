@@ -32,3 +32,12 @@ pub use patterns::has_pattern;
 pub use read::read_file;
 pub use review_document::limits::{MOST_BYTES, MOST_DESCRIPTION, MOST_PARTS, MOST_TEXT};
 pub use rights::{Right, covers, may, range_of};
+
+#[cfg(test)]
+mod fault_tests;
+#[cfg(test)]
+mod limit_tests;
+#[cfg(test)]
+mod page_tests;
+#[cfg(test)]
+mod tests;

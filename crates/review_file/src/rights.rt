@@ -1,11 +1,12 @@
 //! What a project file gives an account, and when one file covers another.
-ghost use Rattle.std.specs.Prelude.{◌≡◌, ◌&&◌, ℤ, pos, map, filter, find, fold};
+ghost use Rattle.std.specs.Prelude.{◌≡◌, ◌&&◌, ℤ, pos, true, map, filter, find, fold, IfSome};
 ghost use Rattle.std.specs.Int.{int_min, int_max};
 ghost use Rattle.std.specs.List.{list_all, list_any};
 ghost use Rattle.std.specs.Ordering.{int_eq};
 ghost use Rattle.std.specs.Str.{bytes_eq};
 ghost use Rattle.review_words.specs.Groups.{has_account};
 ghost use Rattle.review_file.specs.Rights.{covers, granted, grants_of, greatest_of, groups_of, has_values, is_covered, least_of, may};
+ghost use Rattle.review_file.specs.Sound.{is_value};
 
 use crate::file::{Access, Grant, Label, LabelValue, ProjectFile};
 use review_words::{AccountNo, GroupName, Groups, LabelName};
@@ -113,8 +114,8 @@ fn greatest_of(grants: &[Grant], account: AccountNo, groups: &Groups) -> i8
 }
 
 /// The range of a label's values that an account may vote: from the least of 0 and the least
-/// values of the ranges granted to its groups to the greatest of 0 and their greatest values. A
-/// label that the file hasn't gives from 0 to 0. This takes no memory.
+/// values of the ranges granted to its groups to the greatest of 0 and their greatest values. Both
+/// are values of the label; a label that the file hasn't gives from 0 to 0. This takes no memory.
 pub fn range_of(
     file: &ProjectFile,
     label: &LabelName,
@@ -123,7 +124,9 @@ pub fn range_of(
 ) -> (i8, i8)
     ensures least { result.0 ≡ least_of (granted file.now label.now account groups.now.0) }
     ensures greatest { result.1 ≡ greatest_of (granted file.now label.now account groups.now.0) }
+    ensures values { IfSome (find (λ l. bytes_eq l.name label.now) file.now.labels) (λ l. (is_value l.values result.0 ≡ true) × (is_value l.values result.1 ≡ true)) }
 {
+    file.facts();
     let grants = grants_of(file, label);
     (
         least_of(grants, account, groups),
