@@ -1,7 +1,7 @@
 -- The fault of a file in which an expression is faulty.
 use Rattle.std.specs.Prelude.{Some}
-use Rattle.review_file.specs.declared.expression.ParseFault.{ParseFault}
-use Rattle.review_file.specs.declared.expression.ParseFault.TheVariants as parse
+use Rattle.review_expr.specs.declared.fault.ParseFault.{ParseFault}
+use Rattle.review_expr.specs.declared.fault.ParseFault.TheVariants as parse
 use Rattle.review_file.specs.declared.fault.FileCode.TheVariants as code
 use Rattle.review_file.specs.declared.fault.ReadFault.{ReadFault}
 use Rattle.review_file.specs.declared.fault.ReadFault.TheVariants.{File, Memory, Pattern}

@@ -1,10 +1,12 @@
 //! The faults of project files.
 ghost use Rattle.std.specs.Prelude.{◌≡◌};
+ghost use Rattle.review_file.specs.Codes.{code_name, code_number};
 
-use crate::expression::{ExprFault, ParseFault};
+use review_expr::{ExprFault, ParseFault};
 use std::alloc::{AllocError, AllocFailed};
 
-/// What is wrong with a text that is no project file. Of all that apply the first is answered.
+/// What is wrong with a text that is no project file. A text of more than 65,536 bytes is refused
+/// for its length alone, as Limit; of a shorter one the first that applies is answered.
 #[derive(Clone, Copy, Debug, PartialEq, Eq)]
 pub enum FileCode {
     /// It is no TOML.
@@ -29,6 +31,56 @@ pub enum FileCode {
     Limit,
 }
 
+/// What is shown of a code.
+#[derive(Clone, Copy)]
+struct CodeRow {
+    number: u8,
+    name: &'static str,
+}
+
+impl CodeRow {
+    fn new(number: u8, name: &'static str) -> CodeRow
+        ensures number { result.number ≡ number }
+        ensures name { result.name.now ≡ name.now }
+    {
+        CodeRow { number, name }
+    }
+}
+
+impl FileCode {
+    /// The one table of codes.
+    fn row(self) -> CodeRow
+        ensures number { result.number ≡ code_number self }
+        ensures name { result.name.now ≡ code_name self }
+    {
+        match self {
+            FileCode::Toml => CodeRow::new(1, "TOML"),
+            FileCode::UnknownKey => CodeRow::new(2, "UNKNOWN_KEY"),
+            FileCode::Missing => CodeRow::new(3, "MISSING"),
+            FileCode::BadName => CodeRow::new(4, "BAD_NAME"),
+            FileCode::Twice => CodeRow::new(5, "TWICE"),
+            FileCode::BadValues => CodeRow::new(6, "BAD_VALUES"),
+            FileCode::Expr => CodeRow::new(7, "EXPR"),
+            FileCode::UnknownLabel => CodeRow::new(8, "UNKNOWN_LABEL"),
+            FileCode::Limit => CodeRow::new(9, "LIMIT"),
+        }
+    }
+
+    /// The number by which it is stored, from 1 to 9.
+    pub fn number(self) -> u8
+        ensures { result ≡ code_number self }
+    {
+        self.row().number
+    }
+
+    /// The name by which it is shown, in capitals with underscores.
+    pub fn name(self) -> &'static str
+        ensures { result.now ≡ code_name self }
+    {
+        self.row().name
+    }
+}
+
 /// The fault of a text that is no project file.
 #[derive(Clone, Copy, Debug, PartialEq, Eq)]
 pub struct FileFault {
@@ -45,7 +97,8 @@ pub enum ReadFault {
     File(FileFault),
     /// There was no memory for it. It may be tried again.
     Memory,
-    /// An expression has a pattern that the engine refuses for another cause than its syntax.
+    /// An expression has a pattern that is one, and the engine refuses it all the same, as for its
+    /// size.
     Pattern,
 }
 

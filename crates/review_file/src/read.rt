@@ -3,14 +3,13 @@ ghost use Rattle.std.specs.Prelude.{◌≡◌, ◌≢◌, IfOk, IfErr};
 ghost use Rattle.toml.specs.View.{table_view, view};
 ghost use Rattle.toml.specs.Data.{table};
 ghost use Rattle.review_file.specs.Expressions.{IsFile, IsStoppedBy};
+ghost use Rattle.review_file.specs.Patterns.{SpellsPattern};
 ghost use Rattle.review_file.specs.Reading.{IsFaultless, IsRead, IsReadFault, IsDocumentFault, first_fault, plain};
 ghost use Rattle.review_file.specs.Spelled.{spelled};
 
 use crate::access::read_access;
-use crate::condition::Condition;
-use crate::expression::ParseFault;
 use crate::fault::{FileCode, FileFault, ReadFault};
-use crate::file::ProjectFile;
+use crate::file::{Content, ProjectFile};
 use crate::labels::labels_in;
 use crate::requirements::requirements_in;
 use crate::unknown::has_unknown_label;
@@ -19,6 +18,7 @@ use review_document::keys::{has_unknown_key, lacks_key};
 use review_document::limits::{MOST_BYTES, is_past_limits};
 use review_document::names::has_bad_name;
 use review_document::values::{has_bad_values, has_value_twice};
+use review_expr::ParseFault;
 use std::alloc::{AllocError, Global};
 use toml::Value;
 
@@ -44,16 +44,16 @@ fn first_fault(alloc: Global, file: &Value) -> Result<Option<FileCode>, AllocErr
     Ok(None)
 }
 
-/// The file that a document without first faults spells.
-fn file_in<E: Condition>(alloc: Global, file: &Value) -> Result<ProjectFile<E>, ParseFault>
-    ensures read { IfOk result (IsFile E.grammar (spelled (view file.now))) }
-    ensures fault { IfErr result (λ f. f ≢ ParseFault.Memory → IsStoppedBy E.grammar (spelled (view file.now)) f) }
+/// What a document without first faults spells.
+fn content_in(alloc: Global, file: &Value) -> Result<Content, ParseFault>
+    ensures read { IfOk result (IsFile (spelled (view file.now))) }
+    ensures fault { IfErr result (λ f. f ≢ ParseFault.Memory → IsStoppedBy (spelled (view file.now)) f) }
 {
     let description = copied_text(alloc, file, "description")?;
     let access = read_access(alloc, file)?;
     let labels = labels_in(alloc, file)?;
     let requirements = requirements_in(alloc, file)?;
-    Ok(ProjectFile {
+    Ok(Content {
         description,
         access,
         labels,
@@ -68,30 +68,26 @@ fn refused(code: FileCode) -> ReadFault
 }
 
 #[tactic(auto, using(crate::proofs::Verdicts::least_first))]
-fn read_document<E: Condition>(alloc: Global, file: &Value) -> Result<ProjectFile<E>, ReadFault>
-    ensures read { IfOk result (IsFaultless E.grammar (view file.now)) }
-    ensures fault { IfErr result (IsDocumentFault E.grammar (view file.now)) }
+fn read_document(alloc: Global, file: &Value) -> Result<Content, ReadFault>
+    ensures read { IfOk result (IsFaultless (view file.now)) }
+    ensures fault { IfErr result (IsDocumentFault (view file.now)) }
 {
     if let Some(code) = first_fault(alloc, file)? {
         return Err(refused(code));
     }
-    let read = file_in(alloc, file)?;
-    if has_unknown_label(alloc, &read)? {
+    let content = content_in(alloc, file)?;
+    if has_unknown_label(alloc, &content)? {
         return Err(refused(FileCode::UnknownLabel));
     }
     if is_past_limits(file) {
         return Err(refused(FileCode::Limit));
     }
-    Ok(read)
+    Ok(content)
 }
 
-/// Reads a project file. E is what its expressions are read as. A text that is none is refused for
-/// the first fault that applies, in the order of [`FileCode`], but for one of more than 65,536
-/// bytes, which isn't looked at and is refused for its length. The empty text is a file without
-/// rights, labels and requirements.
-pub fn read_file<E: Condition>(alloc: Global, text: &str) -> Result<ProjectFile<E>, ReadFault>
-    ensures read { IfOk result (IsRead E.grammar text.now) }
-    ensures fault { IfErr result (IsReadFault E.grammar text.now) }
+fn read_content(alloc: Global, text: &str) -> Result<Content, ReadFault>
+    ensures read { IfOk result (IsRead text.now) }
+    ensures fault { IfErr result (IsReadFault text.now) }
 {
     if text.len() > MOST_BYTES {
         return Err(refused(FileCode::Limit));
@@ -105,5 +101,22 @@ pub fn read_file<E: Condition>(alloc: Global, text: &str) -> Result<ProjectFile<
                 Err(refused(FileCode::Toml))
             }
         }
+    }
+}
+
+/// Reads a project file. A text that is none is refused for the first fault that applies, in the
+/// order of [`FileCode`], but for one of more than 65,536 bytes, which isn't looked at and is
+/// refused for its length. The empty text is a file without rights, labels and requirements.
+///
+/// Pattern: an expression has a pattern that the engine refuses for another cause than its syntax,
+/// and all expressions before it are good. Memory: there was none for the file.
+pub fn read_file(alloc: Global, text: &str) -> Result<ProjectFile, ReadFault>
+    ensures read { IfOk result (IsRead text.now) }
+    ensures fault { IfErr result (IsReadFault text.now) }
+    ensures pattern { IfErr result (λ f. f ≡ ReadFault.Pattern → SpellsPattern text.now) }
+{
+    match read_content(alloc, text) {
+        Ok(content) => Ok(ProjectFile::new(content)),
+        Err(fault) => Err(fault),
     }
 }
