@@ -32,6 +32,8 @@ pub use laws::{
 pub use spelled::{Respelled, Spelled};
 
 #[cfg(test)]
+mod judged;
+#[cfg(test)]
 mod page;
 #[cfg(test)]
 mod tests;
