@@ -259,11 +259,3 @@ fn labels_are_named(rt: HostRuntime) -> Result<(), Fail> {
     assert_eq!(rt; labels_of(alloc, &copy)?.len(), 0);
     Ok(())
 }
-
-#[test]
-fn codes_are_numbered(rt: HostRuntime) -> Result<(), Fail> {
-    assert_eq!(rt; ExprCode::Empty.number(), 1);
-    assert_eq!(rt; ExprCode::TooLong.number(), 8);
-    assert_eq!(rt; ExprCode::BadValue.name(), "BAD_VALUE");
-    Ok(())
-}

@@ -9,9 +9,10 @@ ghost use Rattle.review_expr.specs.Expressions.{IsLaidOut};
 ghost use Rattle.review_expr.specs.Faults.{IsParseFault, placed};
 ghost use Rattle.review_expr.specs.Tokens.{meaning, opens_at, tokens, unsigned, word_tokens};
 
-use crate::fault::{ExprCode, ExprFault, ParseFault};
+use crate::fault::ParseFault;
 use crate::spelled::Spelled;
 use review_grammar::{Piece, Token, WordFault};
+use review_words::{ExprCode, ExprFault};
 use std::alloc::Global;
 use std::collections::VecDeque;
 
