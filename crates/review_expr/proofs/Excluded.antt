@@ -7,8 +7,8 @@ use Rattle.review_grammar.specs.Lexemes.{Lexeme, Word, balanced}
 use Rattle.review_grammar.specs.Words.{Reading, Good, Bad, Flaw}
 use Rattle.review_grammar.proofs.Moves.{one_cut}
 use Rattle.review_grammar.proofs.Verdicts.{one_spelling}
-use Rattle.review_expr.specs.declared.fault.ExprCode.{ExprCode}
-use Rattle.review_expr.specs.declared.fault.ExprCode.TheVariants as code
+use Rattle.review_words.specs.declared.faults.ExprCode.{ExprCode}
+use Rattle.review_words.specs.declared.faults.ExprCode.TheVariants as code
 use Rattle.review_expr.specs.Tokens.{lexeme_tokens, joined, tokens_before, tokens}
 use Rattle.review_expr.specs.Expressions.{HasTokens, HasExpr}
 use Rattle.review_expr.specs.Faults.{HasFlaw, HasWord, HasShapeFault, IsFault}

@@ -5,7 +5,7 @@ ghost use Rattle.review_spelling.specs.Printed.{copy_word, requirement_word};
 ghost use Rattle.review_spelling.specs.Words.{copy_reading, requirement_reading};
 ghost use Rattle.review_terms.specs.declared.terms.CopyTerm.{CopyTerm};
 ghost use Rattle.review_terms.specs.declared.terms.RequirementTerm.{RequirementTerm};
-ghost use Rattle.review_expr.specs.declared.fault.ExprCode.{ExprCode};
+ghost use Rattle.review_words.specs.declared.faults.ExprCode.{ExprCode};
 ghost use Rattle.review_expr.specs.Expressions.{HasExpr};
 ghost use Rattle.review_expr.specs.Faults.{HasWord, IsFault};
 ghost use Rattle.review_expr.specs.Printed.{printed};

@@ -7,15 +7,17 @@ use Rattle.toml.specs.declared.value.Value.{Value}
 use Rattle.review_words.specs.Forms.{is_label}
 use Rattle.review_document.specs.Document.{members}
 use Rattle.review_file.specs.Spelled.{named}
-use Rattle.review_file.specs.declared.expression.ParseFault.{ParseFault}
-use Rattle.review_file.specs.Expressions.{EachTo, FirstFault, IfThere, with_text}
+use Rattle.review_expr.specs.declared.expr.Expr.{Expr}
+use Rattle.review_expr.specs.declared.fault.ParseFault.{ParseFault}
+use Rattle.review_file.specs.Expressions.{EachTo, FirstFault, IfThere, with_text, with_texts}
+use Rattle.review_file.specs.View.{RequirementView}
 
 -- what is read of the rest completes what was read
 abbrev pub Completes : {A B : Type 0} → (A → B → Type 0) → List A → List A → List B → Type 0
 Completes {B = B} R rest all read = (more : List B) → EachTo R rest more → EachTo R all (read ++ more)
 
 -- the first fault of the rest is the first of all
-abbrev pub Passes : {E : Type 0} → (List ℕ → E → Type 0) → (List ℕ → ParseFault → Type 0) → List (List ℕ) → List (List ℕ) → Type 0
+abbrev pub Passes : (List ℕ → Expr → Type 0) → (List ℕ → ParseFault → Type 0) → List (List ℕ) → List (List ℕ) → Type 0
 Passes Is IsNo rest all = (f : ParseFault) → FirstFault Is IsNo rest f → FirstFault Is IsNo all f
 
 -- one more was read
@@ -24,22 +26,33 @@ completes-more {B = B} R x rest all read y h r =
     λ more each. let P : List B → Type 0 = λ ys. EachTo R all ys in subst P (sym (append_assoc read (y ∷ []) more)) (h (y ∷ more) (r, each))
 
 -- a text, if it is there, was read
-pub passes-read : {E : Type 0} (Is : List ℕ → E → Type 0) (IsNo : List ℕ → ParseFault → Type 0) (o : Option (List ℕ)) (e : Option E) (rest all : List (List ℕ)) →
+pub passes-read : (Is : List ℕ → Expr → Type 0) (IsNo : List ℕ → ParseFault → Type 0) (o : Option (List ℕ)) (e : Option Expr) (rest all : List (List ℕ)) →
     Passes Is IsNo (with_text o rest) all → IfThere Is o e → Passes Is IsNo rest all
 passes-read Is IsNo None None rest all h is = h
 passes-read Is IsNo (Some text) (Some e) rest all h is = λ f first. h f (inr ((e, is), first))
 passes-read Is IsNo None (Some e) rest all h is = absurd is
 passes-read Is IsNo (Some text) None rest all h is = absurd is
 
+-- the fault of what follows a text that is there or not, and was read if it is there
+pub fault-after : (Is : List ℕ → Expr → Type 0) (IsNo : List ℕ → ParseFault → Type 0) (o : Option (List ℕ)) (e : Option Expr) (rest : List (List ℕ)) →
+    IfThere Is o e → (f : ParseFault) → FirstFault Is IsNo rest f → FirstFault Is IsNo (with_text o rest) f
+fault-after Is IsNo o e rest is f first = passes-read Is IsNo o e rest (with_text o rest) (λ g h. h) is f first
+
 -- more texts after a text that is there or not
-pub passes-after : {E : Type 0} (Is : List ℕ → E → Type 0) (IsNo : List ℕ → ParseFault → Type 0) (o : Option (List ℕ)) (rest all : List (List ℕ)) →
+pub passes-after : (Is : List ℕ → Expr → Type 0) (IsNo : List ℕ → ParseFault → Type 0) (o : Option (List ℕ)) (rest all : List (List ℕ)) →
     Passes Is IsNo rest all → Passes Is IsNo (with_text o rest) (with_text o all)
 passes-after Is IsNo None rest all h = h
 passes-after Is IsNo (Some text) rest all h = λ f. elim [ inl first ↦ inl first | inr (read, first) ↦ inr (read, h f first) ]
 
 -- no texts have no fault
-pub passes-none : {E : Type 0} (Is : List ℕ → E → Type 0) (IsNo : List ℕ → ParseFault → Type 0) (all : List (List ℕ)) → Passes Is IsNo [] all
+pub passes-none : (Is : List ℕ → Expr → Type 0) (IsNo : List ℕ → ParseFault → Type 0) (all : List (List ℕ)) → Passes Is IsNo [] all
 passes-none Is IsNo all = λ f none. absurd none
+
+-- more texts after those of a requirement
+pub passes-texts : (Is : List ℕ → Expr → Type 0) (IsNo : List ℕ → ParseFault → Type 0) (r : RequirementView (List ℕ)) (more : List (List ℕ)) → Passes Is IsNo (with_texts r []) (with_texts r more)
+passes-texts Is IsNo r more =
+    passes-after Is IsNo r.applicable_if (with_text (Some r.submittable_if) (with_text r.override_if [])) (with_text (Some r.submittable_if) (with_text r.override_if more))
+    (passes-after Is IsNo (Some r.submittable_if) (with_text r.override_if []) (with_text r.override_if more) (passes-after Is IsNo r.override_if [] more (passes-none Is IsNo more)))
 
 -- a name that was read is the text, which is one
 pub name-read : (b : Bool) (text name : List ℕ) (o : Option (List ℕ)) → o ≡ (if b then Some text else None) → o ≡ Some name → (b ≡ true) × (name ≡ text)
@@ -65,7 +78,7 @@ named-skipped f e es bad = rw bad
 abbrev pub seen : {X : Type 0} → (List ℕ × Data → X) → List (String Global × Value) → List X
 seen f es = map f (named (members (members_view es)))
 
-module _ {E X Y : Type 0} (Is : List ℕ → E → Type 0) (IsNo : List ℕ → ParseFault → Type 0) (texts : List X → List (List ℕ)) (f : List ℕ × Data → X) (R : X → Y → Type 0) where
+module _ {X Y : Type 0} (Is : List ℕ → Expr → Type 0) (IsNo : List ℕ → ParseFault → Type 0) (texts : List X → List (List ℕ)) (f : List ℕ × Data → X) (R : X → Y → Type 0) where
   -- the members that are left complete those that were read, and the first fault among them is the first of all
   abbrev pub IsLeft : List (String Global × Value) → List X → List Y → Type 0
   IsLeft es all read = Completes R (seen f es) all read × Passes Is IsNo (texts (seen f es)) (texts all)
@@ -82,6 +95,14 @@ module _ {E X Y : Type 0} (Is : List ℕ → E → Type 0) (IsNo : List ℕ → 
         completes-more R _ (seen f es) all read y (rw here at now.0) is,
         moves _ y (seen f es) (texts all) (rw here at now.1) is,
       )
+
+  -- the first fault of the member in turn is the first of all
+  pub in-stop : (texts_of : X → List (List ℕ)) → ((x : X) (rest : List X) → Passes Is IsNo (texts_of x) (texts (x ∷ rest))) →
+      (e : String Global × Value) (es left : List (String Global × Value)) (all : List X) (read : List Y) (fault : ParseFault) → left ≡ e ∷ es → is_label (string_bytes e.0) ≡ true →
+      IsLeft left all read → FirstFault Is IsNo (texts_of (f (string_bytes e.0, view e.1))) fault → FirstFault Is IsNo (texts all) fault
+  in-stop texts_of more e es left all read fault first good now stop =
+      let here : seen f left ≡ f (string_bytes e.0, view e.1) ∷ seen f es = ap (seen f) first ∙ named-here f e es good in
+      now.1 fault (rw here (more _ (seen f es) fault stop))
 
   -- a member without a name was left out
   pub in-passing : (e : String Global × Value) (es left : List (String Global × Value)) (all : List X) (read : List Y) → left ≡ e ∷ es → is_label (string_bytes e.0) ≡ false →

@@ -1,2 +1,5 @@
 pub mod InTurn
 pub mod Verdicts
+pub mod Spells
+pub mod SoundLabels
+pub mod Ranges

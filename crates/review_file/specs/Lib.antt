@@ -4,3 +4,5 @@ pub mod Spelled
 pub mod Expressions
 pub mod Faults
 pub mod Reading
+pub mod Sound
+pub mod Patterns

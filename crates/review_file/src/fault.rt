@@ -1,51 +1,21 @@
-//! The faults of project files.
+//! Why a text was not read as a project file.
 ghost use Rattle.std.specs.Prelude.{◌≡◌};
 
-use crate::expression::{ExprFault, ParseFault};
+use review_expr::ParseFault;
+use review_words::FileFault;
 use std::alloc::{AllocError, AllocFailed};
-
-/// What is wrong with a text that is no project file. Of all that apply the first is answered.
-#[derive(Clone, Copy, Debug, PartialEq, Eq)]
-pub enum FileCode {
-    /// It is no TOML.
-    Toml,
-    /// It has a key that isn't known, or a value of another type than its key's.
-    UnknownKey,
-    /// A label lacks `values`, or a submit requirement `submittableIf`.
-    Missing,
-    /// The name of a label, a requirement or a group is none.
-    BadName,
-    /// A value of a label stands under two keys, as `"1"` and `"+1"`.
-    Twice,
-    /// The values of a label are no unbroken run within -20 to 20 with 0 among them and at least
-    /// one other, or the ends of a grant aren't values in order.
-    BadValues,
-    /// A copy condition or an expression of a requirement is none.
-    Expr,
-    /// A requirement names a label that the file hasn't.
-    UnknownLabel,
-    /// The file has more than 65,536 bytes, 64 labels or 64 requirements, a description more than
-    /// 1,024 bytes, or the text of a value more than 256.
-    Limit,
-}
-
-/// The fault of a text that is no project file.
-#[derive(Clone, Copy, Debug, PartialEq, Eq)]
-pub struct FileFault {
-    /// What is wrong.
-    pub code: FileCode,
-    /// For `Expr` alone: the fault of the first faulty expression.
-    pub expr: Option<ExprFault>,
-}
 
 /// Why a text was not read as a project file.
 #[derive(Clone, Copy, Debug, PartialEq, Eq)]
 pub enum ReadFault {
-    /// It is none. It will not be, however often it is tried.
+    /// It is none, and will not be, however often it is tried. A text of more than 65,536 bytes is
+    /// refused for its length alone, as Limit; of a shorter one the first fault that applies is
+    /// answered, and for Expr that of the first faulty expression.
     File(FileFault),
     /// There was no memory for it. It may be tried again.
     Memory,
-    /// An expression has a pattern that the engine refuses for another cause than its syntax.
+    /// An expression has a pattern that is one, and the engine refuses it all the same, as for its
+    /// size.
     Pattern,
 }
 
@@ -76,10 +46,7 @@ impl From<ParseFault> for ReadFault {
 
     fn from(fault: ParseFault) -> ReadFault {
         match fault {
-            ParseFault::Text(expr) => ReadFault::File(FileFault {
-                code: FileCode::Expr,
-                expr: Some(expr),
-            }),
+            ParseFault::Text(fault) => ReadFault::File(FileFault::Expr(fault)),
             ParseFault::Memory => ReadFault::Memory,
             ParseFault::Pattern => ReadFault::Pattern,
         }

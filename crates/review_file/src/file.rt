@@ -1,8 +1,12 @@
 //! A project file.
-ghost use Rattle.std.specs.Prelude.{◌≡◌, find, option_copied, option_map, string_bytes};
+ghost use Rattle.std.specs.Prelude.{◌≡◌, true, false, find, option_copied, option_map, string_bytes};
 ghost use Rattle.std.specs.Str.{bytes_eq};
+ghost use Rattle.review_file.specs.Expressions.{has_unknown_label};
+ghost use Rattle.review_file.specs.Reading.{IsProjectFile};
+ghost use Rattle.review_file.specs.Sound.{has_sound_labels};
 ghost use Rattle.review_file.specs.Rights.{greatest_value, least_value};
 
+use review_expr::Expr;
 use review_words::{GroupName, LabelName};
 use std::marker::Model;
 
@@ -65,24 +69,29 @@ pub struct Grant {
     pub greatest: i8,
 }
 
-/// A label. E is what its copy condition was read as.
-#[derive(Debug, Drop)]
-pub struct Label<E> {
+/// A label.
+#[derive(Drop)]
+pub struct Label {
     pub(crate) name: LabelName,
     pub(crate) values: Vec<LabelValue>,
     pub(crate) grants: Vec<Grant>,
-    pub(crate) copy_condition: Option<E>,
+    pub(crate) copy_condition: Option<Expr>,
 }
 
-impl<E> Model for Label<E> {
+impl Model for Label {
+    ghost use Rattle.std.specs.Coded.{codes};
+    ghost use Rattle.review_expr.specs.contracts.expr.Expr as expr;
+    ghost use Rattle.review_expr.specs.declared.expr.Expr.{Expr};
     ghost use Rattle.review_file.specs.View.{LabelView};
 
-    ghost Value = { LabelView E };
+    ghost Value = { LabelView Expr };
+
+    ghost coded = { Prim.hlevel (codes, expr.the_row.coded) };
 
     ghost view = { λ l. record { name = l.name; values = l.values.items; grants = l.grants.items; copy_condition = l.copy_condition } };
 }
 
-impl<E> Label<E> {
+impl Label {
     /// The name.
     pub fn name(&self) -> &LabelName
         ensures { result.now ≡ self.now.name }
@@ -127,7 +136,7 @@ impl<E> Label<E> {
     }
 
     /// When a vote is copied to a new patch set; none: never.
-    pub fn copy_condition(&self) -> Option<&E>
+    pub fn copy_condition(&self) -> Option<&Expr>
         ensures { option_copied result ≡ self.now.copy_condition }
     {
         self.copy_condition.as_ref()
@@ -143,22 +152,27 @@ fn shown(text: &Option<String>) -> Option<&str>
     }
 }
 
-/// A submit requirement. E is what its expressions were read as.
-#[derive(Debug, Drop)]
-pub struct Requirement<E> {
+/// A submit requirement.
+#[derive(Drop)]
+pub struct Requirement {
     pub(crate) name: LabelName,
     pub(crate) description: Option<String>,
-    pub(crate) applicable_if: Option<E>,
-    pub(crate) submittable_if: E,
-    pub(crate) override_if: Option<E>,
+    pub(crate) applicable_if: Option<Expr>,
+    pub(crate) submittable_if: Expr,
+    pub(crate) override_if: Option<Expr>,
     pub(crate) can_override_in_child_projects: bool,
 }
 
-impl<E> Model for Requirement<E> {
+impl Model for Requirement {
     ghost use Rattle.std.specs.Prelude.{option_map, string_bytes};
+    ghost use Rattle.std.specs.Coded.{codes};
+    ghost use Rattle.review_expr.specs.contracts.expr.Expr as expr;
+    ghost use Rattle.review_expr.specs.declared.expr.Expr.{Expr};
     ghost use Rattle.review_file.specs.View.{RequirementView};
 
-    ghost Value = { RequirementView E };
+    ghost Value = { RequirementView Expr };
+
+    ghost coded = { Prim.hlevel (codes, expr.the_row.coded) };
 
     ghost view = { λ r. record {
       name = r.name;
@@ -170,7 +184,7 @@ impl<E> Model for Requirement<E> {
     } };
 }
 
-impl<E> Requirement<E> {
+impl Requirement {
     /// The name.
     pub fn name(&self) -> &LabelName
         ensures { result.now ≡ self.now.name }
@@ -186,21 +200,21 @@ impl<E> Requirement<E> {
     }
 
     /// To which changes it applies; none: to every change.
-    pub fn applicable_if(&self) -> Option<&E>
+    pub fn applicable_if(&self) -> Option<&Expr>
         ensures { option_copied result ≡ self.now.applicable_if }
     {
         self.applicable_if.as_ref()
     }
 
     /// When a change satisfies it.
-    pub fn submittable_if(&self) -> &E
+    pub fn submittable_if(&self) -> &Expr
         ensures { result.now ≡ self.now.submittable_if }
     {
         &self.submittable_if
     }
 
     /// When it is overridden; none: never.
-    pub fn override_if(&self) -> Option<&E>
+    pub fn override_if(&self) -> Option<&Expr>
         ensures { option_copied result ≡ self.now.override_if }
     {
         self.override_if.as_ref()
@@ -214,20 +228,25 @@ impl<E> Requirement<E> {
     }
 }
 
-/// A project file. E is what its expressions were read as.
-#[derive(Debug, Drop)]
-pub struct ProjectFile<E> {
+/// What a project file has, labels and requirements by name.
+#[derive(Drop)]
+pub(crate) struct Content {
     pub(crate) description: Option<String>,
     pub(crate) access: Access,
-    pub(crate) labels: Vec<Label<E>>,
-    pub(crate) requirements: Vec<Requirement<E>>,
+    pub(crate) labels: Vec<Label>,
+    pub(crate) requirements: Vec<Requirement>,
 }
 
-impl<E> Model for ProjectFile<E> {
+impl Model for Content {
     ghost use Rattle.std.specs.Prelude.{option_map, string_bytes};
+    ghost use Rattle.std.specs.Coded.{codes};
+    ghost use Rattle.review_expr.specs.contracts.expr.Expr as expr;
+    ghost use Rattle.review_expr.specs.declared.expr.Expr.{Expr};
     ghost use Rattle.review_file.specs.View.{FileView};
 
-    ghost Value = { FileView E };
+    ghost Value = { FileView Expr };
+
+    ghost coded = { Prim.hlevel (codes, expr.the_row.coded) };
 
     ghost view = { λ f. record {
       description = option_map string_bytes f.description;
@@ -237,26 +256,76 @@ impl<E> Model for ProjectFile<E> {
     } };
 }
 
-impl<E> ProjectFile<E> {
-    /// The description, in a file that was read at most 1,024 bytes.
+/// A project file: one that some text spells.
+#[derive(Drop)]
+pub struct ProjectFile {
+    content: Content,
+}
+
+impl Model for ProjectFile {
+    ghost use Rattle.std.specs.Coded.{codes};
+    ghost use Rattle.review_expr.specs.contracts.expr.Expr as expr;
+    ghost use Rattle.review_expr.specs.declared.expr.Expr.{Expr};
+    ghost use Rattle.review_file.specs.View.{FileView};
+    ghost use Rattle.review_file.specs.Reading.{IsProjectFile};
+
+    ghost Value = { FileView Expr };
+
+    ghost coded = { Prim.hlevel (codes, expr.the_row.coded) };
+
+    ghost view = { λ f. f.content };
+
+    ghost invariant = { λ f. IsProjectFile f.content };
+}
+
+impl ProjectFile {
+    /// The file that some text spells.
+    pub(crate) fn new(content: Content) -> ProjectFile
+        requires { IsProjectFile content }
+        ensures { result ≡ content }
+    {
+        ProjectFile { content }
+    }
+
+    /// What is true of every file. Some text spells it. The values of each label are two or more,
+    /// an unbroken run within -20 to 20 with 0 among them, and the ends of its grants are such
+    /// values in order. Its requirements name its labels alone.
+    #[tactic(auto, using(crate::proofs::SoundLabels::known_labels, crate::proofs::SoundLabels::sound_labels))]
+    pub fn facts(&self)
+        ensures spelled { IsProjectFile self.now }
+        ensures labels { has_sound_labels self.now ≡ true }
+        ensures requirements { has_unknown_label self.now ≡ false }
+    {
+        let _ = &self.content;
+    }
+
+    /// The description, at most 1,024 bytes.
     pub fn description(&self) -> Option<&str>
         ensures { option_copied result ≡ self.now.description }
     {
-        shown(&self.description)
+        shown(&self.content.description)
+    }
+
+    /// The groups that have rights.
+    pub(crate) fn access(&self) -> &Access
+        ensures { result.now ≡ self.now.access }
+    {
+        &self.content.access
     }
 
     /// The labels, by name.
-    pub fn labels(&self) -> &[Label<E>]
+    pub fn labels(&self) -> &[Label]
         ensures { result.now ≡ self.now.labels }
     {
-        &self.labels
+        &self.content.labels
     }
 
     /// The label of a name, if the file has it.
-    pub fn label(&self, name: &LabelName) -> Option<&Label<E>>
+    pub fn label(&self, name: &LabelName) -> Option<&Label>
         ensures { option_copied result ≡ find (λ l. bytes_eq l.name name.now) self.now.labels }
     {
-        for label in &self.labels {
+        let labels = self.labels();
+        for label in labels {
             if label.name == *name {
                 return Some(label);
             }
@@ -265,9 +334,9 @@ impl<E> ProjectFile<E> {
     }
 
     /// The submit requirements, by name.
-    pub fn requirements(&self) -> &[Requirement<E>]
+    pub fn requirements(&self) -> &[Requirement]
         ensures { result.now ≡ self.now.requirements }
     {
-        &self.requirements
+        &self.content.requirements
     }
 }

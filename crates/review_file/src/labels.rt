@@ -3,15 +3,15 @@ ghost use Rattle.std.specs.Prelude.{◌≡◌, ◌≢◌, [], IfOk, IfErr, codes
 ghost use Rattle.toml.specs.View.{table_view, view};
 ghost use Rattle.review_words.specs.Names.{is_word};
 ghost use Rattle.review_document.specs.Document.{members, members_at, text_at};
-ghost use Rattle.review_file.specs.Expressions.{EachTo, FirstFault, IfThere, IsLabel, copy_texts, with_text};
+ghost use Rattle.review_expr.specs.Exprs.{IsCopyOf};
+ghost use Rattle.review_file.specs.Expressions.{EachTo, FirstFault, IfThere, IsLabel, IsNoCopy, copy_texts, with_text};
 ghost use Rattle.review_file.specs.Spelled.{grant_in, label_in, named, narrowed, value_in};
 
-use crate::condition::Condition;
-use crate::expression::ParseFault;
 use crate::file::{Grant, Label, LabelValue};
 use review_document::document::{table_at, text_at, text_of};
 use review_document::names::{group_name, label_name};
 use review_document::values::{end_at, value_of};
+use review_expr::{Expr, ParseFault, parse_copy};
 use review_words::{GroupName, LabelName};
 use std::alloc::{AllocError, Global};
 use toml::{Table, Value};
@@ -78,23 +78,19 @@ fn grants_in(alloc: Global, label: &Value) -> Result<Vec<Grant>, AllocError>
     }
 }
 
-fn copy_condition_in<E: Condition>(alloc: Global, label: &Value) -> Result<Option<E>, ParseFault>
-    ensures read { IfOk result (IfThere E.grammar.IsCopy (text_at (codes "copyCondition") (view label.now))) }
-    ensures fault { IfErr result (FirstFault E.grammar.IsCopy E.grammar.IsNoCopy (with_text (text_at (codes "copyCondition") (view label.now)) [])) }
+fn copy_condition_in(alloc: Global, label: &Value) -> Result<Option<Expr>, ParseFault>
+    ensures read { IfOk result (IfThere IsCopyOf (text_at (codes "copyCondition") (view label.now))) }
+    ensures fault { IfErr result (FirstFault IsCopyOf IsNoCopy (with_text (text_at (codes "copyCondition") (view label.now)) [])) }
 {
     match text_at(label, "copyCondition") {
-        Some(text) => Ok(Some(E::parse_copy(alloc, text)?)),
+        Some(text) => Ok(Some(parse_copy(alloc, text)?)),
         None => Ok(None),
     }
 }
 
-fn read_label<E: Condition>(
-    alloc: Global,
-    name: LabelName,
-    label: &Value,
-) -> Result<Label<E>, ParseFault>
-    ensures read { IfOk result (IsLabel E.grammar (label_in (name, view label.now))) }
-    ensures fault { IfErr result (λ f. f ≢ ParseFault.Memory → FirstFault E.grammar.IsCopy E.grammar.IsNoCopy (with_text (text_at (codes "copyCondition") (view label.now)) []) f) }
+fn read_label(alloc: Global, name: LabelName, label: &Value) -> Result<Label, ParseFault>
+    ensures read { IfOk result (IsLabel (label_in (name, view label.now))) }
+    ensures fault { IfErr result (λ f. f ≢ ParseFault.Memory → FirstFault IsCopyOf IsNoCopy (with_text (text_at (codes "copyCondition") (view label.now)) []) f) }
 {
     let values = values_in(alloc, label)?;
     let grants = grants_in(alloc, label)?;
@@ -107,9 +103,9 @@ fn read_label<E: Condition>(
     })
 }
 
-fn read_labels<E: Condition>(alloc: Global, labels: &Table) -> Result<Vec<Label<E>>, ParseFault>
-    ensures read { IfOk result (λ v. EachTo (IsLabel E.grammar) (map label_in (named (members (table_view labels.now)))) v.items) }
-    ensures fault { IfErr result (λ f. f ≢ ParseFault.Memory → FirstFault E.grammar.IsCopy E.grammar.IsNoCopy (copy_texts (map label_in (named (members (table_view labels.now))))) f) }
+fn read_labels(alloc: Global, labels: &Table) -> Result<Vec<Label>, ParseFault>
+    ensures read { IfOk result (λ v. EachTo (IsLabel) (map label_in (named (members (table_view labels.now)))) v.items) }
+    ensures fault { IfErr result (λ f. f ≢ ParseFault.Memory → FirstFault IsCopyOf IsNoCopy (copy_texts (map label_in (named (members (table_view labels.now))))) f) }
 {
     let mut read = Vec::new(alloc);
     for (name, label) in labels {
@@ -122,9 +118,9 @@ fn read_labels<E: Condition>(alloc: Global, labels: &Table) -> Result<Vec<Label<
 
 /// Reads the labels of a file, by name. A fault but Memory is that of the first copy condition
 /// that is none.
-pub fn labels_in<E: Condition>(alloc: Global, file: &Value) -> Result<Vec<Label<E>>, ParseFault>
-    ensures read { IfOk result (λ v. EachTo (IsLabel E.grammar) (map label_in (named (members_at (codes "label") (view file.now)))) v.items) }
-    ensures fault { IfErr result (λ f. f ≢ ParseFault.Memory → FirstFault E.grammar.IsCopy E.grammar.IsNoCopy (copy_texts (map label_in (named (members_at (codes "label") (view file.now))))) f) }
+pub fn labels_in(alloc: Global, file: &Value) -> Result<Vec<Label>, ParseFault>
+    ensures read { IfOk result (λ v. EachTo (IsLabel) (map label_in (named (members_at (codes "label") (view file.now)))) v.items) }
+    ensures fault { IfErr result (λ f. f ≢ ParseFault.Memory → FirstFault IsCopyOf IsNoCopy (copy_texts (map label_in (named (members_at (codes "label") (view file.now))))) f) }
 {
     match table_at(file, "label") {
         Some(labels) => read_labels(alloc, labels),

@@ -12,29 +12,33 @@
 //! ```
 //!
 //! [`read_file`] gives the file that a text spells, or the first of its faults in the order of
-//! [`FileCode`]; its contract says which. [`covers`], [`range_of`] and [`may`] ask a file and take no
-//! memory. What an expression is, and why a text is none, is said by the type that implements
-//! [`Condition`].
+//! [`FileFault`]; its contract says which. [`covers`], [`range_of`], [`may`] and [`has_pattern`] ask a
+//! file and take no memory. What an expression is, and when it holds, `review_expr` says.
 #![tactic(auto)]
 
 mod access;
-pub mod condition;
-pub mod expression;
 pub mod fault;
 pub mod file;
 mod labels;
+pub mod patterns;
 pub mod read;
 mod requirements;
 pub mod rights;
 mod unknown;
 
-pub use condition::Condition;
-pub use expression::{ExprCode, ExprFault, ParseFault};
-pub use fault::{FileCode, FileFault, ReadFault};
+pub use fault::ReadFault;
 pub use file::{Access, Grant, Label, LabelValue, ProjectFile, Requirement};
+pub use patterns::has_pattern;
 pub use read::read_file;
 pub use review_document::limits::{MOST_BYTES, MOST_DESCRIPTION, MOST_PARTS, MOST_TEXT};
+pub use review_words::FileFault;
 pub use rights::{Right, covers, may, range_of};
 
+#[cfg(test)]
+mod fault_tests;
+#[cfg(test)]
+mod limit_tests;
+#[cfg(test)]
+mod page_tests;
 #[cfg(test)]
 mod tests;

@@ -2,37 +2,33 @@
 ghost use Rattle.std.specs.Prelude.{◌≡◌, ◌≢◌, [], IfOk, IfErr, codes, map, unwrap_or};
 ghost use Rattle.toml.specs.View.{table_view, view};
 ghost use Rattle.review_document.specs.Document.{members, members_at, text_at};
-ghost use Rattle.review_file.specs.Expressions.{EachTo, FirstFault, IfThere, IsRequirement, requirement_texts, with_text, with_texts};
+ghost use Rattle.review_expr.specs.Exprs.{IsRequirementOf};
+ghost use Rattle.review_file.specs.Expressions.{EachTo, FirstFault, IfThere, IsNoRequirement, IsRequirement, requirement_texts, with_text, with_texts};
 ghost use Rattle.review_file.specs.Spelled.{is_flag, named, requirement_in};
 
-use crate::condition::Condition;
-use crate::expression::ParseFault;
 use crate::file::Requirement;
 use review_document::document::{copied_text, table_at, text_at};
 use review_document::names::label_name;
+use review_expr::{Expr, ParseFault, parse_requirement};
 use review_words::LabelName;
 use std::alloc::Global;
 use toml::{Table, Value};
 
-fn expression_at<E: Condition>(
-    alloc: Global,
-    requirement: &Value,
-    key: &str,
-) -> Result<Option<E>, ParseFault>
-    ensures read { IfOk result (IfThere E.grammar.IsRequirement (text_at key.now (view requirement.now))) }
-    ensures fault { IfErr result (FirstFault E.grammar.IsRequirement E.grammar.IsNoRequirement (with_text (text_at key.now (view requirement.now)) [])) }
+fn expression_at(alloc: Global, requirement: &Value, key: &str) -> Result<Option<Expr>, ParseFault>
+    ensures read { IfOk result (IfThere IsRequirementOf (text_at key.now (view requirement.now))) }
+    ensures fault { IfErr result (FirstFault IsRequirementOf IsNoRequirement (with_text (text_at key.now (view requirement.now)) [])) }
 {
     match text_at(requirement, key) {
-        Some(text) => Ok(Some(E::parse_requirement(alloc, text)?)),
+        Some(text) => Ok(Some(parse_requirement(alloc, text)?)),
         None => Ok(None),
     }
 }
 
-fn submittable_in<E: Condition>(alloc: Global, requirement: &Value) -> Result<E, ParseFault>
-    ensures read { IfOk result (E.grammar.IsRequirement (unwrap_or (text_at (codes "submittableIf") (view requirement.now)) [])) }
-    ensures fault { IfErr result (E.grammar.IsNoRequirement (unwrap_or (text_at (codes "submittableIf") (view requirement.now)) [])) }
+fn submittable_in(alloc: Global, requirement: &Value) -> Result<Expr, ParseFault>
+    ensures read { IfOk result (IsRequirementOf (unwrap_or (text_at (codes "submittableIf") (view requirement.now)) [])) }
+    ensures fault { IfErr result (IsNoRequirement (unwrap_or (text_at (codes "submittableIf") (view requirement.now)) [])) }
 {
-    E::parse_requirement(alloc, text_at(requirement, "submittableIf").unwrap_or(""))
+    parse_requirement(alloc, text_at(requirement, "submittableIf").unwrap_or(""))
 }
 
 fn is_flag(requirement: &Value, key: &str) -> bool
@@ -44,13 +40,13 @@ fn is_flag(requirement: &Value, key: &str) -> bool
     }
 }
 
-fn read_requirement<E: Condition>(
+fn read_requirement(
     alloc: Global,
     name: LabelName,
     requirement: &Value,
-) -> Result<Requirement<E>, ParseFault>
-    ensures read { IfOk result (IsRequirement E.grammar (requirement_in (name, view requirement.now))) }
-    ensures fault { IfErr result (λ f. f ≢ ParseFault.Memory → FirstFault E.grammar.IsRequirement E.grammar.IsNoRequirement (with_texts (requirement_in (name, view requirement.now)) []) f) }
+) -> Result<Requirement, ParseFault>
+    ensures read { IfOk result (IsRequirement (requirement_in (name, view requirement.now))) }
+    ensures fault { IfErr result (λ f. f ≢ ParseFault.Memory → FirstFault IsRequirementOf IsNoRequirement (with_texts (requirement_in (name, view requirement.now)) []) f) }
 {
     let description = copied_text(alloc, requirement, "description")?;
     let applicable_if = expression_at(alloc, requirement, "applicableIf")?;
@@ -66,12 +62,9 @@ fn read_requirement<E: Condition>(
     })
 }
 
-fn read_requirements<E: Condition>(
-    alloc: Global,
-    requirements: &Table,
-) -> Result<Vec<Requirement<E>>, ParseFault>
-    ensures read { IfOk result (λ v. EachTo (IsRequirement E.grammar) (map requirement_in (named (members (table_view requirements.now)))) v.items) }
-    ensures fault { IfErr result (λ f. f ≢ ParseFault.Memory → FirstFault E.grammar.IsRequirement E.grammar.IsNoRequirement (requirement_texts (map requirement_in (named (members (table_view requirements.now))))) f) }
+fn read_requirements(alloc: Global, requirements: &Table) -> Result<Vec<Requirement>, ParseFault>
+    ensures read { IfOk result (λ v. EachTo (IsRequirement) (map requirement_in (named (members (table_view requirements.now)))) v.items) }
+    ensures fault { IfErr result (λ f. f ≢ ParseFault.Memory → FirstFault IsRequirementOf IsNoRequirement (requirement_texts (map requirement_in (named (members (table_view requirements.now))))) f) }
 {
     let mut read = Vec::new(alloc);
     for (name, requirement) in requirements {
@@ -84,12 +77,9 @@ fn read_requirements<E: Condition>(
 
 /// Reads the submit requirements of a file, by name. A fault but Memory is that of the first
 /// expression that is none.
-pub fn requirements_in<E: Condition>(
-    alloc: Global,
-    file: &Value,
-) -> Result<Vec<Requirement<E>>, ParseFault>
-    ensures read { IfOk result (λ v. EachTo (IsRequirement E.grammar) (map requirement_in (named (members_at (codes "submit-requirement") (view file.now)))) v.items) }
-    ensures fault { IfErr result (λ f. f ≢ ParseFault.Memory → FirstFault E.grammar.IsRequirement E.grammar.IsNoRequirement (requirement_texts (map requirement_in (named (members_at (codes "submit-requirement") (view file.now))))) f) }
+pub fn requirements_in(alloc: Global, file: &Value) -> Result<Vec<Requirement>, ParseFault>
+    ensures read { IfOk result (λ v. EachTo (IsRequirement) (map requirement_in (named (members_at (codes "submit-requirement") (view file.now)))) v.items) }
+    ensures fault { IfErr result (λ f. f ≢ ParseFault.Memory → FirstFault IsRequirementOf IsNoRequirement (requirement_texts (map requirement_in (named (members_at (codes "submit-requirement") (view file.now))))) f) }
 {
     match table_at(file, "submit-requirement") {
         Some(requirements) => read_requirements(alloc, requirements),

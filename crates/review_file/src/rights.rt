@@ -1,11 +1,12 @@
 //! What a project file gives an account, and when one file covers another.
-ghost use Rattle.std.specs.Prelude.{◌≡◌, ◌&&◌, ℤ, pos, map, filter, find, fold};
+ghost use Rattle.std.specs.Prelude.{◌≡◌, ◌&&◌, ℤ, pos, true, map, filter, find, fold, IfSome};
 ghost use Rattle.std.specs.Int.{int_min, int_max};
 ghost use Rattle.std.specs.List.{list_all, list_any};
 ghost use Rattle.std.specs.Ordering.{int_eq};
 ghost use Rattle.std.specs.Str.{bytes_eq};
 ghost use Rattle.review_words.specs.Groups.{has_account};
 ghost use Rattle.review_file.specs.Rights.{covers, granted, grants_of, greatest_of, groups_of, has_values, is_covered, least_of, may};
+ghost use Rattle.review_file.specs.Sound.{is_value};
 
 use crate::file::{Access, Grant, Label, LabelValue, ProjectFile};
 use review_words::{AccountNo, GroupName, Groups, LabelName};
@@ -35,7 +36,7 @@ fn has_values(new: &[LabelValue], old: &[LabelValue]) -> bool
     old.iter().all(|value| has_value(new, value.value))
 }
 
-fn is_covered<E>(new: &[Label<E>], label: &Label<E>) -> bool
+fn is_covered(new: &[Label], label: &Label) -> bool
     ensures { result ≡ is_covered new.now label.now }
 {
     new.iter().any(|other| other.name == label.name && has_values(&other.values, &label.values))
@@ -43,12 +44,11 @@ fn is_covered<E>(new: &[Label<E>], label: &Label<E>) -> bool
 
 /// Whether each label of the old file stands in the new one with at least its values. This takes
 /// no memory.
-pub fn covers<E>(old: &ProjectFile<E>, new: &ProjectFile<E>) -> bool
+pub fn covers(old: &ProjectFile, new: &ProjectFile) -> bool
     ensures { result ≡ covers old.now new.now }
 {
-    old.labels
-        .iter()
-        .all(|label| is_covered(&new.labels, label))
+    let labels = new.labels();
+    old.labels().iter().all(|label| is_covered(labels, label))
 }
 
 fn groups_of(access: &Access, right: Right) -> &[GroupName]
@@ -62,17 +62,17 @@ fn groups_of(access: &Access, right: Right) -> &[GroupName]
     }
 }
 
-impl<E> ProjectFile<E> {
+impl ProjectFile {
     /// The groups that have a right, in the order of the file.
     pub fn groups(&self, right: Right) -> &[GroupName]
         ensures { result.now ≡ groups_of right self.now.access }
     {
-        groups_of(&self.access, right)
+        groups_of(self.access(), right)
     }
 }
 
 /// Whether an account is in one of the groups that have a right. This takes no memory.
-pub fn may<E>(file: &ProjectFile<E>, right: Right, account: AccountNo, groups: &Groups) -> bool
+pub fn may(file: &ProjectFile, right: Right, account: AccountNo, groups: &Groups) -> bool
     ensures { result ≡ may file.now right account groups.now.0 }
 {
     file.groups(right)
@@ -80,7 +80,7 @@ pub fn may<E>(file: &ProjectFile<E>, right: Right, account: AccountNo, groups: &
         .any(|group| groups.has(group, account))
 }
 
-fn grants_of<'f, E>(file: &'f ProjectFile<E>, label: &LabelName) -> &'f [Grant]
+fn grants_of<'f>(file: &'f ProjectFile, label: &LabelName) -> &'f [Grant]
     ensures { result.now ≡ grants_of file.now label.now }
 {
     match file.label(label) {
@@ -114,17 +114,19 @@ fn greatest_of(grants: &[Grant], account: AccountNo, groups: &Groups) -> i8
 }
 
 /// The range of a label's values that an account may vote: from the least of 0 and the least
-/// values of the ranges granted to its groups to the greatest of 0 and their greatest values. A
-/// label that the file hasn't gives from 0 to 0. This takes no memory.
-pub fn range_of<E>(
-    file: &ProjectFile<E>,
+/// values of the ranges granted to its groups to the greatest of 0 and their greatest values. Both
+/// are values of the label; a label that the file hasn't gives from 0 to 0. This takes no memory.
+pub fn range_of(
+    file: &ProjectFile,
     label: &LabelName,
     account: AccountNo,
     groups: &Groups,
 ) -> (i8, i8)
     ensures least { result.0 ≡ least_of (granted file.now label.now account groups.now.0) }
     ensures greatest { result.1 ≡ greatest_of (granted file.now label.now account groups.now.0) }
+    ensures values { IfSome (find (λ l. bytes_eq l.name label.now) file.now.labels) (λ l. (is_value l.values result.0 ≡ true) × (is_value l.values result.1 ≡ true)) }
 {
+    file.facts();
     let grants = grants_of(file, label);
     (
         least_of(grants, account, groups),

@@ -1,71 +1,13 @@
 use super::*;
-use review_words::{AccountNo, GroupName, Groups, LabelName, Members};
-use std::alloc::{AllocError, Global};
-use std::collections::{BTreeMap, BTreeSet};
+use review_expr::{Facts, eval, print};
+use review_terms::{ChangeFacts, ValueRange};
+use review_words::{AccountNo, BranchName, GroupName, Groups, LabelName, Members, Path, Paths};
+use std::alloc::Global;
+use std::collections::BTreeMap;
 use std::test::Fail;
 
-/// A stand-in for expressions: `!` and `!!` are none, `?` has a pattern that is refused, `label:L=..`
-/// names L, and each other text names nothing.
-#[derive(Drop)]
-struct Probe {
-    label: Option<LabelName>,
-}
-
-fn refused(place: usize, code: ExprCode) -> Result<Probe, ParseFault> {
-    Err(ParseFault::Text(ExprFault { place, code }))
-}
-
-fn probed(alloc: Global, text: &str) -> Result<Probe, ParseFault> {
-    if text == "!" {
-        return refused(0, ExprCode::BadTerm);
-    }
-    if text == "!!" {
-        return refused(1, ExprCode::Mixed);
-    }
-    if text == "?" {
-        return Err(ParseFault::Pattern);
-    }
-    let label = match text.split_once(':') {
-        Some(("label", rest)) => match rest.split_once('=') {
-            Some((name, _)) => LabelName::read(alloc, name).ok(),
-            None => None,
-        },
-        _ => None,
-    };
-    Ok(Probe { label })
-}
-
-impl Condition for Probe {
-    ghost use Rattle.std.specs.Prelude.{[], ◌∷◌};
-    ghost use Rattle.std.specs.Option.{option_map_or};
-
-    // Nothing is said of texts: these are only examples.
-    ghost grammar = { record {
-      IsCopy = λ _ _. Unit {0};
-      IsNoCopy = λ _ _. Unit {0};
-      IsRequirement = λ _ _. Unit {0};
-      IsNoRequirement = λ _ _. Unit {0};
-      labels = λ e. option_map_or (λ name. name ∷ []) e.label [];
-    } };
-
-    fn parse_copy(alloc: Global, text: &str) -> Result<Probe, ParseFault> {
-        probed(alloc, text)
-    }
-
-    fn parse_requirement(alloc: Global, text: &str) -> Result<Probe, ParseFault> {
-        probed(alloc, text)
-    }
-
-    fn labels_of(&self, alloc: Global) -> Result<BTreeSet<LabelName>, AllocError> {
-        let mut names = BTreeSet::new(alloc);
-        if let Some(label) = &self.label {
-            names.insert(label.copy(alloc)?)?;
-        }
-        Ok(names)
-    }
-}
-
-const FILE_F: &str = r#"[access]
+/// The example that `docs/project-files.md` ends with.
+pub(crate) const WHOLE: &str = r#"[access]
 create = ["Registered-Users"]
 submit = ["Core"]
 [label.Code-Review]
@@ -83,17 +25,30 @@ Registered-Users = [-1, 1]
 submittableIf = "label:Code-Review=MAX,user=non_uploader AND -label:Code-Review=MIN"
 "#;
 
-fn read(alloc: Global, text: &str) -> Result<ProjectFile<Probe>, ReadFault> {
-    read_file(alloc, text)
+/// What reading a text gives: the name of its fault, or `a file`.
+pub(crate) fn outcome(alloc: Global, text: &str) -> &'static str {
+    match read_file(alloc, text) {
+        Ok(_) => "a file",
+        Err(ReadFault::File(fault)) => fault.name(),
+        Err(ReadFault::Memory) => "MEMORY",
+        Err(ReadFault::Pattern) => "PATTERN",
+    }
 }
 
-/// What reading a text gives: the fault as it is debugged, or `a file`.
-fn outcome(alloc: Global, text: &str) -> Result<String, Fail> {
-    match read(alloc, text) {
-        Ok(_) => Ok(String::from_str(alloc, "a file")?),
-        Err(ReadFault::File(FileFault { code, expr: None })) => Ok(format!(in alloc; "{code:?}")?),
-        Err(fault) => Ok(format!(in alloc; "{fault:?}")?),
+/// The name and the place of the fault of a text's first faulty expression.
+pub(crate) fn expression_fault(alloc: Global, text: &str) -> Option<(&'static str, usize)> {
+    let Err(ReadFault::File(fault)) = read_file(alloc, text) else {
+        return None;
+    };
+    match fault {
+        FileFault::Expr(expr) => Some((expr.code.name(), expr.place)),
+        _ => None,
     }
+}
+
+/// A file that a text is.
+pub(crate) fn read(alloc: Global, text: &str) -> Result<ProjectFile, Fail> {
+    Ok(read_file(alloc, text).ok().ok_or("no file")?)
 }
 
 fn account(number: u64) -> Result<AccountNo, Fail> {
@@ -112,12 +67,12 @@ fn groups(alloc: Global) -> Result<Groups, Fail> {
     Ok(Groups(groups))
 }
 
-/// The range of an account on a label of file F.
+/// The range of an account on a label of the whole example.
 fn range(alloc: Global, label: &str, number: u64) -> Result<(i8, i8), Fail> {
     let account = account(number)?;
     let label = LabelName::read(alloc, label)?;
     let groups = groups(alloc)?;
-    let file = read(alloc, FILE_F)?;
+    let file = read(alloc, WHOLE)?;
     Ok(range_of(&file, &label, account, &groups))
 }
 
@@ -129,16 +84,16 @@ fn a_file_grants_ranges(rt: HostRuntime) -> Result<(), Fail> {
         ("Code-Review", 4, (-1, 1)),
         ("Verified", 3, (0, 0)),
     ] {
-        assert_eq!(rt; range(alloc, label, number)?, wanted, "of {number}");
+        assert_eq!(rt; range(alloc, label, number)?, wanted);
     }
     Ok(())
 }
 
-/// Whether an account has a right by file F.
+/// Whether an account has a right by the whole example.
 fn has_right(alloc: Global, right: Right, number: u64) -> Result<bool, Fail> {
     let account = account(number)?;
     let groups = groups(alloc)?;
-    let file = read(alloc, FILE_F)?;
+    let file = read(alloc, WHOLE)?;
     Ok(may(&file, right, account, &groups))
 }
 
@@ -152,13 +107,13 @@ fn a_file_gives_rights(rt: HostRuntime) -> Result<(), Fail> {
         (Right::Upload, 3, false),
         (Right::Abandon, 3, false),
     ] {
-        assert_eq!(rt; has_right(alloc, right, number)?, wanted, "of {number}");
+        assert_eq!(rt; has_right(alloc, right, number)?, wanted);
     }
     Ok(())
 }
 
 /// Whether the file of one text covers that of another.
-fn is_covered(alloc: Global, old: &str, new: &str) -> Result<bool, Fail> {
+pub(crate) fn is_covered(alloc: Global, old: &str, new: &str) -> Result<bool, Fail> {
     let old = read(alloc, old)?;
     let new = read(alloc, new)?;
     Ok(covers(&old, &new))
@@ -176,266 +131,120 @@ fn a_file_covers_another(rt: HostRuntime) -> Result<(), Fail> {
         ("", narrow, true),
         (narrow, "", false),
     ] {
-        assert_eq!(rt; is_covered(alloc, old, new)?, wanted, "of {old}");
+        assert_eq!(rt; is_covered(alloc, old, new)?, wanted);
     }
     Ok(())
 }
 
-#[test]
-fn each_fault_is_found(rt: HostRuntime) -> Result<(), Fail> {
-    let alloc = rt.alloc();
-    for (text, wanted) in [
-        ("", "a file"),
-        (
-            "description = ''\n[access]\n[label]\n[submit-requirement]",
-            "a file",
-        ),
-        ("a", "Toml"),
-        ("[access", "Toml"),
-        ("parent = 'x'", "UnknownKey"),
-        ("description = 1", "UnknownKey"),
-        ("access = 1", "UnknownKey"),
-        ("[access]\nupload = 'Core'", "UnknownKey"),
-        ("[access]\nupload = [1]", "UnknownKey"),
-        ("[access]\nremove = []", "UnknownKey"),
-        ("label = []", "UnknownKey"),
-        ("label.A = 1", "UnknownKey"),
-        ("label.A.values = []", "UnknownKey"),
-        ("label.A.values.0 = 0", "UnknownKey"),
-        ("label.A.colour = ''", "UnknownKey"),
-        ("label.A.copyCondition = true", "UnknownKey"),
-        ("label.A.grant.Core = [1]", "UnknownKey"),
-        ("label.A.grant.Core = [0, 1, 1]", "UnknownKey"),
-        ("label.A.grant.Core = [0, 1.0]", "UnknownKey"),
-        ("submit-requirement.R.submitIf = ''", "UnknownKey"),
-        ("submit-requirement.R.overrideIf = 1", "UnknownKey"),
-        (
-            "submit-requirement.R.canOverrideInChildProjects = 'true'",
-            "UnknownKey",
-        ),
-        ("[label.A]", "Missing"),
-        (
-            "[submit-requirement.R]\napplicableIf = 'is:true'",
-            "Missing",
-        ),
-        ("label.A-1.values = {0 = '', 1 = ''}", "BadName"),
-        ("label.''.values = {0 = '', 1 = ''}", "BadName"),
-        ("submit-requirement.a_b.submittableIf = ''", "BadName"),
-        ("[access]\nabandon = ['Core', 'a b']", "BadName"),
-        (
-            "[label.A]\nvalues = {0 = '', 1 = ''}\ngrant.'a/b' = [0, 1]",
-            "BadName",
-        ),
-        ("label.A.values = {0 = '', 1 = '', '+1' = ''}", "Twice"),
-        ("label.A.values = {0 = '', 1 = '', x = ''}", "BadValues"),
-        ("label.A.values = {0 = '', 1 = '', '+0' = ''}", "BadValues"),
-        ("label.A.values = {0 = '', 1 = '', -0 = ''}", "BadValues"),
-        ("label.A.values = {0 = '', 01 = ''}", "BadValues"),
-        ("label.A.values = {0 = '', 1 = '', 100 = ''}", "BadValues"),
-        ("label.A.values = {0 = ''}", "BadValues"),
-        ("label.A.values = {}", "BadValues"),
-        ("label.A.values = {1 = '', 2 = ''}", "BadValues"),
-        ("label.A.values = {-1 = '', 1 = ''}", "BadValues"),
-        ("label.A.values = {0 = '', 2 = ''}", "BadValues"),
-        ("label.A.values = {0 = '', 1 = '', -2 = ''}", "BadValues"),
-        (
-            "[label.A]\nvalues = {0 = '', 1 = ''}\ngrant.Core = [1, 0]",
-            "BadValues",
-        ),
-        (
-            "[label.A]\nvalues = {0 = '', 1 = ''}\ngrant.Core = [0, 2]",
-            "BadValues",
-        ),
-        (
-            "[label.A]\nvalues = {0 = '', 1 = ''}\ngrant.Core = [-9223372036854775808, 1]",
-            "BadValues",
-        ),
-        (
-            "[label.A]\nvalues = {0 = '', 1 = ''}\ngrant.Core = [1, 1]",
-            "a file",
-        ),
-        (
-            "submit-requirement.R.submittableIf = 'label:A=1'",
-            "UnknownLabel",
-        ),
-        (
-            "submit-requirement.R = {submittableIf = '', applicableIf = 'label:A=1'}",
-            "UnknownLabel",
-        ),
-        (
-            "submit-requirement.R = {submittableIf = '', overrideIf = 'label:A=1'}",
-            "UnknownLabel",
-        ),
-    ] {
-        let found = outcome(alloc, text)?;
-        assert_eq!(rt; found.as_str(), wanted, "of {text}");
-    }
-    Ok(())
-}
-
-#[test]
-fn the_fault_of_the_least_number_is_given(rt: HostRuntime) -> Result<(), Fail> {
-    let alloc = rt.alloc();
-    for (text, wanted) in [
-        ("parent = 'x'\nb", "Toml"),
-        ("label.A.colour = ''", "UnknownKey"),
-        ("label.A-1.copyCondition = ''", "Missing"),
-        ("label.A-1.values = {0 = '', 1 = '', '+1' = ''}", "BadName"),
-        ("label.A.values = {1 = '', '+1' = ''}", "Twice"),
-        (
-            "[label.A]\nvalues = {1 = ''}\ncopyCondition = '!'",
-            "BadValues",
-        ),
-        (
-            "submit-requirement.R = {submittableIf = 'label:A=1', overrideIf = '!'}",
-            "File(FileFault { code: Expr, expr: Some(ExprFault { place: 0, code: BadTerm }) })",
-        ),
-    ] {
-        let found = outcome(alloc, text)?;
-        assert_eq!(rt; found.as_str(), wanted, "of {text}");
-    }
-    let unknown = "submit-requirement.R.submittableIf = 'label:A=1'\ndescription = '";
-    let text = repeated(alloc, unknown, "d", MOST_DESCRIPTION + 1, "'")?;
-    let found = outcome(alloc, text.as_str())?;
-    assert_eq!(rt; found.as_str(), "UnknownLabel");
-    let text = repeated(alloc, "a", " ", MOST_BYTES, "")?;
-    let found = outcome(alloc, text.as_str())?;
-    assert_eq!(rt; found.as_str(), "Limit");
-    Ok(())
-}
-
-#[test]
-fn the_first_faulty_expression_is_given(rt: HostRuntime) -> Result<(), Fail> {
-    let alloc = rt.alloc();
-    let first = "File(FileFault { code: Expr, expr: Some(ExprFault { place: 0, code: BadTerm }) })";
-    let second = "File(FileFault { code: Expr, expr: Some(ExprFault { place: 1, code: Mixed }) })";
-    for (text, wanted) in [
-        (
-            "[label.B]\nvalues = {0 = '', 1 = ''}\ncopyCondition = '!!'\n[label.A]\nvalues = {0 = '', 1 = ''}\ncopyCondition = '!'",
-            first,
-        ),
-        (
-            "[label.B]\nvalues = {0 = '', 1 = ''}\ncopyCondition = '!!'\n[submit-requirement.A]\nsubmittableIf = '!'",
-            second,
-        ),
-        (
-            "submit-requirement.B.submittableIf = '!!'\nsubmit-requirement.A.submittableIf = '!'",
-            first,
-        ),
-        (
-            "submit-requirement.A = {submittableIf = '!!', overrideIf = '!', applicableIf = ''}",
-            second,
-        ),
-        (
-            "submit-requirement.A = {submittableIf = '!!', overrideIf = '!', applicableIf = '!'}",
-            first,
-        ),
-        (
-            "submit-requirement.A = {submittableIf = '', overrideIf = '!!', applicableIf = ''}",
-            second,
-        ),
-        (
-            "submit-requirement.A = {submittableIf = '?', overrideIf = '!'}",
-            "Pattern",
-        ),
-        (
-            "submit-requirement.A = {submittableIf = '!', overrideIf = '?'}",
-            first,
-        ),
-    ] {
-        let found = outcome(alloc, text)?;
-        assert_eq!(rt; found.as_str(), wanted, "of {text}");
-    }
-    Ok(())
-}
-
-/// A text so many times, between two others.
-fn repeated(
+/// Account 3's and account 4's votes on Code-Review; 0 is none.
+fn votes(
     alloc: Global,
-    front: &str,
-    part: &str,
-    count: usize,
-    back: &str,
-) -> Result<String, Fail> {
-    let mut text = String::from_str(alloc, front)?;
-    for _ in 0..count {
-        text.push_str(part)?;
+    third: i8,
+    fourth: i8,
+) -> Result<BTreeMap<LabelName, BTreeMap<AccountNo, i8>>, Fail> {
+    let mut given = BTreeMap::new(alloc);
+    for (number, value) in [(3, third), (4, fourth)] {
+        if value != 0 {
+            given.insert(account(number)?, value)?;
+        }
     }
-    text.push_str(back)?;
-    Ok(text)
+    let mut votes = BTreeMap::new(alloc);
+    votes.insert(LabelName::read(alloc, "Code-Review")?, given)?;
+    Ok(votes)
 }
 
-/// So many labels or requirements, named A to Z, Aa to Az, Ba to Bz ..
-fn parts(alloc: Global, count: usize, section: &str, rest: &str) -> Result<String, Fail> {
-    let mut text = String::new(alloc);
-    for number in 0..count {
-        let more = number / 26;
-        let letter = (b'A' + (number % 26) as u8) as char;
-        let part = repeated(alloc, "", "a", more, "")?;
-        text.push_str(format!(in alloc; "{section}.{letter}{part}.{rest}\n")?.as_str())?;
-    }
-    Ok(text)
+/// The range of a label of a file.
+fn ranges(alloc: Global, label: &Label) -> Result<BTreeMap<LabelName, ValueRange>, Fail> {
+    let mut ranges = BTreeMap::new(alloc);
+    let range = ValueRange {
+        least: label.least(),
+        greatest: label.greatest(),
+    };
+    ranges.insert(label.name().copy(alloc)?, range)?;
+    Ok(ranges)
+}
+
+/// A change of account 2, whose current patch set account 3 sent, with votes of accounts 3 and 4.
+fn change(alloc: Global, label: &Label, third: i8, fourth: i8) -> Result<Facts, Fail> {
+    let mut paths = Vec::new(alloc);
+    paths.push(Path::read(alloc, "src/a.rs")?)?;
+    Ok(Facts::Change(ChangeFacts {
+        votes: votes(alloc, third, fourth)?,
+        ranges: ranges(alloc, label)?,
+        paths: Paths::from_vec(alloc, paths)?,
+        owner: account(2)?,
+        uploader: account(3)?,
+        branch: BranchName::read(alloc, "main")?,
+        unresolved: false,
+        groups: groups(alloc)?,
+    }))
+}
+
+/// Whether the whole example's requirement is satisfied by votes of accounts 3 and 4.
+fn is_satisfied(alloc: Global, third: i8, fourth: i8) -> Result<bool, Fail> {
+    let file = read(alloc, WHOLE)?;
+    let label = file.labels().first().ok_or("no label")?;
+    let facts = change(alloc, label, third, fourth)?;
+    let requirement = file.requirements().first().ok_or("no requirement")?;
+    let satisfied = eval(alloc, requirement.submittable_if(), &facts);
+    Ok(satisfied.ok().ok_or("not judged")?)
 }
 
 #[test]
-fn limits_are_kept(rt: HostRuntime) -> Result<(), Fail> {
+fn the_requirement_of_a_file_is_judged(rt: HostRuntime) -> Result<(), Fail> {
     let alloc = rt.alloc();
-    let values = "values = {0 = '', 1 = ''}";
-    let requirement = "submittableIf = ''";
-    for (beyond, wanted) in [(0, "a file"), (1, "Limit")] {
-        for text in [
-            repeated(alloc, "", " ", MOST_BYTES + beyond, "")?,
-            parts(alloc, MOST_PARTS + beyond, "label", values)?,
-            parts(
-                alloc,
-                MOST_PARTS + beyond,
-                "submit-requirement",
-                requirement,
-            )?,
-            repeated(
-                alloc,
-                "description = '",
-                "d",
-                MOST_DESCRIPTION + beyond,
-                "'",
-            )?,
-            repeated(
-                alloc,
-                "[submit-requirement.R]\nsubmittableIf = ''\ndescription = '",
-                "d",
-                MOST_DESCRIPTION + beyond,
-                "'",
-            )?,
-            repeated(
-                alloc,
-                "label.A.values = {0 = '', 1 = '",
-                "t",
-                MOST_TEXT + beyond,
-                "'}",
-            )?,
-        ] {
-            let found = outcome(alloc, text.as_str())?;
-            assert_eq!(rt; found.as_str(), wanted, "of {text}");
-        }
+    for (third, fourth, wanted) in [
+        (0, 0, false),
+        (2, 0, false),
+        (0, 1, false),
+        (0, 2, true),
+        (-2, 2, false),
+    ] {
+        assert_eq!(rt; is_satisfied(alloc, third, fourth)?, wanted);
     }
     Ok(())
 }
 
 #[test]
-fn values_reach_from_minus_20_to_20(rt: HostRuntime) -> Result<(), Fail> {
+fn a_file_shows_its_label(rt: HostRuntime) -> Result<(), Fail> {
     let alloc = rt.alloc();
-    for (last, wanted) in [(20, "a file"), (21, "BadValues")] {
-        let mut up = String::from_str(alloc, "label.A.values = {0 = ''")?;
-        let mut down = String::from_str(alloc, "label.A.values = {0 = ''")?;
-        for number in 1..=last {
-            up.push_str(format!(in alloc; ", '+{number}' = ''")?.as_str())?;
-            down.push_str(format!(in alloc; ", -{number} = ''")?.as_str())?;
-        }
-        for mut text in [up, down] {
-            text.push_str("}")?;
-            let found = outcome(alloc, text.as_str())?;
-            assert_eq!(rt; found.as_str(), wanted, "of {text}");
-        }
+    let file = read(alloc, WHOLE)?;
+    let label = file.labels().first().ok_or("no label")?;
+    assert_eq!(rt; label.name().as_str(), "Code-Review");
+    assert_eq!(rt; (label.least(), label.greatest()), (-2, 2));
+    assert_eq!(rt; label.values().len(), 5);
+    assert_eq!(rt; label.grants().len(), 2);
+    let copy = label.copy_condition().ok_or("no copy condition")?;
+    let text = print(alloc, copy)?;
+    assert_eq!(rt; text.as_str(), "is:MIN OR changekind:NO_CODE_CHANGE");
+    Ok(())
+}
+
+/// Whether the file of one requirement has a pattern.
+fn requires_pattern(alloc: Global, keys: &str) -> Result<bool, Fail> {
+    let text = format!(in alloc; "[submit-requirement.R]\n{keys}")?;
+    let file = read(alloc, text.as_str())?;
+    Ok(has_pattern(&file))
+}
+
+#[test]
+fn patterns_are_seen(rt: HostRuntime) -> Result<(), Fail> {
+    let alloc = rt.alloc();
+    for (keys, wanted) in [
+        ("submittableIf = 'is:true'", false),
+        ("submittableIf = 'path:docs branch:main file:a'", false),
+        (
+            "submittableIf = 'is:true AND (is:false OR NOT branch:^m)'",
+            true,
+        ),
+        ("submittableIf = 'file:^docs'", true),
+        (
+            "submittableIf = 'is:true'\napplicableIf = 'path:^docs'",
+            true,
+        ),
+        ("submittableIf = 'is:true'\noverrideIf = 'path:^docs'", true),
+    ] {
+        assert_eq!(rt; requires_pattern(alloc, keys)?, wanted);
     }
     Ok(())
 }
@@ -443,15 +252,12 @@ fn values_reach_from_minus_20_to_20(rt: HostRuntime) -> Result<(), Fail> {
 #[test]
 fn each_front_of_a_file_is_answered(rt: HostRuntime) -> Result<(), Fail> {
     let alloc = rt.alloc();
-    for length in 0..FILE_F.len() {
-        let Some(front) = FILE_F.get(..length) else {
+    for length in 0..WHOLE.len() {
+        let Some(front) = WHOLE.get(..length) else {
             continue;
         };
-        let answered = match read(alloc, front) {
-            Ok(_) | Err(ReadFault::File(_)) => true,
-            Err(_) => false,
-        };
-        assert!(rt; answered, "at {length}");
+        let found = outcome(alloc, front);
+        assert!(rt; found != "MEMORY" && found != "PATTERN");
     }
     Ok(())
 }

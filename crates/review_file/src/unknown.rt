@@ -5,26 +5,22 @@ ghost use Rattle.std.specs.Option.{option_map_or};
 ghost use Rattle.std.specs.Str.{bytes_eq};
 ghost use Rattle.review_file.specs.Expressions.{has_unknown_label, names_other, requires_other};
 
-use crate::condition::Condition;
-use crate::file::{Label, ProjectFile, Requirement};
+use crate::file::{Content, Label, Requirement};
+use review_expr::{Expr, labels_of};
 use review_words::LabelName;
 use std::alloc::{AllocError, Global};
 
-fn has_label<E>(labels: &[Label<E>], name: &LabelName) -> bool
+fn has_label(labels: &[Label], name: &LabelName) -> bool
     ensures { result ≡ list_any (λ l. bytes_eq l.name name.now) labels.now }
 {
     labels.iter().any(|label| label.name == *name)
 }
 
 /// Whether an expression names another label than these.
-fn names_other<E: Condition>(
-    alloc: Global,
-    labels: &[Label<E>],
-    expression: &E,
-) -> Result<bool, AllocError>
-    ensures { IfOk result (λ b. b ≡ names_other E.grammar labels.now expression.now) }
+fn names_other(alloc: Global, labels: &[Label], expression: &Expr) -> Result<bool, AllocError>
+    ensures { IfOk result (λ b. b ≡ names_other labels.now expression.now) }
 {
-    let names = expression.labels_of(alloc)?;
+    let names = labels_of(alloc, expression)?;
     for name in &names {
         if !has_label(labels, name) {
             return Ok(true);
@@ -33,12 +29,12 @@ fn names_other<E: Condition>(
     Ok(false)
 }
 
-fn may_name_other<E: Condition>(
+fn may_name_other(
     alloc: Global,
-    labels: &[Label<E>],
-    expression: &Option<E>,
+    labels: &[Label],
+    expression: &Option<Expr>,
 ) -> Result<bool, AllocError>
-    ensures { IfOk result (λ b. b ≡ option_map_or (names_other E.grammar labels.now) expression.now false) }
+    ensures { IfOk result (λ b. b ≡ option_map_or (names_other labels.now) expression.now false) }
 {
     match expression {
         Some(expression) => names_other(alloc, labels, expression),
@@ -46,12 +42,12 @@ fn may_name_other<E: Condition>(
     }
 }
 
-fn requires_other<E: Condition>(
+fn requires_other(
     alloc: Global,
-    labels: &[Label<E>],
-    requirement: &Requirement<E>,
+    labels: &[Label],
+    requirement: &Requirement,
 ) -> Result<bool, AllocError>
-    ensures { IfOk result (λ b. b ≡ requires_other E.grammar labels.now requirement.now) }
+    ensures { IfOk result (λ b. b ≡ requires_other labels.now requirement.now) }
 {
     let applicable = may_name_other(alloc, labels, &requirement.applicable_if)?;
     let submittable = names_other(alloc, labels, &requirement.submittable_if)?;
@@ -61,11 +57,8 @@ fn requires_other<E: Condition>(
 
 /// Whether a requirement names a label that the file hasn't. An error where there was no memory to
 /// find out.
-pub fn has_unknown_label<E: Condition>(
-    alloc: Global,
-    file: &ProjectFile<E>,
-) -> Result<bool, AllocError>
-    ensures { IfOk result (λ b. b ≡ has_unknown_label E.grammar file.now) }
+pub(crate) fn has_unknown_label(alloc: Global, file: &Content) -> Result<bool, AllocError>
+    ensures { IfOk result (λ b. b ≡ has_unknown_label file.now) }
 {
     for requirement in &file.requirements {
         if requires_other(alloc, &file.labels, requirement)? {

@@ -1,19 +1,13 @@
--- STAND-IN
-use Rattle.std.specs.Prelude.{ℕ, List, Bool, true, ◌≡◌}
-use Rattle.std.specs.Str.{bytes_eq}
-use Rattle.review_words.specs.declared.faults.FileFault.{FileFault}
+-- Project files, by what answers ask of them.
+use Rattle.review_expr.specs.declared.expr.Expr.{Expr}
+use Rattle.review_file.specs.View.{FileView}
+-- the text spells the file; the text is no file, for this fault
+pub use Rattle.review_file.specs.Reading.{IsRead, IsFileFault}
+-- each label of the old file stands in the new one with at least its values
+pub use Rattle.review_file.specs.Rights.{covers}
+-- some expression of a requirement in the document that the text is has a word with a pattern, whether or not the engine takes it
+pub use Rattle.review_file.specs.Patterns.{HasPattern}
 
-pub record File : Type 0 where
-  pub text : List ℕ
-
-unfoldable pub IsRead : List ℕ → File → Type 0
-IsRead text f = f.text ≡ text
-
-unfoldable pub IsFileFault : List ℕ → FileFault → Type 0
-IsFileFault text fault = text ≡ text
-
-unfoldable pub covers : File → File → Bool
-covers old new = bytes_eq old.text new.text
-
-unfoldable pub HasPattern : List ℕ → Type 0
-HasPattern text = text ≡ text
+-- a project file
+abbrev pub File : Type 0
+File = FileView Expr

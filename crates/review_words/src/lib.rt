@@ -35,4 +35,6 @@ pub use text::{BadReply, content_text, read_reply, reply_text};
 #[cfg(test)]
 mod form_tests;
 #[cfg(test)]
+mod project_tests;
+#[cfg(test)]
 mod tests;

@@ -1,11 +1,5 @@
-use Rattle.std.proofs.Common.{arith}
-use Rattle.std.proofs.lemmas.Bool.Decides.{nat_tests}
-use Rattle.toml.proofs.Views.{view-Table}
-use Rattle.toml.specs.View.{table_view}
-use Rattle.review_file.proofs.Verdicts.{read_text}
+use Rattle.review_file.proofs.Spells.{pattern_spelled}
 use Rattle.review_file.proofs.read.read_file.Goals as goal
 
-pub returns-in-Ok-clause-read : goal.returns-in-Ok-clause-read
-returns-in-Ok-clause-read g c =
-    read_text g.E.Condition.grammar c.args.text.now (table_view c.in-Ok.table) _ c.read_document.result (grind (arith, nat_tests)) c.in-Ok.ensures.ok (view-Table c.in-Ok.table)
-    c.read_document.ensures.read
+pub returns-in-Err-clause-pattern : goal.returns-in-Err-clause-pattern
+returns-in-Err-clause-pattern c = pattern_spelled _ _ c.in-Err.ensures.fault

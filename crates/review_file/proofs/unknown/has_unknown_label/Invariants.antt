@@ -4,6 +4,6 @@ use Rattle.review_file.specs.Expressions.{requires_other}
 use Rattle.review_file.proofs.unknown.has_unknown_label.Given as goal
 
 abbrev pub invariant-loop-requirement : goal.invariant-loop-requirement
-invariant-loop-requirement g l =
-    list_any (requires_other g.E.Condition.grammar l.file.labels) (drop l.requirement-index l.file.requirements)
-    ≡ list_any (requires_other g.E.Condition.grammar l.file.labels) l.file.requirements
+invariant-loop-requirement l =
+    list_any (requires_other l.file.labels) (drop l.requirement-index l.file.requirements)
+    ≡ list_any (requires_other l.file.labels) l.file.requirements

@@ -1,8 +1,8 @@
 use Rattle.std.proofs.Common.{rules}
 use Rattle.review_file.proofs.Verdicts.{all_copies}
-use Rattle.review_file.proofs.read.file_in.Goals as goal
+use Rattle.review_file.proofs.read.content_in.Goals as goal
 
 pub returns-in_err-requirements-clause-fault : goal.returns-in_err-requirements-clause-fault
-returns-in_err-requirements-clause-fault g c =
-    let copies = all_copies g.E.Condition.grammar _ _ c.in_ok-labels.ensures.read in
+returns-in_err-requirements-clause-fault c =
+    let copies = all_copies _ _ c.in_ok-labels.ensures.read in
     search (rules, copies)
