@@ -28,7 +28,7 @@ ReadsPattern h command = ⊥
 -- Why a command is not decided: want of memory, a pattern that the engine refuses in a file that the command reads, or rows that are those of no history.
 abbrev pub IsUndecided : ℕ → Command → Rows → Cause → Type 0
 IsUndecided caller command rows Memory = Unit {0}
-IsUndecided caller command rows Pattern = (h : List Entry) → IsLoaded h (needed caller command) rows → ReadsPattern h command
+IsUndecided caller command rows Pattern = (h : List Entry) → IsHistory h → IsLoaded h (needed caller command) rows → ReadsPattern h command
 IsUndecided caller command rows Damaged = (h : List Entry) → IsHistory h → IsLoaded h (needed caller command) rows → ⊥
 IsUndecided caller command rows _ = ⊥
 
