@@ -3,3 +3,4 @@ pub mod Verdicts
 pub mod Spells
 pub mod SoundLabels
 pub mod Ranges
+pub mod OneFile

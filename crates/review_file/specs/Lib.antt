@@ -7,3 +7,4 @@ pub mod Faults
 pub mod Reading
 pub mod Sound
 pub mod Patterns
+pub mod Trees

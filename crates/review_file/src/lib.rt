@@ -20,6 +20,7 @@ mod access;
 pub mod fault;
 pub mod file;
 mod labels;
+pub mod laws;
 pub mod patterns;
 pub mod read;
 mod requirements;
@@ -28,6 +29,7 @@ mod unknown;
 
 pub use fault::{FileCode, FileFault, ReadFault};
 pub use file::{Access, Grant, Label, LabelValue, ProjectFile, Requirement};
+pub use laws::one_file;
 pub use patterns::has_pattern;
 pub use read::read_file;
 pub use review_document::limits::{MOST_BYTES, MOST_DESCRIPTION, MOST_PARTS, MOST_TEXT};
