@@ -5,3 +5,4 @@ pub mod DeepWords
 pub mod Together
 pub mod SoundLabels
 pub mod Ranges
+pub mod OneFile

@@ -71,8 +71,8 @@ one_document : (text : List ℕ) (ms ns : Members) → parse_document text ≡ S
 one_document text ms ns h k = same_Some ms ns (sym h ∙ k)
 
 -- two files that one text spells have the same labels with the same values
-pub one_file : (text : List ℕ) (f g : FileView Expr) → IsRead text f → IsRead text g → (other : FileView Expr) → (covers f other ≡ covers g other) × (covers other f ≡ covers other g)
-one_file text f g (short, (ms, parsed, h)) (low, (ns, again, k)) other =
+pub same_covers : (text : List ℕ) (f g : FileView Expr) → IsRead text f → IsRead text g → (other : FileView Expr) → (covers f other ≡ covers g other) × (covers other f ≡ covers other g)
+same_covers text f g (short, (ms, parsed, h)) (low, (ns, again, k)) other =
     let same = one_document text ns ms again parsed in
     covers_alike (spelled (table ms)) f g other h.0.1 (subst (λ (xs : Members). IsFile (spelled (table xs)) g) same k.0.1)
 

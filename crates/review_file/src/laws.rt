@@ -6,7 +6,11 @@ ghost use Rattle.review_file.specs.declared.fault.ReadFault.TheVariants.{Pattern
 ghost use Rattle.review_file.specs.Patterns.{HasDeepPattern, HasPattern};
 ghost use Rattle.review_file.specs.Reading.{IsBadValue, IsFileFault, IsRead, IsReadFault};
 ghost use Rattle.review_file.specs.Rights.{covers};
+ghost use Rattle.review_file.specs.Trees.{file_trees};
 ghost use Rattle.review_file.specs.View.{FileView};
+
+use review_expr::one_expression;
+use review_terms::{CopyTerm, RequirementTerm};
 
 /// A text that is refused because the engine refuses a pattern has one.
 pub fn refused_has_pattern()
@@ -24,8 +28,12 @@ pub fn one_fault()
     ensures { (text : List ℕ) (a b : FileFault) → (HasDeepPattern text → ⊥) → IsFileFault text a → IsFileFault text b → a ≡ b }
 {}
 
-/// Two files that one text spells have the same labels with the same values: what one covers the
-/// other covers, and what covers one covers the other.
+/// A text spells at most one file: its expressions have the same trees, and all else is equal. So
+/// what one of two such files covers the other covers, and what covers one covers the other.
 pub fn one_file()
-    ensures { (text : List ℕ) (f g : FileView Expr) → IsRead text f → IsRead text g → (h : FileView Expr) → (covers f h ≡ covers g h) × (covers h f ≡ covers h g) }
-{}
+    ensures trees { (text : List ℕ) (f g : FileView Expr) → IsRead text f → IsRead text g → file_trees f ≡ file_trees g }
+    ensures covers { (text : List ℕ) (f g : FileView Expr) → IsRead text f → IsRead text g → (h : FileView Expr) → (covers f h ≡ covers g h) × (covers h f ≡ covers h g) }
+{
+    one_expression::<CopyTerm>();
+    one_expression::<RequirementTerm>();
+}
