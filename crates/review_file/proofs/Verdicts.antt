@@ -6,17 +6,17 @@ use Rattle.std.specs.Option.{option_map_or}
 use Rattle.toml.specs.Data.{Data, Members, table}
 use Rattle.toml.specs.Parse.{parse_document}
 use Rattle.review_expr.specs.declared.expr.Expr.{Expr}
-use Rattle.review_expr.specs.Exprs.{IsCopyOf}
+use Rattle.review_expr.specs.Exprs.{IsCopyOf, IsRequirementOf}
 use Rattle.review_words.specs.declared.faults.FileFault.{FileFault}
 use Rattle.review_words.specs.declared.faults.FileFault.TheVariants.{Toml, UnknownKey, Missing, BadName, Twice, BadValues, UnknownLabel, Limit}
 use Rattle.review_words.specs.declared.faults.FileFault.TheVariants.{Expr as Faulty}
-use Rattle.review_file.specs.Expressions.{EachTo, IfThere, AllRead, IsLabel, copy_texts, with_text}
+use Rattle.review_file.specs.Expressions.{EachTo, IfThere, AllRead, IsLabel, IsRequirement, copy_texts, requirement_texts, with_text}
 use Rattle.review_document.specs.Keys.{has_unknown_key, lacks_key}
 use Rattle.review_document.specs.Names.{has_bad_name}
 use Rattle.review_document.specs.Limits.{most_bytes}
 use Rattle.review_file.specs.Reading.{first_fault, IsLeast, IsFaultless, IsRead}
 use Rattle.review_document.specs.Values.{has_value_twice, has_bad_values}
-use Rattle.review_file.specs.View.{LabelView, FileView}
+use Rattle.review_file.specs.View.{LabelView, RequirementView, FileView}
 
 -- the faults that a document has whatever its expressions are
 abbrev is_early : FileFault → Bool
@@ -61,6 +61,15 @@ all_copies [] [] each = tt
 all_copies (p ∷ ps) (l ∷ ls) each = with_read IsCopyOf p.copy_condition l.copy_condition (copy_texts ps) each.0.3 (all_copies ps ls each.1)
 all_copies [] (l ∷ ls) each = absurd each
 all_copies (p ∷ ps) [] each = absurd each
+
+-- and so are the expressions of requirements that were read
+pub all_requirements : (ps : List (RequirementView (List ℕ))) (rs : List (RequirementView Expr)) → EachTo IsRequirement ps rs → AllRead IsRequirementOf (requirement_texts ps)
+all_requirements [] [] each = tt
+all_requirements (p ∷ ps) (r ∷ rs) each =
+    with_read IsRequirementOf p.applicable_if r.applicable_if _ each.0.3
+    ((r.submittable_if, each.0.4), with_read IsRequirementOf p.override_if r.override_if (requirement_texts ps) each.0.5 (all_requirements ps rs each.1))
+all_requirements [] (r ∷ rs) each = absurd each
+all_requirements (p ∷ ps) [] each = absurd each
 
 -- a text whose document has no fault is read
 pub read_text : {X : Type 0} (text : List ℕ) (ms : Members) (file : Data) (r : Result (FileView Expr) X) → nat_lt most_bytes (length text) ≡ false → parse_document text ≡ Some ms → file ≡ table ms →

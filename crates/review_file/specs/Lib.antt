@@ -6,3 +6,4 @@ pub mod Faults
 pub mod Reading
 pub mod Sound
 pub mod Patterns
+pub mod Trees

@@ -10,6 +10,7 @@ fn texts_are_no_toml(rt: HostRuntime) -> Result<(), Fail> {
         "a",
         "[access",
         "description = '",
+        "description = ''\ndescription = ''",
         "label.A.values = {+1 = ''}",
     ] {
         assert_eq!(rt; outcome(alloc, text), "TOML");

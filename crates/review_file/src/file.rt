@@ -43,14 +43,14 @@ impl Model for LabelValue {
 }
 
 impl LabelValue {
-    /// The value, in a file that was read from -20 to 20.
+    /// The value, from -20 to 20.
     pub fn value(&self) -> i8
         ensures { result ≡ self.now.0 }
     {
         self.value
     }
 
-    /// What the value means, in a file that was read at most 256 bytes.
+    /// What the value means, at most 256 bytes.
     pub fn text(&self) -> &str
         ensures { result.now ≡ self.now.1 }
     {
@@ -192,7 +192,7 @@ impl Requirement {
         &self.name
     }
 
-    /// The description, in a file that was read at most 1,024 bytes.
+    /// The description, at most 1,024 bytes.
     pub fn description(&self) -> Option<&str>
         ensures { option_copied result ≡ self.now.description }
     {

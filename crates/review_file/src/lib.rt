@@ -20,6 +20,7 @@ mod access;
 pub mod fault;
 pub mod file;
 mod labels;
+pub mod laws;
 pub mod patterns;
 pub mod read;
 mod requirements;
@@ -28,6 +29,7 @@ mod unknown;
 
 pub use fault::ReadFault;
 pub use file::{Access, Grant, Label, LabelValue, ProjectFile, Requirement};
+pub use laws::{one_fault, one_file, read_or_fault, refused_has_pattern};
 pub use patterns::has_pattern;
 pub use read::read_file;
 pub use review_document::limits::{MOST_BYTES, MOST_DESCRIPTION, MOST_PARTS, MOST_TEXT};
