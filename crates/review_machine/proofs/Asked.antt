@@ -1,5 +1,5 @@
 -- What the loaded rows tell of the history, for a question.
-use Rattle.std.proofs.Common.{◌≡◌, ℕ, ◌+◌, ◌==◌, arith, List, [], ◌∷◌, length, Option, Some, None, Bool, true, false, cond, ◌&&◌, refl, sym, ap, ◌∙◌}
+use Rattle.std.proofs.Common.{◌≡◌, ℕ, ◌≤◌, ◌==◌, arith, List, [], ◌∷◌, length, Option, Some, None, Bool, true, false, cond, ◌&&◌, refl, sym, ap, ◌∙◌}
 use Rattle.std.specs.Prelude.{is_some, nat_le, option_map}
 use Rattle.std.proofs.lemmas.Bool.Decides.{nat_tests}
 use Rattle.std.specs.Str.{bytes_eq}
@@ -33,10 +33,10 @@ branch_loaded h caller project branch rows l =
 -- the bases that were found, or that there are none
 pub found_bases : (bs cs : List (List ℕ)) → option_map BranchRow (Some cs) ≡ branch_row bs → (bs ≡ cs) × (nat_le 1 (length bs) ≡ true)
 found_bases [] cs is = absurd (cc)
-found_bases (b ∷ bs) cs is = (sym (same cs (b ∷ bs) is), some (length bs))
+found_bases (b ∷ bs) cs is = (sym (same cs (b ∷ bs) is), some (length (b ∷ bs)) (omega arith))
   where
-    some : (n : ℕ) → nat_le 1 (n + 1) ≡ true
-    some n = grind (arith, nat_tests)
+    some : (n : ℕ) → 1 ≤ n → nat_le 1 n ≡ true
+    some n le = grind (arith, nat_tests)
 
     same : (xs ys : List (List ℕ)) → Some (BranchRow xs) ≡ Some (BranchRow ys) → xs ≡ ys
     same xs ys e = cc

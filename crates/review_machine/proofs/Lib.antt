@@ -8,3 +8,4 @@ pub mod Members
 pub mod Settings
 pub mod Decided
 pub mod Asked
+pub mod Filed

@@ -118,8 +118,8 @@ restart_told g h [] ds2 [] rs2 ss hist is same settled a b = same_run' g h ds2 r
         (s.0, ap (λ x. history_after x ds ss) is ∙ s.1)
 restart_told g h [] ds2 (r ∷ rs1) rs2 ss hist is same settled a b = absurd (omega arith)
 restart_told g h (d ∷ ds1) ds2 [] rs2 ss hist is same settled a b = absurd (omega arith)
-restart_told g h (d ∷ ds1) ds2 (r ∷ rs1) rs2 [] hist is same a b = absurd b
-restart_told g h (d ∷ ds1) ds2 (r ∷ rs1) rs2 (s ∷ ss) hist is same a b =
+restart_told g h (d ∷ ds1) ds2 (r ∷ rs1) rs2 [] hist is same settled a b = absurd b
+restart_told g h (d ∷ ds1) ds2 (r ∷ rs1) rs2 (s ∷ ss) hist is same settled a b =
     let g1 = history_after g (d ∷ []) (r ∷ []) in
     let later : h ≡ history_after g1 ds1 rs1 = is ∙ history_cons g d ds1 r rs1 in
     let more = grown g1 (first g1 (taken ds1 rs1)) in
@@ -261,5 +261,5 @@ follow_history h0 h last ds rs ss counts others hist right given right' given' o
     all_agree last ds rs ss (all_told_by h0 last ds rs hist one (told_right h0 ds rs counts right given)) (all_told_by h last ds ss hist other (told_right h ds ss others right' given'))
 
 pub restart : RestartCompletes
-restart h0 h ds1 ds2 rs1 rs2 ss counts others hist is same right given right' given' =
-    restart_told h0 h ds1 ds2 rs1 rs2 ss hist is same (told_right h0 (ds1 ++ ds2) (rs1 ++ rs2) counts right given) (told_right h (ds1 ++ ds2) ss others right' given')
+restart h0 h ds1 ds2 rs1 rs2 ss counts others hist is same settled right given right' given' =
+    restart_told h0 h ds1 ds2 rs1 rs2 ss hist is same settled (told_right h0 (ds1 ++ ds2) (rs1 ++ rs2) counts right given) (told_right h (ds1 ++ ds2) ss others right' given')

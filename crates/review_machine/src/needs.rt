@@ -51,14 +51,17 @@ pub fn need_of(alloc: Global, caller: AccountNo, command: &Command) -> Result<Ne
         Command::CreateAccount { name } => {
             need.name = Some(name.copy(alloc)?);
             need.last_account = true;
+            Ok(need)
         }
         Command::PutGroup { group, members } => {
             need.accounts.extend_from_slice(members.as_slice())?;
             need.group = Some(group.copy(alloc)?);
+            Ok(need)
         }
         Command::PutProject { project, file: _ } => {
             need.file = Some(project.copy(alloc)?);
             need.project_count = true;
+            Ok(need)
         }
         Command::RecordBase {
             project,
@@ -71,9 +74,9 @@ pub fn need_of(alloc: Global, caller: AccountNo, command: &Command) -> Result<Ne
                 branch: branch.copy(alloc)?,
                 commit: commit.copy(alloc)?,
             });
+            Ok(need)
         }
     }
-    Ok(need)
 }
 
 /// What a question needs of the tables: the caller's account, whether the project is there, and the bases of the branch.

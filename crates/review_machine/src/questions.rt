@@ -26,8 +26,20 @@ pub fn show(
     if !known {
         return Ok(Reply::Refused(Refusal::UnknownCaller));
     }
+    Ok(answer(alloc, rows, caller, query)?)
+}
+
+// The answer to a question of an account.
+fn answer(
+    alloc: Global,
+    rows: &Rows,
+    caller: AccountNo,
+    query: &Query,
+) -> Result<Reply, AllocError>
+    ensures { IfOk result (λ r. (h : List Entry) → is_account h caller ≡ true → IsLoaded h (wanted_for caller query.now) rows.now → r ≡ query_answer h caller query.now) }
+{
     match query {
-        Query::Branch { project, branch } => Ok(show_branch(alloc, rows, caller, project, branch)?),
+        Query::Branch { project, branch } => show_branch(alloc, rows, caller, project, branch),
     }
 }
 

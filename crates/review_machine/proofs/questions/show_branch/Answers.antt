@@ -24,12 +24,3 @@ returns-in-Some c = λ h known l.
     let key : row_in branch_cmp (rows_of a.rows.now.branches) (record { project = c.in_ok-copy.field-0; branch = c.in_ok-copy-2.field-0 }) ≡ row_in branch_cmp (rows_of a.rows.now.branches) (record { project = a.project.now; branch = a.branch.now }) = λ i. row_in branch_cmp (rows_of a.rows.now.branches) (record { project = c.in_ok-copy.ensures i; branch = c.in_ok-copy-2.ensures i }) in
     let found = found_bases (bases h a.project.now a.branch.now) c.in-Some.bases.now (ap (option_map BranchRow) (sym row ∙ key) ∙ branch_loaded h a.caller a.project.now a.branch.now a.rows.now l) in
     ap (λ bs. Done (made.Branch bs)) (c.in_ok-copy-in-Some.ensures ∙ sym found.0) ∙ sym (branch_answer h a.caller a.project.now a.branch.now true true true known there found.1)
-
-pub returns-in-None : goal.returns-in-None
-returns-in-None c = λ h known l.
-    let a = c.args in
-    let there = sym (project_is h a.project.now) ∙ (sym l.picked.project ∙ c.if-not-rows.false) in
-    let row = sym c.get.ensures ∙ ap option_copied c.in-None.is in
-    let key : row_in branch_cmp (rows_of a.rows.now.branches) (record { project = c.in_ok-copy.field-0; branch = c.in_ok-copy-2.field-0 }) ≡ row_in branch_cmp (rows_of a.rows.now.branches) (record { project = a.project.now; branch = a.branch.now }) = λ i. row_in branch_cmp (rows_of a.rows.now.branches) (record { project = c.in_ok-copy.ensures i; branch = c.in_ok-copy-2.ensures i }) in
-    let none = no_bases (bases h a.project.now a.branch.now) (ap (option_map BranchRow) (sym row ∙ key) ∙ branch_loaded h a.caller a.project.now a.branch.now a.rows.now l) in
-    sym (branch_answer h a.caller a.project.now a.branch.now true true false known there none)
