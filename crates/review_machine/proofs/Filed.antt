@@ -1,12 +1,12 @@
 -- What is read of project files, and what a PutProject does by them.
-use Rattle.std.proofs.Common.{◌≡◌, ℕ, List, [], ◌∷◌, Option, Some, None, Result, Ok, Err, Bool, true, false, cond, ◌||◌, ◌∙◌, refl, sym, ap, subst, ⊎_elim, inl, inr}
-use Rattle.std.specs.Prelude.{is_some, nat_lt, IfErr, IsSomeAnd, MatchOption, option_map}
+use Rattle.std.proofs.Common.{◌≡◌, ℕ, List, [], ◌∷◌, Option, Some, None, Result, Ok, Err, Bool, true, false, cond, ◌||◌, ◌∙◌, ◌⊎◌, ◌<◌, refl, sym, ap, subst, ⊎_elim, inl, inr, arith}
+use Rattle.std.specs.Prelude.{is_some, nat_lt, IfErr, IfOk, IsSomeAnd, MatchOption, option_map}
 use Rattle.std.specs.Result.{IsErr, IsErrAnd}
 use Rattle.std.specs.Option.{option_map_or}
 use Rattle.std.specs.Ordering.{nat_cmp}
 use Rattle.std.specs.Cmp.Lexicographic.{slice_cmp}
 use Rattle.std.specs.Str.{bytes_eq}
-use Rattle.std.proofs.lemmas.Bool.{cases_Bool}
+use Rattle.std.proofs.lemmas.Bool.{cases_Bool, lt-ltb}
 use Rattle.std.proofs.lemmas.Slice.Eq.{bytes_eq-Decides}
 use Rattle.review_words.specs.declared.command.Command.{Command}
 use Rattle.review_words.specs.declared.command.Command.TheVariants.{CreateAccount, PutGroup, PutProject, RecordBase}
@@ -24,7 +24,7 @@ use Rattle.review_words.specs.declared.reply.Refusal.TheVariants.{BadFile, Label
 use Rattle.review_words.specs.declared.reply.NotTaken.{NotTaken as Cause}
 use Rattle.review_words.specs.declared.reply.NotTaken.TheVariants.{Memory, Store, Damaged, Pattern, Full}
 use Rattle.review_words.specs.Texts.{IsPlaced}
-use Rattle.review_words.specs.History.{Entry, accepted, text_put, file_text, is_account, is_admin, is_project, project_count}
+use Rattle.review_words.specs.History.{Entry, Identity, accepted, text_put, file_text, is_account, is_admin, is_project, project_count}
 use Rattle.review_file.specs.declared.fault.ReadFault.{ReadFault}
 use Rattle.review_file.specs.declared.fault.ReadFault.TheVariants as read
 use Rattle.review_file.specs.Reading.{IsReadFault}
@@ -36,7 +36,7 @@ use Rattle.review_rows.specs.Rows.{FileKey, FileRow, HasNoEffect}
 use Rattle.review_rows.specs.Answer.{IsHistory, IsAnswer, IsOutcome, IsFaultAnswer, IsFileAnswer, HasFile, file_checks, first_refusal, refused_or, refused_by}
 use Rattle.review_rows.specs.View.{fact, needed, IsLoaded, IsDecided}
 use Rattle.review_machine.specs.Decisions.{IsEmpty, IsUndecided, ReadsPattern}
-use Rattle.review_machine.specs.Files.{file_in, bad_value_cause, unread_cause, IsReadCause, IsUnreadText, IsUnread, PutsFile, IsFilePut}
+use Rattle.review_machine.specs.Files.{file_in, bad_value_cause, unread_cause, IsReadCause, IsUnreadText, IsUnread, PutsFile, IsFileRefusal, IsPutBy, IsFilePut}
 use Rattle.review_machine.proofs.Decided.{text_same, empty_changes, outcome_answer, project_refused, refused_decided, file_decided}
 
 -- a refusal changes nothing
@@ -59,7 +59,7 @@ unread_is t read.Pattern is pattern = λ f r. pattern refl
 unread_is t (read.File (file.Expr e)) is pattern = at e.code refl
   where
     other : (k : ExprCode) → e.code ≡ k → (k ≡ code.BadValue → ⊥) → (f : File) → IsRead t f → ⊥
-    other k here no f r = no (sym here ∙ (read_or_fault t f (file.Expr e) r is).0)
+    other k here differs f r = differs (sym here ∙ (read_or_fault t f (file.Expr e) r is).0)
 
     at : (k : ExprCode) → e.code ≡ k → IsUnreadText t (bad_value_cause k)
     at code.BadValue here = λ f r. (read_or_fault t f (file.Expr e) r is).2
@@ -106,31 +106,33 @@ put_text : (b : Bool) (given text : List ℕ) (before : Option (List ℕ)) → c
 put_text true given text before is = inl (refl, cc)
 put_text false given text before is = inr is
 
+read_of_entry : (h : List Entry) (caller : ℕ) (identity : Identity) (command : Command) (reply : Reply) (project text : List ℕ) → (file_text h project ≡ Some text → (f : File) × IsRead text f) →
+    IsAnswer h caller command reply → text_put (accepted (record { identity = identity; command = command; reply = reply })) project (file_text h project) ≡ Some text → (f : File) × IsRead text f
+read_of_entry h caller identity (PutProject given put) (Done a) project text later answered is =
+    ⊎_elim
+    (λ (here : (bytes_eq given project ≡ true) × (put ≡ text)). subst (λ t. (f : File) × IsRead t f) here.1 (accepted_read h caller given put a answered))
+    (λ (there : file_text h project ≡ Some text). later there)
+    (put_text (bytes_eq given project) put text (file_text h project) is)
+read_of_entry h caller identity (PutProject given put) (Refused r) project text later answered is = later is
+read_of_entry h caller identity (PutProject given put) IdentityReused project text later answered is = later is
+read_of_entry h caller identity (PutProject given put) (NotTaken c) project text later answered is = later is
+read_of_entry h caller identity (CreateAccount name) (Done a) project text later answered is = later is
+read_of_entry h caller identity (CreateAccount name) (Refused r) project text later answered is = later is
+read_of_entry h caller identity (CreateAccount name) IdentityReused project text later answered is = later is
+read_of_entry h caller identity (CreateAccount name) (NotTaken c) project text later answered is = later is
+read_of_entry h caller identity (PutGroup group members) (Done a) project text later answered is = later is
+read_of_entry h caller identity (PutGroup group members) (Refused r) project text later answered is = later is
+read_of_entry h caller identity (PutGroup group members) IdentityReused project text later answered is = later is
+read_of_entry h caller identity (PutGroup group members) (NotTaken c) project text later answered is = later is
+read_of_entry h caller identity (RecordBase p b c) (Done a) project text later answered is = later is
+read_of_entry h caller identity (RecordBase p b c) (Refused r) project text later answered is = later is
+read_of_entry h caller identity (RecordBase p b c) IdentityReused project text later answered is = later is
+read_of_entry h caller identity (RecordBase p b c) (NotTaken x) project text later answered is = later is
+
 pub project_read : (h : List Entry) → IsHistory h → (project text : List ℕ) → file_text h project ≡ Some text → (f : File) × IsRead text f
 project_read [] hist project text is = absurd (cc)
-project_read (e ∷ h) hist project text is = at e.command e.reply hist.1 is
-  where
-    at : (command : Command) (reply : Reply) → IsAnswer h e.identity.caller command reply → text_put (accepted (record { identity = e.identity; command = command; reply = reply })) project (file_text h project) ≡ Some text → (f : File) × IsRead text f
-    at (PutProject given put) (Done a) answered is =
-        ⊎_elim
-        (λ (here : (bytes_eq given project ≡ true) × (put ≡ text)). subst (λ t. (f : File) × IsRead t f) here.1 (accepted_read h e.identity.caller given put a answered))
-        (λ (there : file_text h project ≡ Some text). project_read h hist.3 project text there)
-        (put_text (bytes_eq given project) put text (file_text h project) is)
-    at (PutProject given put) (Refused r) answered is = project_read h hist.3 project text is
-    at (PutProject given put) IdentityReused answered is = project_read h hist.3 project text is
-    at (PutProject given put) (NotTaken c) answered is = project_read h hist.3 project text is
-    at (CreateAccount name) (Done a) answered is = project_read h hist.3 project text is
-    at (CreateAccount name) (Refused r) answered is = project_read h hist.3 project text is
-    at (CreateAccount name) IdentityReused answered is = project_read h hist.3 project text is
-    at (CreateAccount name) (NotTaken c) answered is = project_read h hist.3 project text is
-    at (PutGroup group members) (Done a) answered is = project_read h hist.3 project text is
-    at (PutGroup group members) (Refused r) answered is = project_read h hist.3 project text is
-    at (PutGroup group members) IdentityReused answered is = project_read h hist.3 project text is
-    at (PutGroup group members) (NotTaken c) answered is = project_read h hist.3 project text is
-    at (RecordBase p b c) (Done a) answered is = project_read h hist.3 project text is
-    at (RecordBase p b c) (Refused r) answered is = project_read h hist.3 project text is
-    at (RecordBase p b c) IdentityReused answered is = project_read h hist.3 project text is
-    at (RecordBase p b c) (NotTaken x) answered is = project_read h hist.3 project text is
+project_read (e ∷ h) hist project text is =
+    read_of_entry h e.identity.caller e.identity e.command e.reply project text (project_read h hist.3 project text) hist.1 is
 
 -- why the command is not decided where the project's file is not read
 pub unread_undecided : (caller : ℕ) (project text : List ℕ) (rows : Rows) (cause : Cause) → IsUnread (file_in rows project) cause → IsUndecided caller (PutProject project text) rows cause
@@ -172,19 +174,15 @@ fault_decided h caller project text r fault known admin empty faulty placed is =
 -- a text that spells a file is put by its checks
 pub put_decided_by : (h : List Entry) (caller : ℕ) (project text : List ℕ) (rows : Rows) (new : File) (delta : Delta) (reply : Reply) → is_account h caller ≡ true → is_admin h caller ≡ true →
     IsLoaded h (needed caller (PutProject project text)) rows → IsRead text new → IsFilePut (file_in rows project) rows.project_count project text new delta reply → IsDecided h caller (PutProject project text) delta reply
-put_decided_by h caller project text rows new delta reply known admin l read put =
-    at (first_refusal (file_checks h project put.0 new)) refl (put.2 h (ap is_some (sym (file_loaded h caller project text rows l))) (l.picked.projects refl))
+put_decided_by h caller project text rows new delta reply known admin l read put = at put.0 put.1 put.2
   where
-    had : HasFile (file_text h project) put.0
-    had = subst (λ o. HasFile o put.0) (file_loaded h caller project text rows l) put.1
-
-    answered : (o : Option Refusal) → first_refusal (file_checks h project put.0 new) ≡ o → IsAnswer h caller (PutProject project text) (refused_or o Nothing)
+    answered : (o : Option Refusal) → IsFileRefusal (file_in rows project) rows.project_count project new o → IsAnswer h caller (PutProject project text) (refused_or o Nothing)
     answered o by =
+        let loaded = file_loaded h caller project text rows l in
         outcome_answer h caller (PutProject project text) (refused_or o Nothing) (project_refused h caller project text true true known admin)
-        (inr (new, put.0, read, had, ap (λ x. refused_or x Nothing) (sym by)))
+        (inr (new, by.0, read, subst (λ f. HasFile f by.0) loaded by.1, ap (λ x. refused_or x Nothing) (sym (by.2 h (ap is_some (sym loaded)) (l.picked.projects refl)))))
 
-    at : (o : Option Refusal) → first_refusal (file_checks h project put.0 new) ≡ o → MatchOption o ((reply ≡ Done Nothing) × PutsFile project text delta) (λ refusal. (reply ≡ Refused refusal) × IsEmpty delta) →
-        IsDecided h caller (PutProject project text) delta reply
+    at : (o : Option Refusal) → IsFileRefusal (file_in rows project) rows.project_count project new o → IsPutBy project text o delta reply → IsDecided h caller (PutProject project text) delta reply
     at None by x =
         subst (IsDecided h caller (PutProject project text) delta) (sym x.0)
         (file_decided h caller project text delta (answered None by) x.1.accounts x.1.members x.1.file x.1.base)
@@ -195,3 +193,40 @@ put_decided_by h caller project text rows new delta reply known admin l read put
 pub checks_by : (h : List Entry) (project : List ℕ) (old : Option File) (new : File) (a b : Bool) → option_map_or (λ f. covers f new) old true ≡ a → (is_project h project || nat_lt (project_count h) 1000) ≡ b →
     first_refusal (file_checks h project old new) ≡ cond a (cond b None (Some Limit)) (Some LabelNarrowed)
 checks_by h project old new a b p q = λ i. cond (p i) (cond (q i) None (Some Limit)) (Some LabelNarrowed)
+
+-- the same of results
+pub put_project_by : (caller : ℕ) (project text : List ℕ) (rows : Rows) (new : File) (result : Result (Delta × Reply) Cause) →
+    ((h : List Entry) → IsLoaded h (needed caller (PutProject project text)) rows → is_admin h caller ≡ true) → IsRead text new →
+    IfOk result (λ r. IsFilePut (file_in rows project) rows.project_count project text new r.0 r.1) →
+    IfOk result (λ r. (h : List Entry) → is_account h caller ≡ true → IsLoaded h (needed caller (PutProject project text)) rows → IsDecided h caller (PutProject project text) r.0 r.1)
+put_project_by caller project text rows new (Ok r) admin read put = λ h known l. put_decided_by h caller project text rows new r.0 r.1 known (admin h l) l read put
+put_project_by caller project text rows new (Err e) admin read put = tt
+
+pub unread_by : (caller : ℕ) (project text : List ℕ) (rows : Rows) (result : Result (Delta × Reply) Cause) → IfErr result (IsUnread (file_in rows project)) → IfErr result (IsUndecided caller (PutProject project text) rows)
+unread_by caller project text rows (Ok r) x = tt
+unread_by caller project text rows (Err e) x = unread_undecided caller project text rows e x
+
+pub fault_by : (caller : ℕ) (project text : List ℕ) (rows : Rows) (fault : ReadFault) (result : Result (Delta × Reply) Cause) →
+    ((h : List Entry) → IsLoaded h (needed caller (PutProject project text)) rows → is_admin h caller ≡ true) → IsReadFault text fault →
+    IfOk result (λ r. IsEmpty r.0 × ((f : FileFault) × (fault ≡ read.File f) × IsPlaced f × (r.1 ≡ Refused (BadFile f)))) →
+    IfOk result (λ r. (h : List Entry) → is_account h caller ≡ true → IsLoaded h (needed caller (PutProject project text)) rows → IsDecided h caller (PutProject project text) r.0 r.1)
+fault_by caller project text rows fault (Ok r) admin faulty x = λ h known l.
+    fault_decided h caller project text r x.1.0 known (admin h l) x.0 (subst (IsReadFault text) x.1.1 faulty) x.1.2 x.1.3
+fault_by caller project text rows fault (Err e) admin faulty x = tt
+
+or_true : (b : Bool) → (b || true) ≡ true
+or_true true = refl
+or_true false = refl
+
+has_same : (had : Option (List ℕ)) (old : Option File) → HasFile had old → is_some had ≡ is_some old
+has_same None old is = sym (ap is_some is)
+has_same (Some t) old is = sym (ap is_some is.2)
+
+-- a file that keeps the labels of the old one, where there is one or there are few projects
+pub file_passes : (had : Option (List ℕ)) (count : ℕ) (project : List ℕ) (old : Option File) (new : File) → HasFile had old → option_map_or (λ f. covers f new) old true ≡ true → (is_some old ≡ true) ⊎ (count < 1000) →
+    IsFileRefusal had count project new None
+file_passes had count project old new is keeps few = (old, is, λ h same counted. checks_by h project old new true true keeps
+    (⊎_elim
+    (λ (some : is_some old ≡ true). ap (λ b. b || nat_lt (project_count h) 1000) (same ∙ (has_same had old is ∙ some)))
+    (λ (less : count < 1000). ap (λ b. is_project h project || b) (lt-ltb (project_count h) 1000 (omega arith)) ∙ or_true (is_project h project))
+    few))

@@ -1,6 +1,6 @@
 -- What one delivery does.
 use Rattle.std.proofs.Common.{◌≡◌, ℕ, ◌+◌, ◌<◌, List, [], ◌∷◌, ◌++◌, length, Option, Some, None, true, false, cond, ◌||◌, refl, sym, ap, ◌∙◌, subst, inl, inr, ⊎_elim, ◌⊎◌, Result, Ok, Err}
-use Rattle.std.specs.Prelude.{is_some, MatchOption}
+use Rattle.std.specs.Prelude.{is_some, MatchOption, IfOk, IfErr}
 use Rattle.std.specs.Result.{IsErr, IsErrAnd}
 use Rattle.std.specs.Str.{bytes_eq}
 use Rattle.std.proofs.lemmas.Bool.{cases_Bool}
@@ -26,10 +26,10 @@ use Rattle.review_rows.specs.declared.rows.Need.{Need}
 use Rattle.review_rows.specs.declared.rows.Rows.{Rows}
 use Rattle.review_rows.specs.Rows.{AnswerRow, Tables, Wanted, wanted_by}
 use Rattle.review_rows.specs.Answer.{IsHistory, IsAnswer, query_answer, query_checks, first_refusal, refused_or, told as told_of_query, most_requests}
-use Rattle.review_rows.specs.View.{IsLoaded, IsView, IsDecided, answer_row}
+use Rattle.review_rows.specs.View.{IsLoaded, IsView, IsDecided, answer_row, needed, wanted_for}
 use Rattle.review_rows.specs.Shelf.{IsCommitted, AreSelected, Shown, Shows, Views, StaysOrShuts, StopLeavesOwnTables, AddsNoStop, IsCounted, Blames, cause_of}
-use Rattle.review_machine.specs.Decisions.{WantsAs}
-use Rattle.review_machine.specs.Replies.{history_after, with_entries as hist, entry_of, IsRight, IsTold, IsToldOfStored, IsServed, IsToldAgain, IsLawful, reply_of, IsNew, HasEffect, StopGoesOnFrom, StopHasEntry, IsEntered, GoesOn}
+use Rattle.review_machine.specs.Decisions.{WantsAs, IsUndecided}
+use Rattle.review_machine.specs.Replies.{history_after, with_entries as hist, entry_of, IsRight, IsTold, IsToldOfStored, IsServed, IsToldAgain, IsLawful, reply_of, IsNew, HasEffect, StopGoesOnFrom, StopHasEntry, IsEntered, GoesOn, KeepsUntaken, CountsReply, IsAnswered}
 use Rattle.review_machine.proofs.Histories.{loaded, recalled, not_recalled, view_grows, answer_stored, stored_stays, stored_here, same_to, stored_identity}
 
 -- a new identity adds its entry, and an old one nothing
@@ -299,3 +299,50 @@ stopped h d reply old new s since = (leaves_since h d reply old new s since, lea
 -- a shelf that shows the tables of a history, and leaves them alone at a stop, leaves only those
 pub alone_since : (h : List Entry) (s : Shown) → IsHistory h → Views h s.tables → StopLeavesOwnTables s → StopGoesOnFrom h s
 alone_since h s hist v alone t x = ([], hist, subst (Views h) (alone t x) v)
+
+-- a command that was not decided
+pub undecided_lawful : (h : List Entry) (caller : ℕ) (id : List ℕ) (command : Command) (rows : Rows) (cause : Cause) (before after : ℕ) → IsHistory h → IsLoaded h (needed caller command) rows →
+    stored h (record { caller = caller; id = id }) ≡ None → IsUndecided caller command rows cause → after ≡ before → IsLawful h (Write caller id command) cause before after
+undecided_lawful h caller id command rows Memory before after hist l none u same = same
+undecided_lawful h caller id command rows Pattern before after hist l none u same = (none, u h hist l, same)
+undecided_lawful h caller id command rows Damaged before after hist l none u same = absurd (u h hist l)
+undecided_lawful h caller id command rows Store before after hist l none u same = absurd u
+undecided_lawful h caller id command rows Full before after hist l none u same = absurd u
+
+pub undecided_keeps : (caller : ℕ) (id : List ℕ) (command : Command) (rows : Rows) (cause : Cause) (old new : Option Tables) → IsUndecided caller command rows cause → new ≡ old →
+    KeepsUntaken (Write caller id command) (NotTaken cause) old new
+undecided_keeps caller id command rows Memory old new u same = (tt, inl same)
+undecided_keeps caller id command rows Pattern old new u same = (tt, inl same)
+undecided_keeps caller id command rows Damaged old new u same = (tt, inl same)
+undecided_keeps caller id command rows Store old new u same = absurd u
+undecided_keeps caller id command rows Full old new u same = absurd u
+
+pub undecided_counts : (caller : ℕ) (command : Command) (rows : Rows) (cause : Cause) (before after : ℕ) → IsUndecided caller command rows cause → after ≡ before → CountsReply (NotTaken cause) before after
+undecided_counts caller command rows Memory before after u same = same
+undecided_counts caller command rows Pattern before after u same = same
+undecided_counts caller command rows Damaged before after u same = same
+undecided_counts caller command rows Store before after u same = absurd u
+undecided_counts caller command rows Full before after u same = absurd u
+
+-- a question, answered or not for want of memory
+pub shown_served : (h : List Entry) (caller : ℕ) (query : Query) (r : Result Reply Cause) (rows : Rows) (old new : Shown) → IsHistory h → Views h old.tables → IsLoaded h (wanted_for caller query) rows →
+    IfOk r (λ reply. (h : List Entry) → IsLoaded h (wanted_for caller query) rows → reply ≡ query_answer h caller query) → IfErr r (λ e. e ≡ Memory) →
+    new.tables ≡ old.tables → new.faults ≡ old.faults → AddsNoStop old new → IsServed h (Read caller query) (reply_of r) old new
+shown_served h caller query (Ok reply) rows old new hist v l shown cause stays quiet adds = read_served h caller query reply old new hist v (shown h l) stays quiet adds
+shown_served h caller query (Err e) rows old new hist v l shown cause stays quiet adds =
+    subst (λ c. IsServed h (Read caller query) (NotTaken c) old new) (sym cause)
+    (not_taken_served h (Read caller query) Memory old new hist (views_stay h old.tables new.tables stays v) quiet (λ t x. inl (adds t x)))
+
+pub shown_counts : (r : Result Reply Cause) (before after : ℕ) → IfOk r IsAnswered → IfErr r (λ e. e ≡ Memory) → after ≡ before → CountsReply (reply_of r) before after
+shown_counts (Ok (Done a)) before after answered cause same = same
+shown_counts (Ok (Refused x)) before after answered cause same = same
+shown_counts (Ok IdentityReused) before after answered cause same = absurd answered
+shown_counts (Ok (NotTaken c)) before after answered cause same = absurd answered
+shown_counts (Err e) before after answered cause same = subst (λ c. CountsReply (NotTaken c) before after) (sym cause) same
+
+pub shown_keeps : (caller : ℕ) (query : Query) (r : Result Reply Cause) (old new : Option Tables) → IfOk r IsAnswered → new ≡ old → KeepsUntaken (Read caller query) (reply_of r) old new
+shown_keeps caller query (Ok (Done a)) old new answered same = same
+shown_keeps caller query (Ok (Refused x)) old new answered same = same
+shown_keeps caller query (Ok IdentityReused) old new answered same = same
+shown_keeps caller query (Ok (NotTaken c)) old new answered same = absurd answered
+shown_keeps caller query (Err e) old new answered same = inl same

@@ -1,5 +1,5 @@
 -- What is done with the files of projects.
-use Rattle.std.specs.Prelude.{ℕ, ◌≡◌, ◌⊎◌, List, [], Option, Some, None, IsSomeAnd, MatchOption, is_some, option_map}
+use Rattle.std.specs.Prelude.{ℕ, ◌≡◌, ◌⊎◌, List, [], Option, Some, None, is_some}
 use Rattle.std.specs.Ordering.{nat_cmp}
 use Rattle.std.specs.Cmp.Lexicographic.{slice_cmp}
 use Rattle.review_table.specs.Rows.{row_in, rows_of}
@@ -9,6 +9,7 @@ use Rattle.review_words.specs.declared.faults.FileFault.TheVariants.{Expr}
 use Rattle.review_words.specs.declared.reply.Reply.{Reply}
 use Rattle.review_words.specs.declared.reply.Reply.TheVariants.{Done, Refused}
 use Rattle.review_words.specs.declared.reply.Answer.TheVariants.{Nothing}
+use Rattle.review_words.specs.declared.reply.Refusal.{Refusal}
 use Rattle.review_words.specs.declared.reply.NotTaken.{NotTaken as Cause}
 use Rattle.review_words.specs.declared.reply.NotTaken.TheVariants.{Memory, Pattern, Damaged}
 use Rattle.review_words.specs.History.{Entry, is_project, project_count}
@@ -60,7 +61,16 @@ pub record PutsFile (project text : List ℕ) (delta : Delta) : Type 0 where
   pub file : delta.file ≡ Some (record { project = project; file = text })
   pub base : delta.base ≡ None
 
--- A file is put where the project had this text: by the checks of a history that has the project where a text is there, and as many projects as are counted.
+-- What refuses a file where the project had this text: by the checks of a history that has the project where a text is there, and as many projects as are counted.
+abbrev pub IsFileRefusal : Option (List ℕ) → ℕ → List ℕ → File → Option Refusal → Type 0
+IsFileRefusal had count project new refusal = (old : Option File) × HasFile had old × ((h : List Entry) → is_project h project ≡ is_some had → count ≡ project_count h →
+    first_refusal (file_checks h project old new) ≡ refusal)
+
+-- the file is put, or refused
+abbrev pub IsPutBy : List ℕ → List ℕ → Option Refusal → Delta → Reply → Type 0
+IsPutBy project text None delta reply = (reply ≡ Done Nothing) × PutsFile project text delta
+IsPutBy project text (Some refusal) delta reply = (reply ≡ Refused refusal) × IsEmpty delta
+
+-- a file is put where the project had this text, unless it is refused
 abbrev pub IsFilePut : Option (List ℕ) → ℕ → List ℕ → List ℕ → File → Delta → Reply → Type 0
-IsFilePut had count project text new delta reply = (old : Option File) × HasFile had old × ((h : List Entry) → is_project h project ≡ is_some had → count ≡ project_count h →
-    MatchOption (first_refusal (file_checks h project old new)) ((reply ≡ Done Nothing) × PutsFile project text delta) (λ refusal. (reply ≡ Refused refusal) × IsEmpty delta))
+IsFilePut had count project text new delta reply = (refusal : Option Refusal) × IsFileRefusal had count project new refusal × IsPutBy project text refusal delta reply

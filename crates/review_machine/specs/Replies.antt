@@ -110,6 +110,12 @@ abbrev pub HasEffect : List Entry → Delivery → Tables → Type 0
 HasEffect h (Write caller id command) t = (reply : Reply) × IsHistory (entry_of caller id command reply ∷ h) × IsView (entry_of caller id command reply ∷ h) t
 HasEffect h (Read caller query) t = ⊥
 
+-- an answer or a refusal
+abbrev pub IsAnswered : Reply → Type 0
+IsAnswered (Done a) = Unit {0}
+IsAnswered (Refused r) = Unit {0}
+IsAnswered _ = ⊥
+
 -- what one delivery does: the right reply, the tables of the history after it, and what a stop then may leave
 pub record IsServed (h : List Entry) (d : Delivery) (reply : Reply) (old new : Shown) : Type 0 where
   pub right : IsRight h d reply old.faults new.faults

@@ -1,17 +1,17 @@
 //! One delivery.
-ghost use Rattle.std.specs.Prelude.{◌≡◌, ℕ, List, [], ◌∷◌, None, string_bytes};
+ghost use Rattle.std.specs.Prelude.{◌≡◌, ℕ, List, [], ◌∷◌, None, IfOk, string_bytes};
 ghost use Rattle.review_words.specs.Texts.{content_text};
 ghost use Rattle.review_words.specs.History.{Entry, stored};
 ghost use Rattle.review_words.specs.declared.command.Delivery.TheVariants.{Write, Read};
 ghost use Rattle.review_rows.specs.Answer.{IsHistory};
 ghost use Rattle.review_rows.specs.Rows.{kept_row};
-ghost use Rattle.review_rows.specs.Shelf.{Shows, Views};
+ghost use Rattle.review_rows.specs.Shelf.{Shows, Views, AreSelected, KeepsTables, BlamesTables, AddsNoStop, CountsFaults};
 ghost use Rattle.review_machine.specs.Replies.{IsServed, IsToldAgain, KeepsUntaken, StoresOnce, CountsReply, StopGoesOnFrom, StopHasEntry, history_after, reply_of};
 
 use crate::decisions::decide;
 use crate::needs::{need_of, need_of_query};
 use crate::questions::show;
-use review_rows::{Kept, Shelf};
+use review_rows::{Kept, Need, Rows, Shelf, ShelfFault};
 use review_words::{
     AccountNo, BadReply, Command, Delivery, NotTaken, Query, Reply, RequestId, content_text,
     read_reply, reply_text,
@@ -110,8 +110,20 @@ fn read<S: Shelf>(
     ensures counted { CountsReply (reply_of result) (S.state shelf.old).faults (S.state shelf.new).faults }
 {
     let need = need_of_query(alloc, caller, query)?;
-    let rows = shelf.load(alloc, &need)?;
+    let rows = load(alloc, shelf, need)?;
     show(alloc, &rows, caller, query)
+}
+
+// The rows that the need selects.
+fn load<S: Shelf>(alloc: Global, shelf: &mut S, need: Need) -> Result<Rows, ShelfFault>
+    ensures honest { (S.state shelf.new).is_honest → (S.state shelf.old).is_honest }
+    ensures found { (S.state shelf.new).is_honest → IfOk result (λ rows. Shows (S.state shelf.old).tables (λ t. AreSelected t need rows)) }
+    ensures tables { (S.state shelf.new).is_honest → KeepsTables result (S.state shelf.old).tables (S.state shelf.new).tables }
+    ensures damaged { (S.state shelf.new).is_honest → BlamesTables result (S.state shelf.old).tables }
+    ensures stops { (S.state shelf.new).is_honest → AddsNoStop (S.state shelf.old) (S.state shelf.new) }
+    ensures counted { CountsFaults result (S.state shelf.old).faults (S.state shelf.new).faults }
+{
+    shelf.load(alloc, &need)
 }
 
 // What a request is told whose identity is stored.
@@ -149,7 +161,7 @@ fn first_arrival<S: Shelf>(
     ensures counted { CountsReply (reply_of result) (S.state shelf.old).faults (S.state shelf.new).faults }
 {
     let need = need_of(alloc, caller, command)?;
-    let rows = shelf.load(alloc, &need)?;
+    let rows = load(alloc, shelf, need)?;
     if rows.requests >= MOST_REQUESTS {
         return Err(NotTaken::Full);
     }

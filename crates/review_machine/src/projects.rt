@@ -1,5 +1,5 @@
 //! Decisions on projects and their branches.
-ghost use Rattle.std.specs.Prelude.{◌≡◌, List, IfOk, IfErr, true};
+ghost use Rattle.std.specs.Prelude.{◌≡◌, List, IfOk, IfErr, IfSome, true};
 ghost use Rattle.std.specs.Option.{option_map_or};
 ghost use Rattle.review_words.specs.Texts.{IsStored};
 ghost use Rattle.review_words.specs.History.{Entry, is_account};
@@ -8,13 +8,14 @@ ghost use Rattle.review_words.specs.declared.reply.NotTaken.TheVariants.{Memory}
 ghost use Rattle.review_rows.specs.Rows.{HasNoEffect};
 ghost use Rattle.review_rows.specs.View.{needed, IsLoaded, IsDecided};
 ghost use Rattle.review_words.specs.Texts.{IsPlaced};
-ghost use Rattle.review_words.specs.declared.reply.Reply.TheVariants.{Refused};
+ghost use Rattle.review_words.specs.declared.reply.Reply.TheVariants.{Done, Refused};
+ghost use Rattle.review_words.specs.declared.reply.Answer.TheVariants.{Nothing};
 ghost use Rattle.review_words.specs.declared.reply.Refusal.TheVariants.{BadFile};
 ghost use Rattle.review_file.specs.declared.fault.ReadFault.TheVariants.{File};
 ghost use Rattle.review_file.specs.Rights.{covers};
 ghost use Rattle.review_rows.specs.Answer.{HasFile};
 ghost use Rattle.review_machine.specs.Decisions.{IsUndecided, NamesEachOnce, IsEmpty};
-ghost use Rattle.review_machine.specs.Files.{file_in, unread_cause, IsReadCause, IsUnread, IsFilePut};
+ghost use Rattle.review_machine.specs.Files.{file_in, unread_cause, IsReadCause, IsUnread, PutsFile, IsFileRefusal, IsFilePut};
 
 use crate::callers::is_admin;
 use crate::deltas::{nothing, refused};
@@ -24,7 +25,7 @@ use review_words::{
     AccountNo, Answer, BranchName, CommitName, ExprCode, FileFault, FileText, NotTaken,
     ProjectName, Refusal, Reply,
 };
-use std::alloc::Global;
+use std::alloc::{AllocError, Global};
 
 /// The most bases of a project, over all its branches.
 const MOST_BASES: u64 = 100_000;
@@ -119,13 +120,44 @@ fn put_file(
     ensures refused { IfOk result (λ r. HasNoEffect r.1 r.0) }
     ensures once { IfOk result (λ r. NamesEachOnce r.0) }
 {
+    let refusal = file_refusal(alloc, rows, project, new)?;
+    match refusal {
+        Some(refusal) => Ok(refused(alloc, refusal)),
+        None => Ok(put_text(alloc, project, file)?),
+    }
+}
+
+// What refuses a file: that it narrows a label of the one that the project has, or that there are too many projects.
+fn file_refusal(
+    alloc: Global,
+    rows: &Rows,
+    project: &ProjectName,
+    new: &ProjectFile,
+) -> Result<Option<Refusal>, NotTaken>
+    ensures refusal { IfOk result (IsFileRefusal (file_in rows.now project.now) rows.now.project_count project.now new.now) }
+    ensures cause { IfErr result (IsUnread (file_in rows.now project.now)) }
+    ensures stored { IfOk result (λ o. IfSome o (λ r. IsStored (Refused r))) }
+{
     let old = stored_file(alloc, rows, project)?;
     if !keeps_labels(&old, new) {
-        return Ok(refused(alloc, Refusal::LabelNarrowed));
+        return Ok(Some(Refusal::LabelNarrowed));
     }
     if old.is_none() && rows.project_count >= MOST_PROJECTS {
-        return Ok(refused(alloc, Refusal::Limit));
+        return Ok(Some(Refusal::Limit));
     }
+    Ok(None)
+}
+
+// The change that puts the file of a project.
+fn put_text(
+    alloc: Global,
+    project: &ProjectName,
+    file: &FileText,
+) -> Result<(Delta, Reply), AllocError>
+    ensures reply { IfOk result (λ r. r.1 ≡ Done Nothing) }
+    ensures delta { IfOk result (λ r. PutsFile project.now file.now r.0) }
+    ensures once { IfOk result (λ r. NamesEachOnce r.0) }
+{
     let mut delta = nothing(alloc);
     delta.file = Some(ProjectRow {
         project: project.copy(alloc)?,

@@ -5,6 +5,7 @@ ghost use Rattle.review_words.specs.declared.command.Query.TheVariants.{Branch};
 ghost use Rattle.review_words.specs.declared.reply.NotTaken.TheVariants.{Memory};
 ghost use Rattle.review_rows.specs.Answer.{query_answer};
 ghost use Rattle.review_rows.specs.View.{wanted_for, IsLoaded};
+ghost use Rattle.review_machine.specs.Replies.{IsAnswered};
 
 use crate::callers::has_account;
 use review_rows::{BranchKey, Rows};
@@ -20,6 +21,7 @@ pub fn show(
     query: &Query,
 ) -> Result<Reply, NotTaken>
     ensures shown { IfOk result (λ r. (h : List Entry) → IsLoaded h (wanted_for caller query.now) rows.now → r ≡ query_answer h caller query.now) }
+    ensures answered { IfOk result IsAnswered }
     ensures cause { IfErr result (λ e. e ≡ Memory) }
 {
     let known = has_account(rows, caller);
@@ -36,7 +38,8 @@ fn answer(
     caller: AccountNo,
     query: &Query,
 ) -> Result<Reply, AllocError>
-    ensures { IfOk result (λ r. (h : List Entry) → is_account h caller ≡ true → IsLoaded h (wanted_for caller query.now) rows.now → r ≡ query_answer h caller query.now) }
+    ensures answered { IfOk result IsAnswered }
+    ensures shown { IfOk result (λ r. (h : List Entry) → is_account h caller ≡ true → IsLoaded h (wanted_for caller query.now) rows.now → r ≡ query_answer h caller query.now) }
 {
     match query {
         Query::Branch { project, branch } => show_branch(alloc, rows, caller, project, branch),
@@ -50,7 +53,8 @@ fn show_branch(
     project: &ProjectName,
     branch: &BranchName,
 ) -> Result<Reply, AllocError>
-    ensures { IfOk result (λ r. (h : List Entry) → is_account h caller ≡ true → IsLoaded h (wanted_for caller (Branch project.now branch.now)) rows.now → r ≡ query_answer h caller (Branch project.now branch.now)) }
+    ensures answered { IfOk result IsAnswered }
+    ensures shown { IfOk result (λ r. (h : List Entry) → is_account h caller ≡ true → IsLoaded h (wanted_for caller (Branch project.now branch.now)) rows.now → r ≡ query_answer h caller (Branch project.now branch.now)) }
 {
     if !rows.has_project {
         return Ok(Reply::Refused(Refusal::NoProject));

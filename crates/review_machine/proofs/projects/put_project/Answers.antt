@@ -1,32 +1,33 @@
-use Rattle.std.proofs.Common.{rules, ◌≡◌, List, IfOk, IfErr, true, ℕ, ◌+◌, ◌-◌, ◌*◌, ◌<◌, ◌≤◌, length, ◌/◌, ◌%◌, Bool, false, nat_eq, nat_lt, [], ◌∷◌, ◌++◌, slice_index_or, slice_set, bit_and, bit_or, Fits, w8, w32, w64, Bor, MutBor}
-use Rattle.std.specs.Option.{option_map_or}
-use Rattle.review_words.specs.Texts.{IsStored, IsPlaced}
-use Rattle.review_words.specs.History.{Entry, is_account}
-use Rattle.review_words.specs.declared.command.Command.TheVariants.{PutProject, RecordBase}
-use Rattle.review_words.specs.declared.reply.NotTaken.TheVariants.{Memory}
-use Rattle.review_rows.specs.Rows.{HasNoEffect}
-use Rattle.review_rows.specs.View.{needed, IsLoaded, IsDecided}
-use Rattle.review_words.specs.declared.reply.Reply.TheVariants.{Refused}
-use Rattle.review_words.specs.declared.reply.Refusal.TheVariants.{BadFile}
-use Rattle.review_file.specs.declared.fault.ReadFault.TheVariants.{File}
-use Rattle.review_file.specs.Rights.{covers}
-use Rattle.review_rows.specs.Answer.{HasFile}
-use Rattle.review_machine.specs.Decisions.{IsUndecided, NamesEachOnce, IsEmpty}
-use Rattle.review_machine.specs.Files.{file_in, unread_cause, IsReadCause, IsUnread, IsFilePut}
+use Rattle.std.proofs.Common.{◌≡◌, ◌∙◌, true, false, refl, sym, ap, subst, Ok, Err, Result}
+use Rattle.std.specs.Prelude.{IfOk, IfErr}
+use Rattle.review_words.specs.declared.command.Command.TheVariants.{PutProject}
+use Rattle.review_words.specs.declared.reply.Refusal.TheVariants.{NotAdmin}
+use Rattle.review_file.specs.Reading.{IsReadFault}
+use Rattle.review_rows.specs.Files.{IsRead}
+use Rattle.review_machine.proofs.Decided.{admin_is, refused_pair, project_refused}
+use Rattle.review_machine.proofs.Filed.{put_project_by, unread_by, fault_by}
 use Rattle.review_machine.proofs.projects.put_project.Goals as goal
 
--- src/projects.rt:88:9
 pub returns-then-not-admin-clause-decided : goal.returns-then-not-admin-clause-decided
-returns-then-not-admin-clause-decided c = ?
+returns-then-not-admin-clause-decided c = λ h known l.
+    let a = c.args in
+    let command = PutProject a.project.now a.file.now in
+    let admin = sym (admin_is h a.caller command a.rows.now l) ∙ (sym c.in_ok-admin.ensures ∙ c.if-not-admin.true) in
+    refused_pair h a.caller command c.refused.result NotAdmin c.refused.ensures.empty c.refused.ensures.reply (project_refused h a.caller a.project.now a.file.now true false known admin)
 
--- src/projects.rt:73:1
 pub returns-in-Ok-clause-decided : goal.returns-in-Ok-clause-decided
-returns-in-Ok-clause-decided c = ?
+returns-in-Ok-clause-decided c =
+    let a = c.args in
+    put_project_by a.caller a.project.now a.file.now a.rows.now c.in-Ok.new c.put_file.result
+    (λ h l. sym (admin_is h a.caller (PutProject a.project.now a.file.now) a.rows.now l) ∙ (sym c.in_ok-admin.ensures ∙ c.if-not-admin.false))
+    (subst (λ t. IsRead t c.in-Ok.new) c.as_str.ensures c.in-Ok.ensures.read) c.put_file.ensures.put
 
--- src/projects.rt:73:1
 pub returns-in-Ok-clause-cause : goal.returns-in-Ok-clause-cause
-returns-in-Ok-clause-cause c = ?
+returns-in-Ok-clause-cause c = unread_by c.args.caller c.args.project.now c.args.file.now c.args.rows.now c.put_file.result c.put_file.ensures.cause
 
--- src/projects.rt:73:1
 pub returns-in-Err-clause-decided : goal.returns-in-Err-clause-decided
-returns-in-Err-clause-decided c = ?
+returns-in-Err-clause-decided c =
+    let a = c.args in
+    fault_by a.caller a.project.now a.file.now a.rows.now c.in-Err.fault c.refuse_file.result
+    (λ h l. sym (admin_is h a.caller (PutProject a.project.now a.file.now) a.rows.now l) ∙ (sym c.in_ok-admin.ensures ∙ c.if-not-admin.false))
+    (subst (λ t. IsReadFault t c.in-Err.fault) c.as_str.ensures c.in-Err.ensures.fault) c.refuse_file.ensures.file

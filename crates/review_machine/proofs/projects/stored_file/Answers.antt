@@ -1,20 +1,15 @@
-use Rattle.std.proofs.Common.{rules, ◌≡◌, List, IfOk, IfErr, true, ℕ, ◌+◌, ◌-◌, ◌*◌, ◌<◌, ◌≤◌, length, ◌/◌, ◌%◌, Bool, false, nat_eq, nat_lt, [], ◌∷◌, ◌++◌, slice_index_or, slice_set, bit_and, bit_or, Fits, w8, w32, w64, Bor, MutBor}
-use Rattle.std.specs.Option.{option_map_or}
-use Rattle.review_words.specs.Texts.{IsStored, IsPlaced}
-use Rattle.review_words.specs.History.{Entry, is_account}
-use Rattle.review_words.specs.declared.command.Command.TheVariants.{PutProject, RecordBase}
-use Rattle.review_words.specs.declared.reply.NotTaken.TheVariants.{Memory}
-use Rattle.review_rows.specs.Rows.{HasNoEffect}
-use Rattle.review_rows.specs.View.{needed, IsLoaded, IsDecided}
-use Rattle.review_words.specs.declared.reply.Reply.TheVariants.{Refused}
-use Rattle.review_words.specs.declared.reply.Refusal.TheVariants.{BadFile}
-use Rattle.review_file.specs.declared.fault.ReadFault.TheVariants.{File}
-use Rattle.review_file.specs.Rights.{covers}
-use Rattle.review_rows.specs.Answer.{HasFile}
-use Rattle.review_machine.specs.Decisions.{IsUndecided, NamesEachOnce, IsEmpty}
-use Rattle.review_machine.specs.Files.{file_in, unread_cause, IsReadCause, IsUnread, IsFilePut}
+use Rattle.std.proofs.Common.{◌≡◌, ◌∙◌, ap, sym, subst, Some}
+use Rattle.std.specs.Option.{option_copied}
+use Rattle.std.specs.Prelude.{IfErr}
+use Rattle.review_file.specs.Reading.{IsReadFault}
+use Rattle.review_file.specs.declared.fault.ReadFault.TheVariants.{Pattern}
+use Rattle.review_rows.specs.Files.{HasPattern}
+use Rattle.review_machine.specs.Files.{IsUnread, IsUnreadText}
+use Rattle.review_machine.proofs.Filed.{unread_is}
 use Rattle.review_machine.proofs.projects.stored_file.Goals as goal
 
--- src/projects.rt:148:1
 pub returns-in-Err-clause-cause : goal.returns-in-Err-clause-cause
-returns-in-Err-clause-cause c = ?
+returns-in-Err-clause-cause c =
+    let text = c.as_str.result.now in
+    subst (λ o. IsUnread o c.unread.result) (ap Some c.as_str.ensures ∙ (sym (ap option_copied c.in-Some.is) ∙ c.get.ensures))
+    (subst (IsUnreadText text) (sym c.unread.ensures) (unread_is text c.in-Err.fault c.in-Err.ensures.fault c.in-Err.ensures.pattern))

@@ -10,4 +10,4 @@ returns-then-not-known-clause-shown c = λ h l.
 pub returns-clause-shown : goal.returns-clause-shown
 returns-clause-shown c = λ h l.
     let a = c.args in
-    c.in_ok-answer.ensures h (sym (asker_is h a.caller a.query.now a.rows.now l) ∙ (sym c.has_account-known.ensures ∙ c.if-not-known.false)) l
+    c.in_ok-answer.ensures.shown h (sym (asker_is h a.caller a.query.now a.rows.now l) ∙ (sym c.has_account-known.ensures ∙ c.if-not-known.false)) l
