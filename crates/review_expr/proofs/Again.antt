@@ -1,5 +1,6 @@
 -- What is printed has the tree again.
-use Rattle.std.proofs.Common.{◌≡◌, ℕ, ◌≤◌, ◌<◌, lit<, Bool, true, false, ◌&&◌, ◌==◌, List, [], ◌∷◌, ◌++◌, length, codes, Some, IsTrue, refl, sym, ap, ◌∙◌, subst, arith, length-append}
+use mathlib.Core.Logic.{∥∥₁_map}
+use Rattle.std.proofs.Common.{String, Global, string_bytes, Result, Ok, Err, IfOk, ◌≡◌, ℕ, ◌≤◌, ◌<◌, lit<, Bool, true, false, ◌&&◌, ◌==◌, List, [], ◌∷◌, ◌++◌, length, codes, Some, IsTrue, refl, sym, ap, ◌∙◌, subst, arith, length-append}
 use Rattle.std.specs.Prelude.{if◌then◌else◌}
 use Rattle.std.specs.Str.{bytes_eq}
 use Rattle.std.proofs.lemmas.List.{append-nil}
@@ -12,7 +13,7 @@ use Rattle.std.specs.Char.{is_ascii_lowercase}
 use Rattle.std.proofs.lemmas.Bool.Decides.{nat_tests}
 use Rattle.review_spelling.specs.Printed.{IsOneWord}
 use Rattle.review_expr.specs.Tokens.{operator_by, operator_or, alone, word_tokens, tokens}
-use Rattle.review_expr.specs.Expressions.{HasExpr}
+use Rattle.review_expr.specs.Expressions.{HasExpr, IsExpression}
 use Rattle.review_expr.specs.Printed.{printed}
 use Rattle.review_expr.proofs.Levels.{level}
 use Rattle.review_expr.proofs.Leveled.{level_tree, level_mixed}
@@ -104,3 +105,12 @@ again reading word reads one text t h short =
       (level d t', refl, within, level_mixed d t', level_tree d t' full),
     ) in
     subst (λ u. HasExpr reading (printed word u) u) h.2.4 again'
+
+-- the text that an expression is printed as is that expression again
+pub printed_again : {A E : Type 0} → (reading : List ℕ → Reading A) (word : A → List ℕ) →
+    ((w : List ℕ) (a : A) → reading w ≡ Good a → reading (word a) ≡ Good a) → ((w : List ℕ) (a : A) → reading w ≡ Good a → IsOneWord (word a)) →
+    (r : Result (String Global) E) (t : Tree A) → ∥ IsExpression reading t ∥₁ → IfOk r (λ s. string_bytes s ≡ printed word t) →
+    IfOk r (λ s. length (string_bytes s) ≤ 4096 → ∥ HasExpr reading (string_bytes s) t ∥₁)
+printed_again reading word reads one (Ok s) t some e =
+    λ short. ∥∥₁_map some (λ h. rw e (again reading word reads one h.0 t h.1 (rw e at short)))
+printed_again reading word reads one (Err f) t some e = tt

@@ -1,14 +1,14 @@
--- A text with a tree has no fault, unless a word's pattern nests too deep.
+-- A text has one tree, and where it has one no fault, unless a word's pattern nests too deep.
 use Rattle.std.proofs.Common.{◌≡◌, inl, inr, ℕ, Bool, true, false, List, [], ◌∷◌, ◌++◌, length, None, refl, sym, ap, ◌∙◌, subst, arith}
 use Rattle.std.proofs.lemmas.List.{append-nil}
 use Rattle.std.proofs.lemmas.Option.{same_Some}
-use Rattle.review_grammar.specs.Grammar.{Tok, Tree, Fault, BadTerm, TooDeep, Mixed, HasFault, HasTree, all_depth, mixed}
+use Rattle.review_grammar.specs.Grammar.{Tok, Tree, Fault, BadTerm, TooDeep, Mixed, HasFault, HasTree, tree, all_depth, mixed}
 use Rattle.review_grammar.specs.Lexemes.{Lexeme, Word, balanced}
 use Rattle.review_grammar.specs.Words.{Reading, Good, Bad, Flaw}
 use Rattle.review_grammar.proofs.Moves.{one_cut}
 use Rattle.review_grammar.proofs.Verdicts.{one_spelling}
-use Rattle.review_expr.specs.declared.fault.ExprCode.{ExprCode}
-use Rattle.review_expr.specs.declared.fault.ExprCode.TheVariants as code
+use Rattle.review_words.specs.declared.faults.ExprCode.{ExprCode}
+use Rattle.review_words.specs.declared.faults.ExprCode.TheVariants as code
 use Rattle.review_expr.specs.Tokens.{lexeme_tokens, joined, tokens_before, tokens}
 use Rattle.review_expr.specs.Expressions.{HasTokens, HasExpr}
 use Rattle.review_expr.specs.Faults.{HasFlaw, HasWord, HasShapeFault, IsFault}
@@ -50,16 +50,21 @@ no_shape : {A : Type 0} → (reading : List ℕ → Reading A) (text : List ℕ)
 no_shape {A = A} reading text t f h k =
     no_shape_fault k.0 t f (subst (λ (xs : List (Tok A)). HasTree xs t) (one_reading reading text h.0 k.0 h.1 k.1) h.2) k.2
 
-pub excluded : {A : Type 0} → (reading : List ℕ → Reading A) (IsDeep : List ℕ → Type 0) (text : List ℕ) (t : Tree A) (place : ℕ) (c : ExprCode) →
-    ((p : ℕ) → HasWord reading IsDeep text p → ⊥) → HasExpr reading text t → IsFault reading IsDeep text place c → ⊥
-excluded reading IsDeep text t place code.TooLong none h k = absurd (omega (arith, h.1.1.0, k.1))
-excluded reading IsDeep text t place code.Empty none h k =
+-- a text with a tree has no fault but a bad value, at a word whose pattern nests too deep
+pub bad_value : {A : Type 0} → (reading : List ℕ → Reading A) (IsDeep : List ℕ → Type 0) (text : List ℕ) (t : Tree A) (place : ℕ) (c : ExprCode) →
+    HasExpr reading text t → IsFault reading IsDeep text place c → (c ≡ code.BadValue) × HasWord reading IsDeep text place
+bad_value reading IsDeep text t place code.TooLong h k = absurd (omega (arith, h.1.1.0, k.1))
+bad_value reading IsDeep text t place code.Empty h k =
     let same : [] ≡ h.1.0 = one_cut text h.1.0 [] h.1.1.1 k.2 in absurd (omega (arith, h.1.1.2, ap length same))
-excluded reading IsDeep text t place code.Unbalanced none h k = not_both (balanced 0 h.1.0) h.1.1.3 (k.2 h.1.0 h.1.1.1)
-excluded reading IsDeep text t place code.BadTerm none h (inl k) = no_flaw reading text h.0 place _ h.1 k
-excluded reading IsDeep text t place code.BadTerm none h (inr k) = no_shape reading text t BadTerm h k.1
-excluded reading IsDeep text t place code.BadValue none h (inl k) = no_flaw reading text h.0 place _ h.1 k
-excluded reading IsDeep text t place code.BadValue none h (inr k) = none place k
-excluded reading IsDeep text t place code.Zero none h k = no_flaw reading text h.0 place _ h.1 k
-excluded reading IsDeep text t place code.TooDeep none h k = no_shape reading text t TooDeep h k.1
-excluded reading IsDeep text t place code.Mixed none h k = no_shape reading text t Mixed h k.1
+bad_value reading IsDeep text t place code.Unbalanced h k = absurd (not_both (balanced 0 h.1.0) h.1.1.3 (k.2 h.1.0 h.1.1.1))
+bad_value reading IsDeep text t place code.BadTerm h (inl k) = absurd (no_flaw reading text h.0 place _ h.1 k)
+bad_value reading IsDeep text t place code.BadTerm h (inr k) = absurd (no_shape reading text t BadTerm h k.1)
+bad_value reading IsDeep text t place code.BadValue h (inl k) = absurd (no_flaw reading text h.0 place _ h.1 k)
+bad_value reading IsDeep text t place code.BadValue h (inr k) = (refl, k)
+bad_value reading IsDeep text t place code.Zero h k = absurd (no_flaw reading text h.0 place _ h.1 k)
+bad_value reading IsDeep text t place code.TooDeep h k = absurd (no_shape reading text t TooDeep h k.1)
+bad_value reading IsDeep text t place code.Mixed h k = absurd (no_shape reading text t Mixed h k.1)
+
+-- a text has one tree
+pub one_tree : {A : Type 0} → (reading : List ℕ → Reading A) (text : List ℕ) (t u : Tree A) → HasExpr reading text t → HasExpr reading text u → t ≡ u
+one_tree reading text t u h k = sym h.2.4 ∙ ap tree (one_spelling h.2.0 k.2.0 (h.2.1 ∙ one_reading reading text h.0 k.0 h.1 k.1 ∙ sym k.2.1)) ∙ k.2.4

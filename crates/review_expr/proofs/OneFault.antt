@@ -5,8 +5,8 @@ use Rattle.review_grammar.specs.Lexemes.{Lexeme, Word, IsCut, all_blank, balance
 use Rattle.review_grammar.specs.Words.{Reading, Good, Bad, Flaw, NoTerm, NoValue, Zero}
 use Rattle.review_grammar.proofs.Moves.{one_cut}
 use Rattle.review_grammar.proofs.Verdicts.{one_spelling}
-use Rattle.review_expr.specs.declared.fault.ExprCode.{ExprCode}
-use Rattle.review_expr.specs.declared.fault.ExprCode.TheVariants as code
+use Rattle.review_words.specs.declared.faults.ExprCode.{ExprCode}
+use Rattle.review_words.specs.declared.faults.ExprCode.TheVariants as code
 use Rattle.review_expr.specs.Tokens.{lexeme_tokens, joined, tokens_before}
 use Rattle.review_expr.specs.Expressions.{IsLaidOut}
 use Rattle.review_expr.specs.Faults.{HasFlaw, HasWord, HasShapeFault, IsFault}

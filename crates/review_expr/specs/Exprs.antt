@@ -22,6 +22,11 @@ abbrev pub IsCopyOf : List ℕ → Expr → Type 0
 IsCopyOf text (expr.Requirement e) = ⊥
 IsCopyOf text (expr.Copy e) = HasExpr copy_reading text (view e.node)
 
+-- The text is this expression, of whichever kind it is.
+abbrev pub IsTextOf : List ℕ → Expr → Type 0
+IsTextOf text (expr.Requirement e) = HasExpr requirement_reading text (view e.node)
+IsTextOf text (expr.Copy e) = HasExpr copy_reading text (view e.node)
+
 -- no word of a copy condition has a pattern, be it deep or refused
 abbrev pub NeverDeep : List ℕ → Type 0
 NeverDeep w = ⊥

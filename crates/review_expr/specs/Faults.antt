@@ -11,8 +11,8 @@ use Rattle.review_grammar.specs.declared.parser.ShapeFault.{ShapeFault}
 use Rattle.review_grammar.specs.declared.parser.ShapeFault.TheVariants as shape
 use Rattle.review_expr.specs.Tokens.{lexeme_tokens, tokens_before, unsigned}
 use Rattle.review_expr.specs.Expressions.{IsLaidOut, HasTokens}
-use Rattle.review_expr.specs.declared.fault.ExprCode.{ExprCode}
-use Rattle.review_expr.specs.declared.fault.ExprCode.TheVariants as code
+use Rattle.review_words.specs.declared.faults.ExprCode.{ExprCode}
+use Rattle.review_words.specs.declared.faults.ExprCode.TheVariants as code
 use Rattle.review_expr.specs.declared.fault.ParseFault.{ParseFault}
 use Rattle.review_expr.specs.declared.fault.ParseFault.TheVariants as fault
 

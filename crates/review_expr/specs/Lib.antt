@@ -1,4 +1,3 @@
-pub mod Codes
 pub mod Tokens
 pub mod Expressions
 pub mod Faults

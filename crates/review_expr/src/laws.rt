@@ -5,7 +5,8 @@ ghost use Rattle.review_spelling.specs.Printed.{copy_word, requirement_word};
 ghost use Rattle.review_spelling.specs.Words.{copy_reading, requirement_reading};
 ghost use Rattle.review_terms.specs.declared.terms.CopyTerm.{CopyTerm};
 ghost use Rattle.review_terms.specs.declared.terms.RequirementTerm.{RequirementTerm};
-ghost use Rattle.review_expr.specs.declared.fault.ExprCode.{ExprCode};
+ghost use Rattle.review_words.specs.declared.faults.ExprCode.{ExprCode};
+ghost use Rattle.review_words.specs.declared.faults.ExprCode.TheVariants.{BadValue};
 ghost use Rattle.review_expr.specs.Expressions.{HasExpr};
 ghost use Rattle.review_expr.specs.Faults.{HasWord, IsFault};
 ghost use Rattle.review_expr.specs.Printed.{printed};
@@ -24,10 +25,10 @@ pub fn print_tells<T: Respelled>()
     ensures { (text : List ℕ) (t : Tree T) → HasExpr T.reading text t → length (printed T.spelling t) ≤ 4096 → HasExpr T.reading (printed T.spelling t) t }
 {}
 
-/// A text that has a tree has no fault, unless a word in it has a pattern that nests deeper than
+/// A text that has a tree has no fault but a bad value, at a word whose pattern nests deeper than
 /// the engine reads.
 pub fn never_both<T: Spelled>()
-    ensures { (text : List ℕ) (t : Tree T) (place : ℕ) (code : ExprCode) → ((p : ℕ) → HasWord T.reading T.is_deep text p → ⊥) → HasExpr T.reading text t → IsFault T.reading T.is_deep text place code → ⊥ }
+    ensures { (text : List ℕ) (t : Tree T) (place : ℕ) (code : ExprCode) → HasExpr T.reading text t → IsFault T.reading T.is_deep text place code → (code ≡ BadValue) × HasWord T.reading T.is_deep text place }
 {}
 
 /// A text has at most one fault, and that has one place, unless a word in it has a pattern that

@@ -25,11 +25,16 @@ mod words;
 
 pub use expr::{EvalFault, Expr, Facts, eval, labels_of, parse_copy, parse_requirement, print};
 pub use expression::Expression;
-pub use fault::{ExprCode, ExprFault, ParseFault};
+pub use fault::ParseFault;
 pub use laws::{
     copy_print_tells, never_both, one_expression, one_fault, print_tells, requirement_print_tells,
 };
+pub use review_words::{ExprCode, ExprFault};
 pub use spelled::{Respelled, Spelled};
 
+#[cfg(test)]
+mod judged;
+#[cfg(test)]
+mod page;
 #[cfg(test)]
 mod tests;

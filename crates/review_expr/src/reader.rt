@@ -5,10 +5,11 @@ ghost use Rattle.review_expr.specs.Expressions.{HasExpr};
 ghost use Rattle.review_expr.specs.Faults.{IsParseFault, cut_fault, shape_fault};
 
 use crate::expression::Expression;
-use crate::fault::{ExprCode, ParseFault};
+use crate::fault::ParseFault;
 use crate::spelled::Spelled;
 use crate::words::tokens_of;
 use review_grammar::{CutFault, Node, ShapeFault, cut};
+use review_words::ExprCode;
 use std::alloc::Global;
 
 fn cut_fault(fault: CutFault) -> ParseFault

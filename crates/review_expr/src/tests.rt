@@ -6,7 +6,7 @@ use std::collections::BTreeMap;
 use std::test::Fail;
 
 /// The text of what was parsed, or the name and the place of its fault.
-fn shown(alloc: Global, parsed: Result<Expr, ParseFault>) -> Result<String, Fail> {
+pub(crate) fn shown(alloc: Global, parsed: Result<Expr, ParseFault>) -> Result<String, Fail> {
     match parsed {
         Ok(expr) => Ok(print(alloc, &expr)?),
         Err(ParseFault::Text(fault)) => {
@@ -150,6 +150,21 @@ fn texts_have_limits(rt: HostRuntime) -> Result<(), Fail> {
 }
 
 #[test]
+fn longest_texts_are_read(rt: HostRuntime) -> Result<(), Fail> {
+    let alloc = rt.alloc();
+    let parentheses = repeated(alloc, "(", "is:true", ")", 2044)?;
+    assert_eq!(rt; parentheses.len(), 4095);
+    assert_eq!(rt; requirement(alloc, &parentheses)?.as_str(), "TOO_DEEP 0");
+    let minuses = repeated(alloc, "-(", "is:true", ")", 1363)?;
+    assert_eq!(rt; minuses.len(), 4096);
+    assert_eq!(rt; requirement(alloc, &minuses)?.as_str(), "TOO_DEEP 0");
+    let negations = repeated(alloc, "NOT ", "is:true", "", 1022)?;
+    assert_eq!(rt; negations.len(), 4095);
+    assert_eq!(rt; requirement(alloc, &negations)?.as_str(), "TOO_DEEP 0");
+    Ok(())
+}
+
+#[test]
 fn copy_conditions_are_read(rt: HostRuntime) -> Result<(), Fail> {
     let alloc = rt.alloc();
     for (text, found) in [
@@ -169,7 +184,7 @@ fn account(number: u64) -> Result<AccountNo, Fail> {
 }
 
 /// A change of account 1 with one path.
-fn change(alloc: Global, path: &str) -> Result<Facts, Fail> {
+pub(crate) fn change(alloc: Global, path: &str) -> Result<Facts, Fail> {
     let mut paths = Vec::new(alloc);
     paths.push(Path::read(alloc, path)?)?;
     Ok(Facts::Change(ChangeFacts {
@@ -242,13 +257,5 @@ fn labels_are_named(rt: HostRuntime) -> Result<(), Fail> {
     assert_eq!(rt; names.as_str(), "A Code-Review ");
     let copy = parse_copy(alloc, "is:1").ok().ok_or("no expression")?;
     assert_eq!(rt; labels_of(alloc, &copy)?.len(), 0);
-    Ok(())
-}
-
-#[test]
-fn codes_are_numbered(rt: HostRuntime) -> Result<(), Fail> {
-    assert_eq!(rt; ExprCode::Empty.number(), 1);
-    assert_eq!(rt; ExprCode::TooLong.number(), 8);
-    assert_eq!(rt; ExprCode::BadValue.name(), "BAD_VALUE");
     Ok(())
 }

@@ -9,9 +9,10 @@ ghost use Rattle.review_expr.specs.Expressions.{IsLaidOut};
 ghost use Rattle.review_expr.specs.Faults.{IsParseFault, placed};
 ghost use Rattle.review_expr.specs.Tokens.{meaning, opens_at, tokens, unsigned, word_tokens};
 
-use crate::fault::{ExprCode, ExprFault, ParseFault};
+use crate::fault::ParseFault;
 use crate::spelled::Spelled;
 use review_grammar::{Piece, Token, WordFault};
+use review_words::{ExprCode, ExprFault};
 use std::alloc::Global;
 use std::collections::VecDeque;
 
@@ -30,7 +31,7 @@ fn read_token<T: Spelled>(alloc: Global, word: &str) -> Result<Token<T>, WordFau
         return Ok(Token::Not);
     }
     match T::read(alloc, word) {
-        Ok(term) => Ok(Token::Word(term)),
+        Ok(term) => Ok(Token::Word(Box::new(alloc, term)?)),
         Err(fault) => Err(fault),
     }
 }

@@ -14,8 +14,8 @@ use Rattle.review_document.specs.Keys.{has_unknown_key, lacks_key}
 use Rattle.review_document.specs.Names.{has_bad_name}
 use Rattle.review_document.specs.Values.{value_of, spells, has_value, towards_zero, end_at, is_bad_value, is_bad_key, is_bad_grant, is_no_run, is_bad_label, has_value_twice, has_bad_values}
 use Rattle.review_expr.specs.declared.expr.Expr.{Expr}
-use Rattle.review_file.specs.declared.fault.FileCode.{FileCode}
-use Rattle.review_file.specs.declared.fault.FileCode.TheVariants.{UnknownKey, Missing, BadName, Twice, BadValues}
+use Rattle.review_words.specs.declared.faults.FileFault.{FileFault}
+use Rattle.review_words.specs.declared.faults.FileFault.TheVariants.{UnknownKey, Missing, BadName, Twice, BadValues}
 use Rattle.review_file.specs.Expressions.{EachTo, IsLabel, has_unknown_label}
 use Rattle.review_file.specs.Reading.{first_fault, IsProjectFile}
 use Rattle.review_file.specs.Sound.{is_value, is_far, is_run, is_range, is_sound_label, has_sound_labels}
@@ -162,7 +162,7 @@ labels_sound (m ∷ ms) ls h each =
     one_label (is_label m.0) m ms ls (or_left (is_bad_label m.1) (list_any (λ n. is_bad_label n.1) ms) h)
     (λ ks rest. labels_sound ms ks (or_right (is_bad_label m.1) (list_any (λ n. is_bad_label n.1) ms) h) rest) each
 
-abbrev ladder : Bool → Bool → Bool → Bool → Bool → Option FileCode
+abbrev ladder : Bool → Bool → Bool → Bool → Bool → Option FileFault
 ladder a b c d e = if a then Some UnknownKey else if b then Some Missing else if c then Some BadName else if d then Some Twice else if e then Some BadValues else None
 
 last_of_five : (a b c d e : Bool) → ladder a b c d e ≡ None → e ≡ false

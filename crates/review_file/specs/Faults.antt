@@ -1,12 +1,11 @@
 -- The fault of a file in which an expression is faulty.
-use Rattle.std.specs.Prelude.{Some}
+use Rattle.review_words.specs.declared.faults.FileFault.TheVariants.{Expr}
 use Rattle.review_expr.specs.declared.fault.ParseFault.{ParseFault}
 use Rattle.review_expr.specs.declared.fault.ParseFault.TheVariants as parse
-use Rattle.review_file.specs.declared.fault.FileCode.TheVariants as code
 use Rattle.review_file.specs.declared.fault.ReadFault.{ReadFault}
 use Rattle.review_file.specs.declared.fault.ReadFault.TheVariants.{File, Memory, Pattern}
 
 abbrev pub read_fault : ParseFault → ReadFault
-read_fault (parse.Text fault) = File (record { code = code.Expr; expr = Some fault })
+read_fault (parse.Text fault) = File (Expr fault)
 read_fault parse.Memory = Memory
 read_fault parse.Pattern = Pattern

@@ -2,7 +2,6 @@ pub mod View
 pub mod Rights
 pub mod Spelled
 pub mod Expressions
-pub mod Codes
 pub mod Faults
 pub mod Reading
 pub mod Sound

@@ -8,7 +8,7 @@ use Rattle.review_grammar.specs.Grammar.{Tree, Term, Neg, All, Any, Trees, End, 
 use Rattle.review_grammar.specs.Views.{view}
 use Rattle.review_terms.specs.declared.terms.RequirementTerm.{RequirementTerm}
 use Rattle.review_terms.specs.declared.terms.RequirementTerm.TheVariants.{BranchMatches, PathMatches}
-use Rattle.review_spelling.specs.Words.{requirement_reading, IsPattern}
+use Rattle.review_spelling.specs.Words.{requirement_reading, IsDeep, IsPattern}
 use Rattle.review_expr.specs.declared.expr.Expr.{Expr}
 use Rattle.review_expr.specs.declared.expr.Expr.TheVariants as expr
 use Rattle.review_expr.specs.Faults.{HasWord}
@@ -16,18 +16,22 @@ use Rattle.review_file.specs.View.{RequirementView, FileView}
 use Rattle.review_file.specs.Spelled.{spelled}
 use Rattle.review_file.specs.Expressions.{requirement_texts}
 
--- a word of an expression's text has a pattern, all words before it being good
+-- in one of these texts of expressions a word is as said, all words before it in that text being good
+abbrev pub SomeWord : (List ℕ → Type 0) → List (List ℕ) → Type 0
+SomeWord P [] = ⊥
+SomeWord P (text ∷ texts) = ((place : ℕ) × HasWord requirement_reading P text place) ⊎ SomeWord P texts
+
+-- in the document that a text is, an expression of a requirement has a word that is as said
+abbrev pub SpellsWord : (List ℕ → Type 0) → List ℕ → Type 0
+SpellsWord P text = (ms : Members) × (parse_document text ≡ Some ms) × SomeWord P (requirement_texts (spelled (table ms)).requirements)
+
+-- Some expression of a requirement in the document that a text is has a word with a pattern, whether or not the engine takes it.
 abbrev pub HasPattern : List ℕ → Type 0
-HasPattern text = (place : ℕ) × HasWord requirement_reading IsPattern text place
+HasPattern text = SpellsWord IsPattern text
 
--- one of these texts has a pattern
-abbrev pub SomePattern : List (List ℕ) → Type 0
-SomePattern [] = ⊥
-SomePattern (text ∷ texts) = HasPattern text ⊎ SomePattern texts
-
--- Some expression of a requirement in the document that a text is has a pattern, whether or not the engine reads it.
-abbrev pub SpellsPattern : List ℕ → Type 0
-SpellsPattern text = (ms : Members) × (parse_document text ≡ Some ms) × SomePattern (requirement_texts (spelled (table ms)).requirements)
+-- Some expression of a requirement in the document that a text is has a word with a pattern that nests deeper than the engine reads.
+abbrev pub HasDeepPattern : List ℕ → Type 0
+HasDeepPattern text = SpellsWord IsDeep text
 
 -- a term with a pattern
 abbrev pub is_pattern_term : RequirementTerm → Bool

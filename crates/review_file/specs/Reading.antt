@@ -3,11 +3,11 @@ use Rattle.std.specs.Prelude.{◌≡◌, ℕ, List, length, true, false, nat_lt,
 use Rattle.std.specs.Bool.{MatchBool}
 use Rattle.toml.specs.Data.{Data, Members, table}
 use Rattle.toml.specs.Parse.{parse_document}
+use Rattle.review_words.specs.declared.faults.ExprCode.TheVariants.{BadValue}
+use Rattle.review_words.specs.declared.faults.FileFault.{FileFault}
+use Rattle.review_words.specs.declared.faults.FileFault.TheVariants as fault
 use Rattle.review_expr.specs.declared.expr.Expr.{Expr}
-use Rattle.review_expr.specs.declared.fault.ExprFault.{ExprFault}
 use Rattle.review_expr.specs.declared.fault.ParseFault.TheVariants as parse
-use Rattle.review_file.specs.declared.fault.FileCode.{FileCode}
-use Rattle.review_file.specs.declared.fault.FileCode.TheVariants as code
 use Rattle.review_file.specs.declared.fault.ReadFault.{ReadFault}
 use Rattle.review_file.specs.declared.fault.ReadFault.TheVariants.{File, Memory, Pattern}
 use Rattle.review_document.specs.Keys.{has_unknown_key, lacks_key}
@@ -19,18 +19,14 @@ use Rattle.review_file.specs.Spelled.{spelled}
 use Rattle.review_file.specs.Expressions.{IsFile, IsStoppedBy, has_unknown_label}
 
 -- the first fault of a document whatever its expressions are
-abbrev pub first_fault : Data → Option FileCode
+abbrev pub first_fault : Data → Option FileFault
 first_fault file =
-    if has_unknown_key file then Some code.UnknownKey
-    else if lacks_key file then Some code.Missing
-    else if has_bad_name file then Some code.BadName
-    else if has_value_twice file then Some code.Twice
-    else if has_bad_values file then Some code.BadValues
+    if has_unknown_key file then Some fault.UnknownKey
+    else if lacks_key file then Some fault.Missing
+    else if has_bad_name file then Some fault.BadName
+    else if has_value_twice file then Some fault.Twice
+    else if has_bad_values file then Some fault.BadValues
     else None
-
--- a fault that is told by its number alone
-abbrev pub plain : FileCode → ReadFault
-plain c = File (record { code = c; expr = None })
 
 -- a document without these first faults spells a file
 abbrev pub HasFile : Data → FileView Expr → Type 0
@@ -40,29 +36,37 @@ HasFile file f = (first_fault file ≡ None) × IsFile (spelled file) f
 abbrev pub IsFaultless : Data → FileView Expr → Type 0
 IsFaultless file f = HasFile file f × (has_unknown_label f ≡ false) × (is_past_limits file ≡ false)
 
--- a fault, and for EXPR that of the expression, has the least number of all that a document has
-abbrev pub IsLeast : Data → FileCode → Option ExprFault → Type 0
-IsLeast file code.Expr (Some fault) = (first_fault file ≡ None) × IsStoppedBy (spelled file) (parse.Text fault)
-IsLeast file code.UnknownLabel None = (f : FileView Expr) × HasFile file f × (has_unknown_label f ≡ true)
-IsLeast file code.Limit None = (f : FileView Expr) × HasFile file f × (has_unknown_label f ≡ false) × (is_past_limits file ≡ true)
-IsLeast file c None = first_fault file ≡ Some c
-IsLeast file c (Some fault) = ⊥
+-- a fault has the least number of all that a document has
+abbrev pub IsLeast : Data → FileFault → Type 0
+IsLeast file (fault.Expr e) = (first_fault file ≡ None) × IsStoppedBy (spelled file) (parse.Text e)
+IsLeast file fault.UnknownLabel = (f : FileView Expr) × HasFile file f × (has_unknown_label f ≡ true)
+IsLeast file fault.Limit = (f : FileView Expr) × HasFile file f × (has_unknown_label f ≡ false) × (is_past_limits file ≡ true)
+IsLeast file f = first_fault file ≡ Some f
+
+-- a fault is that a value in an expression is bad
+abbrev pub IsBadValue : FileFault → Type 0
+IsBadValue (fault.Expr e) = e.code ≡ BadValue
+IsBadValue f = ⊥
 
 -- a document is refused so; for a pattern where the first expression that isn't read has one
 abbrev pub IsDocumentFault : Data → ReadFault → Type 0
 IsDocumentFault file Memory = Unit {0}
-IsDocumentFault file (File fault) = IsLeast file fault.code fault.expr
+IsDocumentFault file (File f) = IsLeast file f
 IsDocumentFault file Pattern = (first_fault file ≡ None) × IsStoppedBy (spelled file) parse.Pattern
 
 -- a text that is this document, or none, is refused so
 abbrev pub IsRefused : Option Members → ReadFault → Type 0
-IsRefused None fault = fault ≡ plain code.Toml
-IsRefused (Some ms) fault = IsDocumentFault (table ms) fault
+IsRefused None f = f ≡ File fault.Toml
+IsRefused (Some ms) f = IsDocumentFault (table ms) f
 
 -- A text is refused so: for LIMIT alone where it is too long to be read, and otherwise for its first fault.
 abbrev pub IsReadFault : List ℕ → ReadFault → Type 0
 IsReadFault text Memory = Unit {0}
-IsReadFault text fault = MatchBool (nat_lt most_bytes (length text)) (fault ≡ plain code.Limit) (IsRefused (parse_document text) fault)
+IsReadFault text f = MatchBool (nat_lt most_bytes (length text)) (f ≡ File fault.Limit) (IsRefused (parse_document text) f)
+
+-- A text is no file, for this fault.
+abbrev pub IsFileFault : List ℕ → FileFault → Type 0
+IsFileFault text f = IsReadFault text (File f)
 
 -- A text spells a file and has no fault.
 abbrev pub IsRead : List ℕ → FileView Expr → Type 0

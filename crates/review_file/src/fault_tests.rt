@@ -301,12 +301,3 @@ fn a_pattern_may_be_refused_for_its_size(rt: HostRuntime) -> Result<(), Fail> {
     assert_eq!(rt; outcome(alloc, text), "PATTERN");
     Ok(())
 }
-
-#[test]
-fn faults_are_numbered(rt: HostRuntime) -> Result<(), Fail> {
-    assert_eq!(rt; FileCode::Toml.number(), 1);
-    assert_eq!(rt; FileCode::Expr.number(), 7);
-    assert_eq!(rt; FileCode::Limit.number(), 9);
-    assert_eq!(rt; FileCode::BadValues.name(), "BAD_VALUES");
-    Ok(())
-}

@@ -12,7 +12,7 @@
 //! ```
 //!
 //! [`read_file`] gives the file that a text spells, or the first of its faults in the order of
-//! [`FileCode`]; its contract says which. [`covers`], [`range_of`], [`may`] and [`has_pattern`] ask a
+//! [`FileFault`]; its contract says which. [`covers`], [`range_of`], [`may`] and [`has_pattern`] ask a
 //! file and take no memory. What an expression is, and when it holds, `review_expr` says.
 #![tactic(auto)]
 
@@ -27,12 +27,13 @@ mod requirements;
 pub mod rights;
 mod unknown;
 
-pub use fault::{FileCode, FileFault, ReadFault};
+pub use fault::ReadFault;
 pub use file::{Access, Grant, Label, LabelValue, ProjectFile, Requirement};
-pub use laws::one_file;
+pub use laws::{one_fault, one_file, read_or_fault, refused_has_pattern};
 pub use patterns::has_pattern;
 pub use read::read_file;
 pub use review_document::limits::{MOST_BYTES, MOST_DESCRIPTION, MOST_PARTS, MOST_TEXT};
+pub use review_words::FileFault;
 pub use rights::{Right, covers, may, range_of};
 
 #[cfg(test)]

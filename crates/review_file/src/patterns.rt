@@ -3,21 +3,29 @@ ghost use Rattle.std.specs.Prelude.{◌≡◌, false, map};
 ghost use Rattle.std.specs.Option.{option_copied, option_map_or};
 ghost use Rattle.review_grammar.specs.Grammar.{trees};
 ghost use Rattle.review_grammar.specs.Views.{view};
-ghost use Rattle.review_file.specs.Patterns.{expr_has_pattern, has_pattern, has_pattern_term, requirement_has_pattern, some_has_pattern_term};
+ghost use Rattle.review_file.specs.Patterns.{expr_has_pattern, has_pattern, has_pattern_term, is_pattern_term, requirement_has_pattern, some_has_pattern_term};
 
 use crate::file::{ProjectFile, Requirement};
 use review_expr::Expr;
 use review_grammar::Node;
 use review_terms::RequirementTerm;
 
+fn is_pattern_term(term: &RequirementTerm) -> bool
+    ensures { result ≡ is_pattern_term term.now }
+{
+    match term {
+        RequirementTerm::BranchMatches(_) => true,
+        RequirementTerm::PathMatches(_) => true,
+        _ => false,
+    }
+}
+
 #[cycle(patterns)]
 fn has_pattern_term(node: &Node<RequirementTerm>) -> bool
     ensures { result ≡ has_pattern_term (view node.now) }
 {
     match node {
-        Node::Term(RequirementTerm::BranchMatches(_)) => true,
-        Node::Term(RequirementTerm::PathMatches(_)) => true,
-        Node::Term(_) => false,
+        Node::Term(term) => is_pattern_term(term),
         Node::Not(member) => has_pattern_term(member),
         Node::And(members) => some_has_pattern_term(members),
         Node::Or(members) => some_has_pattern_term(members),

@@ -3,12 +3,12 @@ ghost use Rattle.std.specs.Prelude.{◌≡◌, ◌≢◌, IfOk, IfErr};
 ghost use Rattle.toml.specs.View.{table_view, view};
 ghost use Rattle.toml.specs.Data.{table};
 ghost use Rattle.review_file.specs.Expressions.{IsFile, IsStoppedBy};
-ghost use Rattle.review_file.specs.Patterns.{SpellsPattern};
-ghost use Rattle.review_file.specs.Reading.{IsFaultless, IsRead, IsReadFault, IsDocumentFault, first_fault, plain};
+ghost use Rattle.review_file.specs.Patterns.{HasPattern};
+ghost use Rattle.review_file.specs.Reading.{IsFaultless, IsRead, IsReadFault, IsDocumentFault, first_fault};
 ghost use Rattle.review_file.specs.Spelled.{spelled};
 
 use crate::access::read_access;
-use crate::fault::{FileCode, FileFault, ReadFault};
+use crate::fault::ReadFault;
 use crate::file::{Content, ProjectFile};
 use crate::labels::labels_in;
 use crate::requirements::requirements_in;
@@ -19,27 +19,28 @@ use review_document::limits::{MOST_BYTES, is_past_limits};
 use review_document::names::has_bad_name;
 use review_document::values::{has_bad_values, has_value_twice};
 use review_expr::ParseFault;
+use review_words::FileFault;
 use std::alloc::{AllocError, Global};
 use toml::Value;
 
 /// The first fault of a document but those of its expressions and its limits.
-fn first_fault(alloc: Global, file: &Value) -> Result<Option<FileCode>, AllocError>
-    ensures { IfOk result (λ code. code ≡ first_fault (view file.now)) }
+fn first_fault(alloc: Global, file: &Value) -> Result<Option<FileFault>, AllocError>
+    ensures { IfOk result (λ fault. fault ≡ first_fault (view file.now)) }
 {
     if has_unknown_key(file) {
-        return Ok(Some(FileCode::UnknownKey));
+        return Ok(Some(FileFault::UnknownKey));
     }
     if lacks_key(file) {
-        return Ok(Some(FileCode::Missing));
+        return Ok(Some(FileFault::Missing));
     }
     if has_bad_name(alloc, file)? {
-        return Ok(Some(FileCode::BadName));
+        return Ok(Some(FileFault::BadName));
     }
     if has_value_twice(file) {
-        return Ok(Some(FileCode::Twice));
+        return Ok(Some(FileFault::Twice));
     }
     if has_bad_values(file) {
-        return Ok(Some(FileCode::BadValues));
+        return Ok(Some(FileFault::BadValues));
     }
     Ok(None)
 }
@@ -61,26 +62,20 @@ fn content_in(alloc: Global, file: &Value) -> Result<Content, ParseFault>
     })
 }
 
-fn refused(code: FileCode) -> ReadFault
-    ensures { result ≡ plain code }
-{
-    ReadFault::File(FileFault { code, expr: None })
-}
-
 #[tactic(auto, using(crate::proofs::Verdicts::least_first))]
 fn read_document(alloc: Global, file: &Value) -> Result<Content, ReadFault>
     ensures read { IfOk result (IsFaultless (view file.now)) }
     ensures fault { IfErr result (IsDocumentFault (view file.now)) }
 {
-    if let Some(code) = first_fault(alloc, file)? {
-        return Err(refused(code));
+    if let Some(fault) = first_fault(alloc, file)? {
+        return Err(ReadFault::File(fault));
     }
     let content = content_in(alloc, file)?;
     if has_unknown_label(alloc, &content)? {
-        return Err(refused(FileCode::UnknownLabel));
+        return Err(ReadFault::File(FileFault::UnknownLabel));
     }
     if is_past_limits(file) {
-        return Err(refused(FileCode::Limit));
+        return Err(ReadFault::File(FileFault::Limit));
     }
     Ok(content)
 }
@@ -90,7 +85,7 @@ fn read_content(alloc: Global, text: &str) -> Result<Content, ReadFault>
     ensures fault { IfErr result (IsReadFault text.now) }
 {
     if text.len() > MOST_BYTES {
-        return Err(refused(FileCode::Limit));
+        return Err(ReadFault::File(FileFault::Limit));
     }
     match toml::table_from_str(alloc, text) {
         Ok(table) => read_document(alloc, &Value::Table(table)),
@@ -98,14 +93,14 @@ fn read_content(alloc: Global, text: &str) -> Result<Content, ReadFault>
             if error.is_memory() {
                 Err(ReadFault::Memory)
             } else {
-                Err(refused(FileCode::Toml))
+                Err(ReadFault::File(FileFault::Toml))
             }
         }
     }
 }
 
 /// Reads a project file. A text that is none is refused for the first fault that applies, in the
-/// order of [`FileCode`], but for one of more than 65,536 bytes, which isn't looked at and is
+/// order of [`FileFault`], but for one of more than 65,536 bytes, which isn't looked at and is
 /// refused for its length. The empty text is a file without rights, labels and requirements.
 ///
 /// Pattern: an expression has a pattern that the engine refuses for another cause than its syntax,
@@ -113,7 +108,7 @@ fn read_content(alloc: Global, text: &str) -> Result<Content, ReadFault>
 pub fn read_file(alloc: Global, text: &str) -> Result<ProjectFile, ReadFault>
     ensures read { IfOk result (IsRead text.now) }
     ensures fault { IfErr result (IsReadFault text.now) }
-    ensures pattern { IfErr result (λ f. f ≡ ReadFault.Pattern → SpellsPattern text.now) }
+    ensures pattern { IfErr result (λ f. f ≡ ReadFault.Pattern → HasPattern text.now) }
 {
     match read_content(alloc, text) {
         Ok(content) => Ok(ProjectFile::new(content)),

@@ -29,7 +29,7 @@ submittableIf = "label:Code-Review=MAX,user=non_uploader AND -label:Code-Review=
 pub(crate) fn outcome(alloc: Global, text: &str) -> &'static str {
     match read_file(alloc, text) {
         Ok(_) => "a file",
-        Err(ReadFault::File(fault)) => fault.code.name(),
+        Err(ReadFault::File(fault)) => fault.name(),
         Err(ReadFault::Memory) => "MEMORY",
         Err(ReadFault::Pattern) => "PATTERN",
     }
@@ -40,9 +40,9 @@ pub(crate) fn expression_fault(alloc: Global, text: &str) -> Option<(&'static st
     let Err(ReadFault::File(fault)) = read_file(alloc, text) else {
         return None;
     };
-    match fault.expr {
-        Some(expr) => Some((expr.code.name(), expr.place)),
-        None => None,
+    match fault {
+        FileFault::Expr(expr) => Some((expr.code.name(), expr.place)),
+        _ => None,
     }
 }
 

@@ -20,7 +20,7 @@ use Rattle.review_grammar.specs.Reading.{Sign, NoSign, NotSign, MinusSign}
 
 -- a token
 abbrev pub tok : {A : Type 0} → Token A → Tok A
-tok (token.Word a) = Word a
+tok (token.Word a) = Word a.value
 tok token.Open = Open
 tok token.Close = Close
 tok token.Minus = Minus
@@ -33,7 +33,7 @@ toks = map tok
 
 -- one node, with the tree of each member in its place
 abbrev pub node : {A : Type 0} → Node-F A (Tree A) → Tree A
-node (Node-F.Term a) = Term a
+node (Node-F.Term a) = Term a.value
 node (Node-F.Not e) = Neg e.value
 node (Node-F.And es) = All (trees es.items)
 node (Node-F.Or es) = Any (trees es.items)

@@ -114,8 +114,8 @@ fn deeper(depth: u8) -> u8
 }
 
 impl<W: Drop> Part<W> {
-    fn term(word: W) -> Part<W>
-        ensures { part_view result ≡ term_part word }
+    fn term(word: Box<W>) -> Part<W>
+        ensures { part_view result ≡ term_part word.value }
     {
         Part {
             node: Node::Term(word),
@@ -324,8 +324,8 @@ fn members<W: Drop>(
     }
 }
 
-/// The tree of tokens, or the first fault that applies. Parentheses within one another take stack,
-/// the more the larger W is: with the terms of requirements some 300 levels overflow 8 MiB.
+/// The tree of tokens, or the first fault that applies. Parentheses within one another, NOT and
+/// minus take stack, whatever a term is: some 1,100 bytes for a pair of parentheses.
 pub fn parse<W: Drop>(alloc: Global, mut tokens: VecDeque<Token<W>>) -> Result<Node<W>, ShapeFault>
     ensures tree { IfOk result (λ node. HasTree (toks tokens.items) (view node)) }
     ensures fault { IfErr result (IsShapeFault (toks tokens.items)) }

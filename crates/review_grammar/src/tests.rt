@@ -20,7 +20,7 @@ fn shape(alloc: Global, text: &str) -> Result<String, Fail> {
             b'!' => Token::Not,
             b'&' => Token::And,
             b'|' => Token::Or,
-            digit => Token::Word(digit as char),
+            digit => Token::Word(Box::new(alloc, digit as char)?),
         };
         tokens.push_back(token)?;
     }
@@ -116,7 +116,7 @@ fn nests(alloc: Global, count: usize) -> Result<bool, Fail> {
     for _ in 0..count {
         tokens.push_back(Token::Not)?;
     }
-    tokens.push_back(Token::Word(1u8))?;
+    tokens.push_back(Token::Word(Box::new(alloc, 1u8)?))?;
     if tokens.len() > 4096 {
         return Ok(false);
     }

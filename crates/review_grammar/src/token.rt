@@ -3,8 +3,8 @@
 /// A token of an expression whose terms are of type W.
 #[derive(Debug, Drop)]
 pub enum Token<W> {
-    /// A term.
-    Word(W),
+    /// A term, in a box, so that a token is small whatever a term is.
+    Word(Box<W>),
     /// An opening parenthesis.
     Open,
     /// A closing parenthesis.

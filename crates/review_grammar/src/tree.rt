@@ -4,8 +4,8 @@
 /// members.
 #[derive(Debug, Drop)]
 pub enum Node<W> {
-    /// A term.
-    Term(W),
+    /// A term, in a box, so that a node is small whatever a term is.
+    Term(Box<W>),
     /// What holds where its member doesn't.
     Not(Box<Node<W>>),
     /// What holds where all members do.

@@ -1,11 +1,17 @@
 -- The JSON of a reply.
-use Rattle.std.specs.Prelude.{ℕ, List, codes}
-use Rattle.serde_json.specs.Data.{Data, number, unsigned, string, object, no_members, member}
+use Rattle.std.specs.Prelude.{ℕ, List, map, codes}
+use Rattle.serde_json.specs.Data.{Data, number, unsigned, string, array, object, Items, no_items, no_members, member}
+use Rattle.serde_json.specs.View.{items_of}
 use Rattle.review_words.specs.Texts.{refusal_number, refusal_name}
+use Rattle.review_words.specs.Faults.{code_name, file_fault_name}
 use Rattle.review_words.specs.declared.reply.Reply.{Reply}
 use Rattle.review_words.specs.declared.reply.Reply.TheVariants.{Done, Refused, IdentityReused, NotTaken}
 use Rattle.review_words.specs.declared.reply.Answer.{Answer}
-use Rattle.review_words.specs.declared.reply.Answer.TheVariants.{Account, Nothing}
+use Rattle.review_words.specs.declared.reply.Answer.TheVariants.{Account, Nothing, Branch}
+use Rattle.review_words.specs.declared.reply.Refusal.{Refusal}
+use Rattle.review_words.specs.declared.reply.Refusal.TheVariants.{BadFile}
+use Rattle.review_words.specs.declared.faults.FileFault.{FileFault}
+use Rattle.review_words.specs.declared.faults.FileFault.TheVariants.{Expr}
 use Rattle.review_words.specs.declared.reply.NotTaken.{NotTaken as Cause}
 use Rattle.review_words.specs.declared.reply.NotTaken.TheVariants.{Memory, Store, Damaged, Pattern, Full}
 
@@ -20,14 +26,37 @@ cause_name Damaged = codes "DAMAGED"
 cause_name Pattern = codes "PATTERN"
 cause_name Full = codes "FULL"
 
--- what a command that was done gave
+-- texts in their order
+abbrev pub texts_data : List (List ℕ) → Items
+texts_data texts = items_of (map (λ text. string text) texts)
+
+-- what a command that was done gave, or what a query found; nothing joins a branch, since there are no changes
 abbrev pub answer_data : Answer → Data
 answer_data (Account account) = object (member (codes "account") (number_data account) no_members)
 answer_data Nothing = object no_members
+answer_data (Branch bases) = object (member (codes "bases") (array (texts_data bases)) (member (codes "joined") (array no_items) no_members))
+
+-- a refusal for a file with this fault; for an expression's fault with its code and its place
+abbrev pub bad_file_data : FileFault → Data
+bad_file_data (Expr fault) =
+    object (member (codes "expr") (string (code_name fault.code))
+    (member (codes "number") (number_data 26)
+    (member (codes "place") (number_data fault.place)
+    (member (codes "reason") (string (codes "EXPR"))
+    (member (codes "refused") (string (codes "BAD_FILE")) no_members)))))
+bad_file_data fault =
+    object (member (codes "number") (number_data 26)
+    (member (codes "reason") (string (file_fault_name fault))
+    (member (codes "refused") (string (codes "BAD_FILE")) no_members)))
+
+-- a refusal by its number and its name
+abbrev pub refusal_data : Refusal → Data
+refusal_data (BadFile fault) = bad_file_data fault
+refusal_data refusal = object (member (codes "number") (number_data (refusal_number refusal)) (member (codes "refused") (string (refusal_name refusal)) no_members))
 
 -- the value of a reply, an object with its members in the order of their keys
 abbrev pub reply_data : Reply → Data
 reply_data (Done answer) = answer_data answer
-reply_data (Refused refusal) = object (member (codes "number") (number_data (refusal_number refusal)) (member (codes "refused") (string (refusal_name refusal)) no_members))
+reply_data (Refused refusal) = refusal_data refusal
 reply_data IdentityReused = object (member (codes "refused") (string (codes "IDENTITY_REUSED")) no_members)
 reply_data (NotTaken cause) = object (member (codes "not_taken") (string (cause_name cause)) no_members)

@@ -1,10 +1,10 @@
 //! The JSON text of a reply.
 ghost use Rattle.std.specs.Prelude.{◌≡◌, IfOk, string_bytes};
-ghost use Rattle.serde_json.specs.View.{view};
+ghost use Rattle.serde_json.specs.View.{view, items_view};
 ghost use Rattle.serde_json.specs.Written.{compact_text};
-ghost use Rattle.review_json.specs.Answer.{cause_name, answer_data, reply_data};
+ghost use Rattle.review_json.specs.Answer.{cause_name, texts_data, answer_data, bad_file_data, refusal_data, reply_data};
 
-use review_words::{Answer, NotTaken, Reply};
+use review_words::{Answer, CommitName, FileFault, NotTaken, Refusal, Reply};
 use serde_json::{Map, Value, json};
 use std::alloc::{AllocError, Global};
 
@@ -20,30 +20,74 @@ fn cause_name(cause: NotTaken) -> &'static str
     }
 }
 
-fn answer_value(alloc: Global, answer: Answer) -> Result<Value, AllocError>
-    ensures { IfOk result (λ v. view v ≡ answer_data answer) }
+fn commit_values(alloc: Global, commits: &[CommitName]) -> Result<Vec<Value>, AllocError>
+    ensures { IfOk result (λ v. items_view v.items ≡ texts_data commits.now) }
+{
+    let mut values = Vec::new(alloc);
+    for commit in commits {
+        let value = Value::try_from_str(alloc, commit.as_str())?;
+        values.push(value)?;
+    }
+    Ok(values)
+}
+
+fn answer_value(alloc: Global, answer: &Answer) -> Result<Value, AllocError>
+    ensures { IfOk result (λ v. view v ≡ answer_data answer.now) }
 {
     match answer {
         Answer::Account(account) => json!(in alloc; {"account": account.get()}),
         Answer::Nothing => Ok(Value::Object(Map::new(alloc))),
+        Answer::Branch(bases) => {
+            let commits = commit_values(alloc, bases.as_slice())?;
+            // Nothing joins a branch, since there are no changes yet.
+            json!(in alloc; {"bases": commits, "joined": []})
+        }
+    }
+}
+
+fn bad_file_value(alloc: Global, fault: FileFault) -> Result<Value, AllocError>
+    ensures { IfOk result (λ v. view v ≡ bad_file_data fault) }
+{
+    let refusal = Refusal::BadFile(fault);
+    match fault {
+        FileFault::Expr(expr) => json!(in alloc; {
+            "expr": expr.code.name(),
+            "number": refusal.number(),
+            "place": expr.place,
+            "reason": fault.name(),
+            "refused": refusal.name(),
+        }),
+        _ => json!(in alloc; {
+            "number": refusal.number(),
+            "reason": fault.name(),
+            "refused": refusal.name(),
+        }),
+    }
+}
+
+fn refusal_value(alloc: Global, refusal: Refusal) -> Result<Value, AllocError>
+    ensures { IfOk result (λ v. view v ≡ refusal_data refusal) }
+{
+    match refusal {
+        Refusal::BadFile(fault) => bad_file_value(alloc, fault),
+        _ => json!(in alloc; {"number": refusal.number(), "refused": refusal.name()}),
     }
 }
 
 fn reply_value(alloc: Global, reply: &Reply) -> Result<Value, AllocError>
     ensures { IfOk result (λ v. view v ≡ reply_data reply.now) }
 {
-    match *reply {
+    match reply {
         Reply::Done(answer) => answer_value(alloc, answer),
-        Reply::Refused(refusal) => {
-            json!(in alloc; {"number": refusal.number(), "refused": refusal.name()})
-        }
+        Reply::Refused(refusal) => refusal_value(alloc, *refusal),
         Reply::IdentityReused => json!(in alloc; {"refused": "IDENTITY_REUSED"}),
-        Reply::NotTaken(cause) => json!(in alloc; {"not_taken": cause_name(cause)}),
+        Reply::NotTaken(cause) => json!(in alloc; {"not_taken": cause_name(*cause)}),
     }
 }
 
 /// The text of a reply: compact JSON, its members in the order of their keys, as `{"account":2}`,
-/// `{"number":2,"refused":"NOT_ADMIN"}` or `{"not_taken":"MEMORY"}`. It fails for want of memory alone.
+/// `{"number":2,"refused":"NOT_ADMIN"}`, `{"number":26,"reason":"TOML","refused":"BAD_FILE"}` or
+/// `{"not_taken":"MEMORY"}`. It fails for want of memory alone.
 pub fn answer_text(alloc: Global, reply: &Reply) -> Result<String, AllocError>
     ensures { IfOk result (λ text. string_bytes text ≡ compact_text (reply_data reply.now)) }
 {

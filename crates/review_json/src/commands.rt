@@ -1,10 +1,10 @@
 //! The commands, one function each: what is a part of its route stands in the line, the rest in the body.
 ghost use Rattle.serde_json.specs.View.{view};
 ghost use Rattle.review_json.specs.Parts.{Gives};
-ghost use Rattle.review_json.specs.Commands.{create_account, put_group, command_named};
+ghost use Rattle.review_json.specs.Commands.{create_account, put_group, put_project, record_base, command_named};
 
 use crate::fault::BadBody;
-use crate::parts::{members_at, name_at};
+use crate::parts::{file_at, members_at, name_at};
 use review_words::Command;
 use serde_json::Value;
 use std::alloc::Global;
@@ -28,6 +28,31 @@ pub fn put_group(alloc: Global, line: &Value, body: &Value) -> Result<Command, B
     Ok(Command::PutGroup { group, members })
 }
 
+/// The file of a project: `project` in the line, `file` in the body.
+#[tactic(auto, unfolding(crate::specs::Commands::put_project))]
+pub fn put_project(alloc: Global, line: &Value, body: &Value) -> Result<Command, BadBody>
+    ensures { Gives result (put_project (view line.now) (view body.now)) }
+{
+    let project = name_at(alloc, "project", line)?;
+    let file = file_at(alloc, "file", body)?;
+    Ok(Command::PutProject { project, file })
+}
+
+/// A base of a branch: `project` and `branch` in the line, `commit` in the body.
+#[tactic(auto, unfolding(crate::specs::Commands::record_base))]
+pub fn record_base(alloc: Global, line: &Value, body: &Value) -> Result<Command, BadBody>
+    ensures { Gives result (record_base (view line.now) (view body.now)) }
+{
+    let project = name_at(alloc, "project", line)?;
+    let branch = name_at(alloc, "branch", line)?;
+    let commit = name_at(alloc, "commit", body)?;
+    Ok(Command::RecordBase {
+        project,
+        branch,
+        commit,
+    })
+}
+
 /// The command of a name.
 #[tactic(auto, unfolding(crate::specs::Commands::command_named))]
 pub fn command_named(
@@ -43,6 +68,12 @@ pub fn command_named(
     }
     if name == "PutGroup" {
         return put_group(alloc, line, body);
+    }
+    if name == "PutProject" {
+        return put_project(alloc, line, body);
+    }
+    if name == "RecordBase" {
+        return record_base(alloc, line, body);
     }
     Err(BadBody::Form)
 }

@@ -1,7 +1,8 @@
 //! Deliveries and answers as JSON.
 //!
-//! A delivery is a line such as `{"caller":1,"id":"a1","do":"CreateAccount","body":{"name":"ann"}}`, and the answer to it
-//! a text such as `{"account":2}`. `delivery_of_line` gives the delivery that a line spells, and refuses a line exactly
+//! A delivery is a line such as `{"caller":1,"id":"a1","do":"CreateAccount","body":{"name":"ann"}}`, or for a query
+//! `{"caller":1,"do":"Branch","project":"tools","branch":"main"}`, and the answer to it a text such as `{"account":2}` or
+//! `{"bases":[],"joined":[]}`. `delivery_of_line` gives the delivery that a line spells, and refuses a line exactly
 //! where it spells none, by the JSON reader's own definition of what a text spells. `answer_text` gives the compact text
 //! of an answer, with the members in the order of their keys.
 #![tactic(auto)]
@@ -11,10 +12,13 @@ pub mod commands;
 pub mod fault;
 pub mod line;
 pub mod parts;
+pub mod queries;
 
 pub use answer::answer_text;
 pub use fault::BadBody;
 pub use line::delivery_of_line;
 
+#[cfg(test)]
+mod project_tests;
 #[cfg(test)]
 mod tests;

@@ -2,22 +2,20 @@
 ghost use Rattle.std.specs.Prelude.{◌≡◌, Some, None, Err, IfOk, codes};
 ghost use Rattle.serde_json.specs.View.{view};
 ghost use Rattle.review_json.specs.Parts.{Gives};
-ghost use Rattle.review_json.specs.Line.{value_spelled, command_in, delivery_in, delivery_spelled};
+ghost use Rattle.review_json.specs.Line.{value_spelled, command_in, write_in, read_in, delivery_in, delivery_spelled};
 
 use crate::commands::command_named;
 use crate::fault::BadBody;
 use crate::parts::{account_at, name_at, text_at};
-use review_words::{Command, Delivery};
+use crate::queries::{is_query, query_named};
+use review_words::{AccountNo, Command, Delivery};
 use serde_json::{Map, Value};
 use std::alloc::Global;
 
 #[tactic(auto, unfolding(crate::specs::Line::command_in, crate::specs::Line::body_in))]
-fn command_in(alloc: Global, line: &Value) -> Result<Command, BadBody>
-    ensures { Gives result (command_in (view line.now)) }
+fn command_in(alloc: Global, name: &str, line: &Value) -> Result<Command, BadBody>
+    ensures { Gives result (command_in name.now (view line.now)) }
 {
-    let Some(name) = text_at("do", line) else {
-        return Err(BadBody::Form);
-    };
     match line.get("body") {
         Some(body) => {
             if !body.is_object() {
@@ -32,18 +30,38 @@ fn command_in(alloc: Global, line: &Value) -> Result<Command, BadBody>
     }
 }
 
-#[tactic(auto, unfolding(crate::specs::Line::delivery_in))]
-fn delivery_in(alloc: Global, line: &Value) -> Result<Delivery, BadBody>
-    ensures { Gives result (delivery_in (view line.now)) }
+#[tactic(auto, unfolding(crate::specs::Line::write_in))]
+fn write_in(alloc: Global, caller: AccountNo, name: &str, line: &Value) -> Result<Delivery, BadBody>
+    ensures { Gives result (write_in caller name.now (view line.now)) }
 {
-    let caller = account_at("caller", line)?;
     let id = name_at(alloc, "id", line)?;
-    let command = command_in(alloc, line)?;
+    let command = command_in(alloc, name, line)?;
     Ok(Delivery::Write {
         caller,
         id,
         command,
     })
+}
+
+#[tactic(auto, unfolding(crate::specs::Line::read_in))]
+fn read_in(alloc: Global, caller: AccountNo, name: &str, line: &Value) -> Result<Delivery, BadBody>
+    ensures { Gives result (read_in caller name.now (view line.now)) }
+{
+    let query = query_named(alloc, name, line)?;
+    Ok(Delivery::Read { caller, query })
+}
+
+#[tactic(auto, unfolding(crate::specs::Line::delivery_in))]
+fn delivery_in(alloc: Global, line: &Value) -> Result<Delivery, BadBody>
+    ensures { Gives result (delivery_in (view line.now)) }
+{
+    let caller = account_at("caller", line)?;
+    let name = text_at("do", line).ok_or(BadBody::Form)?;
+    if is_query(name) {
+        read_in(alloc, caller, name, line)
+    } else {
+        write_in(alloc, caller, name, line)
+    }
 }
 
 /// The value of a text in UTF-8.
@@ -68,9 +86,11 @@ pub fn value_of(alloc: Global, bytes: &[u8]) -> Result<Value, BadBody>
 
 /// The delivery that the bytes of a line spell.
 ///
-/// A line is an object with `caller`, a number; `id`, a name; `do`, the name of the command; the segments of the
-/// command's route, as `group`; and `body`, an object with the command's other parts, which is `{}` where it is absent.
-/// Members may come in any order; other members are ignored; of a key that is given twice the last value stays.
+/// A line is an object with `caller`, a number; `do`, the name of a command or a query; and the segments of its route, as
+/// `group`, or `project` and `branch`. A command's line has `id`, a name, too, and `body`, an object with the command's
+/// other parts, which is `{}` where it is absent.
+/// Members may come in any order; other members are ignored, as `id` and `body` of a query; of a key that is given twice
+/// the last value stays.
 /// A whole number is one that is written so: `2.0` and `1e0` are none. `null` isn't absent.
 ///
 /// Form exactly where the line spells no delivery, which is also where any value in it can't be read.

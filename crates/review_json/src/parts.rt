@@ -4,7 +4,7 @@ ghost use Rattle.serde_json.specs.View.{view, items_view};
 ghost use Rattle.review_json.specs.Parts.{Gives, text_at, name_at, account_of, account_at, accounts_in, members_from, members_at};
 
 use crate::fault::BadBody;
-use review_words::{AccountNo, Form, Members, Name};
+use review_words::{AccountNo, FileText, Form, Members, Name};
 use serde_json::Value;
 use std::alloc::Global;
 
@@ -23,6 +23,14 @@ pub fn name_at<F: Form>(alloc: Global, key: &str, value: &Value) -> Result<Name<
 {
     let text = text_at(key, value).ok_or(BadBody::Form)?;
     Ok(Name::read(alloc, text)?)
+}
+
+/// The file whose text the member `key` is, if it is one.
+pub fn file_at(alloc: Global, key: &str, value: &Value) -> Result<FileText, BadBody>
+    ensures { Gives result (text_at key.now (view value.now)) }
+{
+    let text = text_at(key, value).ok_or(BadBody::Form)?;
+    Ok(FileText::new(String::from_str(alloc, text)?))
 }
 
 /// The account of a whole number.

@@ -15,8 +15,10 @@ fn second() -> Result<AccountNo, Fail> {
 
 /// The content text of the command that a line spells, or what is wrong with the line.
 fn content_of(alloc: Global, line: &[u8]) -> Result<String, BadBody> {
-    let Delivery::Write { command, .. } = delivery_of_line(alloc, line)?;
-    Ok(content_text(alloc, &command)?)
+    match delivery_of_line(alloc, line)? {
+        Delivery::Write { command, .. } => Ok(content_text(alloc, &command)?),
+        Delivery::Read { .. } => Err(BadBody::Form),
+    }
 }
 
 /// A line that puts the group `Core` with the members of a text.
@@ -32,7 +34,10 @@ fn reads_a_line(rt: HostRuntime) -> Result<(), Fail> {
         caller,
         id,
         command,
-    } = delivery_of_line(rt.alloc(), ANN.as_bytes())?;
+    } = delivery_of_line(rt.alloc(), ANN.as_bytes())?
+    else {
+        return Err(Fail::from("no write"));
+    };
     assert_eq!(rt; caller.get(), 1);
     assert_eq!(rt; id.as_str(), "a1");
     let Command::CreateAccount { name } = command else {

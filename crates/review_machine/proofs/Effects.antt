@@ -8,8 +8,7 @@ use Rattle.review_words.specs.History.{Identity, is_same}
 use Rattle.review_rows.specs.declared.rows.Delta.{Delta}
 use Rattle.review_rows.specs.declared.rows.Need.{Need}
 use Rattle.review_rows.specs.declared.rows.Rows.{Rows}
-use Rattle.review_rows.specs.Rows.{Key, AnswerRow, Tables, HasNoEffect, after}
-use Rattle.review_table.specs.Rows.{after_change}
+use Rattle.review_rows.specs.Rows.{Key, Count, AnswerRow, Tables, HasNoEffect, after, count_after}
 use Rattle.review_rows.specs.Shelf.{AreSelected, IsCommitted, Shows, StaysOrShuts, IsCounted, cause_of}
 use Rattle.review_rows.specs.declared.shelf.ShelfFault.{ShelfFault}
 use Rattle.review_rows.specs.declared.shelf.ShelfFault.TheVariants as fault
@@ -21,11 +20,11 @@ use Rattle.review_words.specs.declared.reply.NotTaken.{NotTaken as Cause}
 use Rattle.review_words.specs.declared.reply.NotTaken.TheVariants.{Memory, Store, Damaged, Pattern, Full}
 use Rattle.review_machine.specs.Replies.{StoresOnce, IsFoundOrStored, StoresRequest, KeepsRows, KeepsUntaken, AreSteps, CountsReply, IsToldAgain, reply_of, HasStored, HasTexts, HasOtherContent}
 
-kept : (reply : Reply) (delta : Delta) (t u : Tables) → HasNoEffect reply delta → ((k : Key) → u.row k ≡ after delta k (t.row k)) → KeepsRows reply t u
-kept (Refused r) delta t u none rows = λ k. rows k ∙ ap (λ c. after_change c (t.row k)) (none k)
-kept (Done a) delta t u none rows = tt
-kept IdentityReused delta t u none rows = tt
-kept (NotTaken cause) delta t u none rows = tt
+kept : (reply : Reply) (delta : Delta) (t u : Tables) → HasNoEffect reply delta → ((k : Key) → u.row k ≡ after delta k (t.row k)) → ((c : Count) → u.count c ≡ count_after delta t.row c (t.count c)) → KeepsRows reply t u
+kept (Refused r) delta t u none rows counts = (λ k. rows k ∙ none.rows k (t.row k), λ c. counts c ∙ none.counts t.row c (t.count c))
+kept (Done a) delta t u none rows counts = tt
+kept IdentityReused delta t u none rows counts = tt
+kept (NotTaken cause) delta t u none rows counts = tt
 
 -- a first arrival whose request was stored
 stored_request : (i : Identity) (command : Command) (reply : Reply) (delta : Delta) (need : Need) (rows : Rows) (row : AnswerRow) (t u : Tables) →
@@ -38,7 +37,7 @@ stored_request i command reply delta need rows row t u none selected quiet c is 
       answer_is = λ j. c.answer_is j ∙ (λ k. cond (is_same (same k).identity j) (Some (same k)) (t.answer j));
       version = c.version;
       requests = c.requests;
-      rows = kept reply delta t u quiet c.row_is;
+      rows = kept reply delta t u quiet c.row_is c.count_is;
     }
 
 pub stored_shown : (i : Identity) (command : Command) (reply : Reply) (delta : Delta) (need : Need) (rows : Rows) (row : AnswerRow) (old mid new : Option Tables) →

@@ -5,7 +5,7 @@ use Rattle.std.proofs.lemmas.Bool.{cases_Bool, cases_lt}
 use Rattle.std.proofs.lemmas.List.{get_or_append_left, get_or-append-add, take-append-le}
 use Rattle.std.proofs.Math.Seq.{take-append-add}
 use Rattle.review_words.specs.declared.command.Delivery.{Delivery}
-use Rattle.review_words.specs.declared.command.Delivery.TheVariants.{Write}
+use Rattle.review_words.specs.declared.command.Delivery.TheVariants.{Write, Read}
 use Rattle.review_words.specs.declared.reply.Reply.{Reply}
 use Rattle.review_words.specs.declared.reply.Reply.TheVariants.{Done, Refused, IdentityReused, NotTaken}
 use Rattle.review_words.specs.History.{Entry, Identity, stored, is_same}
@@ -24,6 +24,7 @@ with_write-append (NotTaken c) e es fs = refl
 
 pub with_taken-append : (d : Delivery) (r : Reply) (es fs : List Entry) → with_taken d r (es ++ fs) ≡ with_taken d r es ++ fs
 with_taken-append (Write caller id command) r es fs = with_write-append r (entry_of caller id command r) es fs
+with_taken-append (Read caller query) r es fs = refl
 
 taken-append : (ds es : List Delivery) (rs ss : List Reply) → length rs ≡ length ds → taken (ds ++ es) (rs ++ ss) ≡ taken ds rs ++ taken es ss
 taken-append [] es [] ss same = refl

@@ -1,23 +1,24 @@
 -- Identities in histories, and the tables of a history with one more entry.
-use Rattle.std.proofs.Common.{◌≡◌, ℕ, ◌+◌, ◌≤◌, List, [], ◌∷◌, ◌++◌, length, Option, Some, None, Bool, true, false, cond, refl, sym, ap, ◌∙◌, subst, ⊎_elim, arith, eqb-true, eq-eqb, ◌==◌}
+use Rattle.std.proofs.Common.{◌≡◌, ℕ, ◌+◌, ◌≤◌, List, [], ◌∷◌, ◌++◌, length, Option, Some, None, Bool, true, false, cond, refl, sym, ap, ◌∙◌, subst, ⊎_elim, inl, inr, arith, eqb-true, eq-eqb, ◌==◌}
+use Rattle.std.specs.Prelude.{MatchOption}
 use Rattle.std.specs.Str.{bytes_eq}
 use Rattle.std.proofs.lemmas.Bool.{and_parts, and_from, cases_Bool, ltb-true}
 use Rattle.std.proofs.lemmas.Slice.Eq.{bytes_eq-Decides}
 use Rattle.review_words.specs.Texts.{content_text, reply_text, IsStored}
 use Rattle.review_words.specs.declared.command.Command.{Command}
-use Rattle.review_words.specs.declared.command.Command.TheVariants.{CreateAccount, PutGroup}
+use Rattle.review_words.specs.declared.command.Command.TheVariants.{CreateAccount, PutGroup, PutProject, RecordBase}
 use Rattle.review_words.specs.declared.reply.Reply.{Reply}
-use Rattle.review_words.specs.declared.reply.Reply.TheVariants.{Done, Refused}
-use Rattle.review_words.specs.declared.reply.Answer.{Answer}
+use Rattle.review_words.specs.declared.reply.Reply.TheVariants.{Refused}
+use Rattle.review_words.specs.declared.reply.Answer.TheVariants.{Nothing}
 use Rattle.review_words.specs.declared.reply.Refusal.{Refusal}
 use Rattle.review_words.specs.declared.reply.Refusal.TheVariants.{UnknownCaller}
 use Rattle.review_words.specs.History.{Entry, Identity, stored, is_same, is_account, account_count}
 use Rattle.review_rows.specs.declared.rows.Delta.{Delta}
 use Rattle.review_rows.specs.declared.rows.Need.{Need}
 use Rattle.review_rows.specs.declared.rows.Rows.{Rows}
-use Rattle.review_rows.specs.Rows.{Key, Row, AnswerRow, Tables, Wanted, ArePicked, wanted_by, after}
-use Rattle.review_rows.specs.Answer.{IsHistory, IsAnswer, checks, done, first_failing, most_requests}
-use Rattle.review_rows.specs.View.{IsLoaded, IsView, IsDecided, fact, stored_answer, answer_row}
+use Rattle.review_rows.specs.Rows.{Key, Row, Count, AnswerRow, Tables, Wanted, ArePicked, wanted_by, after, count_after}
+use Rattle.review_rows.specs.Answer.{IsHistory, IsAnswer, IsOutcome, checks, file_checks, first_refusal, refused_by, refused_or, most_requests}
+use Rattle.review_rows.specs.View.{IsLoaded, IsView, IsDecided, fact, counted, stored_answer, answer_row}
 use Rattle.review_rows.specs.Shelf.{IsCommitted, AreSelected}
 use Rattle.review_machine.specs.Decisions.{WantsAs}
 
@@ -42,21 +43,32 @@ abbrev AllPass : List (Bool × Refusal) → Type 0
 AllPass [] = Unit {0}
 AllPass (c ∷ cs) = (c.0 ≡ true) × AllPass cs
 
-first_failing_stored : (cs : List (Bool × Refusal)) (a : Answer) → (AllPass cs → IsStored (Done a)) → IsStored (first_failing cs a)
-first_failing_stored [] a passed = passed tt
-first_failing_stored (c ∷ cs) a passed =
+all_pass : (cs : List (Bool × Refusal)) → first_refusal cs ≡ None → AllPass cs
+all_pass [] none = tt
+all_pass (c ∷ cs) none =
     ⊎_elim
-    (λ (t : c.0 ≡ true). subst (λ b. IsStored (cond b (first_failing cs a) (Refused c.1))) (sym t) (first_failing_stored cs a (λ all. passed (t, all))))
-    (λ (f : c.0 ≡ false). subst (λ b. IsStored (cond b (first_failing cs a) (Refused c.1))) (sym f) tt)
+    (λ (t : c.0 ≡ true). (t, all_pass cs (sym (ap (λ b. cond b (first_refusal cs) (Some c.1)) t) ∙ none)))
+    (λ (f : c.0 ≡ false). let some = sym (ap (λ b. cond b (first_refusal cs) (Some c.1)) f) ∙ none in absurd (cc))
     (cases_Bool c.0)
 
-done_stored : (h : List Entry) (caller : ℕ) (command : Command) → AllPass (checks h caller command) → IsStored (Done (done h command))
-done_stored h caller (CreateAccount name) all = let below = ltb-true (account_count h) 1000000 all.1.1.0 in (omega arith, omega arith)
-done_stored h caller (PutGroup group members) all = tt
+pub refused_or_stored : (o : Option Refusal) → IsStored (refused_or o Nothing)
+refused_or_stored None = tt
+refused_or_stored (Some r) = tt
+
+outcome_stored : (h : List Entry) (caller : ℕ) (command : Command) (reply : Reply) → AllPass (checks h caller command) → IsOutcome h command reply → IsStored reply
+outcome_stored h caller (CreateAccount name) reply all is =
+    let below = ltb-true (account_count h) 1000000 all.2.0 in subst IsStored (sym is) (omega arith, omega arith)
+outcome_stored h caller (PutGroup group members) reply all is = subst IsStored (sym is) tt
+outcome_stored h caller (RecordBase project branch commit) reply all is = subst IsStored (sym is) tt
+outcome_stored h caller (PutProject project text) reply all (inl f) = subst IsStored (sym f.2) tt
+outcome_stored h caller (PutProject project text) reply all (inr f) = subst IsStored (sym f.4) (refused_or_stored (first_refusal (file_checks h project f.1 f.0)))
 
 pub answer_stored : (h : List Entry) (caller : ℕ) (command : Command) (reply : Reply) → IsAnswer h caller command reply → IsStored reply
-answer_stored h caller command reply e =
-    subst IsStored (sym e) (first_failing_stored ((is_account h caller, UnknownCaller) ∷ checks h caller command) (done h command) (λ all. done_stored h caller command all.1))
+answer_stored h caller command reply is = at (refused_by h caller command) refl is
+  where
+    at : (o : Option Refusal) → refused_by h caller command ≡ o → MatchOption o (IsOutcome h command reply) (λ refusal. reply ≡ Refused refusal) → IsStored reply
+    at None none is = outcome_stored h caller command reply (all_pass ((is_account h caller, UnknownCaller) ∷ checks h caller command) none).1 is
+    at (Some r) some is = subst IsStored (sym is) tt
 
 pub history_length : (h : List Entry) → IsHistory h → length h ≤ most_requests
 history_length [] hist = omega arith
@@ -125,8 +137,10 @@ pub view_grows : (h : List Entry) (t new : Tables) (delta : Delta) (row : Answer
     IsView (record { identity = record { caller = caller; id = id }; command = command; reply = reply } ∷ h) new
 view_grows h t new delta row caller id command reply v d c is =
     let e : Entry = record { identity = record { caller = caller; id = id }; command = command; reply = reply } in
+    let row : t.row ≡ fact h = λ i k. v.row_is k i in
     record {
       row_is = λ k. c.row_is k ∙ (ap (after delta k) (v.row_is k) ∙ sym (d.row_is id k));
+      count_is = λ n. c.count_is n ∙ ((λ i. count_after delta (row i) n (v.count_is n i)) ∙ sym (d.count_is id n));
       answer_is = λ i. c.answer_is i ∙ (λ j. cond (is_same (is j).identity i) (Some (is j)) (v.answer_is i j));
       version = c.version ∙ v.version;
       requests = let x = c.requests in let y = v.requests in omega arith;
@@ -137,8 +151,16 @@ pub loaded : (h : List Entry) (t : Tables) (wanted : Wanted) (need : Need) (rows
     IsView h t → WantsAs (wanted_by need) wanted → AreSelected t need rows → IsLoaded h wanted rows
 loaded h t wanted need rows v needs s =
     let row : t.row ≡ fact h = λ i k. v.row_is k i in
-    let same : wanted_by need ≡ wanted = λ i. record { row = λ k. needs.row k i; name = needs.name i; last_account = needs.last_account i } in
+    let count : t.count ≡ counted h = λ i c. v.count_is c i in
+    let same : wanted_by need ≡ wanted = λ i. record {
+      row = λ k. needs.row k i;
+      name = needs.name i;
+      last_account = needs.last_account i;
+      project_count = needs.project_count i;
+      project = needs.project i;
+      base = needs.base i;
+    } in
     record {
-      picked = subst (λ (p : (Key → Option Row) × Wanted). ArePicked p.0 p.1 rows) (λ i. (row i, same i)) s.picked;
+      picked = subst (λ (p : (Key → Option Row) × (Count → ℕ) × Wanted). ArePicked p.0 p.1 p.2 rows) (λ i. (row i, count i, same i)) s.picked;
       requests = s.requests ∙ v.requests;
     }

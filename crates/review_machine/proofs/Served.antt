@@ -9,19 +9,23 @@ use Rattle.review_words.specs.Texts.{content_text, reply_text, IsStored}
 use Rattle.review_words.proofs.Fields.{content_text-injective, reply_text-injective}
 use Rattle.review_words.specs.declared.command.Command.{Command}
 use Rattle.review_words.specs.declared.command.Delivery.{Delivery}
-use Rattle.review_words.specs.declared.command.Delivery.TheVariants.{Write}
+use Rattle.review_words.specs.declared.command.Delivery.TheVariants.{Write, Read}
+use Rattle.review_words.specs.declared.command.Query.{Query}
+use Rattle.review_words.specs.declared.reply.Refusal.{Refusal}
+use Rattle.review_words.specs.declared.reply.Refusal.TheVariants.{UnknownCaller}
+use Rattle.review_words.specs.declared.reply.Answer.{Answer}
 use Rattle.review_words.specs.declared.reply.Reply.{Reply}
 use Rattle.review_words.specs.declared.reply.Reply.TheVariants.{Done, Refused, IdentityReused, NotTaken}
 use Rattle.review_words.specs.declared.reply.NotTaken.{NotTaken as Cause}
 use Rattle.review_words.specs.declared.reply.NotTaken.TheVariants.{Memory, Store, Damaged, Pattern, Full}
-use Rattle.review_words.specs.History.{Entry, Identity, stored}
+use Rattle.review_words.specs.History.{Entry, Identity, stored, is_account}
 use Rattle.review_rows.specs.declared.shelf.ShelfFault.{ShelfFault}
 use Rattle.review_rows.specs.declared.shelf.ShelfFault.TheVariants as fault
 use Rattle.review_rows.specs.declared.rows.Delta.{Delta}
 use Rattle.review_rows.specs.declared.rows.Need.{Need}
 use Rattle.review_rows.specs.declared.rows.Rows.{Rows}
 use Rattle.review_rows.specs.Rows.{AnswerRow, Tables, Wanted, wanted_by}
-use Rattle.review_rows.specs.Answer.{IsHistory, IsAnswer, most_requests}
+use Rattle.review_rows.specs.Answer.{IsHistory, IsAnswer, query_answer, query_checks, first_refusal, refused_or, told as told_of_query, most_requests}
 use Rattle.review_rows.specs.View.{IsLoaded, IsView, IsDecided, answer_row}
 use Rattle.review_rows.specs.Shelf.{IsCommitted, AreSelected, Shown, Shows, Views, StaysOrShuts, StopLeavesOwnTables, AddsNoStop, IsCounted, Blames, cause_of}
 use Rattle.review_machine.specs.Decisions.{WantsAs}
@@ -82,6 +86,22 @@ after_read h d reply old mid new same adds s = record {
 pub not_taken_served : (h : List Entry) (d : Delivery) (cause : Cause) (old new : Shown) →
     IsHistory h → Views h new.tables → IsLawful h d cause old.faults new.faults → ((t : Tables) → new.stops t → old.stops t ⊎ HasEffect h d t) → IsServed h d (NotTaken cause) old new
 not_taken_served h (Write caller id command) cause old new hist v lawful stops = record { right = lawful; history = hist; view = v; stops = stops; alone = λ n s. absurd s }
+not_taken_served h (Read caller query) cause old new hist v lawful stops = record { right = lawful; history = hist; view = v; stops = stops; alone = λ n s. absurd n }
+
+-- a question that was answered
+right_read : (h : List Entry) (caller : ℕ) (query : Query) (reply : Reply) (o : Option Refusal) (a : Answer) (before after : ℕ) → reply ≡ query_answer h caller query → reply ≡ refused_or o a → after ≡ before → IsRight h (Read caller query) reply before after
+right_read h caller query reply None a before after told is same = subst (λ r. IsRight h (Read caller query) r before after) (sym is) (sym is ∙ told, same)
+right_read h caller query reply (Some r) a before after told is same = subst (λ r. IsRight h (Read caller query) r before after) (sym is) (sym is ∙ told, same)
+
+pub read_served : (h : List Entry) (caller : ℕ) (query : Query) (reply : Reply) (old new : Shown) → IsHistory h → Views h old.tables → reply ≡ query_answer h caller query →
+    new.tables ≡ old.tables → new.faults ≡ old.faults → AddsNoStop old new → IsServed h (Read caller query) reply old new
+read_served h caller query reply old new hist v told stays quiet adds = record {
+  right = right_read h caller query reply (first_refusal ((is_account h caller, UnknownCaller) ∷ query_checks h query)) (told_of_query h query) old.faults new.faults told told quiet;
+  history = hist;
+  view = views_stay h old.tables new.tables stays v;
+  stops = λ t x. inl (adds t x);
+  alone = λ n s. absurd n;
+}
 
 -- a fault of the shelf is a lawful cause
 lawful_fault : (h : List Entry) (d : Delivery) (f : ShelfFault) (tables : Option Tables) (before after : ℕ) → IsHistory h → Views h tables →
@@ -176,6 +196,7 @@ repeat_served h row caller id command result old new hist v there told stays qui
 -- Stops. A delivery either grows the history by a first arrival, or leaves it.
 grows_or_stays : (h : List Entry) (d : Delivery) (reply : Reply) (before after : ℕ) → IsRight h d reply before after →
     (IsNew h d × IsStored reply) ⊎ (history_after h (d ∷ []) (reply ∷ []) ≡ h)
+grows_or_stays h (Read caller query) reply before after right = inr refl
 grows_or_stays h (Write caller id command) reply before after right = at (stored h (record { caller = caller; id = id })) refl reply right
   where
     kept : stored h (record { caller = caller; id = id }) ≡ None → (reply : Reply) → IsTold h (Write caller id command) reply → IsStored reply
@@ -191,6 +212,7 @@ grows_or_stays h (Write caller id command) reply before after right = at (stored
     at None none IdentityReused right = absurd (kept none IdentityReused right.0)
 
 effect_goes_on : (h : List Entry) (d : Delivery) (t : Tables) → HasEffect h d t → GoesOn h t
+effect_goes_on h (Read caller query) t e = absurd e
 effect_goes_on h (Write caller id command) t e = (entry_of caller id command e.0 ∷ [], e.1, e.2)
 
 -- what a stop leaves goes on from the history after the delivery
@@ -231,6 +253,7 @@ repeat_is i e command reply s same told =
 
 -- after Done or Refused the write is an entry
 entered : (h : List Entry) (d : Delivery) (reply : Reply) (old new : Shown) → IsServed h d reply old new → IsStored reply → IsEntered d reply (history_after h (d ∷ []) (reply ∷ []))
+entered h (Read caller query) reply old new s r = tt
 entered h (Write caller id command) reply old new s r = at (stored h (record { caller = caller; id = id })) refl
   where
     at : (o : Option Entry) → stored h (record { caller = caller; id = id }) ≡ o → IsEntered (Write caller id command) reply (history_after h (Write caller id command ∷ []) (reply ∷ []))
@@ -243,6 +266,7 @@ entered h (Write caller id command) reply old new s r = at (stored h (record { c
         (some ∙ ap Some (repeat_is (record { caller = caller; id = id }) e command reply r (stored_identity h (record { caller = caller; id = id }) e some) told))
 
 entered_stays : (more h : List Entry) (d : Delivery) (reply : Reply) → IsHistory (more ++ h) → IsEntered d reply h → IsEntered d reply (more ++ h)
+entered_stays more h (Read caller query) reply hist e = tt
 entered_stays more h (Write caller id command) reply hist e = stored_stays more h (record { caller = caller; id = id }) (entry_of caller id command reply) hist e
 
 pub leaves_entered : (h : List Entry) (d : Delivery) (reply : Reply) (old new : Shown) → IsServed h d reply old new → StopGoesOnFrom h old → StopHasEntry d reply new

@@ -1,5 +1,5 @@
 -- What a command wants of the tables, and what it changes in a group.
-use Rattle.std.specs.Prelude.{ℕ, ◌≡◌, List, [], ◌∷◌, Some, None, Bool, not, map, ◌&&◌, ◌==◌, is_some}
+use Rattle.std.specs.Prelude.{ℕ, ◌≡◌, List, [], ◌∷◌, Some, None, Bool, false, not, map, ◌&&◌, ◌==◌, is_some}
 use Rattle.std.specs.declared.cmp.Ordering.{Ordering}
 use Rattle.std.specs.Ordering.{nat_cmp}
 use Rattle.std.specs.List.{filter, list_any}
@@ -8,6 +8,7 @@ use Rattle.review_table.specs.Rows.{row_in, change_of}
 use Rattle.review_table.specs.declared.table.Change.{Change}
 use Rattle.review_rows.specs.declared.rows.MemberKey.{MemberKey as Member}
 use Rattle.review_rows.specs.declared.rows.Delta.{Delta}
+use Rattle.review_rows.specs.declared.rows.Need.{Need}
 use Rattle.review_rows.specs.Rows.{Key, Wanted, member_cmp}
 
 -- the same is wanted
@@ -15,6 +16,29 @@ pub record WantsAs (one other : Wanted) : Type 0 where
   pub row : (k : Key) → one.row k ≡ other.row k
   pub name : one.name ≡ other.name
   pub last_account : one.last_account ≡ other.last_account
+  pub project_count : one.project_count ≡ other.project_count
+  pub project : one.project ≡ other.project
+  pub base : one.base ≡ other.base
+
+-- a delta without rows
+pub record IsEmpty (delta : Delta) : Type 0 where
+  pub accounts : delta.accounts.items ≡ []
+  pub members : delta.members.items ≡ []
+  pub file : delta.file ≡ None
+  pub base : delta.base ≡ None
+
+-- a need of these accounts and members, and of nothing else
+pub record AsksFor (accounts : List ℕ) (members : List Member) (need : Need) : Type 0 where
+  pub accounts_are : need.accounts.items ≡ accounts
+  pub members_are : need.members.items ≡ members
+  pub name : need.name ≡ None
+  pub group : need.group ≡ None
+  pub last_account : need.last_account ≡ false
+  pub file : need.file ≡ None
+  pub project_count : need.project_count ≡ false
+  pub project : need.project ≡ None
+  pub base : need.base ≡ None
+  pub branch : need.branch ≡ None
 
 abbrev pub member_of : List ℕ → ℕ → Member
 member_of group account = record { group = group; account = account }

@@ -2,15 +2,16 @@
 use Rattle.std.specs.Prelude.{ℕ, ◌<◌, ◌≤◌, ◌≡◌, List, [], ◌∷◌, ◌++◌, Option, Some, None, Bool, ◌||◌, is_some, length, take, slice_index_or, Result, Ok, Err, ◌+◌, if◌then◌else◌, ◌⊎◌, MatchOption}
 use Rattle.review_words.specs.declared.command.Command.{Command}
 use Rattle.review_words.specs.declared.command.Delivery.{Delivery}
-use Rattle.review_words.specs.declared.command.Delivery.TheVariants.{Write}
+use Rattle.review_words.specs.declared.command.Command.TheVariants.{PutProject}
+use Rattle.review_words.specs.declared.command.Delivery.TheVariants.{Write, Read}
 use Rattle.review_words.specs.declared.reply.Reply.{Reply}
 use Rattle.review_words.specs.declared.reply.Reply.TheVariants.{Done, Refused, IdentityReused, NotTaken}
 use Rattle.review_words.specs.declared.reply.NotTaken.{NotTaken as Cause}
 use Rattle.review_words.specs.declared.reply.NotTaken.TheVariants.{Memory, Store, Damaged, Pattern, Full}
-use Rattle.review_words.specs.History.{Entry, Identity, stored, is_same}
+use Rattle.review_words.specs.History.{Entry, Identity, stored, is_same, file_text}
 use Rattle.review_words.specs.Texts.{content_text, reply_text, IsStored}
-use Rattle.review_rows.specs.Answer.{IsHistory, IsAnswer, most_requests}
-use Rattle.review_rows.specs.Rows.{Key, Tables, AnswerRow}
+use Rattle.review_rows.specs.Answer.{IsHistory, IsAnswer, query_answer, most_requests}
+use Rattle.review_rows.specs.Rows.{Key, Count, Tables, AnswerRow}
 use Rattle.review_rows.specs.View.{IsView, answer_row}
 use Rattle.review_rows.specs.Shelf.{greatest_count, Shown, Shows, Views, StaysOrShuts, StopLeavesOwnTables}
 
@@ -25,9 +26,10 @@ with_write (Done a) e es = e ∷ es
 with_write (Refused r) e es = e ∷ es
 with_write IdentityReused e es = e ∷ es
 
--- the same of any delivery
+-- the same of any delivery; a question stores nothing
 abbrev pub with_taken : Delivery → Reply → List Entry → List Entry
 with_taken (Write caller id command) reply es = with_write reply (entry_of caller id command reply) es
+with_taken (Read caller query) reply es = es
 
 -- the deliveries that were taken: those whose reply isn't NotTaken
 abbrev pub taken : List Delivery → List Reply → List Entry
@@ -58,13 +60,20 @@ with_entries h0 (e ∷ es) = with_entries (e ∷ h0) es
 abbrev pub history_after : List Entry → List Delivery → List Reply → List Entry
 history_after h0 ds rs = with_entries h0 (first_arrivals h0 (taken ds rs))
 
+-- The command reads a project file with a pattern: that which is put, or that of its project.
+abbrev pub ReadsPattern : List Entry → Command → Type 0
+ReadsPattern h (PutProject project text) = HasPattern text ⊎ IsSomeAnd (file_text h project) HasPattern
+ReadsPattern h command = ⊥
+
 -- the lawful reasons for which a delivery is not taken, where the count of faults went from before to after
 abbrev pub IsLawful : List Entry → Delivery → Cause → ℕ → ℕ → Type 0
 IsLawful h d Memory before after = after ≡ before
 IsLawful h d Store before after = (before < after) ⊎ ((before ≡ greatest_count) × (after ≡ before))
 IsLawful h d Damaged before after = ⊥
-IsLawful h d Pattern before after = ⊥
+IsLawful h (Write caller id command) Pattern before after = (stored h (record { caller = caller; id = id }) ≡ None) × ReadsPattern h command × (after ≡ before)
 IsLawful h (Write caller id command) Full before after = (stored h (record { caller = caller; id = id }) ≡ None) × (length h ≡ most_requests) × (after ≡ before)
+IsLawful h (Read caller query) Pattern before after = ⊥
+IsLawful h (Read caller query) Full before after = ⊥
 
 -- what a write is told whose identity is stored: the stored reply where the command is the same, otherwise that the identity is used
 pub record IsToldOfStored (e : Entry) (command : Command) (reply : Reply) : Type 0 where
@@ -74,6 +83,7 @@ pub record IsToldOfStored (e : Entry) (command : Command) (reply : Reply) : Type
 -- what a delivery is told after the history
 abbrev pub IsTold : List Entry → Delivery → Reply → Type 0
 IsTold h (Write caller id command) reply = MatchOption (stored h (record { caller = caller; id = id })) (IsAnswer h caller command reply) (λ e. IsToldOfStored e command reply)
+IsTold h (Read caller query) reply = reply ≡ query_answer h caller query
 
 -- the right reply after the history
 abbrev pub IsRight : List Entry → Delivery → Reply → ℕ → ℕ → Type 0
@@ -98,10 +108,12 @@ AreJoined from (c ∷ cs) to = (c.0 ≡ from) × AreJoined c.1 cs to
 -- a first arrival
 abbrev pub IsNew : List Entry → Delivery → Type 0
 IsNew h (Write caller id command) = stored h (record { caller = caller; id = id }) ≡ None
+IsNew h (Read caller query) = ⊥
 
 -- the tables have the whole effect of a first arrival, and its answer
 abbrev pub HasEffect : List Entry → Delivery → Tables → Type 0
 HasEffect h (Write caller id command) t = (reply : Reply) × IsHistory (entry_of caller id command reply ∷ h) × IsView (entry_of caller id command reply ∷ h) t
+HasEffect h (Read caller query) t = ⊥
 
 -- what one delivery does: the right reply, the tables of the history after it, and what a stop then may leave
 pub record IsServed (h : List Entry) (d : Delivery) (reply : Reply) (old new : Shown) : Type 0 where
@@ -122,6 +134,7 @@ StopGoesOnFrom h s = (t : Tables) → s.stops t → GoesOn h t
 -- the write is an entry, with this reply
 abbrev pub IsEntered : Delivery → Reply → List Entry → Type 0
 IsEntered (Write caller id command) reply h = stored h (record { caller = caller; id = id }) ≡ Some (entry_of caller id command reply)
+IsEntered (Read caller query) reply h = Unit {0}
 
 -- once it was answered, a stop leaves only tables of histories that have the write
 abbrev pub StopHasEntry : Delivery → Reply → Shown → Type 0
@@ -171,15 +184,17 @@ abbrev pub IsFullWhereSaid : Identity → Cause → Option Tables → Type 0
 IsFullWhereSaid i Full tables = Shows tables (λ t. (t.answer i ≡ None) × (most_requests ≤ t.requests))
 IsFullWhereSaid i _ tables = Unit {0}
 
--- On any tables whatever: what is not taken leaves them, though a fault may shut the store; so does a clash, where the identity is stored with another command.
+-- On any tables whatever: what is not taken leaves them, though a fault may shut the store; so does a clash, where the identity is stored with another command, and each question.
 abbrev pub KeepsUntaken : Delivery → Reply → Option Tables → Option Tables → Type 0
 KeepsUntaken (Write caller id command) IdentityReused old new = HasStored (record { caller = caller; id = id }) old (HasOtherContent command) × (new ≡ old)
 KeepsUntaken (Write caller id command) (NotTaken cause) old new = IsFullWhereSaid (record { caller = caller; id = id }) cause old × StaysOrShuts old new
-KeepsUntaken d _ old new = Unit {0}
+KeepsUntaken (Write caller id command) _ old new = Unit {0}
+KeepsUntaken (Read caller query) (NotTaken cause) old new = StaysOrShuts old new
+KeepsUntaken (Read caller query) _ old new = new ≡ old
 
--- no row is changed
+-- no row and no count is changed
 abbrev pub SameRows : Tables → Tables → Type 0
-SameRows t u = (k : Key) → u.row k ≡ t.row k
+SameRows t u = ((k : Key) → u.row k ≡ t.row k) × ((c : Count) → u.count c ≡ t.count c)
 
 -- a refusal changes no row
 abbrev pub KeepsRows : Reply → Tables → Tables → Type 0
@@ -212,9 +227,7 @@ AreSteps [] (r ∷ rs) old new = ⊥
 AreSteps (d ∷ ds) [] old new = ⊥
 AreSteps (d ∷ ds) (r ∷ rs) old new = (between : Option Tables) × KeepsUntaken d r old between × StoresOnce d r old between × AreSteps ds rs between new
 
--- On any shelf whatever: a store fault is answered only where the count rose or stood at its greatest value, a pattern fault never, and
--- with any other reply the count stays.
+-- On any shelf whatever: a store fault is answered only where the count rose or stood at its greatest value, and with any other reply the count stays.
 abbrev pub CountsReply : Reply → ℕ → ℕ → Type 0
 CountsReply (NotTaken Store) before after = (before < after) ⊎ ((before ≡ greatest_count) × (after ≡ before))
-CountsReply (NotTaken Pattern) before after = ⊥
 CountsReply _ before after = after ≡ before

@@ -1,7 +1,7 @@
 -- Runs one after the other, and a run that begins again after a stop.
 use Rattle.std.specs.Prelude.{ℕ, ◌≡◌, List, [], ◌∷◌, ◌++◌, length}
 use Rattle.review_words.specs.declared.command.Delivery.{Delivery}
-use Rattle.review_words.specs.declared.command.Delivery.TheVariants.{Write}
+use Rattle.review_words.specs.declared.command.Delivery.TheVariants.{Write, Read}
 use Rattle.review_words.specs.declared.reply.Reply.{Reply}
 use Rattle.review_words.specs.declared.reply.Reply.TheVariants.{NotTaken}
 use Rattle.review_words.specs.History.{Entry}
@@ -21,6 +21,7 @@ WereTaken (r ∷ rs) = WasTaken r × WereTaken rs
 -- a write was told the same
 abbrev pub AgreeFor : Delivery → Reply → Reply → Type 0
 AgreeFor (Write caller id command) r s = r ≡ s
+AgreeFor (Read caller query) r s = Unit {0}
 
 -- the two lists of replies are equal at each write
 abbrev pub AgreeOnWrites : List Delivery → List Reply → List Reply → Type 0

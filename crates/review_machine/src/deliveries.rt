@@ -2,17 +2,19 @@
 ghost use Rattle.std.specs.Prelude.{◌≡◌, ℕ, List, [], ◌∷◌, None, string_bytes};
 ghost use Rattle.review_words.specs.Texts.{content_text};
 ghost use Rattle.review_words.specs.History.{Entry, stored};
-ghost use Rattle.review_words.specs.declared.command.Delivery.TheVariants.{Write};
+ghost use Rattle.review_words.specs.declared.command.Delivery.TheVariants.{Write, Read};
 ghost use Rattle.review_rows.specs.Answer.{IsHistory};
 ghost use Rattle.review_rows.specs.Rows.{kept_row};
 ghost use Rattle.review_rows.specs.Shelf.{Shows, Views};
 ghost use Rattle.review_machine.specs.Replies.{IsServed, IsToldAgain, KeepsUntaken, StoresOnce, CountsReply, StopGoesOnFrom, StopHasEntry, history_after, reply_of};
 
-use crate::decisions::{decide, need_of};
+use crate::decisions::decide;
+use crate::needs::{need_of, need_of_query};
+use crate::questions::show;
 use review_rows::{Kept, Shelf};
 use review_words::{
-    AccountNo, BadReply, Command, Delivery, NotTaken, Reply, RequestId, content_text, read_reply,
-    reply_text,
+    AccountNo, BadReply, Command, Delivery, NotTaken, Query, Reply, RequestId, content_text,
+    read_reply, reply_text,
 };
 use std::alloc::Global;
 
@@ -29,7 +31,7 @@ const MOST_REQUESTS: u64 = 9_007_199_254_740_991;
 /// On any tables whatever, what isn't taken and a used identity leave them as they are, and Done and Refused either found
 /// the identity stored with this command and this reply, and left them, or stored the request beside the others; a refusal
 /// changes no row. An identity is used only where it is stored with another command, a history full only where the identity
-/// is new and the last number given. A store fault is answered only where the shelf counted one.
+/// is new and the last number given. A question changes nothing. A store fault is answered only where the shelf counted one.
 ///
 /// Premises: the clauses on tables hold where the store returned what was written to it, and once a fault has shut it nothing is
 /// said of tables; the clause on counts holds always.
@@ -60,6 +62,7 @@ fn serve<S: Shelf>(alloc: Global, shelf: &mut S, delivery: &Delivery) -> Reply
             id,
             command,
         } => told(write(alloc, shelf, *caller, id, command)),
+        Delivery::Read { caller, query } => told(read(alloc, shelf, *caller, query)),
     }
 }
 
@@ -91,6 +94,24 @@ fn write<S: Shelf>(
         Some(kept) => repeated(alloc, &kept, content.as_str()),
         None => first_arrival(alloc, shelf, caller, id, command, content),
     }
+}
+
+// Answers a question, and stores nothing.
+fn read<S: Shelf>(
+    alloc: Global,
+    shelf: &mut S,
+    caller: AccountNo,
+    query: &Query,
+) -> Result<Reply, NotTaken>
+    ensures honest { (S.state shelf.new).is_honest → (S.state shelf.old).is_honest }
+    ensures served { (S.state shelf.new).is_honest → (h : List Entry) → IsHistory h → Views h (S.state shelf.old).tables →
+        IsServed h (Read caller query.now) (reply_of result) (S.state shelf.old) (S.state shelf.new) }
+    ensures unchanged { (S.state shelf.new).is_honest → KeepsUntaken (Read caller query.now) (reply_of result) (S.state shelf.old).tables (S.state shelf.new).tables }
+    ensures counted { CountsReply (reply_of result) (S.state shelf.old).faults (S.state shelf.new).faults }
+{
+    let need = need_of_query(alloc, caller, query)?;
+    let rows = shelf.load(alloc, &need)?;
+    show(alloc, &rows, caller, query)
 }
 
 // What a request is told whose identity is stored.

@@ -6,16 +6,24 @@
 //! leave. [`decide`] gives a command's reply and changes from the rows that decide it.
 #![tactic(auto)]
 
+mod accounts;
+mod callers;
 pub mod decisions;
 pub mod deliveries;
+mod deltas;
 pub mod laws;
 pub mod memory;
+pub mod needs;
+mod projects;
+pub mod questions;
 pub mod runs;
 
-pub use decisions::{decide, need_of};
+pub use decisions::decide;
 pub use deliveries::deliver;
 pub use laws::{restart_completes, runs_compose};
 pub use memory::run_in_memory;
+pub use needs::{need_of, need_of_query};
+pub use questions::show;
 pub use review_rows::{Delta, Kept, Need, Rows, Shelf, ShelfFault};
 pub use review_shelves::{FaultyShelf, MemoryShelf, ShuttingShelf};
 pub use runs::{Stopped, run};

@@ -1,3 +1,4 @@
+pub mod Files
 pub mod Rows
 pub mod Answer
 pub mod View

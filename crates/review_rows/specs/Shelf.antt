@@ -10,7 +10,7 @@ use Rattle.review_rows.specs.declared.shelf.ShelfFault.{ShelfFault}
 use Rattle.review_rows.specs.declared.shelf.ShelfFault.TheVariants as fault
 use Rattle.review_words.specs.declared.reply.NotTaken.{NotTaken}
 use Rattle.review_words.specs.declared.reply.NotTaken.TheVariants.{Memory, Store, Damaged}
-use Rattle.review_rows.specs.Rows.{Key, AnswerRow, Tables, ArePicked, wanted_by, after, kept_row}
+use Rattle.review_rows.specs.Rows.{Key, Count, AnswerRow, Tables, ArePicked, wanted_by, after, count_after, kept_row}
 use Rattle.review_rows.specs.Answer.{IsHistory}
 use Rattle.review_rows.specs.View.{IsView}
 
@@ -59,12 +59,13 @@ IsRecalled t i kept = t.answer i ≡ kept_rows kept
 
 -- just the rows that the need selects
 pub record AreSelected (t : Tables) (need : Need) (rows : Rows) : Type 0 where
-  pub picked : ArePicked t.row (wanted_by need) rows
+  pub picked : ArePicked t.row t.count (wanted_by need) rows
   pub requests : rows.requests ≡ t.requests
 
 -- the delta is applied and the request is stored
 pub record IsCommitted (t : Tables) (delta : Delta) (kept : AnswerRow) (new : Tables) : Type 0 where
   pub row_is : (k : Key) → new.row k ≡ after delta k (t.row k)
+  pub count_is : (c : Count) → new.count c ≡ count_after delta t.row c (t.count c)
   pub answer_is : (i : Identity) → new.answer i ≡ (if is_same kept.identity i then Some kept else t.answer i)
   pub version : new.version ≡ t.version
   pub requests : new.requests ≡ t.requests + 1

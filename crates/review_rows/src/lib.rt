@@ -7,5 +7,5 @@
 pub mod rows;
 pub mod shelf;
 
-pub use rows::{Delta, Kept, MemberKey, Need, Rows};
+pub use rows::{Base, BranchKey, Delta, Kept, MemberKey, Need, ProjectRow, Rows};
 pub use shelf::{Shelf, ShelfFault};

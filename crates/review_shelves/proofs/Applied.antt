@@ -1,6 +1,9 @@
 -- The tables after changes.
-use Rattle.std.proofs.Common.{◌≡◌, ℕ, Bool, true, false, cond, List, [], ◌∷◌, ◌++◌, Option, Some, None, Result, Ok, Err, ap, sym, ◌∙◌, subst, refl, ◌⊎◌, inl, inr}
-use Rattle.std.specs.Option.{IfSome, option_map}
+use Rattle.std.proofs.Common.{◌≡◌, ℕ, ◌+◌, ◌≤◌, Bool, true, false, cond, ◌&&◌, arith, List, [], ◌∷◌, ◌++◌, Option, Some, None, Result, Ok, Err, ap, sym, ◌∙◌, subst, refl, ◌⊎◌, inl, inr}
+use Rattle.std.specs.Option.{IfSome, option_map, is_some}
+use Rattle.std.specs.Str.{bytes_eq}
+use Rattle.std.specs.Cmp.Lexicographic.{slice_cmp}
+use Rattle.std.proofs.lemmas.Map.Text.{is_eq-slice_cmp}
 use Rattle.std.specs.Prelude.{OnOk, OnErr}
 use Rattle.std.specs.declared.alloc.AllocError.{AllocError}
 use Rattle.std.specs.declared.cmp.Ordering.{Ordering}
@@ -17,14 +20,18 @@ use Rattle.review_words.specs.History.{Identity}
 use Rattle.review_rows.specs.declared.rows.MemberKey.{MemberKey as Member}
 use Rattle.review_rows.specs.declared.rows.Delta.{Delta}
 use Rattle.review_rows.specs.declared.rows.Kept.{Kept}
-use Rattle.review_rows.specs.Rows.{Key, AccountKey, MemberKey, OddKey, AccountRow, Tables, member_cmp, member_row, member_change, account_change, after, kept_row}
+use Rattle.review_rows.specs.declared.rows.Base.{Base}
+use Rattle.review_rows.specs.declared.rows.ProjectRow.{ProjectRow}
+use Rattle.review_rows.specs.Rows.{Key, AccountKey, MemberKey, FileKey, BranchKey, OddKey, Row, AccountRow, FileRow, Count, Projects, BasesOf, Tables, member_cmp, member_row, member_change, account_change, file_after, with_base, branch_after, projects_after, bases_after, after, count_after, kept_row}
+use Rattle.review_rows.specs.View.{branch_row, tables_version}
 use Rattle.review_rows.specs.Shelf.{IsCommitted}
 use Rattle.review_shelves.specs.declared.changes.Changes.{Changes}
 use Rattle.review_shelves.specs.declared.keys.AnswerKey.{AnswerKey}
 use Rattle.review_shelves.specs.declared.keys.NameKey.{NameKey}
 use Rattle.review_shelves.specs.declared.keys.StoredAnswer.{StoredAnswer}
 use Rattle.review_shelves.specs.declared.tables.MemoryTables.{MemoryTables}
-use Rattle.review_shelves.specs.Desk.{Desk, desk_of, tables_of, row_of, stored_row, answer_cmp, name_cmp, IsNumber, IsIndexed, IsNumbered, IsSound, IsGiven, IsHeld, AreIndexed, KeepsNames, AreChangesOf, AreApplied}
+use Rattle.review_shelves.specs.Desk.{Desk, desk_of, tables_of, row_of, count_of, stored_row, file_changes, answer_cmp, name_cmp, IsNumber, IsIndexed, IsNumbered, IsBounded, IsSound, IsGiven, IsHeld, AreIndexed, KeepsNames, AreChangesOf, AreApplied, IsWithBase, IsSameDesk, HasRoom, with_branches}
+use Rattle.review_shelves.specs.Branches.{BranchesView, IsAdded, IsAsBefore, bases_in, total_in}
 use Rattle.review_shelves.proofs.Orders.{exact_member, exact_answer, at_answer}
 
 -- names that are listed stay so
@@ -57,9 +64,9 @@ account_indexed : (change : Option (Option (List ℕ))) (was : Option (List ℕ)
 account_indexed None was name P is put kept = kept is
 account_indexed (Some row) was name P is put kept = put row refl is
 
-pub applied_indexed : (delta : Delta) (kept : Kept) (changes : Changes) (given : List NameKey) (old new : MemoryTables) → AreChangesOf delta kept changes → All (IsGiven given) delta.accounts.items → AreIndexed (rows_of new.names) given
-    → KeepsNames (rows_of old.names) (rows_of new.names) → AreApplied (desk_of old) changes (desk_of new) → IsIndexed (rows_of old.accounts) (rows_of old.names) → IsIndexed (rows_of new.accounts) (rows_of new.names)
-applied_indexed delta kept changes given old new copies are listed keeps applied indexed number name is =
+pub applied_indexed : (delta : Delta) (kept : Kept) (changes : Changes) (given : List NameKey) (projects : ℕ) (old new : MemoryTables) → AreChangesOf delta kept changes → All (IsGiven given) delta.accounts.items → AreIndexed (rows_of new.names) given
+    → KeepsNames (rows_of old.names) (rows_of new.names) → AreApplied (desk_of old) changes projects (desk_of new) → IsIndexed (rows_of old.accounts) (rows_of old.names) → IsIndexed (rows_of new.accounts) (rows_of new.names)
+applied_indexed delta kept changes given projects old new copies are listed keeps applied indexed number name is =
     let G : Type 0 = IsNumber number × (row_in name_cmp (rows_of new.names) (record { name = name; account = number }) ≡ Some tt) in
     let was = row_in nat_cmp (rows_of old.accounts) number in
     let change = change_of nat_cmp delta.accounts.items number in
@@ -75,8 +82,8 @@ member_numbered : (change : Option (Option (Unit {0}))) (was : Option (Unit {0})
 member_numbered None was P is put kept = kept is
 member_numbered (Some row) was P is put kept = put row refl
 
-pub applied_numbered : (delta : Delta) (kept : Kept) (changes : Changes) (old new : Desk) → AreChangesOf delta kept changes → AreApplied old changes new → IsNumbered old.members → IsNumbered new.members
-applied_numbered delta kept changes old new copies applied numbered k is =
+pub applied_numbered : (delta : Delta) (kept : Kept) (changes : Changes) (projects : ℕ) (old new : Desk) → AreChangesOf delta kept changes → AreApplied old changes projects new → IsNumbered old.members → IsNumbered new.members
+applied_numbered delta kept changes projects old new copies applied numbered k is =
     let was = row_in member_cmp old.members k in
     member_numbered (change_of member_cmp delta.members.items k) was (IsNumber k.account)
     (ap (λ cs. changed member_cmp cs k was) (sym copies.members) ∙ (sym (applied.members k) ∙ is))
@@ -97,9 +104,40 @@ answer_after : (kept : Kept) (i : Identity) (b : Bool) (row was : Option StoredA
 answer_after kept i true row was same is = ap (λ j. stored_row j row) (sym (same refl)) ∙ is
 answer_after kept i false row was same is = refl
 
-pub committed : (delta : Delta) (kept : Kept) (changes : Changes) (old new : Desk) → AreChangesOf delta kept changes → AreApplied old changes new → IsCommitted (tables_of old) delta (kept_row kept) (tables_of new)
-committed delta kept changes old new copies applied = record {
+-- the row of a project that gets a file
+file_there : (b : Bool) (file : List ℕ) (was : Option (List ℕ)) → option_map FileRow (after_change (cond b (Some (Some file)) None) was) ≡ cond b (Some (FileRow file)) (option_map FileRow was)
+file_there true file was = refl
+file_there false file was = refl
+
+file_row_after : (put : Option ProjectRow) (project : List ℕ) (was : Option (List ℕ)) →
+    option_map FileRow (changed (slice_cmp nat_cmp) (file_changes put) project was) ≡ file_after put project (option_map FileRow was)
+file_row_after None project was = refl
+file_row_after (Some put) project was =
+    ap (λ b. option_map FileRow (after_change (cond b (Some (Some put.file)) None) was)) (is_eq-slice_cmp put.project project) ∙ file_there (bytes_eq put.project project) put.file was
+
+-- the row of a branch that gets a base
+appended_row : (bases : List (List ℕ)) (commit : List ℕ) → branch_row (bases ++ commit ∷ []) ≡ with_base commit (branch_row bases)
+appended_row [] commit = refl
+appended_row (b ∷ bases) commit = refl
+
+branch_there : (b : Bool) (bases : List (List ℕ)) (commit : List ℕ) → branch_row (cond b (bases ++ commit ∷ []) bases) ≡ cond b (with_base commit (branch_row bases)) (branch_row bases)
+branch_there true bases commit = appended_row bases commit
+branch_there false bases commit = refl
+
+branch_row_after : (base : Option Base) (old new : BranchesView) → IsWithBase base old new → (p b : List ℕ) → branch_row (bases_in new.bases p b) ≡ branch_after base p b (branch_row (bases_in old.bases p b))
+branch_row_after None old new same p b = ap branch_row (same.bases p b)
+branch_row_after (Some base) old new added p b =
+    ap branch_row (added.bases p b) ∙ branch_there (bytes_eq base.project p && bytes_eq base.branch b) (bases_in old.bases p b) base.commit
+
+total_after : (base : Option Base) (old new : BranchesView) → IsWithBase base old new → (p : List ℕ) → total_in new.totals p ≡ bases_after base p (total_in old.totals p)
+total_after None old new same p = same.totals p
+total_after (Some base) old new added p = added.totals p
+
+pub committed : (delta : Delta) (kept : Kept) (changes : Changes) (projects : ℕ) (old new : Desk) → AreChangesOf delta kept changes → AreApplied old changes projects new →
+    IsWithBase delta.base old.branches new.branches → projects ≡ projects_after delta.file (row_of old) old.projects → IsCommitted (tables_of old) delta (kept_row kept) (tables_of new)
+committed delta kept changes projects old new copies applied based number = record {
   row_is = rows;
+  count_is = counts;
   answer_is = λ i.
       let key : AnswerKey = record { caller = kept.caller; id = kept.id } in
       let asked : AnswerKey = record { caller = i.caller; id = i.id } in
@@ -112,34 +150,113 @@ committed delta kept changes old new copies applied = record {
   requests = applied.requests;
 }
   where
-    rows : (k : Key) → row_of new.accounts new.members k ≡ after delta k (row_of old.accounts old.members k)
+    counts : (c : Count) → count_of new c ≡ count_after delta (row_of old) c (count_of old c)
+    counts Projects = applied.projects_are ∙ number
+    counts (BasesOf project) = total_after delta.base old.branches new.branches based project
+
+    rows : (k : Key) → row_of new k ≡ after delta k (row_of old k)
     rows (AccountKey n) = ap (option_map AccountRow) (applied.accounts n ∙ ap (λ cs. changed nat_cmp cs n (row_in nat_cmp old.accounts n)) copies.accounts) ∙ account_after (change_of nat_cmp delta.accounts.items n) (row_in nat_cmp old.accounts n)
     rows (MemberKey group account) =
         let k : Member = record { group = group; account = account } in
         ap member_row (applied.members k ∙ ap (λ cs. changed member_cmp cs k (row_in member_cmp old.members k)) copies.members) ∙ member_after (change_of member_cmp delta.members.items k) (row_in member_cmp old.members k)
+    rows (FileKey project) =
+        ap (option_map FileRow) (applied.files project ∙ ap (λ cs. changed (slice_cmp nat_cmp) cs project (row_in (slice_cmp nat_cmp) old.files project)) copies.files)
+        ∙ file_row_after delta.file project (row_in (slice_cmp nat_cmp) old.files project)
+    rows (BranchKey project branch) = branch_row_after delta.base old.branches new.branches based project branch
     rows (OddKey o) = refl
 
+-- there is room beside other branches
+pub room_beside : (t : MemoryTables) (branches : BranchesView) (changes : Changes) → HasRoom t changes → HasRoom (with_branches t branches) changes
+room_beside t branches changes room = record { accounts = room.accounts; members = room.members; files = room.files; answers = room.answers }
+
+-- the changes of the same rows beside other branches
+pub applied_from : (old mid : MemoryTables) (branches : BranchesView) (changes : Changes) (projects : ℕ) (new : Desk) → desk_of mid ≡ desk_of old →
+    AreApplied (desk_of (with_branches mid branches)) changes projects new → AreApplied (desk_of old) changes projects new
+applied_from old mid branches changes projects new same applied = record {
+  accounts = λ k. applied.accounts k ∙ ap (λ (d : Desk). changed nat_cmp changes.accounts.items k (row_in nat_cmp d.accounts k)) same;
+  members = λ k. applied.members k ∙ ap (λ (d : Desk). changed member_cmp changes.members.items k (row_in member_cmp d.members k)) same;
+  files = λ k. applied.files k ∙ ap (λ (d : Desk). changed (slice_cmp nat_cmp) changes.files.items k (row_in (slice_cmp nat_cmp) d.files k)) same;
+  projects_are = applied.projects_are;
+  answers = λ k. applied.answers k ∙ ap (λ (d : Desk). changed answer_cmp changes.answers.items k (row_in answer_cmp d.answers k)) same;
+  requests = applied.requests ∙ ap (λ (d : Desk). d.requests + 1) same;
+}
+
+-- the tables of a desk that is as it was
+pub same_tables : (old new : Desk) → IsSameDesk old new → tables_of new ≡ tables_of old
+same_tables old new same = λ i. record {
+  row = λ k. rows k i;
+  count = λ c. counts c i;
+  answer = λ j. stored_row j (row_in answer_cmp (same.answers i) (record { caller = j.caller; id = j.id }));
+  version = tables_version;
+  requests = same.requests i;
+}
+  where
+    rows : (k : Key) → row_of new k ≡ row_of old k
+    rows (AccountKey n) = ap (λ rows. option_map AccountRow (row_in nat_cmp rows n)) same.accounts
+    rows (MemberKey group account) = ap (λ rows. member_row (row_in member_cmp rows (record { group = group; account = account }))) same.members
+    rows (FileKey project) = ap (λ rows. option_map FileRow (row_in (slice_cmp nat_cmp) rows project)) same.files
+    rows (BranchKey project branch) = ap branch_row (same.branches.bases project branch)
+    rows (OddKey o) = refl
+
+    counts : (c : Count) → count_of new c ≡ count_of old c
+    counts Projects = same.projects
+    counts (BasesOf project) = same.branches.totals project
+
+-- nothing is counted more often than there were requests
+total_bounded : (b : Bool) (t n : ℕ) → t ≤ n → cond b (t + 1) t ≤ n + 1
+total_bounded true t n le = omega arith
+total_bounded false t n le = omega arith
+
+base_bounded : (base : Option Base) (p : List ℕ) (t n : ℕ) → t ≤ n → bases_after base p t ≤ n + 1
+base_bounded None p t n le = omega arith
+base_bounded (Some base) p t n le = total_bounded (bytes_eq base.project p) t n le
+
+file_bounded : (b : Bool) (t n : ℕ) → t ≤ n → cond b t (t + 1) ≤ n + 1
+file_bounded true t n le = omega arith
+file_bounded false t n le = omega arith
+
+projects_bounded : (put : Option ProjectRow) (row : Key → Option Row) (t n : ℕ) → t ≤ n → projects_after put row t ≤ n + 1
+projects_bounded None row t n le = omega arith
+projects_bounded (Some put) row t n le = file_bounded (is_some (row (FileKey put.project))) t n le
+
+applied_bounded : (delta : Delta) (changes : Changes) (projects : ℕ) (old new : Desk) → AreApplied old changes projects new → IsWithBase delta.base old.branches new.branches →
+    projects ≡ projects_after delta.file (row_of old) old.projects → IsBounded old → IsBounded new
+applied_bounded delta changes projects old new applied based number bounded = record {
+  projects = subst (λ n. new.projects ≤ n) (sym applied.requests) (subst (λ n. n ≤ old.requests + 1) (sym (applied.projects_are ∙ number)) (projects_bounded delta.file (row_of old) old.projects old.requests bounded.projects));
+  bases = λ p. subst (λ n. total_in new.branches.totals p ≤ n) (sym applied.requests)
+      (subst (λ n. n ≤ old.requests + 1) (sym (total_after delta.base old.branches new.branches based p)) (base_bounded delta.base p (total_in old.branches.totals p) old.requests (bounded.bases p)));
+}
+
 -- whether the changes were made or not
-pub made_sound : (delta : Delta) (kept : Kept) (changes : Changes) (given : List NameKey) (r : Result (Unit {0}) AllocError) (old new : MemoryTables) → AreChangesOf delta kept changes → All (IsGiven given) delta.accounts.items
-    → KeepsNames (rows_of old.names) (rows_of new.names) → OnOk r (AreIndexed (rows_of new.names) given) → OnOk r (AreApplied (desk_of old) changes (desk_of new)) → OnErr r (desk_of new ≡ desk_of old) → IsSound old → IsSound new
-made_sound delta kept changes given (Ok u) old new copies are keeps listed done same sound =
-    record { indexed = applied_indexed delta kept changes given old new copies are listed keeps done sound.indexed; numbered = applied_numbered delta kept changes (desk_of old) (desk_of new) copies done sound.numbered }
-made_sound delta kept changes given (Err e) old new copies are keeps listed done same sound =
-    record {
-      indexed = λ number name is. let was = sound.indexed number name (ap (λ (d : Desk). row_in nat_cmp d.accounts number) (sym same) ∙ is) in (was.0, keeps (record { name = name; account = number }) was.1);
-      numbered = subst (λ (d : Desk). IsNumbered d.members) (sym same) sound.numbered;
-    }
+pub made_sound : (delta : Delta) (kept : Kept) (changes : Changes) (given : List NameKey) (projects : ℕ) (r : Result (Unit {0}) AllocError) (old new : MemoryTables) → AreChangesOf delta kept changes → All (IsGiven given) delta.accounts.items
+    → KeepsNames (rows_of old.names) (rows_of new.names) → OnOk r (AreIndexed (rows_of new.names) given) → OnOk r (AreApplied (desk_of old) changes projects (desk_of new)) → OnOk r (IsWithBase delta.base old.branches new.branches)
+    → projects ≡ projects_after delta.file (row_of (desk_of old)) old.projects → OnErr r (IsSameDesk (desk_of old) (desk_of new)) → IsSound old → IsSound new
+made_sound delta kept changes given projects (Ok u) old new copies are keeps listed done based number same sound = record {
+  indexed = applied_indexed delta kept changes given projects old new copies are listed keeps done sound.indexed;
+  numbered = applied_numbered delta kept changes projects (desk_of old) (desk_of new) copies done sound.numbered;
+  bounded = applied_bounded delta changes projects (desk_of old) (desk_of new) done based number sound.bounded;
+}
+made_sound delta kept changes given projects (Err e) old new copies are keeps listed done based number same sound = record {
+  indexed = λ number name is. let was = sound.indexed number name (ap (λ rows. row_in nat_cmp rows number) (sym same.accounts) ∙ is) in (was.0, keeps (record { name = name; account = number }) was.1);
+  numbered = subst IsNumbered (sym same.members) sound.numbered;
+  bounded = record {
+    projects = subst (λ n. n ≤ new.requests) (sym same.projects) (subst (λ n. old.projects ≤ n) (sym same.requests) sound.bounded.projects);
+    bases = λ p. subst (λ n. n ≤ new.requests) (sym (same.branches.totals p)) (subst (λ n. total_in old.branches.totals p ≤ n) (sym same.requests) (sound.bounded.bases p));
+  };
+}
 
-pub made_committed : (delta : Delta) (kept : Kept) (changes : Changes) (r : Result (Unit {0}) AllocError) (old made new : Desk) → AreChangesOf delta kept changes → OnOk r (AreApplied old changes made) → new ≡ made → OnOk r (IsCommitted (tables_of old) delta (kept_row kept) (tables_of new))
-made_committed delta kept changes (Ok u) old made new copies done same = subst (λ d. IsCommitted (tables_of old) delta (kept_row kept) (tables_of d)) (sym same) (committed delta kept changes old made copies done)
-made_committed delta kept changes (Err e) old made new copies done same = tt
+pub made_committed : (delta : Delta) (kept : Kept) (changes : Changes) (projects : ℕ) (r : Result (Unit {0}) AllocError) (old made new : Desk) → AreChangesOf delta kept changes → OnOk r (AreApplied old changes projects made) →
+    OnOk r (IsWithBase delta.base old.branches made.branches) → projects ≡ projects_after delta.file (row_of old) old.projects → new ≡ made → OnOk r (IsCommitted (tables_of old) delta (kept_row kept) (tables_of new))
+made_committed delta kept changes projects (Ok u) old made new copies done based number same =
+    subst (λ d. IsCommitted (tables_of old) delta (kept_row kept) (tables_of d)) (sym same) (committed delta kept changes projects old made copies done based number)
+made_committed delta kept changes projects (Err e) old made new copies done based number same = tt
 
-pub unmade_same : (r : Result (Unit {0}) AllocError) (old made new : Desk) → OnErr r (made ≡ old) → new ≡ made → OnErr r (new ≡ old)
+pub unmade_same : (r : Result (Unit {0}) AllocError) (old made new : Desk) → OnErr r (IsSameDesk old made) → new ≡ made → OnErr r (tables_of new ≡ tables_of old)
 unmade_same (Ok u) old made new undone same = tt
-unmade_same (Err e) old made new undone same = same ∙ undone
+unmade_same (Err e) old made new undone same = ap tables_of same ∙ same_tables old made undone
 
 -- a stop after the changes leaves the desk before them or after them
-pub made_stops : (delta : Delta) (kept : Kept) (r : Result (Unit {0}) AllocError) (old new : Desk) (t : Tables) → OnOk r (IsCommitted (tables_of old) delta (kept_row kept) (tables_of new)) → OnErr r (new ≡ old) → t ≡ tables_of new
+pub made_stops : (delta : Delta) (kept : Kept) (r : Result (Unit {0}) AllocError) (old new : Desk) (t : Tables) → OnOk r (IsCommitted (tables_of old) delta (kept_row kept) (tables_of new)) → OnErr r (tables_of new ≡ tables_of old) → t ≡ tables_of new
     → (t ≡ tables_of old) ⊎ IsCommitted (tables_of old) delta (kept_row kept) t
 made_stops delta kept (Ok u) old new t done same is = inr (subst (IsCommitted (tables_of old) delta (kept_row kept)) (sym is) done)
-made_stops delta kept (Err e) old new t done same is = inl (is ∙ ap tables_of same)
+made_stops delta kept (Err e) old new t done same is = inl (is ∙ same)

@@ -12,12 +12,12 @@ use Rattle.std.proofs.lemmas.Map.Views.{tells_apart}
 use Rattle.review_table.specs.Rows.{row_in}
 use Rattle.review_words.specs.Names.{administrators, admin_name}
 use Rattle.review_rows.specs.declared.rows.MemberKey.{MemberKey as Member}
-use Rattle.review_rows.specs.Rows.{Key, AccountKey, MemberKey, OddKey, AccountRow, MemberRow, member_cmp, member_row}
-use Rattle.review_rows.specs.View.{IsView, fact}
+use Rattle.review_rows.specs.Rows.{Key, AccountKey, MemberKey, FileKey, BranchKey, OddKey, AccountRow, MemberRow, Count, Projects, BasesOf, member_cmp, member_row}
+use Rattle.review_rows.specs.View.{IsView, fact, counted}
 use Rattle.review_shelves.specs.declared.keys.NameKey.{NameKey}
 use Rattle.review_shelves.specs.declared.keys.AnswerKey.{AnswerKey}
 use Rattle.review_shelves.specs.declared.keys.StoredAnswer.{StoredAnswer}
-use Rattle.review_shelves.specs.Desk.{tables_of, row_of, stored_row, name_cmp, answer_cmp, IsNumber, IsIndexed, IsNumbered}
+use Rattle.review_shelves.specs.Desk.{Desk, tables_of, row_of, count_of, name_cmp, IsNumber, IsIndexed, IsNumbered}
 use Rattle.review_shelves.proofs.Orders.{exact_member, at_account, at_member}
 use Rattle.review_shelves.proofs.Indexed.{at_itself}
 
@@ -62,18 +62,28 @@ member_fact true true p e = rw e refl
 member_fact true false p e = rw e refl
 member_fact false t p e = refl
 
-pub first_row : (accounts : List (ℕ × List ℕ)) (members : List (Member × Unit {0})) → HasAccount accounts → HasMember members → (k : Key) → row_of accounts members k ≡ fact [] k
+-- the desk of these accounts and members
+abbrev pub first_desk : List (ℕ × List ℕ) → List (Member × Unit {0}) → Desk
+first_desk accounts members = record { accounts = accounts; members = members; files = []; branches = record { bases = []; totals = [] }; projects = 0; answers = []; requests = 0 }
+
+pub first_row : (accounts : List (ℕ × List ℕ)) (members : List (Member × Unit {0})) → HasAccount accounts → HasMember members → (k : Key) → row_of (first_desk accounts members) k ≡ fact [] k
 first_row accounts members account member (AccountKey n) = ap (option_map AccountRow) (account n ∙ ap (λ b. cond b (Some admin_name) None) (at_account 1 n ∙ nat_eq_equiv.symm 1 n))
 first_row accounts members account member (MemberKey group number) =
     ap member_row (member (record { group = group; account = number }) ∙ ap (λ b. cond b (Some tt) None) (at_member first_member (record { group = group; account = number })))
     ∙ member_fact (bytes_eq administrators group) (1 == number) (λ m. m == number) refl
+first_row accounts members account member (FileKey project) = refl
+first_row accounts members account member (BranchKey project branch) = refl
 first_row accounts members account member (OddKey o) = refl
 
-pub first_view : (accounts : List (ℕ × List ℕ)) (members : List (Member × Unit {0})) (answers : List (AnswerKey × StoredAnswer)) → HasAccount accounts → HasMember members → answers ≡ []
-    → IsView [] (tables_of (record { accounts = accounts; members = members; answers = answers; requests = 0 }))
-first_view accounts members answers account member none = record {
+pub first_view : (accounts : List (ℕ × List ℕ)) (members : List (Member × Unit {0})) (d : Desk) → HasAccount accounts → HasMember members → d ≡ first_desk accounts members → IsView [] (tables_of d)
+first_view accounts members d account member is = subst (λ d. IsView [] (tables_of d)) (sym is) (record {
   row_is = first_row accounts members account member;
-  answer_is = λ i. ap (λ rows. stored_row i (row_in answer_cmp rows (record { caller = i.caller; id = i.id }))) none;
+  count_is = λ c. no_count c;
+  answer_is = λ i. refl;
   version = refl;
   requests = refl;
-}
+})
+  where
+    no_count : (c : Count) → count_of (first_desk accounts members) c ≡ counted [] c
+    no_count Projects = refl
+    no_count (BasesOf project) = refl

@@ -4,4 +4,5 @@ pub mod Indexed
 pub mod Steps
 pub mod Applied
 pub mod First
+pub mod Based
 pub mod Lengths

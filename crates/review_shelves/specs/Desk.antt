@@ -8,10 +8,13 @@ use Rattle.review_table.specs.declared.table.Change.{Change}
 use Rattle.review_table.specs.Rows.{row_in, rows_of, HavePlaces, changed}
 use Rattle.review_words.specs.History.{Identity}
 use Rattle.review_rows.specs.declared.rows.MemberKey.{MemberKey as Member}
+use Rattle.review_rows.specs.declared.rows.Base.{Base}
+use Rattle.review_rows.specs.declared.rows.ProjectRow.{ProjectRow}
 use Rattle.review_rows.specs.declared.rows.Delta.{Delta}
 use Rattle.review_rows.specs.declared.rows.Kept.{Kept}
-use Rattle.review_rows.specs.Rows.{Key, AccountKey, MemberKey, OddKey, Row, AccountRow, AnswerRow, Tables, member_cmp, member_row, kept_row}
-use Rattle.review_rows.specs.View.{tables_version}
+use Rattle.review_rows.specs.Rows.{Key, AccountKey, MemberKey, FileKey, BranchKey, OddKey, Row, AccountRow, FileRow, Count, Projects, BasesOf, AnswerRow, Tables, member_cmp, member_row, kept_row}
+use Rattle.review_rows.specs.View.{branch_row, tables_version}
+use Rattle.review_shelves.specs.Branches.{BranchesView, IsAdded, IsAsBefore, bases_in, total_in}
 use Rattle.review_shelves.specs.declared.keys.NameKey.{NameKey}
 use Rattle.review_shelves.specs.declared.keys.AnswerKey.{AnswerKey}
 use Rattle.review_shelves.specs.declared.keys.StoredAnswer.{StoredAnswer}
@@ -30,28 +33,63 @@ answer_cmp a b = ordering_then (nat_cmp a.caller b.caller) (slice_cmp nat_cmp a.
 pub record Desk : Type 0 where
   pub accounts : List (ℕ × List ℕ)
   pub members : List (Member × Unit {0})
+  pub files : List (List ℕ × List ℕ)
+  pub branches : BranchesView
+  pub projects : ℕ
   pub answers : List (AnswerKey × StoredAnswer)
   pub requests : ℕ
 
 abbrev pub desk_of : MemoryTables → Desk
-desk_of t = record { accounts = rows_of t.accounts; members = rows_of t.members; answers = rows_of t.answers; requests = t.requests }
+desk_of t = record {
+  accounts = rows_of t.accounts;
+  members = rows_of t.members;
+  files = rows_of t.files;
+  branches = t.branches;
+  projects = t.projects;
+  answers = rows_of t.answers;
+  requests = t.requests;
+}
 
 abbrev pub stored_row : Identity → Option StoredAnswer → Option AnswerRow
 stored_row i None = None
 stored_row i (Some s) = Some (record { identity = i; request = s.request; content = string_bytes s.content; reply = string_bytes s.reply })
 
+-- the row of a project's file, among rows
+abbrev pub file_row : List (List ℕ × List ℕ) → List ℕ → Option Row
+file_row files project = option_map FileRow (row_in (slice_cmp nat_cmp) files project)
+
 -- the row of a key
-abbrev pub row_of : List (ℕ × List ℕ) → List (Member × Unit {0}) → Key → Option Row
-row_of accounts members (AccountKey number) = option_map AccountRow (row_in nat_cmp accounts number)
-row_of accounts members (MemberKey group account) = member_row (row_in member_cmp members (record { group = group; account = account }))
-row_of accounts members (OddKey o) = None
+abbrev pub row_of : Desk → Key → Option Row
+row_of d (AccountKey number) = option_map AccountRow (row_in nat_cmp d.accounts number)
+row_of d (MemberKey group account) = member_row (row_in member_cmp d.members (record { group = group; account = account }))
+row_of d (FileKey project) = file_row d.files project
+row_of d (BranchKey project branch) = branch_row (bases_in d.branches.bases project branch)
+row_of d (OddKey o) = None
+
+-- a count
+abbrev pub count_of : Desk → Count → ℕ
+count_of d Projects = d.projects
+count_of d (BasesOf project) = total_in d.branches.totals project
+
+-- the same tables but for those of branches
+abbrev pub with_branches : MemoryTables → BranchesView → MemoryTables
+with_branches t branches = record {
+  accounts = t.accounts;
+  names = t.names;
+  members = t.members;
+  files = t.files;
+  branches = branches;
+  projects = t.projects;
+  answers = t.answers;
+  requests = t.requests;
+}
 
 -- the stored request of an identity
 abbrev pub answer_of : List (AnswerKey × StoredAnswer) → Identity → Option AnswerRow
 answer_of answers i = stored_row i (row_in answer_cmp answers (record { caller = i.caller; id = i.id }))
 
 abbrev pub tables_of : Desk → Tables
-tables_of d = record { row = row_of d.accounts d.members; answer = answer_of d.answers; version = tables_version; requests = d.requests }
+tables_of d = record { row = row_of d; count = count_of d; answer = answer_of d.answers; version = tables_version; requests = d.requests }
 
 -- a number of an account
 abbrev pub IsNumber : ℕ → Type 0
@@ -65,10 +103,16 @@ IsIndexed accounts names = (number : ℕ) (name : List ℕ) → row_in nat_cmp a
 abbrev pub IsNumbered : List (Member × Unit {0}) → Type 0
 IsNumbered members = (k : Member) → row_in member_cmp members k ≡ Some tt → IsNumber k.account
 
+-- nothing is counted more often than there were requests
+pub record IsBounded (d : Desk) : Type 0 where
+  pub projects : d.projects ≤ d.requests
+  pub bases : (p : List ℕ) → total_in d.branches.totals p ≤ d.requests
+
 -- what holds of the tables between any two calls
 pub record IsSound (t : MemoryTables) : Type 0 where
   pub indexed : IsIndexed (rows_of t.accounts) (rows_of t.names)
   pub numbered : IsNumbered (rows_of t.members)
+  pub bounded : IsBounded (desk_of t)
 
 -- the name that an account had is listed
 abbrev pub IsHeld : List (ℕ × List ℕ) → List NameKey → Change ℕ (List ℕ) → Type 0
@@ -83,10 +127,16 @@ pub record PutsAnswer (kept : Kept) (c : Change AnswerKey StoredAnswer) : Type 0
   pub key : c.key ≡ record { caller = kept.caller; id = kept.id }
   pub row : stored_row (kept_row kept).identity c.row ≡ Some (kept_row kept)
 
+-- the change of a project's file
+abbrev pub file_changes : Option ProjectRow → List (Change (List ℕ) (List ℕ))
+file_changes None = []
+file_changes (Some put) = record { key = put.project; row = Some put.file } ∷ []
+
 -- the changes are those of the delta, and the request's row
 pub record AreChangesOf (delta : Delta) (kept : Kept) (changes : Changes) : Type 0 where
   pub accounts : changes.accounts.items ≡ delta.accounts.items
   pub members : changes.members.items ≡ delta.members.items
+  pub files : changes.files.items ≡ file_changes delta.file
   pub numbered : All (λ c. IsNumber c.key.account) delta.members.items
   pub answers : (c : Change AnswerKey StoredAnswer) × (changes.answers.items ≡ c ∷ []) × PutsAnswer kept c
 
@@ -102,11 +152,29 @@ KeepsNames old new = (k : NameKey) → row_in name_cmp old k ≡ Some tt → row
 pub record HasRoom (t : MemoryTables) (changes : Changes) : Type 0 where
   pub accounts : HavePlaces nat_cmp t.accounts changes.accounts.items
   pub members : HavePlaces member_cmp t.members changes.members.items
+  pub files : HavePlaces (slice_cmp nat_cmp) t.files changes.files.items
   pub answers : HavePlaces answer_cmp t.answers changes.answers.items
 
--- all rows are changed
-pub record AreApplied (old : Desk) (changes : Changes) (new : Desk) : Type 0 where
+-- the desk has just the rows that it had
+pub record IsSameDesk (old new : Desk) : Type 0 where
+  pub accounts : new.accounts ≡ old.accounts
+  pub members : new.members ≡ old.members
+  pub files : new.files ≡ old.files
+  pub branches : IsAsBefore old.branches new.branches
+  pub projects : new.projects ≡ old.projects
+  pub answers : new.answers ≡ old.answers
+  pub requests : new.requests ≡ old.requests
+
+-- a base was added to branches, where there is one to add
+abbrev pub IsWithBase : Option Base → BranchesView → BranchesView → Type 0
+IsWithBase None old new = IsAsBefore old new
+IsWithBase (Some base) old new = IsAdded base old new
+
+-- all rows are changed but those of branches, and so many projects are there
+pub record AreApplied (old : Desk) (changes : Changes) (projects : ℕ) (new : Desk) : Type 0 where
   pub accounts : (k : ℕ) → row_in nat_cmp new.accounts k ≡ changed nat_cmp changes.accounts.items k (row_in nat_cmp old.accounts k)
   pub members : (k : Member) → row_in member_cmp new.members k ≡ changed member_cmp changes.members.items k (row_in member_cmp old.members k)
+  pub files : (k : List ℕ) → row_in (slice_cmp nat_cmp) new.files k ≡ changed (slice_cmp nat_cmp) changes.files.items k (row_in (slice_cmp nat_cmp) old.files k)
+  pub projects_are : new.projects ≡ projects
   pub answers : (k : AnswerKey) → row_in answer_cmp new.answers k ≡ changed answer_cmp changes.answers.items k (row_in answer_cmp old.answers k)
   pub requests : new.requests ≡ old.requests + 1

@@ -1,3 +1,4 @@
+pub mod Branches
 pub mod Desk
 pub mod Fits
 pub mod Faults

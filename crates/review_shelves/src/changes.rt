@@ -2,19 +2,20 @@
 ghost use Rattle.std.specs.Prelude.{◌≡◌, IfOk, OnOk};
 ghost use Rattle.std.specs.List.{All};
 ghost use Rattle.review_table.specs.Rows.{rows_of};
-ghost use Rattle.review_shelves.specs.Desk.{IsNumber, IsHeld, IsGiven, AreChangesOf, PutsAnswer};
+ghost use Rattle.review_shelves.specs.Desk.{IsNumber, IsHeld, IsGiven, AreChangesOf, PutsAnswer, file_changes};
 
 use crate::keys::{AnswerKey, NameKey, StoredAnswer};
-use review_rows::{Delta, Kept, MemberKey};
+use review_rows::{Delta, Kept, MemberKey, ProjectRow};
 use review_table::{Change, Key, Table};
-use review_words::{AccountName, AccountNo};
+use review_words::{AccountName, AccountNo, FileText, ProjectName};
 use std::alloc::{AllocError, Global};
 
-/// The changes of a delta, and the row of its request.
+/// The changes of a delta but for the base of a branch, and the row of its request.
 #[derive(Drop)]
 pub struct Changes {
     pub accounts: Vec<Change<AccountNo, AccountName>>,
     pub members: Vec<Change<MemberKey, ()>>,
+    pub files: Vec<Change<ProjectName, FileText>>,
     pub answers: Vec<Change<AnswerKey, StoredAnswer>>,
 }
 
@@ -24,11 +25,13 @@ impl Changes {
     {
         let accounts = copied_accounts(alloc, &delta.accounts)?;
         let members = copied_members(alloc, &delta.members)?;
+        let files = copied_file(alloc, &delta.file)?;
         let mut answers = Vec::new(alloc);
         answers.push(stored(alloc, kept)?)?;
         Ok(Changes {
             accounts,
             members,
+            files,
             answers,
         })
     }
@@ -90,6 +93,21 @@ fn copied_member(
         key: change.key.copy(alloc)?,
         row: change.row,
     })
+}
+
+fn copied_file(
+    alloc: Global,
+    file: &Option<ProjectRow>,
+) -> Result<Vec<Change<ProjectName, FileText>>, AllocError>
+    ensures { IfOk result (λ v. v.items ≡ file_changes file.now) }
+{
+    match file {
+        Some(put) => Ok(vec![in alloc; Change {
+            key: put.project.copy(alloc)?,
+            row: Some(put.file.copy(alloc)?),
+        }]?),
+        None => Ok(Vec::new(alloc)),
+    }
 }
 
 fn stored(alloc: Global, kept: &Kept) -> Result<Change<AnswerKey, StoredAnswer>, AllocError>

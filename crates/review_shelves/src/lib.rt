@@ -1,6 +1,7 @@
 //! Shelves: a desk in memory, and shelves over another one that fail a call or shut, for tests of what stands above.
 #![tactic(auto)]
 
+mod branches;
 mod changes;
 mod faulty;
 mod keys;

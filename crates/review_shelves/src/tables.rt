@@ -1,20 +1,26 @@
 //! The tables of a desk in memory, and what is read from them.
-ghost use Rattle.std.specs.Prelude.{◌≡◌, ◌≤◌, ◌||◌, ◌==◌, ℕ, Some, None, IfOk, OnOk, OnErr, ◌<◌, ◌^◌, ◌-◌, [], MatchOption, IsTrue, ◌↔◌, if◌then◌else◌, string_bytes};
+ghost use Rattle.std.specs.Prelude.{◌≡◌, ◌≤◌, ◌||◌, ◌==◌, ℕ, List, Some, None, IfOk, IfSome, OnOk, OnErr, ◌<◌, ◌^◌, ◌-◌, [], MatchOption, IsTrue, ◌↔◌, if◌then◌else◌, string_bytes, is_some, option_map};
 ghost use Rattle.std.specs.Option.{option_or};
 ghost use Rattle.std.specs.List.{All, list_any};
 ghost use Rattle.std.specs.Ordering.{nat_cmp};
+ghost use Rattle.std.specs.Cmp.Lexicographic.{slice_cmp};
 ghost use Rattle.std.specs.Str.{bytes_eq};
 ghost use Rattle.review_table.specs.Rows.{row_in, rows_of};
-ghost use Rattle.review_rows.specs.Rows.{member_cmp, is_member_key, is_group, kept_row, wanted_by, IsLastAccount, IsFoundWhereAsked, ArePicked};
+ghost use Rattle.review_rows.specs.Rows.{BranchRow, member_cmp, branch_cmp, is_member_key, is_group, is_branch_key, has_commit, projects_after, kept_row, wanted_by, IsLastAccount, IsFoundWhereAsked, ArePicked};
 ghost use Rattle.review_rows.specs.Shelf.{IsRecalled, AreSelected, IsCommitted};
-ghost use Rattle.review_rows.specs.View.{IsView};
-ghost use Rattle.review_shelves.specs.Desk.{tables_of, desk_of, row_of, name_cmp, IsIndexed, IsNumbered, IsSound, AreIndexed, KeepsNames, HasRoom, AreApplied};
+ghost use Rattle.review_rows.specs.View.{IsView, branch_row};
+ghost use Rattle.review_shelves.specs.Desk.{tables_of, desk_of, row_of, file_row, name_cmp, IsIndexed, IsNumbered, IsBounded, IsSound, AreIndexed, KeepsNames, HasRoom, AreApplied, IsWithBase, IsSameDesk, with_branches};
+ghost use Rattle.review_shelves.specs.Branches.{bases_in, total_in, IsAsBefore};
 
+use crate::branches::Branches;
 use crate::changes::{Changes, names_given, names_held};
 use crate::keys::{AnswerKey, NameKey, StoredAnswer};
-use review_rows::{Delta, Kept, MemberKey, Need, Rows};
+use review_rows::{Base, BranchKey, Delta, Kept, MemberKey, Need, ProjectRow, Rows};
 use review_table::{Key, Table};
-use review_words::{AccountName, AccountNo, GroupName, RequestId, admin_name, administrators};
+use review_words::{
+    AccountName, AccountNo, Bases, FileText, GroupName, ProjectName, RequestId, admin_name,
+    administrators,
+};
 use std::alloc::{AllocError, Global};
 
 /// The tables, with an index of the accounts by name. The index may have a name that its account has no more: who looks a
@@ -24,6 +30,10 @@ pub struct MemoryTables {
     pub accounts: Table<AccountNo, AccountName>,
     pub names: Table<NameKey, ()>,
     pub members: Table<MemberKey, ()>,
+    pub files: Table<ProjectName, FileText>,
+    pub branches: Branches,
+    /// How many projects have a file.
+    pub projects: u64,
     pub answers: Table<AnswerKey, StoredAnswer>,
     pub requests: u64,
 }
@@ -52,6 +62,9 @@ impl MemoryTables {
             accounts,
             names,
             members,
+            files: Table::new(alloc),
+            branches: Branches::new(alloc),
+            projects: 0,
             answers: Table::new(alloc),
             requests: 0,
         })
@@ -101,10 +114,82 @@ impl MemoryTables {
         Ok(Rows {
             accounts,
             members,
+            files: self.files_of(alloc, &need.file)?,
+            branches: self.branches_of(alloc, &need.branch)?,
             named,
             last_account: self.last_account(),
+            project_count: self.projects,
+            has_project: self.has_project(&need.project),
+            has_base: self.has_base(&need.base),
+            base_count: self.base_count(&need.base),
             requests: self.requests,
         })
+    }
+
+    fn files_of(
+        &self,
+        alloc: Global,
+        project: &Option<ProjectName>,
+    ) -> Result<Table<ProjectName, FileText>, AllocError>
+        ensures { IfOk result (λ rows. (q : List ℕ) → row_in (slice_cmp nat_cmp) (rows_of rows) q ≡ (if is_group project.now q then row_in (slice_cmp nat_cmp) (rows_of self.now.files) q else None)) }
+    {
+        let mut rows = Table::new(alloc);
+        let Some(project) = project else {
+            return Ok(rows);
+        };
+        let Some(file) = self.files.get(project) else {
+            return Ok(rows);
+        };
+        rows.put(project.copy(alloc)?, file.copy(alloc)?)?;
+        Ok(rows)
+    }
+
+    fn branches_of(
+        &self,
+        alloc: Global,
+        branch: &Option<BranchKey>,
+    ) -> Result<Table<BranchKey, Bases>, AllocError>
+        ensures { IfOk result (λ rows. (p b : List ℕ) → option_map BranchRow (row_in branch_cmp (rows_of rows) (record { project = p; branch = b })) ≡ (if is_branch_key branch.now p b then branch_row (bases_in self.now.branches.bases p b) else None)) }
+    {
+        let mut rows = Table::new(alloc);
+        let Some(key) = branch else {
+            return Ok(rows);
+        };
+        let Some(bases) = self.branches.get(key) else {
+            return Ok(rows);
+        };
+        if bases.is_empty() {
+            return Ok(rows);
+        }
+        rows.put(key.copy(alloc)?, bases.copy(alloc)?)?;
+        Ok(rows)
+    }
+
+    fn has_project(&self, project: &Option<ProjectName>) -> bool
+        ensures { IfSome project.now (λ p. result ≡ is_some (file_row (rows_of self.now.files) p)) }
+    {
+        match project {
+            Some(project) => self.files.get(project).is_some(),
+            None => false,
+        }
+    }
+
+    fn has_base(&self, base: &Option<Base>) -> bool
+        ensures { IfSome base.now (λ b. result ≡ has_commit (branch_row (bases_in self.now.branches.bases b.project b.branch)) b.commit) }
+    {
+        match base {
+            Some(base) => self.branches.has(base),
+            None => false,
+        }
+    }
+
+    fn base_count(&self, base: &Option<Base>) -> u64
+        ensures { IfSome base.now (λ b. result ≡ total_in self.now.branches.totals b.project) }
+    {
+        match base {
+            Some(base) => self.branches.total(&base.project),
+            None => 0,
+        }
     }
 
     fn accounts_of(
@@ -190,12 +275,13 @@ impl MemoryTables {
         requires room { self.old.requests < 2 ^ 64 - 1 }
         ensures sound { IsSound self.new }
         ensures done { OnOk result (IsCommitted (tables_of (desk_of self.old)) delta.now (kept_row kept.now) (tables_of (desk_of self.new))) }
-        ensures same { OnErr result (desk_of self.new ≡ desk_of self.old) }
+        ensures same { OnErr result (tables_of (desk_of self.new) ≡ tables_of (desk_of self.old)) }
     {
         let held = names_held(alloc, &self.accounts, &delta.accounts)?;
         let given = names_given(alloc, &delta.accounts)?;
         let changes = Changes::new(alloc, delta, kept)?;
-        let made = self.make(alloc, &given, changes);
+        let projects = self.projects_with(&delta.file);
+        let made = self.make(alloc, &given, changes, projects, &delta.base);
         self.accounts.release(&delta.accounts);
         self.members.release(&delta.members);
         self.drop_names(&given);
@@ -203,17 +289,52 @@ impl MemoryTables {
         made
     }
 
-    /// Makes changes, and lists the names that they give, or changes no row.
-    fn make(&mut self, alloc: Global, given: &[NameKey], changes: Changes) -> Result<(), AllocError>
-        requires { self.old.requests < 2 ^ 64 - 1 }
+    /// How many projects there are once one gets a file.
+    fn projects_with(&self, file: &Option<ProjectRow>) -> u64
+        requires { self.now.projects < 2 ^ 64 - 1 }
+        ensures { result ≡ projects_after file.now (row_of (desk_of self.now)) self.now.projects }
+    {
+        match file {
+            Some(put) if self.files.get(&put.project).is_none() => self.projects + 1,
+            Some(_) | None => self.projects,
+        }
+    }
+
+    /// Makes changes, adds a base, and lists the names that they give, or changes no row.
+    fn make(
+        &mut self,
+        alloc: Global,
+        given: &[NameKey],
+        changes: Changes,
+        projects: u64,
+        base: &Option<Base>,
+    ) -> Result<(), AllocError>
+        requires number { self.old.requests < 2 ^ 64 - 1 }
+        requires bounded { IsBounded (desk_of self.old) }
         ensures kept { KeepsNames (rows_of self.old.names) (rows_of self.new.names) }
         ensures listed { OnOk result (AreIndexed (rows_of self.new.names) given.now) }
-        ensures done { OnOk result (AreApplied (desk_of self.old) changes (desk_of self.new)) }
-        ensures same { OnErr result (desk_of self.new ≡ desk_of self.old) }
+        ensures done { OnOk result (AreApplied (desk_of self.old) changes projects (desk_of self.new)) }
+        ensures based { OnOk result (IsWithBase base.now self.old.branches self.new.branches) }
+        ensures same { OnErr result (IsSameDesk (desk_of self.old) (desk_of self.new)) }
     {
         self.reserve(alloc, given, &changes)?;
-        self.apply(changes);
+        self.add_base(alloc, base)?;
+        self.apply(changes, projects);
         Ok(())
+    }
+
+    /// Adds a base, where there is one, or changes nothing.
+    fn add_base(&mut self, alloc: Global, base: &Option<Base>) -> Result<(), AllocError>
+        requires number { self.old.requests < 2 ^ 64 - 1 }
+        requires bounded { IsBounded (desk_of self.old) }
+        ensures added { OnOk result (IsWithBase base.now self.old.branches self.new.branches) }
+        ensures same { OnErr result (IsAsBefore self.old.branches self.new.branches) }
+        ensures rest { self.new ≡ with_branches self.old self.new.branches }
+    {
+        match base {
+            Some(base) => self.branches.push(alloc, base),
+            None => Ok(()),
+        }
     }
 
     /// Makes room for changes and lists names in the index, which changes no other row. The request comes last: no place for it
@@ -232,6 +353,7 @@ impl MemoryTables {
         self.list_names(alloc, names)?;
         self.accounts.reserve_all(alloc, &changes.accounts)?;
         self.members.reserve_all(alloc, &changes.members)?;
+        self.files.reserve_all(alloc, &changes.files)?;
         self.answers.reserve_all(alloc, &changes.answers)?;
         Ok(())
     }
@@ -248,19 +370,23 @@ impl MemoryTables {
     }
 
     /// Makes changes for which there is room.
-    fn apply(&mut self, changes: Changes)
+    fn apply(&mut self, changes: Changes, projects: u64)
         requires room { HasRoom self.old changes }
         requires number { self.old.requests < 2 ^ 64 - 1 }
-        ensures done { AreApplied (desk_of self.old) changes (desk_of self.new) }
+        ensures done { AreApplied (desk_of self.old) changes projects (desk_of self.new) }
+        ensures branches { self.new.branches ≡ self.old.branches }
         ensures names { self.new.names ≡ self.old.names }
     {
         let Changes {
             accounts,
             members,
+            files,
             answers,
         } = changes;
         self.accounts.apply(accounts);
         self.members.apply(members);
+        self.files.apply(files);
+        self.projects = projects;
         self.answers.apply(answers);
         self.requests += 1;
     }
@@ -301,7 +427,7 @@ impl MemoryTables {
 
     /// The greatest number of an account, or 0 where there is none.
     fn last_account(&self) -> u32
-        ensures { IsLastAccount (row_of (rows_of self.now.accounts) (rows_of self.now.members)) result }
+        ensures { IsLastAccount (row_of (desk_of self.now)) result }
     {
         match self.accounts.last_key() {
             Some(number) => number.get(),

@@ -19,18 +19,18 @@ pub of_test : {A : Type 0} (b : Bool) (x : Option A) (a : A) → cond b x None �
 of_test true x a e = (refl, e)
 of_test false x a e = absurd (cc)
 
-after_yes : (m c : ℕ) (cs : List ℕ) → is_digit c ≡ true → m * 10 + (c - 48) < 4294967296 → number_after m (c ∷ cs) ≡ number_after (m * 10 + (c - 48)) cs
+after_yes : (m c : ℕ) (cs : List ℕ) → is_digit c ≡ true → m * 10 + (c - 48) < 18446744073709551616 → number_after m (c ∷ cs) ≡ number_after (m * 10 + (c - 48)) cs
 after_yes m c cs digit low =
-    let t : (nat_le 48 c && nat_le c 57 && nat_lt (m * 10 + (c - 48)) 4294967296) ≡ true = grind (arith, nat_tests, digit, low) in
+    let t : (nat_le 48 c && nat_le c 57 && nat_lt (m * 10 + (c - 48)) 18446744073709551616) ≡ true = grind (arith, nat_tests, digit, low) in
     rw t refl
 
 after_no : (m c : ℕ) (cs : List ℕ) → is_digit c ≡ false → number_after m (c ∷ cs) ≡ None
 after_no m c cs digit =
-    let t : (nat_le 48 c && nat_le c 57 && nat_lt (m * 10 + (c - 48)) 4294967296) ≡ false = grind (arith, nat_tests, digit) in
+    let t : (nat_le 48 c && nat_le c 57 && nat_lt (m * 10 + (c - 48)) 18446744073709551616) ≡ false = grind (arith, nat_tests, digit) in
     rw t refl
 
 after_next : (m c n : ℕ) (cs : List ℕ) → number_after m (c ∷ cs) ≡ Some n → number_after (m * 10 + (c - 48)) cs ≡ Some n
-after_next m c n cs e = (of_test (nat_le 48 c && nat_le c 57 && nat_lt (m * 10 + (c - 48)) 4294967296) (number_after (m * 10 + (c - 48)) cs) n e).1
+after_next m c n cs e = (of_test (nat_le 48 c && nat_le c 57 && nat_lt (m * 10 + (c - 48)) 18446744073709551616) (number_after (m * 10 + (c - 48)) cs) n e).1
 
 after_ge : (m n : ℕ) (cs : List ℕ) → number_after m cs ≡ Some n → m ≤ n
 after_ge m n [] e = let same : m ≡ n = cc in omega arith
@@ -52,7 +52,7 @@ up_big (Some n) h = let big = h n refl in let t : nat_le n 99 ≡ false = grind 
 one_by : (b : Bool) (d : ℕ) → is_digit d ≡ b → digits_in (d ∷ []) ≡ cond b (Some (d - 48)) None
 unfolding digits_in number_of
 one_by true d digit =
-    let low : 0 * 10 + (d - 48) < 4294967296 = grind (arith, nat_tests, digit) in
+    let low : 0 * 10 + (d - 48) < 18446744073709551616 = grind (arith, nat_tests, digit) in
     let small : 0 * 10 + (d - 48) ≤ 99 = grind (arith, nat_tests, digit) in
     let e : 0 * 10 + (d - 48) ≡ d - 48 = omega arith in
     ap up_to_99 (after_yes 0 d [] digit low) ∙ up_some _ small ∙ ap Some e
@@ -69,14 +69,14 @@ unfolding digits_in number_of
 two_by false x y d e high one two = ap (λ b. after_well b (d ∷ e ∷ [])) (well_of d e [] ∙ high)
 two_by true false y d e high one two = ap (λ b. after_well b (d ∷ e ∷ [])) (well_of d e [] ∙ high) ∙ ap up_to_99 (after_no 0 d (e ∷ []) one)
 two_by true true false d e high one two =
-    let low : 0 * 10 + (d - 48) < 4294967296 = grind (arith, nat_tests, one) in
+    let low : 0 * 10 + (d - 48) < 18446744073709551616 = grind (arith, nat_tests, one) in
     ap (λ b. after_well b (d ∷ e ∷ [])) (well_of d e [] ∙ high)
     ∙ ap up_to_99 (after_yes 0 d (e ∷ []) one low ∙ after_no (0 * 10 + (d - 48)) e [] two)
 two_by true true true d e high one two =
     let ten : d ≤ 57 = grind (arith, nat_tests, one) in
     let unit : e ≤ 57 = grind (arith, nat_tests, two) in
-    let low : 0 * 10 + (d - 48) < 4294967296 = omega arith in
-    let lower : (0 * 10 + (d - 48)) * 10 + (e - 48) < 4294967296 = omega arith in
+    let low : 0 * 10 + (d - 48) < 18446744073709551616 = omega arith in
+    let lower : (0 * 10 + (d - 48)) * 10 + (e - 48) < 18446744073709551616 = omega arith in
     let small : (0 * 10 + (d - 48)) * 10 + (e - 48) ≤ 99 = omega arith in
     let same : (0 * 10 + (d - 48)) * 10 + (e - 48) ≡ (d - 48) * 10 + (e - 48) = omega arith in
     ap (λ b. after_well b (d ∷ e ∷ [])) (well_of d e [] ∙ high)

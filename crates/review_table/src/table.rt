@@ -85,9 +85,9 @@ impl<K: Key, V: Drop> Table<K, V> {
         let _ = self.places.len();
     }
 
-    /// Makes a place for a key.
+    /// Makes a place for a key. An `Err` changes no row.
     #[tactic(auto, using(crate::proofs::Places::rows_of_inserted))]
-    fn reserve(&mut self, key: K) -> Result<(), AllocError>
+    pub fn reserve(&mut self, key: K) -> Result<(), AllocError>
         ensures same { rows_of self.new ≡ rows_of self.old }
         ensures rows { (q : K) → row_at K.cmp self.new q ≡ row_at K.cmp self.old q }
         ensures stay { (q : K) → HasPlace K.cmp self.old q → HasPlace K.cmp self.new q }
@@ -187,6 +187,42 @@ impl<K: Key, V: Drop> Table<K, V> {
         ensures { (q : K) → row_at K.cmp self.new q ≡ (if is_at (K.cmp key.now) q then None else row_at K.cmp self.old q) }
     {
         let _ = self.places.remove(key);
+    }
+
+    /// Takes the row of a key out, and keeps its place.
+    pub fn take(&mut self, key: K) -> Option<V>
+        ensures row { result ≡ row_in K.cmp (rows_of self.old) key }
+        ensures rows { (q : K) → row_in K.cmp (rows_of self.new) q ≡ (if is_at (K.cmp key) q then None else row_in K.cmp (rows_of self.old) q) }
+        ensures stay { (q : K) → has_place K.cmp self.new q ≡ has_place K.cmp self.old q }
+    {
+        self.once();
+        let row = self.take_place(key);
+        self.once();
+        row
+    }
+
+    fn take_place(&mut self, key: K) -> Option<V>
+        ensures row { result ≡ row_at K.cmp self.old key }
+        ensures rows { (q : K) → row_at K.cmp self.new q ≡ (if is_at (K.cmp key) q then None else row_at K.cmp self.old q) }
+        ensures stay { (q : K) → has_place K.cmp self.new q ≡ has_place K.cmp self.old q }
+    {
+        if !self.places.contains_key(&key) {
+            return None;
+        }
+        match self.places.insert(key, None) {
+            Ok(Some(row)) => row,
+            Ok(None) | Err(_) => None,
+        }
+    }
+
+    /// Puts a row at the place of a key, which takes no memory. A key without a place stays as it was.
+    pub fn restore(&mut self, key: K, row: V)
+        ensures rows { (q : K) → row_in K.cmp (rows_of self.new) q ≡ (if has_place K.cmp self.old key && is_at (K.cmp key) q then Some row else row_in K.cmp (rows_of self.old) q) }
+        ensures stay { (q : K) → has_place K.cmp self.new q ≡ has_place K.cmp self.old q }
+    {
+        self.once();
+        self.set(key, Some(row));
+        self.once();
     }
 
     /// Drops the places of these keys that hold no row: those that were reserved for nothing, or emptied.

@@ -3,13 +3,25 @@ ghost use Rattle.std.specs.Prelude.{◌≡◌, ◌++◌, IfOk, OnOk, map};
 ghost use Rattle.review_words.specs.Forms.{text_set};
 ghost use Rattle.review_grammar.specs.Grammar.{trees};
 ghost use Rattle.review_grammar.specs.Views.{view};
-ghost use Rattle.review_terms.specs.Labels.{all_labels, labels};
+ghost use Rattle.review_terms.specs.Labels.{all_labels, label_in, labels};
 
 use crate::terms::RequirementTerm;
 use review_grammar::Node;
 use review_words::LabelName;
 use std::alloc::{AllocError, Global};
 use std::collections::BTreeSet;
+
+fn push_label<'e>(
+    found: &mut Vec<&'e LabelName>,
+    term: &'e RequirementTerm,
+) -> Result<(), AllocError>
+    ensures { OnOk result (map (λ l. l.now) found.new.items ≡ map (λ l. l.now) found.old.items ++ label_in term.now) }
+{
+    if let RequirementTerm::Label(term) = term {
+        found.push(&term.label)?;
+    }
+    Ok(())
+}
 
 #[cycle(labels)]
 fn push_labels<'e>(
@@ -19,11 +31,7 @@ fn push_labels<'e>(
     ensures { OnOk result (map (λ l. l.now) found.new.items ≡ map (λ l. l.now) found.old.items ++ labels (view node.now)) }
 {
     match node {
-        Node::Term(RequirementTerm::Label(term)) => {
-            found.push(&term.label)?;
-            Ok(())
-        }
-        Node::Term(_) => Ok(()),
+        Node::Term(term) => push_label(found, term),
         Node::Not(member) => push_labels(found, member),
         Node::And(members) => push_all(found, members),
         Node::Or(members) => push_all(found, members),

@@ -14,7 +14,7 @@ use std::marker::Model;
 #[derive(Drop)]
 pub struct Pattern {
     text: String,
-    whole: Regex,
+    whole: Box<Regex>,
 }
 
 impl Model for Pattern {
@@ -25,7 +25,7 @@ impl Model for Pattern {
 
     ghost view = { λ p. string_bytes p.text };
 
-    ghost invariant = { λ p. IsHeld (string_bytes p.text) p.whole };
+    ghost invariant = { λ p. IsHeld (string_bytes p.text) p.whole.value };
 }
 
 /// Why a text gives no pattern.
@@ -115,6 +115,7 @@ impl Pattern {
             return Err(PatternFault::Engine);
         }
         let text = String::from_str(alloc, text)?;
+        let whole = Box::new(alloc, whole)?;
         Ok(Pattern { text, whole })
     }
 

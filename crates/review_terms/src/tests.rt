@@ -51,7 +51,8 @@ fn change(alloc: Global) -> Result<ChangeFacts, Fail> {
 
 fn holds(alloc: Global, term: RequirementTerm) -> Result<bool, Fail> {
     let facts = change(alloc)?;
-    Ok(eval(alloc, &Node::Term(term), &facts)?)
+    let node = Node::Term(Box::new(alloc, term)?);
+    Ok(eval(alloc, &node, &facts)?)
 }
 
 fn label_holds(
@@ -167,12 +168,13 @@ fn people(rt: HostRuntime) -> Result<(), Fail> {
     assert!(rt; holds(alloc, RequirementTerm::Unresolved)?);
     let facts = change(alloc)?;
     let mut members = Vec::new(alloc);
-    members.push(Node::Term(RequirementTerm::Always(true)))?;
-    members.push(Node::Term(RequirementTerm::Always(false)))?;
+    members.push(Node::Term(Box::new(alloc, RequirementTerm::Always(true))?))?;
+    members.push(Node::Term(Box::new(alloc, RequirementTerm::Always(false))?))?;
     assert!(rt; eval(alloc, &Node::Or(members), &facts)?);
     let mut members = Vec::new(alloc);
-    members.push(Node::Term(RequirementTerm::Unresolved))?;
-    members.push(Node::Not(Box::new(alloc, Node::Term(RequirementTerm::Always(true)))?))?;
+    members.push(Node::Term(Box::new(alloc, RequirementTerm::Unresolved)?))?;
+    let always = Node::Term(Box::new(alloc, RequirementTerm::Always(true))?);
+    members.push(Node::Not(Box::new(alloc, always)?))?;
     assert!(rt; !eval(alloc, &Node::And(members), &facts)?);
     Ok(())
 }
@@ -190,7 +192,8 @@ fn copies(alloc: Global, term: CopyTerm) -> Result<bool, Fail> {
         unchanged_files: false,
         groups: groups(alloc)?,
     };
-    Ok(eval(alloc, &Node::Term(term), &facts)?)
+    let node = Node::Term(Box::new(alloc, term)?);
+    Ok(eval(alloc, &node, &facts)?)
 }
 
 #[test]
@@ -224,9 +227,9 @@ fn labels_are_named_once(rt: HostRuntime) -> Result<(), Fail> {
             voters: Voters::Everyone,
             count: None,
         };
-        members.push(Node::Term(RequirementTerm::Label(term)))?;
+        members.push(Node::Term(Box::new(alloc, RequirementTerm::Label(term))?))?;
     }
-    members.push(Node::Term(RequirementTerm::Unresolved))?;
+    members.push(Node::Term(Box::new(alloc, RequirementTerm::Unresolved)?))?;
     let node = Node::Not(Box::new(alloc, Node::And(members))?);
     let labels = labels_of(alloc, &node)?;
     assert_eq!(rt; labels.len(), 2);

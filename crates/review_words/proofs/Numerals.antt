@@ -48,17 +48,17 @@ pub numeral-injective : (m n : ℕ) → numeral m ≡ numeral n → m ≡ n
 numeral-injective m n e = sym (value_numeral m) ∙ ap value e ∙ value_numeral n
 
 -- a numeral is read
-after_shown : (ds : List ℕ) → AllByRecursion (λ d. d < 10) ds → (m : ℕ) → number_from_digits_after 10 m ds < 4294967296 → number_after m (map (λ x. 48 + x) ds) ≡ Some (number_from_digits_after 10 m ds)
+after_shown : (ds : List ℕ) → AllByRecursion (λ d. d < 10) ds → (m : ℕ) → number_from_digits_after 10 m ds < 18446744073709551616 → number_after m (map (λ x. 48 + x) ds) ≡ Some (number_from_digits_after 10 m ds)
 after_shown [] a m h = refl
 after_shown (d ∷ ds) a m h =
     let low = a.0 in
     let big = number_after_ge 10 (m * 10 + d) ds (omega arith) in
     let e : (48 + d) - 48 ≡ d = omega arith in
-    let t : (nat_le 48 (48 + d) && nat_le (48 + d) 57 && nat_lt (m * 10 + ((48 + d) - 48)) 4294967296) ≡ true = grind (arith, nat_tests, low, big, h, e) in
+    let t : (nat_le 48 (48 + d) && nat_le (48 + d) 57 && nat_lt (m * 10 + ((48 + d) - 48)) 18446744073709551616) ≡ true = grind (arith, nat_tests, low, big, h, e) in
     ap (λ b. cond b (number_after (m * 10 + ((48 + d) - 48)) (map (λ x. 48 + x) ds)) None) t
     ∙ (ap (λ k. number_after (m * 10 + k) (map (λ x. 48 + x) ds)) e ∙ after_shown ds a.1 (m * 10 + d) h)
 
-digits_back : (ds : List ℕ) → AllByRecursion (λ d. d < 10) ds → number_from_digits 10 ds < 4294967296 → number_after 0 (shown_digits ds) ≡ Some (number_from_digits 10 ds)
+digits_back : (ds : List ℕ) → AllByRecursion (λ d. d < 10) ds → number_from_digits 10 ds < 18446744073709551616 → number_after 0 (shown_digits ds) ≡ Some (number_from_digits 10 ds)
 digits_back [] a h = refl
 digits_back (d ∷ ds) a h = after_shown (d ∷ ds) a 0 h
 
@@ -70,7 +70,7 @@ digits_begin_well (suc n) (d ∷ x ∷ ds) e =
     let high : 0 < d = subst (λ l. 0 < get_or l 0 0) (sym e) (first_digits_of 10 (suc n) (omega arith) (omega arith)) in
     grind (arith, nat_tests, high)
 
-pub number_back : (n : ℕ) → n < 4294967296 → number_of (numeral n) ≡ Some n
+pub number_back : (n : ℕ) → n < 18446744073709551616 → number_of (numeral n) ≡ Some n
 unfolding numeral number_of
 number_back n h =
     let e = number_digits_of 10 n (omega arith) in
@@ -108,14 +108,14 @@ of_test : {A : Type 0} (b : Bool) (x : Option A) (a : A) → cond b x None ≡ S
 of_test true x a e = (refl, e)
 of_test false x a e = absurd (cc)
 
-digit_of : (c m : ℕ) → (nat_le 48 c && nat_le c 57 && nat_lt m 4294967296) ≡ true → (48 ≤ c) × (c ≤ 57)
+digit_of : (c m : ℕ) → (nat_le 48 c && nat_le c 57 && nat_lt m 18446744073709551616) ≡ true → (48 ≤ c) × (c ≤ 57)
 digit_of c m e = (grind (arith, nat_tests, e), grind (arith, nat_tests, e))
 
 after_numeral : (m n : ℕ) (cs : List ℕ) → 0 < m → number_after m cs ≡ Some n → numeral n ≡ numeral m ++ cs
 after_numeral m n [] h e = let same : m ≡ n = cc in ap numeral (sym same) ∙ sym (append-nil (numeral m))
 after_numeral m n (c ∷ cs) h e =
     let next = m * 10 + (c - 48) in
-    let read = of_test (nat_le 48 c && nat_le c 57 && nat_lt next 4294967296) (number_after next cs) n e in
+    let read = of_test (nat_le 48 c && nat_le c 57 && nat_lt next 18446744073709551616) (number_after next cs) n e in
     let digit = digit_of c next read.0 in
     let char : 48 + (c - 48) ≡ c = omega (arith, digit.0) in
     after_numeral next n cs (omega arith) read.1
@@ -131,7 +131,7 @@ first_then n c (x ∷ cs) well shown e =
 first_numeral : (n c : ℕ) (cs : List ℕ) → begins_well (c ∷ cs) ≡ true → number_after 0 (c ∷ cs) ≡ Some n → numeral n ≡ c ∷ cs
 first_numeral n c cs well e =
     let next = 0 * 10 + (c - 48) in
-    let read = of_test (nat_le 48 c && nat_le c 57 && nat_lt next 4294967296) (number_after next cs) n e in
+    let read = of_test (nat_le 48 c && nat_le c 57 && nat_lt next 18446744073709551616) (number_after next cs) n e in
     let digit = digit_of c next read.0 in
     let char : 48 + (c - 48) ≡ c = omega (arith, digit.0) in
     let shown : numeral (c - 48) ≡ c ∷ [] = one_digit (c - 48) (omega (arith, digit.0, digit.1)) ∙ ap (λ x. x ∷ []) char in

@@ -1,6 +1,6 @@
 -- A stored reply is what its fields are read as.
 use Rattle.std.proofs.Common.{◌≡◌, ℕ, ◌<◌, ◌≤◌, ◌+◌, List, [], ◌∷◌, length, refl, sym, ap, ◌∙◌, subst, arith, cond, Option, Some, None, Bool, true, false}
-use Rattle.std.specs.Prelude.{option_map, nat_le, ◌&&◌, if◌then◌else◌}
+use Rattle.std.specs.Prelude.{option_map, nat_le, ◌&&◌, if◌then◌else◌, codes}
 use Rattle.std.specs.Str.{bytes_eq}
 use Rattle.std.proofs.lemmas.Slice.Eq.{bytes_eq-Decides}
 use Rattle.std.proofs.lemmas.Bool.Decides.{nat_tests}
@@ -8,14 +8,19 @@ use Rattle.std.specs.Int.Digits.{digits_of}
 use Rattle.std.proofs.lemmas.Int.Digits.{length-digits_of-le}
 use Rattle.std.proofs.lemmas.List.{length-map}
 use Rattle.review_words.specs.Names.{is_account_number}
-use Rattle.review_words.specs.Texts.{shown_digits, numeral, reply_fields, reply_text, IsStored, refusal_number}
+use Rattle.review_words.specs.Faults.{code_number, file_fault_number}
+use Rattle.review_words.specs.Texts.{shown_digits, numeral, expr_fields, fault_fields, refusal_fields, reply_fields, reply_text, IsPlaced, IsRefusalOf, IsStored, refusal_number}
 use Rattle.review_words.specs.Cutting.{AreShort}
-use Rattle.review_words.specs.Reading.{◌>>=◌, number_of, account_of, refusal_of, reply_of}
+use Rattle.review_words.specs.Reading.{◌>>=◌, number_of, account_of, expr_fault_of, file_fault_of, refusal_of, reply_of}
 use Rattle.review_words.specs.declared.reply.Reply.{Reply}
 use Rattle.review_words.specs.declared.reply.Reply.TheVariants.{Done, Refused, IdentityReused, NotTaken}
-use Rattle.review_words.specs.declared.reply.Answer.TheVariants.{Account, Nothing}
+use Rattle.review_words.specs.declared.reply.Answer.TheVariants.{Account, Nothing, Branch}
 use Rattle.review_words.specs.declared.reply.Refusal.{Refusal}
-use Rattle.review_words.specs.declared.reply.Refusal.TheVariants.{UnknownCaller, NotAdmin, NoAccount, NameTaken, Limit}
+use Rattle.review_words.specs.declared.reply.Refusal.TheVariants.{UnknownCaller, NotAdmin, NoProject, NoBranch, NoAccount, CommitKnown, NameTaken, BadFile, LabelNarrowed, Limit}
+use Rattle.review_words.specs.declared.faults.ExprCode.{ExprCode}
+use Rattle.review_words.specs.declared.faults.ExprCode.TheVariants as code
+use Rattle.review_words.specs.declared.faults.FileFault.{FileFault}
+use Rattle.review_words.specs.declared.faults.FileFault.TheVariants as file
 use Rattle.review_words.proofs.Numerals.{number_back, number_shown}
 
 pub account_back : (n : ℕ) → 1 ≤ n → n ≤ 1000000 → account_of (numeral n) ≡ Some n
@@ -46,44 +51,129 @@ account_none n cs none range shown =
     let some : account_of cs ≡ Some n = ap account_of (sym shown) ∙ account_back n r.0 r.1 in
     cc
 
+-- the fields of a fault, as they stand in a reply
+abbrev bad_file : List (List ℕ) → List (List ℕ)
+bad_file fields = codes "Refused" ∷ numeral 26 ∷ fields
+
+-- one line for each code
+expr_back : (c : ExprCode) (place : ℕ) → place < 18446744073709551616 → expr_fault_of (bad_file (numeral 7 ∷ numeral (code_number c) ∷ numeral place ∷ [])) ≡ Some (record { place = place; code = c })
+unfolding expr_fault_of
+expr_back code.Empty place low = rw (number_back 1 (omega arith), number_back place low) refl
+expr_back code.BadTerm place low = rw (number_back 2 (omega arith), number_back place low) refl
+expr_back code.Unbalanced place low = rw (number_back 3 (omega arith), number_back place low) refl
+expr_back code.Mixed place low = rw (number_back 4 (omega arith), number_back place low) refl
+expr_back code.BadValue place low = rw (number_back 5 (omega arith), number_back place low) refl
+expr_back code.Zero place low = rw (number_back 6 (omega arith), number_back place low) refl
+expr_back code.TooDeep place low = rw (number_back 7 (omega arith), number_back place low) refl
+expr_back code.TooLong place low = rw (number_back 8 (omega arith), number_back place low) refl
+
+-- one line for each fault of a file
+file_back : (f : FileFault) → IsPlaced f → file_fault_of (bad_file (fault_fields f)) ≡ Some f
+unfolding file_fault_of
+file_back file.Toml s = rw (number_back 1 (omega arith)) refl
+file_back file.UnknownKey s = rw (number_back 2 (omega arith)) refl
+file_back file.Missing s = rw (number_back 3 (omega arith)) refl
+file_back file.BadName s = rw (number_back 4 (omega arith)) refl
+file_back file.Twice s = rw (number_back 5 (omega arith)) refl
+file_back file.BadValues s = rw (number_back 6 (omega arith)) refl
+file_back (file.Expr e) s = rw (number_back 7 (omega arith), expr_back e.code e.place s) refl
+file_back file.UnknownLabel s = rw (number_back 8 (omega arith)) refl
+file_back file.Limit s = rw (number_back 9 (omega arith)) refl
+
 -- one line for each refusal
-refused_back : (r : Refusal) → reply_of (reply_fields (Refused r)) ≡ Some (Refused r)
+refused_back : (r : Refusal) → IsRefusalOf r → reply_of (reply_fields (Refused r)) ≡ Some (Refused r)
 unfolding reply_of refusal_of
-refused_back UnknownCaller = rw (number_back 1 (omega arith)) refl
-refused_back NotAdmin = rw (number_back 2 (omega arith)) refl
-refused_back NoAccount = rw (number_back 7 (omega arith)) refl
-refused_back NameTaken = rw (number_back 25 (omega arith)) refl
-refused_back Limit = rw (number_back 28 (omega arith)) refl
+refused_back UnknownCaller s = rw (number_back 1 (omega arith)) refl
+refused_back NotAdmin s = rw (number_back 2 (omega arith)) refl
+refused_back NoProject s = rw (number_back 3 (omega arith)) refl
+refused_back NoBranch s = rw (number_back 4 (omega arith)) refl
+refused_back NoAccount s = rw (number_back 7 (omega arith)) refl
+refused_back CommitKnown s = rw (number_back 17 (omega arith)) refl
+refused_back NameTaken s = rw (number_back 25 (omega arith)) refl
+refused_back (BadFile f) s = rw (number_back 26 (omega arith), file_back f s) refl
+refused_back LabelNarrowed s = rw (number_back 27 (omega arith)) refl
+refused_back Limit s = rw (number_back 28 (omega arith)) refl
 
 -- one line for each answer
 pub reply_back : (r : Reply) → IsStored r → reply_of (reply_fields r) ≡ Some r
 unfolding reply_of
 reply_back (Done (Account n)) s = rw (account_back n s.0 s.1) refl
 reply_back (Done Nothing) s = refl
-reply_back (Refused r) s = refused_back r
+reply_back (Done (Branch bases)) s = absurd s
+reply_back (Refused r) s = refused_back r s
 reply_back IdentityReused s = absurd s
 reply_back (NotTaken c) s = absurd s
 
 -- The fields of a stored reply are short.
-short_digits : (ds : List ℕ) → length ds ≤ 10 → length (shown_digits ds) < 1000000000
+short_digits : (ds : List ℕ) → length ds ≤ 20 → length (shown_digits ds) < 1000000000
 short_digits [] h = omega arith
 short_digits (d ∷ ds) h = let same = length-map ds (λ x. 48 + x) in omega (arith, h, same)
 
-short_numeral : (n : ℕ) → n < 4294967296 → length (numeral n) < 1000000000
+short_numeral : (n : ℕ) → n < 18446744073709551616 → length (numeral n) < 1000000000
 unfolding numeral
-short_numeral n h = short_digits (digits_of 10 n) (length-digits_of-le 10 10 n (omega arith) (omega (arith, h)))
+short_numeral n h = short_digits (digits_of 10 n) (length-digits_of-le 10 20 n (omega arith) (omega (arith, h)))
 
-below : (r : Refusal) → refusal_number r < 4294967296
+code_below : (c : ExprCode) → code_number c < 18446744073709551616
+code_below code.Empty = omega arith
+code_below code.BadTerm = omega arith
+code_below code.Unbalanced = omega arith
+code_below code.Mixed = omega arith
+code_below code.BadValue = omega arith
+code_below code.Zero = omega arith
+code_below code.TooDeep = omega arith
+code_below code.TooLong = omega arith
+
+fault_below : (f : FileFault) → file_fault_number f < 18446744073709551616
+fault_below file.Toml = omega arith
+fault_below file.UnknownKey = omega arith
+fault_below file.Missing = omega arith
+fault_below file.BadName = omega arith
+fault_below file.Twice = omega arith
+fault_below file.BadValues = omega arith
+fault_below (file.Expr e) = omega arith
+fault_below file.UnknownLabel = omega arith
+fault_below file.Limit = omega arith
+
+below : (r : Refusal) → refusal_number r < 18446744073709551616
 below UnknownCaller = omega arith
 below NotAdmin = omega arith
+below NoProject = omega arith
+below NoBranch = omega arith
 below NoAccount = omega arith
+below CommitKnown = omega arith
 below NameTaken = omega arith
+below (BadFile f) = omega arith
+below LabelNarrowed = omega arith
 below Limit = omega arith
+
+short_expr : (f : FileFault) → IsPlaced f → AreShort (expr_fields f)
+short_expr file.Toml s = tt
+short_expr file.UnknownKey s = tt
+short_expr file.Missing s = tt
+short_expr file.BadName s = tt
+short_expr file.Twice s = tt
+short_expr file.BadValues s = tt
+short_expr (file.Expr e) s = (short_numeral (code_number e.code) (code_below e.code), (short_numeral e.place s, tt))
+short_expr file.UnknownLabel s = tt
+short_expr file.Limit s = tt
+
+short_refusal : (r : Refusal) → IsRefusalOf r → AreShort (refusal_fields r)
+short_refusal UnknownCaller s = tt
+short_refusal NotAdmin s = tt
+short_refusal NoProject s = tt
+short_refusal NoBranch s = tt
+short_refusal NoAccount s = tt
+short_refusal CommitKnown s = tt
+short_refusal NameTaken s = tt
+short_refusal (BadFile f) s = (short_numeral (file_fault_number f) (fault_below f), short_expr f s)
+short_refusal LabelNarrowed s = tt
+short_refusal Limit s = tt
 
 pub short_reply : (r : Reply) → IsStored r → AreShort (reply_fields r)
 short_reply (Done (Account n)) s = (omega arith, (short_numeral n (omega (arith, s.1)), tt))
 short_reply (Done Nothing) s = (omega arith, tt)
-short_reply (Refused r) s = (omega arith, (short_numeral (refusal_number r) (below r), tt))
+short_reply (Done (Branch bases)) s = absurd s
+short_reply (Refused r) s = (omega arith, (short_numeral (refusal_number r) (below r), short_refusal r s))
 short_reply IdentityReused s = absurd s
 short_reply (NotTaken c) s = absurd s
 

@@ -1,10 +1,10 @@
 -- Histories of taken requests, the newest first, and the settings that they leave.
-use Rattle.std.specs.Prelude.{ℕ, ◌+◌, List, [], ◌∷◌, Option, Some, None, Bool, ◌&&◌, ◌||◌, ◌==◌, nat_le, if◌then◌else◌}
+use Rattle.std.specs.Prelude.{ℕ, ◌+◌, List, [], ◌∷◌, ◌++◌, length, Option, Some, None, Bool, ◌&&◌, ◌||◌, ◌==◌, nat_le, if◌then◌else◌, is_some}
 use Rattle.std.specs.Str.{bytes_eq}
 use Rattle.std.specs.List.{list_any}
 use Rattle.review_words.specs.Names.{administrators, admin_name}
 use Rattle.review_words.specs.declared.command.Command.{Command}
-use Rattle.review_words.specs.declared.command.Command.TheVariants.{CreateAccount, PutGroup}
+use Rattle.review_words.specs.declared.command.Command.TheVariants.{CreateAccount, PutGroup, PutProject, RecordBase}
 use Rattle.review_words.specs.declared.reply.Reply.{Reply}
 use Rattle.review_words.specs.declared.reply.Reply.TheVariants.{Done}
 
@@ -83,3 +83,52 @@ is_listed h group number = list_any (λ m. m == number) (listed_members h group)
 -- whether an account runs the desk
 abbrev pub is_admin : List Entry → ℕ → Bool
 is_admin h number = is_listed h administrators number
+
+abbrev pub text_put : Option Command → List ℕ → Option (List ℕ) → Option (List ℕ)
+text_put (Some (PutProject given file)) project before = if bytes_eq given project then Some file else before
+text_put _ project before = before
+
+-- the text of a project's file: the one that its last accepted PutProject gave
+abbrev pub file_text : List Entry → List ℕ → Option (List ℕ)
+file_text [] project = None
+file_text (e ∷ h) project = text_put (accepted e) project (file_text h project)
+
+-- whether a project has a file
+abbrev pub is_project : List Entry → List ℕ → Bool
+is_project h project = is_some (file_text h project)
+
+abbrev pub project_counted : Option Command → (List ℕ → Bool) → ℕ → ℕ
+project_counted (Some (PutProject project file)) was_project n = if was_project project then n else n + 1
+project_counted _ was_project n = n
+
+-- how many projects there are: each accepted PutProject of a project that had no file makes one more
+abbrev pub project_count : List Entry → ℕ
+project_count [] = 0
+project_count (e ∷ h) = project_counted (accepted e) (is_project h) (project_count h)
+
+abbrev pub with_base : Option Command → List ℕ → List ℕ → List (List ℕ) → List (List ℕ)
+with_base (Some (RecordBase in_project in_branch commit)) project branch before =
+    if bytes_eq in_project project && bytes_eq in_branch branch then before ++ commit ∷ [] else before
+with_base _ project branch before = before
+
+-- the bases of a branch: the commits that were recorded for it, in the order of recording
+abbrev pub bases : List Entry → List ℕ → List ℕ → List (List ℕ)
+bases [] project branch = []
+bases (e ∷ h) project branch = with_base (accepted e) project branch (bases h project branch)
+
+abbrev pub base_counted : Option Command → List ℕ → ℕ → ℕ
+base_counted (Some (RecordBase in_project branch commit)) project n = if bytes_eq in_project project then n + 1 else n
+base_counted _ project n = n
+
+-- how many bases a project has, over all its branches
+abbrev pub base_count : List Entry → List ℕ → ℕ
+base_count [] project = 0
+base_count (e ∷ h) project = base_counted (accepted e) project (base_count h project)
+
+-- whether a branch has a base
+abbrev pub is_branch : List Entry → List ℕ → List ℕ → Bool
+is_branch h project branch = nat_le 1 (length (bases h project branch))
+
+-- whether a commit is a base of a branch
+abbrev pub is_base : List Entry → List ℕ → List ℕ → List ℕ → Bool
+is_base h project branch commit = list_any (λ base. bytes_eq base commit) (bases h project branch)

@@ -1,6 +1,7 @@
 pub mod Names
 pub mod Forms
 pub mod Groups
+pub mod Faults
 pub mod Texts
 pub mod Shown
 pub mod Cutting

@@ -1,12 +1,17 @@
 -- Numbers and replies read from their fields.
-use Rattle.std.specs.Prelude.{ℕ, ◌+◌, ◌-◌, ◌*◌, List, [], ◌∷◌, length, codes, slice_index, slice_index_or, Option, Some, None, Bool, ◌&&◌, ◌||◌, ◌==◌, nat_le, nat_lt, if◌then◌else◌}
+use Rattle.std.specs.Prelude.{ℕ, ◌+◌, ◌-◌, ◌*◌, List, [], ◌∷◌, length, codes, slice_index, slice_index_or, option_map, Option, Some, None, Bool, ◌&&◌, ◌||◌, ◌==◌, nat_le, nat_lt, if◌then◌else◌}
 use Rattle.std.specs.Str.{bytes_eq}
 use Rattle.review_words.specs.Names.{is_account_number}
 use Rattle.review_words.specs.declared.reply.Reply.{Reply}
 use Rattle.review_words.specs.declared.reply.Reply.TheVariants.{Done, Refused}
 use Rattle.review_words.specs.declared.reply.Answer.TheVariants.{Account, Nothing}
 use Rattle.review_words.specs.declared.reply.Refusal.{Refusal}
-use Rattle.review_words.specs.declared.reply.Refusal.TheVariants.{UnknownCaller, NotAdmin, NoAccount, NameTaken, Limit}
+use Rattle.review_words.specs.declared.reply.Refusal.TheVariants.{UnknownCaller, NotAdmin, NoProject, NoBranch, NoAccount, CommitKnown, NameTaken, BadFile, LabelNarrowed, Limit}
+use Rattle.review_words.specs.declared.faults.ExprCode.{ExprCode}
+use Rattle.review_words.specs.declared.faults.ExprCode.TheVariants as code
+use Rattle.review_words.specs.declared.faults.ExprFault.{ExprFault}
+use Rattle.review_words.specs.declared.faults.FileFault.{FileFault}
+use Rattle.review_words.specs.declared.faults.FileFault.TheVariants as file
 
 -- a reading, and a second one of what the first gave; nothing where either gives nothing
 infixl 10 ◌>>=◌
@@ -18,16 +23,16 @@ None >>= f = None
 abbrev pub at : List (List ℕ) → ℕ → List ℕ
 at fields i = slice_index_or fields i []
 
--- the number below 2^32 whose digits are those of n and then those of the text
+-- the number below 2^64 whose digits are those of n and then those of the text
 abbrev pub number_after : ℕ → List ℕ → Option ℕ
 number_after n [] = Some n
-number_after n (c ∷ cs) = if nat_le 48 c && nat_le c 57 && nat_lt (n * 10 + (c - 48)) 4294967296 then number_after (n * 10 + (c - 48)) cs else None
+number_after n (c ∷ cs) = if nat_le 48 c && nat_le c 57 && nat_lt (n * 10 + (c - 48)) 18446744073709551616 then number_after (n * 10 + (c - 48)) cs else None
 
 -- whether a text has a character, and no zero in front of others
 abbrev pub begins_well : List ℕ → Bool
 begins_well cs = nat_le 1 (length cs) && (nat_le (length cs) 1 || nat_lt 48 (slice_index cs 0))
 
--- the number below 2^32 that a text shows in decimal without leading zeros
+-- the number below 2^64 that a text shows in decimal without leading zeros
 unfoldable pub number_of : List ℕ → Option ℕ
 number_of cs = if begins_well cs then number_after 0 cs else None
 
@@ -37,13 +42,57 @@ account_of cs = do
   number ← number_of cs
   if is_account_number number then Some number else None
 
--- the refusal of a number
+-- the code of a number
+abbrev pub code_of_number : ℕ → Option ExprCode
+code_of_number number =
+    if number == 1 then Some code.Empty
+    else if number == 2 then Some code.BadTerm
+    else if number == 3 then Some code.Unbalanced
+    else if number == 4 then Some code.Mixed
+    else if number == 5 then Some code.BadValue
+    else if number == 6 then Some code.Zero
+    else if number == 7 then Some code.TooDeep
+    else if number == 8 then Some code.TooLong
+    else None
+
+-- the fault of an expression that fields tell: its code, then its place
+unfoldable pub expr_fault_of : List (List ℕ) → Option ExprFault
+expr_fault_of fields = do
+  number ← number_of (at fields 3)
+  what ← code_of_number number
+  place ← number_of (at fields 4)
+  Some (record { place = place; code = what })
+
+-- the fault of a file that is told by its number alone
+abbrev pub file_fault_of_number : ℕ → Option FileFault
+file_fault_of_number number =
+    if number == 1 then Some file.Toml
+    else if number == 2 then Some file.UnknownKey
+    else if number == 3 then Some file.Missing
+    else if number == 4 then Some file.BadName
+    else if number == 5 then Some file.Twice
+    else if number == 6 then Some file.BadValues
+    else if number == 8 then Some file.UnknownLabel
+    else if number == 9 then Some file.Limit
+    else None
+
+-- the fault of a file that fields tell
+unfoldable pub file_fault_of : List (List ℕ) → Option FileFault
+file_fault_of fields = do
+  number ← number_of (at fields 2)
+  if number == 7 then option_map (λ fault. file.Expr fault) (expr_fault_of fields) else file_fault_of_number number
+
+-- the refusal that is told by its number alone
 abbrev pub refusal_of_number : ℕ → Option Refusal
 refusal_of_number number =
     if number == 1 then Some UnknownCaller
     else if number == 2 then Some NotAdmin
+    else if number == 3 then Some NoProject
+    else if number == 4 then Some NoBranch
     else if number == 7 then Some NoAccount
+    else if number == 17 then Some CommitKnown
     else if number == 25 then Some NameTaken
+    else if number == 27 then Some LabelNarrowed
     else if number == 28 then Some Limit
     else None
 
@@ -51,7 +100,7 @@ refusal_of_number number =
 unfoldable pub refusal_of : List (List ℕ) → Option Refusal
 refusal_of fields = do
   number ← number_of (at fields 1)
-  refusal_of_number number
+  if number == 26 then option_map (λ fault. BadFile fault) (file_fault_of fields) else refusal_of_number number
 
 -- the stored reply that fields tell; further fields are not looked at
 unfoldable pub reply_of : List (List ℕ) → Option Reply

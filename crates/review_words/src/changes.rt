@@ -127,8 +127,8 @@ fn read_within(text: &str, most: u32) -> Result<u32, BadName>
     let Some(number) = read_number(text.as_bytes()) else {
         return Err(BadName::Form);
     };
-    if number == 0 || number > most {
+    if number == 0 || number > most as u64 {
         return Err(BadName::Form);
     }
-    Ok(number)
+    Ok(number as u32)
 }

@@ -1,14 +1,42 @@
 //! What may be asked of the desk.
 
+use crate::files::FileText;
 use crate::names::{AccountName, AccountNo, GroupName, Members, RequestId};
+use crate::places::{BranchName, CommitName, ProjectName};
 
 /// A change that a caller asks for.
 #[derive(Debug, Drop)]
 pub enum Command {
     /// A new account under a name that no account has; it gets the next number.
-    CreateAccount { name: AccountName },
+    CreateAccount {
+        name: AccountName,
+    },
     /// The members of a group, in place of those that it had.
-    PutGroup { group: GroupName, members: Members },
+    PutGroup {
+        group: GroupName,
+        members: Members,
+    },
+    /// The file of a project, in place of the one that it had; the first makes the project.
+    PutProject {
+        project: ProjectName,
+        file: FileText,
+    },
+    /// That a commit is in a branch already; the first makes the branch.
+    RecordBase {
+        project: ProjectName,
+        branch: BranchName,
+        commit: CommitName,
+    },
+}
+
+/// What a caller wants to know.
+#[derive(Debug, Drop)]
+pub enum Query {
+    /// The commits that are in a branch.
+    Branch {
+        project: ProjectName,
+        branch: BranchName,
+    },
 }
 
 /// What arrives at the desk. A write is identified by its caller and its id together.
@@ -19,5 +47,10 @@ pub enum Delivery {
         caller: AccountNo,
         id: RequestId,
         command: Command,
+    },
+    /// A query, which changes and stores nothing.
+    Read {
+        caller: AccountNo,
+        query: Query,
     },
 }

@@ -1,8 +1,11 @@
 //! The words of a review desk: names and numbers of fixed forms, commands, replies, and their texts.
 #![tactic(auto)]
 
+pub mod branches;
 pub mod changes;
 pub mod command;
+pub mod faults;
+pub mod files;
 pub mod forms;
 pub mod groups;
 pub mod keys;
@@ -14,8 +17,11 @@ pub mod places;
 pub mod reply;
 pub mod text;
 
+pub use branches::Bases;
 pub use changes::{ChangeNo, PatchNo};
-pub use command::{Command, Delivery};
+pub use command::{Command, Delivery, Query};
+pub use faults::{ExprCode, ExprFault, FileFault};
+pub use files::FileText;
 pub use forms::{Form, Name};
 pub use groups::{Groups, Paths};
 pub use laws::{content_tells, reply_tells};
@@ -28,5 +34,7 @@ pub use text::{BadReply, content_text, read_reply, reply_text};
 
 #[cfg(test)]
 mod form_tests;
+#[cfg(test)]
+mod project_tests;
 #[cfg(test)]
 mod tests;

@@ -220,7 +220,7 @@ pub(crate) fn read_account(bytes: &[u8]) -> Option<AccountNo>
     ensures account { result ≡ account_of bytes.now }
     ensures range { IfSome result (λ n. (1 ≤ n) × (n ≤ 1000000)) }
 {
-    AccountNo::from_number(read_number(bytes)? as u64)
+    AccountNo::from_number(read_number(bytes)?)
 }
 
 /// A set of accounts, at most 1,024. Contracts see its numbers in order, each once.

@@ -2,9 +2,9 @@
 ghost use Rattle.std.specs.Prelude.{◌≡◌};
 ghost use Rattle.review_words.specs.Reading.{number_of};
 
-/// The number below 2^32 that the bytes are the decimal of, without leading zeros.
+/// The number below 2^64 that the bytes are the decimal of, without leading zeros.
 #[tactic(auto, unfolding(crate::specs::Reading::number_of))]
-pub fn read_number(bytes: &[u8]) -> Option<u32>
+pub fn read_number(bytes: &[u8]) -> Option<u64>
     ensures { result ≡ number_of bytes.now }
 {
     if bytes.is_empty() || bytes.len() > 1 && bytes[0] <= b'0' {
@@ -15,11 +15,11 @@ pub fn read_number(bytes: &[u8]) -> Option<u32>
         if *byte < b'0' || *byte > b'9' {
             return None;
         }
-        let next = number * 10 + (*byte - b'0') as u64;
-        if next >= 4_294_967_296 {
+        let next = number as u128 * 10 + (*byte - b'0') as u128;
+        if next >= 18_446_744_073_709_551_616 {
             return None;
         }
-        number = next;
+        number = next as u64;
     }
-    Some(number as u32)
+    Some(number)
 }

@@ -3,15 +3,19 @@ ghost use Rattle.std.specs.Prelude.{◌≡◌};
 ghost use Rattle.review_words.specs.Texts.{refusal_number, refusal_name, refusal_status};
 ghost use Rattle.review_words.specs.Reading.{refusal_of_number};
 
+use crate::branches::Bases;
+use crate::faults::FileFault;
 use crate::names::AccountNo;
 use std::alloc::{AllocError, AllocFailed};
 
-/// What a command that was done gave.
-#[derive(Clone, Copy, Debug, PartialEq, Eq)]
+/// What a command that was done gave, or what a query found.
+#[derive(Debug, Drop, PartialEq, Eq)]
 pub enum Answer {
     /// The number of the new account.
     Account(AccountNo),
     Nothing,
+    /// The commits that were recorded as bases of the branch. It answers a query.
+    Branch(Bases),
 }
 
 /// Why a command was refused. A refusal is stored as the answer of its request.
@@ -21,10 +25,20 @@ pub enum Refusal {
     UnknownCaller,
     /// The caller isn't in the group `Administrators`.
     NotAdmin,
+    /// The project has no file.
+    NoProject,
+    /// The branch has no base.
+    NoBranch,
     /// An account that the command names isn't there.
     NoAccount,
+    /// The commit is a base of the branch already.
+    CommitKnown,
     /// The name is in use, or may not be put.
     NameTaken,
+    /// The text is no project file.
+    BadFile(FileFault),
+    /// A label of the project's old file, or a value of one, isn't in the new file.
+    LabelNarrowed,
     /// A limit of the desk is reached.
     Limit,
 }
@@ -61,8 +75,13 @@ impl Refusal {
         match self {
             Refusal::UnknownCaller => RefusalRow::new(1, "UNKNOWN_CALLER", 403),
             Refusal::NotAdmin => RefusalRow::new(2, "NOT_ADMIN", 403),
+            Refusal::NoProject => RefusalRow::new(3, "NO_PROJECT", 404),
+            Refusal::NoBranch => RefusalRow::new(4, "NO_BRANCH", 404),
             Refusal::NoAccount => RefusalRow::new(7, "NO_ACCOUNT", 404),
+            Refusal::CommitKnown => RefusalRow::new(17, "COMMIT_KNOWN", 409),
             Refusal::NameTaken => RefusalRow::new(25, "NAME_TAKEN", 409),
+            Refusal::BadFile(_) => RefusalRow::new(26, "BAD_FILE", 400),
+            Refusal::LabelNarrowed => RefusalRow::new(27, "LABEL_NARROWED", 409),
             Refusal::Limit => RefusalRow::new(28, "LIMIT", 409),
         }
     }
@@ -81,22 +100,27 @@ impl Refusal {
         self.row().name
     }
 
-    /// The HTTP status with which it is answered: 403, 404 or 409.
+    /// The HTTP status with which it is answered: 400, 403, 404 or 409.
     pub fn status(self) -> u16
         ensures { result ≡ refusal_status self }
     {
         self.row().status
     }
 
-    /// The refusal of a number, or none where no refusal has it.
-    pub(crate) fn from_number(number: u32) -> Option<Refusal>
+    /// The refusal of a number that is told by its number alone, or none where no such refusal
+    /// has it.
+    pub(crate) fn from_number(number: u64) -> Option<Refusal>
         ensures { result ≡ refusal_of_number number }
     {
         match number {
             1 => Some(Refusal::UnknownCaller),
             2 => Some(Refusal::NotAdmin),
+            3 => Some(Refusal::NoProject),
+            4 => Some(Refusal::NoBranch),
             7 => Some(Refusal::NoAccount),
+            17 => Some(Refusal::CommitKnown),
             25 => Some(Refusal::NameTaken),
+            27 => Some(Refusal::LabelNarrowed),
             28 => Some(Refusal::Limit),
             _ => None,
         }
@@ -119,7 +143,7 @@ pub enum NotTaken {
 }
 
 /// The answer to a delivery.
-#[derive(Clone, Copy, Debug, PartialEq, Eq)]
+#[derive(Debug, Drop, PartialEq, Eq)]
 pub enum Reply {
     Done(Answer),
     Refused(Refusal),

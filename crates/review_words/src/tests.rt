@@ -46,8 +46,12 @@ fn reply_texts(rt: HostRuntime) -> Result<(), Fail> {
         (Reply::Done(Answer::Nothing), "7:Nothing,"),
         (Reply::Refused(Refusal::UnknownCaller), "7:Refused,1:1,"),
         (Reply::Refused(Refusal::NotAdmin), "7:Refused,1:2,"),
+        (Reply::Refused(Refusal::NoProject), "7:Refused,1:3,"),
+        (Reply::Refused(Refusal::NoBranch), "7:Refused,1:4,"),
         (Reply::Refused(Refusal::NoAccount), "7:Refused,1:7,"),
+        (Reply::Refused(Refusal::CommitKnown), "7:Refused,2:17,"),
         (Reply::Refused(Refusal::NameTaken), "7:Refused,2:25,"),
+        (Reply::Refused(Refusal::LabelNarrowed), "7:Refused,2:27,"),
         (Reply::Refused(Refusal::Limit), "7:Refused,2:28,"),
     ] {
         let written = reply_text(alloc, &reply)?;
@@ -75,7 +79,7 @@ fn no_reply_texts(rt: HostRuntime) {
         "7:Account,",
         "7:Nothing,0:,",
         "7:nothing,",
-        "7:Refused,1:3,",
+        "7:Refused,1:5,",
         "7:Refused,2:+1,",
         "8:Nothing,",
         "99999999999:Nothing,",
@@ -193,8 +197,13 @@ fn refusals(rt: HostRuntime) {
     for (refusal, number, name, status) in [
         (Refusal::UnknownCaller, 1, "UNKNOWN_CALLER", 403),
         (Refusal::NotAdmin, 2, "NOT_ADMIN", 403),
+        (Refusal::NoProject, 3, "NO_PROJECT", 404),
+        (Refusal::NoBranch, 4, "NO_BRANCH", 404),
         (Refusal::NoAccount, 7, "NO_ACCOUNT", 404),
+        (Refusal::CommitKnown, 17, "COMMIT_KNOWN", 409),
         (Refusal::NameTaken, 25, "NAME_TAKEN", 409),
+        (Refusal::BadFile(FileFault::Toml), 26, "BAD_FILE", 400),
+        (Refusal::LabelNarrowed, 27, "LABEL_NARROWED", 409),
         (Refusal::Limit, 28, "LIMIT", 409),
     ] {
         assert_eq!(rt; refusal.number(), number);

@@ -15,7 +15,7 @@ returns-in_default-clause-form c =
 pub returns-then-number-eq0-clause-form : goal.returns-then-number-eq0-clause-form
 returns-then-number-eq0-clause-form c =
     let read : number_of c.args.text.now ≡ Some c.in-Some.number = ap number_of (sym c.as_bytes.ensures.value) ∙ sym c.read_number.ensures ∙ c.in-Some.is in
-    let low : c.args.most < 4294967296 = omega arith in
+    let low : c.args.most < 18446744073709551616 = omega arith in
     elim c.then-number-eq0.branch [
       | then-number-eq0-via-then-number-eq0 w ↦ (refl, λ n. zero_read c.args.most n c.in-Some.number c.args.text.now low read w.if-number-eq0.true)
       | then-number-eq0-via-else-number-eq0+then-number-most w ↦ (refl, λ n. more_read c.args.most n c.in-Some.number c.args.text.now low read w.if-number-most.true)

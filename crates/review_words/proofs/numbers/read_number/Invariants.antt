@@ -5,5 +5,5 @@ use Rattle.review_words.proofs.numbers.read_number.Given as goal
 abbrev pub invariant-loop-byte : goal.invariant-loop-byte
 invariant-loop-byte l = record {
   rest : number_after l.number (drop l.byte-index l.bytes) ≡ number_after 0 l.bytes;
-  fits : l.number < 4294967296;
+  fits : l.number < 18446744073709551616;
 }

@@ -5,6 +5,8 @@ pub returns-clause-done : goal.returns-clause-done
 returns-clause-done c = record {
   accounts = c.apply.ensures.all c.requires.room.accounts;
   members = c.apply-2.ensures.all c.requires.room.members;
-  answers = c.apply-3.ensures.all c.requires.room.answers;
+  files = c.apply-3.ensures.all c.requires.room.files;
+  projects_are = refl;
+  answers = c.apply-4.ensures.all c.requires.room.answers;
   requests = refl;
 }

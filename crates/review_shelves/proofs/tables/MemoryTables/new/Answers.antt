@@ -1,4 +1,4 @@
-use Rattle.std.proofs.Common.{◌∙◌, ap, cond, Some}
+use Rattle.std.proofs.Common.{◌∙◌, ◌≤◌, ap, sym, subst, cond, Some, arith}
 use Rattle.std.specs.Ordering.{nat_cmp}
 use Rattle.std.specs.BTreeMap.{is_at}
 use Rattle.review_table.specs.Rows.{row_in, rows_of}
@@ -6,17 +6,18 @@ use Rattle.review_rows.specs.declared.rows.MemberKey.{MemberKey}
 use Rattle.review_rows.specs.Rows.{member_cmp}
 use Rattle.review_shelves.specs.declared.keys.NameKey.{NameKey}
 use Rattle.review_shelves.specs.Desk.{name_cmp}
+use Rattle.review_shelves.specs.Branches.{BranchesView, total_in}
 use Rattle.review_shelves.proofs.First.{HasAccount, HasName, HasMember, first_indexed, first_numbered, first_view}
 use Rattle.review_shelves.proofs.tables.MemoryTables.new.Goals as goal
 
-account : (c : goal.After-new) → HasAccount (rows_of c.put.new.self)
+account : (c : goal.After-new-3) → HasAccount (rows_of c.put.new.self)
 account c = λ q. c.in_ok-put.ensures.ok q ∙ (λ i. cond (is_at (nat_cmp (c.first.ensures i)) q) (Some (c.in_ok-admin_name.ensures i)) (row_in nat_cmp (rows_of (c.new-accounts.ensures i)) q))
 
-named : (c : goal.After-new) → HasName (rows_of c.put-2.new.self)
+named : (c : goal.After-new-3) → HasName (rows_of c.put-2.new.self)
 named c = λ q. c.in_ok-put-2.ensures.ok q
     ∙ (λ i. let k : NameKey = record { name = c.in_ok-admin_name-2.ensures i; account = c.first-2.ensures i } in cond (is_at (name_cmp k) q) (Some tt) (row_in name_cmp (rows_of (c.new-names.ensures i)) q))
 
-member : (c : goal.After-new) → HasMember (rows_of c.put-3.new.self)
+member : (c : goal.After-new-3) → HasMember (rows_of c.put-3.new.self)
 member c = λ q. c.in_ok-put-3.ensures.ok q
     ∙ (λ i. let k : MemberKey = record { group = c.in_ok-administrators.ensures i; account = c.first-3.ensures i } in cond (is_at (member_cmp k) q) (Some tt) (row_in member_cmp (rows_of (c.new-members.ensures i)) q))
 
@@ -24,7 +25,20 @@ pub returns-clause-sound : goal.returns-clause-sound
 returns-clause-sound c = record {
   indexed = first_indexed (rows_of c.put.new.self) (rows_of c.put-2.new.self) (account c) (named c);
   numbered = first_numbered (rows_of c.put-3.new.self) (member c);
+  bounded = record {
+    projects = omega arith;
+    bases = λ p. subst (λ (b : BranchesView). total_in b.totals p ≤ 0) (sym c.new-2.ensures) (omega arith);
+  };
 }
 
 pub returns-clause-view : goal.returns-clause-view
-returns-clause-view c = first_view (rows_of c.put.new.self) (rows_of c.put-3.new.self) (rows_of c.new.result) (account c) (member c) (ap rows_of c.new.ensures)
+returns-clause-view c = first_view (rows_of c.put.new.self) (rows_of c.put-3.new.self) _ (account c) (member c)
+    (λ i. record {
+      accounts = rows_of c.put.new.self;
+      members = rows_of c.put-3.new.self;
+      files = rows_of (c.new.ensures i);
+      branches = c.new-2.ensures i;
+      projects = 0;
+      answers = rows_of (c.new-3.ensures i);
+      requests = 0;
+    })

@@ -14,8 +14,8 @@ returns-then-is_found c =
     let self = c.args.self.now in
     let path = c.path-item.result in
     let bytes : All (λ x. x < 256) path = rw (← c.as_str.ensures.text) c.is_found.ensures.bytes in
-    let held : IsHeld self c.self.inside.whole = rw (← c.self.view_is) c.self.invariant in
-    let whole = whole_of self c.self.inside.whole _ _ held c.loop-path.invariant.same c.in_ok-matcher.ensures.pattern path bytes in
+    let held : IsHeld self c.self.inside.whole.value = rw (← c.self.view_is) c.self.invariant in
+    let whole = whole_of self c.self.inside.whole.value _ _ held c.loop-path.invariant.same (rw c.deref.ensures at c.in_ok-matcher.ensures.pattern) path bytes in
     let met : matches_whole self path ≡ true = sym whole ∙ sym (rw c.as_str.ensures.text at c.is_found.ensures.found) ∙ c.if-is_found.true in
     found_at (matches_whole self) c.args.paths.now c.loop-path.path-index path path _ c.loop-path-test.true (sym c.path-item.is) met c.loop-path.invariant.left
 
@@ -24,8 +24,8 @@ loop-path-preserved c =
     let self = c.args.self.now in
     let path = c.path-item.result in
     let bytes : All (λ x. x < 256) path = rw (← c.as_str.ensures.text) c.is_found.ensures.bytes in
-    let held : IsHeld self c.self.inside.whole = rw (← c.self.view_is) c.self.invariant in
-    let whole = whole_of self c.self.inside.whole _ _ held c.loop-path.invariant.same c.in_ok-matcher.ensures.pattern path bytes in
+    let held : IsHeld self c.self.inside.whole.value = rw (← c.self.view_is) c.self.invariant in
+    let whole = whole_of self c.self.inside.whole.value _ _ held c.loop-path.invariant.same (rw c.deref.ensures at c.in_ok-matcher.ensures.pattern) path bytes in
     let unmet : matches_whole self path ≡ false = sym whole ∙ sym (rw c.as_str.ensures.text at c.is_found.ensures.found) ∙ c.if-is_found.false in
     record {
       same = c.is_found.ensures.same ∙ c.loop-path.invariant.same;
