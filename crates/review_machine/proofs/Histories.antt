@@ -51,24 +51,46 @@ all_pass (c ∷ cs) none =
     (λ (f : c.0 ≡ false). let some = sym (ap (λ b. cond b (first_refusal cs) (Some c.1)) f) ∙ none in absurd (cc))
     (cases_Bool c.0)
 
-pub refused_or_stored : (o : Option Refusal) → IsStored (refused_or o Nothing)
-refused_or_stored None = tt
-refused_or_stored (Some r) = tt
+-- the refusals of checks are stored
+abbrev AllStored : List (Bool × Refusal) → Type 0
+AllStored [] = Unit {0}
+AllStored (c ∷ cs) = IsStored (Refused c.1) × AllStored cs
+
+first_stored : (cs : List (Bool × Refusal)) (r : Refusal) → AllStored cs → first_refusal cs ≡ Some r → IsStored (Refused r)
+first_stored [] r all is = absurd (cc)
+first_stored (c ∷ cs) r all is =
+    ⊎_elim
+    (λ (t : c.0 ≡ true). first_stored cs r all.1 (sym (ap (λ b. cond b (first_refusal cs) (Some c.1)) t) ∙ is))
+    (λ (f : c.0 ≡ false).
+    let some : Some c.1 ≡ Some r = sym (ap (λ b. cond b (first_refusal cs) (Some c.1)) f) ∙ is in
+    let same : c.1 ≡ r = cc in subst (λ x. IsStored (Refused x)) same all.0)
+    (cases_Bool c.0)
+
+checks_stored : (h : List Entry) (caller : ℕ) (command : Command) → AllStored (checks h caller command)
+checks_stored h caller (CreateAccount name) = (tt, (tt, (tt, tt)))
+checks_stored h caller (PutGroup group members) = (tt, (tt, (tt, tt)))
+checks_stored h caller (PutProject project text) = (tt, tt)
+checks_stored h caller (RecordBase project branch commit) = (tt, (tt, (tt, (tt, tt))))
+
+refused_or_stored : (o : Option Refusal) → ((r : Refusal) → o ≡ Some r → IsStored (Refused r)) → IsStored (refused_or o Nothing)
+refused_or_stored None stored = tt
+refused_or_stored (Some r) stored = stored r refl
 
 outcome_stored : (h : List Entry) (caller : ℕ) (command : Command) (reply : Reply) → AllPass (checks h caller command) → IsOutcome h command reply → IsStored reply
 outcome_stored h caller (CreateAccount name) reply all is =
-    let below = ltb-true (account_count h) 1000000 all.2.0 in subst IsStored (sym is) (omega arith, omega arith)
+    let below = ltb-true (account_count h) 1000000 all.1.1.0 in subst IsStored (sym is) (omega arith, omega arith)
 outcome_stored h caller (PutGroup group members) reply all is = subst IsStored (sym is) tt
 outcome_stored h caller (RecordBase project branch commit) reply all is = subst IsStored (sym is) tt
-outcome_stored h caller (PutProject project text) reply all (inl f) = subst IsStored (sym f.2) tt
-outcome_stored h caller (PutProject project text) reply all (inr f) = subst IsStored (sym f.4) (refused_or_stored (first_refusal (file_checks h project f.1 f.0)))
+outcome_stored h caller (PutProject project text) reply all (inl f) = subst IsStored (sym f.3) f.2
+outcome_stored h caller (PutProject project text) reply all (inr f) =
+    subst IsStored (sym f.4) (refused_or_stored (first_refusal (file_checks h project f.1 f.0)) (λ r is. first_stored (file_checks h project f.1 f.0) r (tt, (tt, tt)) is))
 
 pub answer_stored : (h : List Entry) (caller : ℕ) (command : Command) (reply : Reply) → IsAnswer h caller command reply → IsStored reply
 answer_stored h caller command reply is = at (refused_by h caller command) refl is
   where
     at : (o : Option Refusal) → refused_by h caller command ≡ o → MatchOption o (IsOutcome h command reply) (λ refusal. reply ≡ Refused refusal) → IsStored reply
     at None none is = outcome_stored h caller command reply (all_pass ((is_account h caller, UnknownCaller) ∷ checks h caller command) none).1 is
-    at (Some r) some is = subst IsStored (sym is) tt
+    at (Some r) some is = subst IsStored (sym is) (first_stored ((is_account h caller, UnknownCaller) ∷ checks h caller command) r (tt, checks_stored h caller command) some)
 
 pub history_length : (h : List Entry) → IsHistory h → length h ≤ most_requests
 history_length [] hist = omega arith

@@ -2,7 +2,9 @@ pub mod Histories
 pub mod Served
 pub mod Effects
 pub mod Going
+pub mod Outcomes
 pub mod Restarting
 pub mod Members
 pub mod Settings
 pub mod Decided
+pub mod Asked

@@ -6,13 +6,15 @@ use mathlib.Core.List.{append_assoc}
 use Rattle.review_words.specs.Texts.{IsStored}
 use Rattle.review_words.specs.declared.command.Command.{Command}
 use Rattle.review_words.specs.declared.command.Delivery.{Delivery}
-use Rattle.review_words.specs.declared.command.Delivery.TheVariants.{Write}
+use Rattle.review_words.specs.declared.command.Delivery.TheVariants.{Write, Read}
 use Rattle.review_words.specs.declared.reply.Reply.{Reply}
 use Rattle.review_words.specs.declared.reply.Reply.TheVariants.{Done, Refused, IdentityReused, NotTaken}
 use Rattle.review_words.specs.History.{Entry, Identity, stored, is_same}
-use Rattle.review_rows.specs.Answer.{IsHistory, IsAnswer}
+use Rattle.review_rows.specs.Answer.{IsHistory, IsAnswer, IsOutcome, refused_by}
+use Rattle.review_words.specs.declared.reply.Refusal.{Refusal}
+use Rattle.review_machine.proofs.Outcomes.{one_outcome}
 use Rattle.review_machine.specs.Replies.{IsTold, IsRight, AreRight, IsToldOfStored, history_after, with_entries as hist, has_identity, first_arrivals as first, arrivals_after as first_after, taken, with_taken, entry_of}
-use Rattle.review_machine.specs.Restart.{WasTaken, WereTaken, AgreeFor, AgreeOnWrites, RestartCompletes, RestartKeepsHistory, RepliesFollowHistory}
+use Rattle.review_machine.specs.Restart.{IsSettled, AreSettled, WasTaken, WereTaken, AgreeFor, AgreeOnWrites, RestartCompletes, RestartKeepsHistory, RepliesFollowHistory}
 use Rattle.review_machine.proofs.Histories.{answer_stored, stored_stays, stored_here, stored_there, same_to}
 use Rattle.review_machine.proofs.Served.{new_history, same_history, same_command}
 use Rattle.review_machine.proofs.Going.{HasSince, since_old, since_new, or_false, with_taken-append, first-append}
@@ -44,31 +46,37 @@ one_repeat : (e : Entry) (command : Command) (r s : Reply) → IsToldOfStored e 
 one_repeat e command r s a b =
     ⊎_elim (λ (c : command ≡ e.command). a.equal c ∙ sym (b.equal c)) (λ (n : command ≡ e.command → ⊥). a.other n ∙ sym (b.other n)) (same_command command e.command)
 
--- one answer to each command, while none leaves a choice
-one_answer : (h : List Entry) (caller : ℕ) (command : Command) (r s : Reply) → IsAnswer h caller command r → IsAnswer h caller command s → r ≡ s
-one_answer h caller command r s a b = a ∙ sym b
+-- one answer to each command that leaves no choice
+one_answer : (h : List Entry) (caller : ℕ) (id : List ℕ) (command : Command) (r s : Reply) → IsSettled (Write caller id command) → IsAnswer h caller command r → IsAnswer h caller command s → r ≡ s
+one_answer h caller id command r s settled a b = at (refused_by h caller command) a b
+  where
+    at : (o : Option Refusal) → MatchOption o (IsOutcome h command r) (λ x. r ≡ Refused x) → MatchOption o (IsOutcome h command s) (λ x. s ≡ Refused x) → r ≡ s
+    at None a b = one_outcome h caller id command r s settled a b
+    at (Some x) a b = a ∙ sym b
 
 -- one right reply
-one_told : (h : List Entry) (d : Delivery) (r s : Reply) → IsTold h d r → IsTold h d s → r ≡ s
-one_told h (Write caller id command) r s a b = at (stored h (record { caller = caller; id = id })) refl
+one_told : (h : List Entry) (d : Delivery) (r s : Reply) → IsSettled d → IsTold h d r → IsTold h d s → r ≡ s
+one_told h (Read caller query) r s settled a b = a ∙ sym b
+one_told h (Write caller id command) r s settled a b = at (stored h (record { caller = caller; id = id })) refl
   where
     at : (o : Option Entry) → stored h (record { caller = caller; id = id }) ≡ o → r ≡ s
-    at None is = one_answer h caller command r s (told_at h caller id command r None is a) (told_at h caller id command s None is b)
+    at None is = one_answer h caller id command r s settled (told_at h caller id command r None is a) (told_at h caller id command s None is b)
     at (Some e) is = one_repeat e command r s (told_at h caller id command r (Some e) is a) (told_at h caller id command s (Some e) is b)
 
 agrees : (d : Delivery) (r s : Reply) → r ≡ s → AgreeFor d r s
+agrees (Read caller query) r s e = tt
 agrees (Write caller id command) r s e = e
 
 -- from one history, everything is the same
-same_run : (h : List Entry) (ds : List Delivery) (rs ss : List Reply) → AreTold h ds rs → AreTold h ds ss → AgreeOnWrites ds rs ss × (history_after h ds ss ≡ history_after h ds rs)
-same_run h [] [] [] a b = (tt, refl)
-same_run h [] (r ∷ rs) ss a b = absurd a
-same_run h [] [] (s ∷ ss) a b = absurd b
-same_run h (d ∷ ds) [] ss a b = absurd a
-same_run h (d ∷ ds) (r ∷ rs) [] a b = absurd b
-same_run h (d ∷ ds) (r ∷ rs) (s ∷ ss) a b =
-    let e = one_told h d r s a.1 b.1 in
-    let rest = same_run (history_after h (d ∷ []) (r ∷ [])) ds rs ss a.2 (subst (λ x. AreTold (history_after h (d ∷ []) (x ∷ [])) ds ss) (sym e) b.2) in (
+same_run : (h : List Entry) (ds : List Delivery) (rs ss : List Reply) → AreSettled ds → AreTold h ds rs → AreTold h ds ss → AgreeOnWrites ds rs ss × (history_after h ds ss ≡ history_after h ds rs)
+same_run h [] [] [] settled a b = (tt, refl)
+same_run h [] (r ∷ rs) ss settled a b = absurd a
+same_run h [] [] (s ∷ ss) settled a b = absurd b
+same_run h (d ∷ ds) [] ss settled a b = absurd a
+same_run h (d ∷ ds) (r ∷ rs) [] settled a b = absurd b
+same_run h (d ∷ ds) (r ∷ rs) (s ∷ ss) settled a b =
+    let e = one_told h d r s settled.0 a.1 b.1 in
+    let rest = same_run (history_after h (d ∷ []) (r ∷ [])) ds rs ss settled.1 a.2 (subst (λ x. AreTold (history_after h (d ∷ []) (x ∷ [])) ds ss) (sym e) b.2) in (
       (agrees d r s e, rest.0),
       history_cons h d ds s ss ∙ ap (λ x. history_after (history_after h (d ∷ []) (x ∷ [])) ds ss) (sym e) ∙ rest.1 ∙ sym (history_cons h d ds r rs),
     )
@@ -76,6 +84,7 @@ same_run h (d ∷ ds) (r ∷ rs) (s ∷ ss) a b =
 -- a delivery of the part that stood gets the same reply again, and changes nothing
 again : (g h more : List Entry) (d : Delivery) (r s : Reply) → IsHistory h → h ≡ more ++ history_after g (d ∷ []) (r ∷ []) → IsTold g d r → IsTold h d s →
     AgreeFor d r s × (history_after h (d ∷ []) (s ∷ []) ≡ h)
+again g h more (Read caller query) r s hist is a b = (tt, refl)
 again g h more (Write caller id command) r s hist is a b = at (stored g i) refl
   where
     i : Identity
@@ -99,23 +108,23 @@ again g h more (Write caller id command) r s hist is a b = at (stored g i) refl
         (one_repeat e command r s (told_at g caller id command r (Some e) old a) (told_at h caller id command s (Some e) some b), same_history h caller id command s e some)
 
 restart_told : (h0 h : List Entry) (ds1 ds2 : List Delivery) (rs1 rs2 ss : List Reply) →
-    IsHistory h → h ≡ history_after h0 ds1 rs1 → length rs1 ≡ length ds1 → AreTold h0 (ds1 ++ ds2) (rs1 ++ rs2) → AreTold h (ds1 ++ ds2) ss →
+    IsHistory h → h ≡ history_after h0 ds1 rs1 → length rs1 ≡ length ds1 → AreSettled ds2 → AreTold h0 (ds1 ++ ds2) (rs1 ++ rs2) → AreTold h (ds1 ++ ds2) ss →
     AgreeOnWrites (ds1 ++ ds2) (rs1 ++ rs2) ss × (history_after h (ds1 ++ ds2) ss ≡ history_after h0 (ds1 ++ ds2) (rs1 ++ rs2))
-restart_told g h [] ds2 [] rs2 ss hist is same a b = same_run' g h ds2 rs2 ss is a b
+restart_told g h [] ds2 [] rs2 ss hist is same settled a b = same_run' g h ds2 rs2 ss settled is a b
   where
-    same_run' : (g h : List Entry) (ds : List Delivery) (rs ss : List Reply) → h ≡ g → AreTold g ds rs → AreTold h ds ss → AgreeOnWrites ds rs ss × (history_after h ds ss ≡ history_after g ds rs)
-    same_run' g h ds rs ss is a b =
-        let s = same_run g ds rs ss a (subst (λ x. AreTold x ds ss) is b) in
+    same_run' : (g h : List Entry) (ds : List Delivery) (rs ss : List Reply) → AreSettled ds → h ≡ g → AreTold g ds rs → AreTold h ds ss → AgreeOnWrites ds rs ss × (history_after h ds ss ≡ history_after g ds rs)
+    same_run' g h ds rs ss settled is a b =
+        let s = same_run g ds rs ss settled a (subst (λ x. AreTold x ds ss) is b) in
         (s.0, ap (λ x. history_after x ds ss) is ∙ s.1)
-restart_told g h [] ds2 (r ∷ rs1) rs2 ss hist is same a b = absurd (omega arith)
-restart_told g h (d ∷ ds1) ds2 [] rs2 ss hist is same a b = absurd (omega arith)
+restart_told g h [] ds2 (r ∷ rs1) rs2 ss hist is same settled a b = absurd (omega arith)
+restart_told g h (d ∷ ds1) ds2 [] rs2 ss hist is same settled a b = absurd (omega arith)
 restart_told g h (d ∷ ds1) ds2 (r ∷ rs1) rs2 [] hist is same a b = absurd b
 restart_told g h (d ∷ ds1) ds2 (r ∷ rs1) rs2 (s ∷ ss) hist is same a b =
     let g1 = history_after g (d ∷ []) (r ∷ []) in
     let later : h ≡ history_after g1 ds1 rs1 = is ∙ history_cons g d ds1 r rs1 in
     let more = grown g1 (first g1 (taken ds1 rs1)) in
     let one = again g h more.0 d r s hist (later ∙ more.1) a.1 b.1 in
-    let rest = restart_told g1 h ds1 ds2 rs1 rs2 ss hist later (omega arith) a.2 (subst (λ x. AreTold x (ds1 ++ ds2) ss) one.1 b.2) in (
+    let rest = restart_told g1 h ds1 ds2 rs1 rs2 ss hist later (omega arith) settled a.2 (subst (λ x. AreTold x (ds1 ++ ds2) ss) one.1 b.2) in (
       (one.0, rest.0),
       history_cons h d (ds1 ++ ds2) s ss ∙ ap (λ x. history_after x (ds1 ++ ds2) ss) one.1 ∙ rest.1 ∙ sym (history_cons g d (ds1 ++ ds2) r (rs1 ++ rs2)),
     )
@@ -162,6 +171,7 @@ keeps_history h0 es1 es2 =
 
 -- the reply that a history has for a write
 abbrev IsToldBy : List Entry → Delivery → Reply → Type 0
+IsToldBy h (Read caller query) reply = Unit {0}
 IsToldBy h (Write caller id command) reply = MatchOption (stored h (record { caller = caller; id = id })) ⊥ (λ e. IsToldOfStored e command reply)
 
 abbrev AreToldBy : List Entry → List Delivery → List Reply → Type 0
@@ -170,6 +180,7 @@ AreToldBy h (d ∷ ds) [] = Unit {0}
 AreToldBy h (d ∷ ds) (r ∷ rs) = IsToldBy h d r × AreToldBy h ds rs
 
 told_by : (g h more : List Entry) (d : Delivery) (r : Reply) → IsHistory h → h ≡ more ++ history_after g (d ∷ []) (r ∷ []) → IsTold g d r → IsToldBy h d r
+told_by g h more (Read caller query) r hist is a = tt
 told_by g h more (Write caller id command) r hist is a = at (stored g (record { caller = caller; id = id })) refl
   where
     stays : (e : Entry) → stored (history_after g (Write caller id command ∷ []) (r ∷ [])) (record { caller = caller; id = id }) ≡ Some e → IsToldOfStored e command r → IsToldBy h (Write caller id command) r
@@ -198,6 +209,7 @@ all_told_by g h (d ∷ ds) (r ∷ rs) hist is a =
     (told_by g h more.0 d r hist (later ∙ more.1) a.1, all_told_by g1 h ds rs hist later a.2)
 
 both_told : (h : List Entry) (d : Delivery) (r s : Reply) → IsToldBy h d r → IsToldBy h d s → AgreeFor d r s
+both_told h (Read caller query) r s a b = tt
 both_told h (Write caller id command) r s a b = at (stored h (record { caller = caller; id = id })) a b
   where
     at : (o : Option Entry) → MatchOption o ⊥ (λ e. IsToldOfStored e command r) → MatchOption o ⊥ (λ e. IsToldOfStored e command s) → r ≡ s

@@ -207,7 +207,7 @@ grows_or_stays h (Write caller id command) reply before after right = at (stored
         ((stored h (record { caller = caller; id = id }) ≡ None) × IsStored reply) ⊎ (history_after h (Write caller id command ∷ []) (reply ∷ []) ≡ h)
     at (Some e) some reply right = inr (same_history h caller id command reply e some)
     at None none (Done a) right = inl (none, kept none (Done a) right.0)
-    at None none (Refused r) right = inl (none, tt)
+    at None none (Refused r) right = inl (none, kept none (Refused r) right.0)
     at None none (NotTaken c) right = inr refl
     at None none IdentityReused right = absurd (kept none IdentityReused right.0)
 

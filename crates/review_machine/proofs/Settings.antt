@@ -7,7 +7,7 @@ use Rattle.std.proofs.lemmas.Bool.Decides.{nat_tests}
 use Rattle.std.proofs.lemmas.Slice.Eq.{bytes_eq-Decides}
 use Rattle.review_words.specs.Names.{admin_name}
 use Rattle.review_words.specs.declared.command.Command.{Command}
-use Rattle.review_words.specs.declared.command.Command.TheVariants.{CreateAccount, PutGroup}
+use Rattle.review_words.specs.declared.command.Command.TheVariants.{CreateAccount, PutGroup, PutProject, RecordBase}
 use Rattle.review_words.specs.History.{Entry, accepted, counted, named, is_named, account_count, name_of, name_taken, is_account}
 use Rattle.review_rows.specs.Rows.{AccountKey, AccountRow, IsFoundByName, IsLastAccount}
 use Rattle.review_rows.specs.View.{fact}
@@ -31,6 +31,8 @@ named_step : (o : Option Command) (n c : ℕ) (before : Option (List ℕ)) → i
     is_some (named o n (c + 1) before) ≡ (nat_le 1 n && nat_le n (counted o c))
 named_step (Some (CreateAccount name)) n c before e = some_cond (n == c + 1) name before ∙ (ap (λ b. (n == c + 1) || b) e ∙ one_more n c)
 named_step (Some (PutGroup group members)) n c before e = e
+named_step (Some (PutProject project file)) n c before e = e
+named_step (Some (RecordBase project branch commit)) n c before e = e
 named_step None n c before e = e
 
 -- an account has a name
@@ -45,6 +47,8 @@ some_account (e ∷ h) = step (accepted e) (account_count h) (some_account h)
     step : (o : Option Command) (n : ℕ) → 1 ≤ n → 1 ≤ counted o n
     step (Some (CreateAccount name)) n p = omega arith
     step (Some (PutGroup group members)) n p = p
+    step (Some (PutProject project file)) n p = p
+    step (Some (RecordBase project branch commit)) n p = p
     step None n p = p
 
 -- the next number has no name yet
@@ -75,6 +79,8 @@ taken_step (Some (CreateAccount given)) n next name before was taken some =
     or_true true = refl
     or_true false = refl
 taken_step (Some (PutGroup group members)) n next name before was taken some = taken some
+taken_step (Some (PutProject project file)) n next name before was taken some = taken some
+taken_step (Some (RecordBase project branch commit)) n next name before was taken some = taken some
 taken_step None n next name before was taken some = taken some
 
 pub name_is_taken : (h : List Entry) (n : ℕ) (name : List ℕ) → name_of h n ≡ Some name → name_taken h name ≡ true
@@ -101,6 +107,8 @@ free_step (Some (CreateAccount given)) h name found taken =
     (r.0, ap (λ b. cond b (Some given) (name_of h r.0)) (next_unnamed h r.0 name r.1) ∙ r.1))
     (cases_Bool (bytes_eq given name))
 free_step (Some (PutGroup group members)) h name found taken = found taken
+free_step (Some (PutProject project file)) h name found taken = found taken
+free_step (Some (RecordBase project branch commit)) h name found taken = found taken
 free_step None h name found taken = found taken
 
 pub taken_name_is : (h : List Entry) (name : List ℕ) → name_taken h name ≡ true → (n : ℕ) × (name_of h n ≡ Some name)

@@ -1,15 +1,36 @@
 -- What a command wants of the tables, and what it changes in a group.
-use Rattle.std.specs.Prelude.{ℕ, ◌≡◌, List, [], ◌∷◌, Some, None, Bool, false, not, map, ◌&&◌, ◌==◌, is_some}
+use Rattle.std.specs.Prelude.{ℕ, ◌≡◌, ◌⊎◌, IsSomeAnd, List, [], ◌∷◌, Some, None, Bool, false, not, map, ◌&&◌, ◌==◌, is_some}
 use Rattle.std.specs.declared.cmp.Ordering.{Ordering}
 use Rattle.std.specs.Ordering.{nat_cmp}
 use Rattle.std.specs.List.{filter, list_any}
 use Rattle.std.specs.Str.{bytes_eq}
 use Rattle.review_table.specs.Rows.{row_in, change_of}
 use Rattle.review_table.specs.declared.table.Change.{Change}
+use Rattle.review_words.specs.declared.command.Command.{Command}
+use Rattle.review_words.specs.declared.command.Command.TheVariants.{PutProject}
+use Rattle.review_words.specs.declared.reply.NotTaken.{NotTaken as Cause}
+use Rattle.review_words.specs.declared.reply.NotTaken.TheVariants.{Memory, Pattern, Damaged}
+use Rattle.review_words.specs.History.{Entry, file_text}
+use Rattle.review_rows.specs.Files.{HasPattern}
+use Rattle.review_rows.specs.Answer.{IsHistory}
+use Rattle.review_rows.specs.View.{IsLoaded, needed}
+use Rattle.review_rows.specs.declared.rows.Rows.{Rows}
 use Rattle.review_rows.specs.declared.rows.MemberKey.{MemberKey as Member}
 use Rattle.review_rows.specs.declared.rows.Delta.{Delta}
 use Rattle.review_rows.specs.declared.rows.Need.{Need}
 use Rattle.review_rows.specs.Rows.{Key, Wanted, member_cmp}
+
+-- The command reads a project file with a pattern: that which is put, or that of its project.
+abbrev pub ReadsPattern : List Entry → Command → Type 0
+ReadsPattern h (PutProject project text) = HasPattern text ⊎ IsSomeAnd (file_text h project) HasPattern
+ReadsPattern h command = ⊥
+
+-- Why a command is not decided: want of memory, a pattern that the engine refuses in a file that the command reads, or rows that are those of no history.
+abbrev pub IsUndecided : ℕ → Command → Rows → Cause → Type 0
+IsUndecided caller command rows Memory = Unit {0}
+IsUndecided caller command rows Pattern = (h : List Entry) → IsHistory h → IsLoaded h (needed caller command) rows → ReadsPattern h command
+IsUndecided caller command rows Damaged = (h : List Entry) → IsHistory h → IsLoaded h (needed caller command) rows → ⊥
+IsUndecided caller command rows _ = ⊥
 
 -- the same is wanted
 pub record WantsAs (one other : Wanted) : Type 0 where

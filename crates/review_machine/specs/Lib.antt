@@ -1,3 +1,4 @@
 pub mod Decisions
+pub mod Files
 pub mod Replies
 pub mod Restart

@@ -2,17 +2,17 @@
 use Rattle.std.specs.Prelude.{ℕ, ◌<◌, ◌≤◌, ◌≡◌, List, [], ◌∷◌, ◌++◌, Option, Some, None, Bool, ◌||◌, is_some, length, take, slice_index_or, Result, Ok, Err, ◌+◌, if◌then◌else◌, ◌⊎◌, MatchOption}
 use Rattle.review_words.specs.declared.command.Command.{Command}
 use Rattle.review_words.specs.declared.command.Delivery.{Delivery}
-use Rattle.review_words.specs.declared.command.Command.TheVariants.{PutProject}
 use Rattle.review_words.specs.declared.command.Delivery.TheVariants.{Write, Read}
 use Rattle.review_words.specs.declared.reply.Reply.{Reply}
 use Rattle.review_words.specs.declared.reply.Reply.TheVariants.{Done, Refused, IdentityReused, NotTaken}
 use Rattle.review_words.specs.declared.reply.NotTaken.{NotTaken as Cause}
 use Rattle.review_words.specs.declared.reply.NotTaken.TheVariants.{Memory, Store, Damaged, Pattern, Full}
-use Rattle.review_words.specs.History.{Entry, Identity, stored, is_same, file_text}
+use Rattle.review_words.specs.History.{Entry, Identity, stored, is_same}
 use Rattle.review_words.specs.Texts.{content_text, reply_text, IsStored}
 use Rattle.review_rows.specs.Answer.{IsHistory, IsAnswer, query_answer, most_requests}
 use Rattle.review_rows.specs.Rows.{Key, Count, Tables, AnswerRow}
 use Rattle.review_rows.specs.View.{IsView, answer_row}
+use Rattle.review_machine.specs.Decisions.{ReadsPattern}
 use Rattle.review_rows.specs.Shelf.{greatest_count, Shown, Shows, Views, StaysOrShuts, StopLeavesOwnTables}
 
 -- a delivery that was taken, as an entry
@@ -59,11 +59,6 @@ with_entries h0 (e ∷ es) = with_entries (e ∷ h0) es
 -- the history after deliveries that got these replies: each taken request stands once, at its first arrival
 abbrev pub history_after : List Entry → List Delivery → List Reply → List Entry
 history_after h0 ds rs = with_entries h0 (first_arrivals h0 (taken ds rs))
-
--- The command reads a project file with a pattern: that which is put, or that of its project.
-abbrev pub ReadsPattern : List Entry → Command → Type 0
-ReadsPattern h (PutProject project text) = HasPattern text ⊎ IsSomeAnd (file_text h project) HasPattern
-ReadsPattern h command = ⊥
 
 -- the lawful reasons for which a delivery is not taken, where the count of faults went from before to after
 abbrev pub IsLawful : List Entry → Delivery → Cause → ℕ → ℕ → Type 0

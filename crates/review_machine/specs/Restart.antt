@@ -1,11 +1,13 @@
 -- Runs one after the other, and a run that begins again after a stop.
 use Rattle.std.specs.Prelude.{ℕ, ◌≡◌, List, [], ◌∷◌, ◌++◌, length}
+use Rattle.review_words.specs.declared.command.Command.TheVariants.{PutProject}
 use Rattle.review_words.specs.declared.command.Delivery.{Delivery}
 use Rattle.review_words.specs.declared.command.Delivery.TheVariants.{Write, Read}
 use Rattle.review_words.specs.declared.reply.Reply.{Reply}
 use Rattle.review_words.specs.declared.reply.Reply.TheVariants.{NotTaken}
 use Rattle.review_words.specs.History.{Entry}
 use Rattle.review_rows.specs.Answer.{IsHistory}
+use Rattle.review_rows.specs.Files.{HasDeepPattern}
 use Rattle.review_machine.specs.Replies.{AreRight, history_after, with_entries, first_arrivals}
 
 -- it was taken
@@ -49,10 +51,20 @@ RepliesFollowHistory = (h0 h last : List Entry) (ds : List Delivery) (rs ss : Li
     AreRight h0 ds rs counts → WereTaken rs → AreRight h ds ss others → WereTaken ss →
     last ≡ history_after h0 ds rs → last ≡ history_after h ds ss → AgreeOnWrites ds rs ss
 
--- Where each command has one answer: where some first part of a run stood when it stopped, the whole run from there gives the same
+-- a delivery whose answer leaves no choice: it puts no project file with a pattern that nests deeper than the pattern engine reads
+abbrev pub IsSettled : Delivery → Type 0
+IsSettled (Write caller id (PutProject project text)) = HasDeepPattern text → ⊥
+IsSettled d = Unit {0}
+
+-- all are such deliveries
+abbrev pub AreSettled : List Delivery → Type 0
+AreSettled [] = Unit {0}
+AreSettled (d ∷ ds) = IsSettled d × AreSettled ds
+
+-- Where the rest of a run leaves no choice: where some first part of a run stood when it stopped, the whole run from there gives the same
 -- history and the same replies to writes.
 abbrev pub RestartCompletes : Type 0
 RestartCompletes = (h0 h : List Entry) (ds1 ds2 : List Delivery) (rs1 rs2 ss : List Reply) (counts others : List (ℕ × ℕ)) →
-    IsHistory h → h ≡ history_after h0 ds1 rs1 → length rs1 ≡ length ds1 →
+    IsHistory h → h ≡ history_after h0 ds1 rs1 → length rs1 ≡ length ds1 → AreSettled ds2 →
     AreRight h0 (ds1 ++ ds2) (rs1 ++ rs2) counts → WereTaken (rs1 ++ rs2) → AreRight h (ds1 ++ ds2) ss others → WereTaken ss →
     AgreeOnWrites (ds1 ++ ds2) (rs1 ++ rs2) ss × (history_after h (ds1 ++ ds2) ss ≡ history_after h0 (ds1 ++ ds2) (rs1 ++ rs2))

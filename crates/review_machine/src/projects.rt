@@ -1,23 +1,36 @@
 //! Decisions on projects and their branches.
 ghost use Rattle.std.specs.Prelude.{◌≡◌, List, IfOk, IfErr, true};
+ghost use Rattle.std.specs.Option.{option_map_or};
 ghost use Rattle.review_words.specs.Texts.{IsStored};
 ghost use Rattle.review_words.specs.History.{Entry, is_account};
-ghost use Rattle.review_words.specs.declared.command.Command.TheVariants.{RecordBase};
+ghost use Rattle.review_words.specs.declared.command.Command.TheVariants.{PutProject, RecordBase};
 ghost use Rattle.review_words.specs.declared.reply.NotTaken.TheVariants.{Memory};
 ghost use Rattle.review_rows.specs.Rows.{HasNoEffect};
 ghost use Rattle.review_rows.specs.View.{needed, IsLoaded, IsDecided};
-ghost use Rattle.review_machine.specs.Decisions.{NamesEachOnce};
+ghost use Rattle.review_words.specs.Texts.{IsPlaced};
+ghost use Rattle.review_words.specs.declared.reply.Reply.TheVariants.{Refused};
+ghost use Rattle.review_words.specs.declared.reply.Refusal.TheVariants.{BadFile};
+ghost use Rattle.review_file.specs.declared.fault.ReadFault.TheVariants.{File};
+ghost use Rattle.review_file.specs.Rights.{covers};
+ghost use Rattle.review_rows.specs.Answer.{HasFile};
+ghost use Rattle.review_machine.specs.Decisions.{IsUndecided, NamesEachOnce, IsEmpty};
+ghost use Rattle.review_machine.specs.Files.{file_in, unread_cause, IsReadCause, IsUnread, IsFilePut};
 
 use crate::callers::is_admin;
 use crate::deltas::{nothing, refused};
-use review_rows::{Base, Delta, Rows};
+use review_file::{ProjectFile, ReadFault, covers, read_file};
+use review_rows::{Base, Delta, ProjectRow, Rows};
 use review_words::{
-    AccountNo, Answer, BranchName, CommitName, NotTaken, ProjectName, Refusal, Reply,
+    AccountNo, Answer, BranchName, CommitName, ExprCode, FileFault, FileText, NotTaken,
+    ProjectName, Refusal, Reply,
 };
 use std::alloc::Global;
 
 /// The most bases of a project, over all its branches.
 const MOST_BASES: u64 = 100_000;
+
+/// The most projects of a desk.
+const MOST_PROJECTS: u64 = 1_000;
 
 /// Records a commit as the next base of a branch.
 pub fn record_base(
@@ -54,4 +67,113 @@ pub fn record_base(
         commit: commit.copy(alloc)?,
     });
     Ok((delta, Reply::Done(Answer::Nothing)))
+}
+
+/// Puts the file of a project.
+pub fn put_project(
+    alloc: Global,
+    rows: &Rows,
+    caller: AccountNo,
+    project: &ProjectName,
+    file: &FileText,
+) -> Result<(Delta, Reply), NotTaken>
+    ensures decided { IfOk result (λ r. (h : List Entry) → is_account h caller ≡ true → IsLoaded h (needed caller (PutProject project.now file.now)) rows.now → IsDecided h caller (PutProject project.now file.now) r.0 r.1) }
+    ensures cause { IfErr result (IsUndecided caller (PutProject project.now file.now) rows.now) }
+    ensures stored { IfOk result (λ r. IsStored r.1) }
+    ensures refused { IfOk result (λ r. HasNoEffect r.1 r.0) }
+    ensures once { IfOk result (λ r. NamesEachOnce r.0) }
+{
+    let admin = is_admin(alloc, rows, caller)?;
+    if !admin {
+        return Ok(refused(alloc, Refusal::NotAdmin));
+    }
+    match read_file(alloc, file.as_str()) {
+        Ok(new) => put_file(alloc, rows, project, file, &new),
+        Err(fault) => refuse_file(alloc, fault),
+    }
+}
+
+// Refuses a text that is no project file.
+fn refuse_file(alloc: Global, fault: ReadFault) -> Result<(Delta, Reply), NotTaken>
+    ensures file { IfOk result (λ r. IsEmpty r.0 × ((f : FileFault) × (fault ≡ File f) × IsPlaced f × (r.1 ≡ Refused (BadFile f)))) }
+    ensures cause { IfErr result (IsReadCause fault) }
+{
+    match fault {
+        ReadFault::File(fault) => Ok(refused(alloc, Refusal::BadFile(fault))),
+        ReadFault::Memory => Err(NotTaken::Memory),
+        ReadFault::Pattern => Err(NotTaken::Pattern),
+    }
+}
+
+// Puts a file in place of the one that the project has, which is read again.
+fn put_file(
+    alloc: Global,
+    rows: &Rows,
+    project: &ProjectName,
+    file: &FileText,
+    new: &ProjectFile,
+) -> Result<(Delta, Reply), NotTaken>
+    ensures put { IfOk result (λ r. IsFilePut (file_in rows.now project.now) rows.now.project_count project.now file.now new.now r.0 r.1) }
+    ensures cause { IfErr result (IsUnread (file_in rows.now project.now)) }
+    ensures stored { IfOk result (λ r. IsStored r.1) }
+    ensures refused { IfOk result (λ r. HasNoEffect r.1 r.0) }
+    ensures once { IfOk result (λ r. NamesEachOnce r.0) }
+{
+    let old = stored_file(alloc, rows, project)?;
+    if !keeps_labels(&old, new) {
+        return Ok(refused(alloc, Refusal::LabelNarrowed));
+    }
+    if old.is_none() && rows.project_count >= MOST_PROJECTS {
+        return Ok(refused(alloc, Refusal::Limit));
+    }
+    let mut delta = nothing(alloc);
+    delta.file = Some(ProjectRow {
+        project: project.copy(alloc)?,
+        file: file.copy(alloc)?,
+    });
+    Ok((delta, Reply::Done(Answer::Nothing)))
+}
+
+// Whether each label of the old file, where there is one, keeps its values.
+fn keeps_labels(old: &Option<ProjectFile>, new: &ProjectFile) -> bool
+    ensures { result ≡ option_map_or (λ f. covers f new.now) old.now true }
+{
+    match old {
+        Some(old) => covers(old, new),
+        None => true,
+    }
+}
+
+// The file that a project has, or none where it was never put.
+fn stored_file(
+    alloc: Global,
+    rows: &Rows,
+    project: &ProjectName,
+) -> Result<Option<ProjectFile>, NotTaken>
+    ensures read { IfOk result (HasFile (file_in rows.now project.now)) }
+    ensures cause { IfErr result (IsUnread (file_in rows.now project.now)) }
+{
+    let Some(text) = rows.files.get(project) else {
+        return Ok(None);
+    };
+    match read_file(alloc, text.as_str()) {
+        Ok(file) => Ok(Some(file)),
+        Err(fault) => Err(unread(fault)),
+    }
+}
+
+// Why a stored file is not read. It was read when it was put: a bad value shows a pattern that the engine refuses now, any
+// other fault damage.
+fn unread(fault: ReadFault) -> NotTaken
+    ensures { result ≡ unread_cause fault }
+{
+    match fault {
+        ReadFault::Memory => NotTaken::Memory,
+        ReadFault::Pattern => NotTaken::Pattern,
+        ReadFault::File(FileFault::Expr(fault)) => match fault.code {
+            ExprCode::BadValue => NotTaken::Pattern,
+            _ => NotTaken::Damaged,
+        },
+        ReadFault::File(_) => NotTaken::Damaged,
+    }
 }

@@ -5,23 +5,23 @@ use Rattle.review_words.specs.declared.command.Command.TheVariants.{CreateAccoun
 use Rattle.review_words.specs.declared.reply.Refusal.TheVariants.{NotAdmin, NameTaken, Limit}
 use Rattle.review_words.specs.History.{account_count, name_taken}
 use Rattle.review_machine.proofs.Settings.{found_taken, last_is}
-use Rattle.review_machine.proofs.Decided.{admin_is, refused_decided, create_decided, answer_create}
-use Rattle.review_machine.proofs.decisions.create_account.Goals as goal
+use Rattle.review_machine.proofs.Decided.{admin_is, refused_pair, create_decided, create_refused}
+use Rattle.review_machine.proofs.accounts.create_account.Goals as goal
 
 pub returns-then-not-admin-clause-decided : goal.returns-then-not-admin-clause-decided
 returns-then-not-admin-clause-decided c = λ h known l.
     let a = c.args in
     let admin = sym (admin_is h a.caller (CreateAccount a.name.now) a.rows.now l) ∙ (sym c.in_ok-admin.ensures ∙ c.if-not-admin.true) in
-    refused_decided h a.caller (CreateAccount a.name.now) c.nothing.result NotAdmin c.nothing.ensures.accounts c.nothing.ensures.members
-    (answer_create h a.caller a.name.now true false (name_taken h a.name.now) (nat_lt (account_count h) 1000000) known admin refl refl)
+    refused_pair h a.caller (CreateAccount a.name.now) c.refused.result NotAdmin c.refused.ensures.empty c.refused.ensures.reply
+    (create_refused h a.caller a.name.now true false (name_taken h a.name.now) (nat_lt (account_count h) 1000000) known admin refl refl)
 
 pub returns-then-is_some-clause-decided : goal.returns-then-is_some-clause-decided
 returns-then-is_some-clause-decided c = λ h known l.
     let a = c.args in
     let admin = sym (admin_is h a.caller (CreateAccount a.name.now) a.rows.now l) ∙ (sym c.in_ok-admin.ensures ∙ c.if-not-admin.false) in
     let taken = sym (found_taken h a.name.now a.rows.now.named l.picked.named) ∙ (sym c.is_some.ensures ∙ c.if-is_some.true) in
-    refused_decided h a.caller (CreateAccount a.name.now) c.nothing-then-is_some.result NameTaken c.nothing-then-is_some.ensures.accounts c.nothing-then-is_some.ensures.members
-    (answer_create h a.caller a.name.now true true true (nat_lt (account_count h) 1000000) known admin taken refl)
+    refused_pair h a.caller (CreateAccount a.name.now) c.refused-then-is_some.result NameTaken c.refused-then-is_some.ensures.empty c.refused-then-is_some.ensures.reply
+    (create_refused h a.caller a.name.now true true true (nat_lt (account_count h) 1000000) known admin taken refl)
 
 pub returns-in_default-clause-decided : goal.returns-in_default-clause-decided
 returns-in_default-clause-decided c = λ h known l.
@@ -30,9 +30,8 @@ returns-in_default-clause-decided c = λ h known l.
     let free = sym (found_taken h a.name.now a.rows.now.named l.picked.named) ∙ (sym c.is_some.ensures ∙ c.if-is_some.false) in
     let last : a.rows.now.last_account ≡ account_count h = last_is h a.rows.now.last_account (l.picked.last_account refl) in
     let full = c.after.ensures.none c.in_default.is in
-    refused_decided h a.caller (CreateAccount a.name.now) c.nothing-in_default.result Limit
-    c.nothing-in_default.ensures.accounts c.nothing-in_default.ensures.members
-    (answer_create h a.caller a.name.now true true false false known admin free (le-ltb (account_count h) 1000000 (omega arith)))
+    refused_pair h a.caller (CreateAccount a.name.now) c.refused-in_default.result Limit c.refused-in_default.ensures.empty c.refused-in_default.ensures.reply
+    (create_refused h a.caller a.name.now true true false false known admin free (le-ltb (account_count h) 1000000 (omega arith)))
 
 pub returns-clause-decided : goal.returns-clause-decided
 returns-clause-decided c = λ h known l.
@@ -46,5 +45,5 @@ returns-clause-decided c = λ h known l.
     let empty = c.nothing-delta.ensures in
     let row : c.push.new.self.items ≡ record { key = c.in-Some.number; row = Some a.name.now } ∷ [] =
     c.in_ok-push.ensures.items ∙ (λ i. empty.accounts i ++ record { key = c.in-Some.number; row = Some (c.in_ok-copy.ensures i) } ∷ []) in
-    create_decided h a.caller a.name.now (record { accounts = c.push.new.self; members = c.nothing-delta.result.members }) c.in-Some.number
-    known admin free (lt-ltb (account_count h) 1000000 (omega arith)) number row empty.members
+    create_decided h a.caller a.name.now (record { accounts = c.push.new.self; members = c.nothing-delta.result.members; file = c.nothing-delta.result.file; base = c.nothing-delta.result.base }) c.in-Some.number
+    known admin free (lt-ltb (account_count h) 1000000 (omega arith)) number row empty.members empty.file empty.base

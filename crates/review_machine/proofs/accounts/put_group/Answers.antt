@@ -5,23 +5,23 @@ use Rattle.review_words.specs.Names.{registered_users}
 use Rattle.review_words.specs.declared.command.Command.TheVariants.{PutGroup}
 use Rattle.review_words.specs.declared.reply.Refusal.TheVariants.{NotAdmin, NameTaken, NoAccount}
 use Rattle.review_words.specs.History.{is_account}
-use Rattle.review_machine.proofs.Decided.{admin_is, accounts_are, refused_decided, put_decided, answer_put}
-use Rattle.review_machine.proofs.decisions.put_group.Goals as goal
+use Rattle.review_machine.proofs.Decided.{admin_is, accounts_are, refused_pair, put_decided, put_refused}
+use Rattle.review_machine.proofs.accounts.put_group.Goals as goal
 
 pub returns-then-not-admin-clause-decided : goal.returns-then-not-admin-clause-decided
 returns-then-not-admin-clause-decided c = λ h known l.
     let a = c.args in
     let admin = sym (admin_is h a.caller (PutGroup a.group.now a.members.now) a.rows.now l) ∙ (sym c.in_ok-admin.ensures ∙ c.if-not-admin.true) in
-    refused_decided h a.caller (PutGroup a.group.now a.members.now) c.nothing.result NotAdmin c.nothing.ensures.accounts c.nothing.ensures.members
-    (answer_put h a.caller a.group.now a.members.now true false (bytes_eq a.group.now registered_users) (list_all (is_account h) a.members.now) known admin refl refl)
+    refused_pair h a.caller (PutGroup a.group.now a.members.now) c.refused.result NotAdmin c.refused.ensures.empty c.refused.ensures.reply
+    (put_refused h a.caller a.group.now a.members.now true false (bytes_eq a.group.now registered_users) (list_all (is_account h) a.members.now) known admin refl refl)
 
 pub returns-then-eq-clause-decided : goal.returns-then-eq-clause-decided
 returns-then-eq-clause-decided c = λ h known l.
     let a = c.args in
     let admin = sym (admin_is h a.caller (PutGroup a.group.now a.members.now) a.rows.now l) ∙ (sym c.in_ok-admin.ensures ∙ c.if-not-admin.false) in
     let taken = ap (λ t. bytes_eq t registered_users) (sym c.as_str.ensures.text) ∙ (sym c.eq.ensures ∙ c.if-eq.true) in
-    refused_decided h a.caller (PutGroup a.group.now a.members.now) c.nothing-then-eq.result NameTaken c.nothing-then-eq.ensures.accounts c.nothing-then-eq.ensures.members
-    (answer_put h a.caller a.group.now a.members.now true true true (list_all (is_account h) a.members.now) known admin taken refl)
+    refused_pair h a.caller (PutGroup a.group.now a.members.now) c.refused-then-eq.result NameTaken c.refused-then-eq.ensures.empty c.refused-then-eq.ensures.reply
+    (put_refused h a.caller a.group.now a.members.now true true true (list_all (is_account h) a.members.now) known admin taken refl)
 
 pub returns-then-not-have_accounts-clause-decided : goal.returns-then-not-have_accounts-clause-decided
 returns-then-not-have_accounts-clause-decided c = λ h known l.
@@ -29,9 +29,8 @@ returns-then-not-have_accounts-clause-decided c = λ h known l.
     let admin = sym (admin_is h a.caller (PutGroup a.group.now a.members.now) a.rows.now l) ∙ (sym c.in_ok-admin.ensures ∙ c.if-not-admin.false) in
     let free = ap (λ t. bytes_eq t registered_users) (sym c.as_str.ensures.text) ∙ (sym c.eq.ensures ∙ c.if-eq.false) in
     let absent = sym (accounts_are h a.caller a.group.now a.members.now a.rows.now l) ∙ (sym c.have_accounts.ensures ∙ c.if-not-have_accounts.true) in
-    refused_decided h a.caller (PutGroup a.group.now a.members.now) c.nothing-then-not-have_accounts.result NoAccount
-    c.nothing-then-not-have_accounts.ensures.accounts c.nothing-then-not-have_accounts.ensures.members
-    (answer_put h a.caller a.group.now a.members.now true true false false known admin free absent)
+    refused_pair h a.caller (PutGroup a.group.now a.members.now) c.refused-then-not-have_accounts.result NoAccount c.refused-then-not-have_accounts.ensures.empty c.refused-then-not-have_accounts.ensures.reply
+    (put_refused h a.caller a.group.now a.members.now true true false false known admin free absent)
 
 pub returns-clause-decided : goal.returns-clause-decided
 returns-clause-decided c = λ h known l.
@@ -39,5 +38,6 @@ returns-clause-decided c = λ h known l.
     let admin = sym (admin_is h a.caller (PutGroup a.group.now a.members.now) a.rows.now l) ∙ (sym c.in_ok-admin.ensures ∙ c.if-not-admin.false) in
     let free = ap (λ t. bytes_eq t registered_users) (sym c.as_str.ensures.text) ∙ (sym c.eq.ensures ∙ c.if-eq.false) in
     let there = sym (accounts_are h a.caller a.group.now a.members.now a.rows.now l) ∙ (sym c.have_accounts.ensures ∙ c.if-not-have_accounts.false) in
-    put_decided h a.caller a.group.now a.members.now a.rows.now (record { accounts = c.new.result; members = c.in_ok-member_changes.field-0 }) l
-    known admin free there c.new.ensures.items c.in_ok-member_changes.ensures.changes
+    put_decided h a.caller a.group.now a.members.now a.rows.now
+    (record { accounts = c.nothing-delta.result.accounts; members = c.in_ok-delta.field-0; file = c.nothing-delta.result.file; base = c.nothing-delta.result.base }) l
+    known admin free there c.nothing-delta.ensures.accounts c.in_ok-delta.ensures.changes c.nothing-delta.ensures.file c.nothing-delta.ensures.base

@@ -4,7 +4,7 @@ use Rattle.review_table.specs.Rows.{rows_of}
 use Rattle.review_rows.specs.Rows.{member_cmp}
 use Rattle.review_machine.specs.Decisions.{NamesOnce, added, dropped}
 use Rattle.review_machine.proofs.Members.{changes_once}
-use Rattle.review_machine.proofs.decisions.member_changes.Goals as goal
+use Rattle.review_machine.proofs.accounts.member_changes.Goals as goal
 
 pub returns-clause-once : goal.returns-clause-once
 returns-clause-once c =

@@ -1,0 +1,8 @@
+use Rattle.std.proofs.Common.{◌≡◌, ◌∙◌, sym}
+use Rattle.review_machine.proofs.Asked.{asker_is, unknown_asker}
+use Rattle.review_machine.proofs.questions.show.Goals as goal
+
+pub returns-then-not-known-clause-shown : goal.returns-then-not-known-clause-shown
+returns-then-not-known-clause-shown c = λ h l.
+    let a = c.args in
+    sym (unknown_asker h a.caller a.query.now (sym (asker_is h a.caller a.query.now a.rows.now l) ∙ (sym c.has_account-known.ensures ∙ c.if-not-known.true)))
