@@ -1,5 +1,4 @@
 -- Project files, by what answers ask of them.
-use Rattle.std.specs.Prelude.{ℕ, List}
 use Rattle.review_expr.specs.declared.expr.Expr.{Expr}
 use Rattle.review_file.specs.View.{FileView}
 -- the text spells the file; the text is no file, for this fault
@@ -12,7 +11,3 @@ pub use Rattle.review_file.specs.Patterns.{HasPattern, HasDeepPattern}
 -- a project file
 abbrev pub File : Type 0
 File = FileView Expr
-
--- STAND-IN
-abbrev pub HasDeepPattern : List ℕ → Type 0
-HasDeepPattern text = HasPattern text
