@@ -4,6 +4,7 @@
 //! those of this program over the same deliveries.
 #![tactic(auto)]
 
+pub mod answers;
 pub mod desk;
 pub mod history;
 
