@@ -12,4 +12,6 @@ pub use desk::PlainDesk;
 pub use history::Entry;
 
 #[cfg(test)]
+mod script_tests;
+#[cfg(test)]
 mod tests;
