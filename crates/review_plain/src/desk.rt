@@ -1,13 +1,14 @@
 //! A desk that keeps its history and nothing else.
-ghost use Rattle.std.specs.Prelude.{◌≡◌, [], ◌∷◌, IfOk, OnOk, OnErr, MatchOption, None, option_copied, option_map, true, false};
+ghost use Rattle.std.specs.Prelude.{◌≡◌, [], ◌∷◌, IfOk, IfErr, OnOk, OnErr, MatchOption, None, option_copied, option_map, true, false};
 ghost use Rattle.review_words.specs.History as words;
 ghost use Rattle.review_machine.specs.Replies.{IsTold, IsToldOfStored, entry_of, history_after};
 ghost use Rattle.review_words.specs.declared.command.Delivery.TheVariants.{Write};
 ghost use Rattle.std.specs.Str.{bytes_eq};
-ghost use Rattle.review_plain.specs.Plain.{history, shown};
+ghost use Rattle.review_plain.specs.Plain.{history, shown, IsUntaken};
 
-use crate::history::{Entry, answer};
-use review_words::{AccountNo, Command, Delivery, Reply, RequestId};
+use crate::answers::{answer, query_answer};
+use crate::history::Entry;
+use review_words::{AccountNo, Answer, Command, Delivery, NotTaken, Reply, RequestId};
 use std::alloc::{AllocError, Global};
 use std::marker::Model;
 
@@ -37,37 +38,46 @@ impl PlainDesk {
         }
     }
 
-    /// Takes one delivery: a repeat is told what is stored, another command under a stored identity that it is used, and a
-    /// first arrival its answer, which is stored. The only error is want of memory, and then nothing is taken.
-    pub fn deliver(&mut self, delivery: Delivery) -> Result<Reply, AllocError>
+    /// Takes one delivery: a repeat is told what is stored, another command under a stored identity that it is used, a first
+    /// arrival its answer, which is stored, and a question its answer, which is not. An error is want of memory; Pattern, where the
+    /// engine refuses a pattern in the file that is put or in the one that the project has; or Damaged, where the text of the
+    /// latter isn't read again. Then nothing is taken.
+    pub fn deliver(&mut self, alloc: Global, delivery: Delivery) -> Result<Reply, NotTaken>
         ensures told { IfOk result (λ r. IsTold self.old delivery r) }
         ensures taken { IfOk result (λ r. self.new ≡ history_after self.old (delivery ∷ []) (r ∷ [])) }
         ensures lost { OnErr result (self.new ≡ self.old) }
+        ensures cause { IfErr result (IsUntaken self.old delivery) }
     {
         match delivery {
             Delivery::Write {
                 caller,
                 id,
                 command,
-            } => self.write(caller, id, command),
+            } => self.write(alloc, caller, id, command),
+            Delivery::Read { caller, query } => {
+                let reply = query_answer(alloc, self.entries.as_slice(), caller, &query)?;
+                Ok(reply)
+            }
         }
     }
 
     fn write(
         &mut self,
+        alloc: Global,
         caller: AccountNo,
         id: RequestId,
         command: Command,
-    ) -> Result<Reply, AllocError>
+    ) -> Result<Reply, NotTaken>
         ensures told { IfOk result (λ r. IsTold self.old (Write caller id command) r) }
         ensures taken { IfOk result (λ r. self.new ≡ history_after self.old (Write caller id command ∷ []) (r ∷ [])) }
         ensures lost { OnErr result (self.new ≡ self.old) }
+        ensures cause { IfErr result (IsUntaken self.old (Write caller id command)) }
     {
-        if let Some(reply) = told(self.entries.as_slice(), caller, &id, &command) {
+        if let Some(reply) = told(alloc, self.entries.as_slice(), caller, &id, &command)? {
             return Ok(reply);
         }
-        let reply = answer(self.entries.as_slice(), caller, &command);
-        let kept = copied(&reply);
+        let reply = answer(alloc, self.entries.as_slice(), caller, &command)?;
+        let kept = copied(alloc, &reply)?;
         self.add(caller, id, command, kept)?;
         Ok(reply)
     }
@@ -118,15 +128,23 @@ fn find<'e>(entries: &'e [Entry], caller: AccountNo, id: &RequestId) -> Option<&
 }
 
 // What a write is told whose identity is stored.
-fn told(entries: &[Entry], caller: AccountNo, id: &RequestId, command: &Command) -> Option<Reply>
-    ensures { MatchOption result (words.stored (history entries.now) (record { caller = caller; id = id.now }) ≡ None)
-        (λ r. MatchOption (words.stored (history entries.now) (record { caller = caller; id = id.now })) ⊥ (λ e. IsToldOfStored e command.now r)) }
+fn told(
+    alloc: Global,
+    entries: &[Entry],
+    caller: AccountNo,
+    id: &RequestId,
+    command: &Command,
+) -> Result<Option<Reply>, AllocError>
+    ensures { IfOk result (λ told. MatchOption told (words.stored (history entries.now) (record { caller = caller; id = id.now }) ≡ None)
+        (λ r. MatchOption (words.stored (history entries.now) (record { caller = caller; id = id.now })) ⊥ (λ e. IsToldOfStored e command.now r))) }
 {
-    let stored = find(entries, caller, id)?;
+    let Some(stored) = find(entries, caller, id) else {
+        return Ok(None);
+    };
     if same(command, &stored.command) {
-        Some(stored.reply)
+        Ok(Some(copied(alloc, &stored.reply)?))
     } else {
-        Some(Reply::IdentityReused)
+        Ok(Some(Reply::IdentityReused))
     }
 }
 
@@ -145,6 +163,29 @@ fn same(one: &Command, other: &Command) -> bool
                 members: given,
             },
         ) => group.as_str() == put.as_str() && same_accounts(members.as_slice(), given.as_slice()),
+        (
+            Command::PutProject { project, file },
+            Command::PutProject {
+                project: put,
+                file: given,
+            },
+        ) => project.as_str() == put.as_str() && file.as_str() == given.as_str(),
+        (
+            Command::RecordBase {
+                project,
+                branch,
+                commit,
+            },
+            Command::RecordBase {
+                project: in_project,
+                branch: in_branch,
+                commit: recorded,
+            },
+        ) => {
+            project.as_str() == in_project.as_str()
+                && branch.as_str() == in_branch.as_str()
+                && commit.as_str() == recorded.as_str()
+        }
         _ => false,
     }
 }
@@ -161,8 +202,15 @@ fn same_accounts(one: &[AccountNo], other: &[AccountNo]) -> bool
     }
 }
 
-fn copied(reply: &Reply) -> Reply
-    ensures { result ≡ reply.now }
+fn copied(alloc: Global, reply: &Reply) -> Result<Reply, AllocError>
+    ensures { IfOk result (λ r. r ≡ reply.now) }
 {
-    *reply
+    Ok(match reply {
+        Reply::Done(Answer::Account(number)) => Reply::Done(Answer::Account(*number)),
+        Reply::Done(Answer::Nothing) => Reply::Done(Answer::Nothing),
+        Reply::Done(Answer::Branch(bases)) => Reply::Done(Answer::Branch(bases.copy(alloc)?)),
+        Reply::Refused(refusal) => Reply::Refused(*refusal),
+        Reply::IdentityReused => Reply::IdentityReused,
+        Reply::NotTaken(cause) => Reply::NotTaken(*cause),
+    })
 }

@@ -4,11 +4,14 @@
 //! those of this program over the same deliveries.
 #![tactic(auto)]
 
+pub mod answers;
 pub mod desk;
 pub mod history;
 
 pub use desk::PlainDesk;
 pub use history::Entry;
 
+#[cfg(test)]
+mod script_tests;
 #[cfg(test)]
 mod tests;

@@ -127,10 +127,12 @@ fn reserve(
 fn known(alloc: Global, base: &Base) -> Result<Vec<Change<Base, ()>>, AllocError>
     ensures { IfOk result (λ v. v.items ≡ record { key = base.now; row = Some tt } ∷ []) }
 {
-    Ok(vec![in alloc; Change {
-        key: base.copy(alloc)?,
-        row: Some(()),
-    }]?)
+    Ok(vec![in alloc;
+        Change {
+            key: base.copy(alloc)?,
+            row: Some(()),
+        },
+    ]?)
 }
 
 // The change of the number of a project's bases.
@@ -141,10 +143,12 @@ fn counted(
 ) -> Result<Vec<Change<ProjectName, u64>>, AllocError>
     ensures { IfOk result (λ v. v.items ≡ record { key = base.now.project; row = Some total } ∷ []) }
 {
-    Ok(vec![in alloc; Change {
-        key: base.project.copy(alloc)?,
-        row: Some(total),
-    }]?)
+    Ok(vec![in alloc;
+        Change {
+            key: base.project.copy(alloc)?,
+            row: Some(total),
+        },
+    ]?)
 }
 
 fn branch_of(alloc: Global, base: &Base) -> Result<BranchKey, AllocError>
@@ -157,11 +161,7 @@ fn branch_of(alloc: Global, base: &Base) -> Result<BranchKey, AllocError>
 }
 
 // Adds a base to the list of its branch, or changes nothing.
-fn append(
-    alloc: Global,
-    rows: &mut Table<BranchKey, Bases>,
-    base: &Base,
-) -> Result<(), AllocError>
+fn append(alloc: Global, rows: &mut Table<BranchKey, Bases>, base: &Base) -> Result<(), AllocError>
     ensures added { OnOk result (HaveBase base.now (rows_of rows.old) (rows_of rows.new)) }
     ensures same { OnErr result (HaveSameBases (rows_of rows.old) (rows_of rows.new)) }
 {

@@ -102,10 +102,12 @@ fn copied_file(
     ensures { IfOk result (λ v. v.items ≡ file_changes file.now) }
 {
     match file {
-        Some(put) => Ok(vec![in alloc; Change {
-            key: put.project.copy(alloc)?,
-            row: Some(put.file.copy(alloc)?),
-        }]?),
+        Some(put) => Ok(vec![in alloc;
+            Change {
+                key: put.project.copy(alloc)?,
+                row: Some(put.file.copy(alloc)?),
+            },
+        ]?),
         None => Ok(Vec::new(alloc)),
     }
 }

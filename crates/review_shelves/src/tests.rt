@@ -1,7 +1,9 @@
 use super::{FaultyShelf, MemoryShelf, ShuttingShelf};
-use review_rows::{Delta, Kept, MemberKey, Need, Rows, Shelf, ShelfFault};
-use review_table::Change;
-use review_words::{AccountNo, Name};
+use review_rows::{
+    Base, BranchKey, Delta, Kept, MemberKey, Need, ProjectRow, Rows, Shelf, ShelfFault,
+};
+use review_table::{Change, Key};
+use review_words::{AccountNo, FileText, Name};
 use std::alloc::Global;
 use std::test::Fail;
 
@@ -18,6 +20,21 @@ fn no_need(alloc: Global) -> Need {
         members: Vec::new(alloc),
         group: None,
         last_account: false,
+        file: None,
+        project_count: false,
+        project: None,
+        base: None,
+        branch: None,
+    }
+}
+
+/// A change of nothing.
+fn no_change(alloc: Global) -> Delta {
+    Delta {
+        accounts: Vec::new(alloc),
+        members: Vec::new(alloc),
+        file: None,
+        base: None,
     }
 }
 
@@ -44,7 +61,11 @@ fn second_account(alloc: Global, name: &str) -> Result<Delta, Fail> {
         key: administrator(alloc, second()?)?,
         row: Some(()),
     })?;
-    Ok(Delta { accounts, members })
+    Ok(Delta {
+        accounts,
+        members,
+        ..no_change(alloc)
+    })
 }
 
 fn request(alloc: Global, id: &str) -> Result<Kept, Fail> {
@@ -212,5 +233,163 @@ fn a_shut_shelf_stays_shut(rt: HostRuntime) -> Result<(), Fail> {
         Some(ShelfFault::Store)
     );
     assert_eq!(rt; fault_count(&shelf), 3);
+    Ok(())
+}
+
+const ONE: &str = "1111111111111111111111111111111111111111";
+
+const TWO: &str = "2222222222222222222222222222222222222222";
+
+const THREE: &str = "3333333333333333333333333333333333333333";
+
+/// Puts the file of a project, by a request that is named for its text.
+fn put_file<S: Shelf>(alloc: Global, shelf: &mut S, project: &str, text: &str) -> Result<(), Fail> {
+    let row = ProjectRow {
+        project: Name::read(alloc, project)?,
+        file: FileText::new(String::from_str(alloc, text)?),
+    };
+    let delta = Delta {
+        file: Some(row),
+        ..no_change(alloc)
+    };
+    let kept = request(alloc, text)?;
+    shelf.commit(alloc, &delta, &kept)?;
+    Ok(())
+}
+
+/// A base of a branch of the project `p`.
+fn base_of(alloc: Global, branch: &str, commit: &str) -> Result<Base, Fail> {
+    Ok(Base {
+        project: Name::read(alloc, "p")?,
+        branch: Name::read(alloc, branch)?,
+        commit: Name::read(alloc, commit)?,
+    })
+}
+
+/// Records a base of a branch of the project `p`, by a request that is named for it.
+fn record_base<S: Shelf>(
+    alloc: Global,
+    shelf: &mut S,
+    branch: &str,
+    commit: &str,
+) -> Result<(), Fail> {
+    let delta = Delta {
+        base: Some(base_of(alloc, branch, commit)?),
+        ..no_change(alloc)
+    };
+    let id = format!(in alloc; "{branch}-{commit}")?;
+    let kept = request(alloc, id.as_str())?;
+    shelf.commit(alloc, &delta, &kept)?;
+    Ok(())
+}
+
+/// Records commits 1 and 2 as bases of a branch, and 3 of another one between them.
+fn record_three<S: Shelf>(alloc: Global, shelf: &mut S) -> Result<(), Fail> {
+    record_base(alloc, shelf, "main", TWO)?;
+    record_base(alloc, shelf, "next", THREE)?;
+    record_base(alloc, shelf, "main", ONE)
+}
+
+/// Whether a commit is a base of a branch of the project `p`, and how many bases the project has.
+fn base_found<S: Shelf>(
+    alloc: Global,
+    shelf: &mut S,
+    branch: &str,
+    commit: &str,
+) -> Result<(bool, u64), Fail> {
+    let need = Need {
+        base: Some(base_of(alloc, branch, commit)?),
+        ..no_need(alloc)
+    };
+    let rows = shelf.load(alloc, &need)?;
+    Ok((rows.has_base, rows.base_count))
+}
+
+/// The text of a project's file, or none, and how many projects there are.
+fn file_found<S: Shelf>(
+    alloc: Global,
+    shelf: &mut S,
+    project: &str,
+) -> Result<(Option<FileText>, u64), Fail> {
+    let project = Name::read(alloc, project)?;
+    let need = Need {
+        file: Some(project.copy(alloc)?),
+        project_count: true,
+        ..no_need(alloc)
+    };
+    let rows = shelf.load(alloc, &need)?;
+    let file = match rows.files.get(&project) {
+        Some(file) => Some(file.copy(alloc)?),
+        None => None,
+    };
+    Ok((file, rows.project_count))
+}
+
+/// Whether a project is there, asked without its file.
+fn is_project<S: Shelf>(alloc: Global, shelf: &mut S, project: &str) -> Result<bool, Fail> {
+    let need = Need {
+        project: Some(Name::read(alloc, project)?),
+        ..no_need(alloc)
+    };
+    let rows = shelf.load(alloc, &need)?;
+    Ok(rows.has_project)
+}
+
+#[test]
+fn a_base_is_found_by_its_commit(rt: HostRuntime) -> Result<(), Fail> {
+    let alloc = rt.alloc();
+    let mut shelf = new_desk(alloc)?;
+    record_three(alloc, &mut shelf)?;
+    assert_eq!(rt; base_found(alloc, &mut shelf, "main", TWO)?, (true, 3));
+    assert_eq!(rt; base_found(alloc, &mut shelf, "main", ONE)?, (true, 3));
+    assert_eq!(rt; base_found(alloc, &mut shelf, "main", THREE)?, (false, 3));
+    assert_eq!(rt; base_found(alloc, &mut shelf, "next", THREE)?, (true, 3));
+    Ok(())
+}
+
+#[test]
+fn a_branch_lists_its_bases_in_order(rt: HostRuntime) -> Result<(), Fail> {
+    let alloc = rt.alloc();
+    let mut shelf = new_desk(alloc)?;
+    record_three(alloc, &mut shelf)?;
+    let key = BranchKey {
+        project: Name::read(alloc, "p")?,
+        branch: Name::read(alloc, "main")?,
+    };
+    let need = Need {
+        branch: Some(key.copy(alloc)?),
+        ..no_need(alloc)
+    };
+    let rows = shelf.load(alloc, &need)?;
+    let bases = rows.branches.get(&key).ok_or("a branch")?;
+    let wanted = [Name::read(alloc, TWO)?, Name::read(alloc, ONE)?];
+    assert_eq!(rt; bases.as_slice(), wanted.as_slice());
+    Ok(())
+}
+
+#[test]
+fn a_project_is_counted_once(rt: HostRuntime) -> Result<(), Fail> {
+    let alloc = rt.alloc();
+    let mut shelf = new_desk(alloc)?;
+    put_file(alloc, &mut shelf, "p", "first")?;
+    put_file(alloc, &mut shelf, "p", "second")?;
+    put_file(alloc, &mut shelf, "q", "third")?;
+    let (_, count) = file_found(alloc, &mut shelf, "p")?;
+    assert_eq!(rt; count, 2);
+    assert!(rt; is_project(alloc, &mut shelf, "q")?);
+    assert!(rt; !is_project(alloc, &mut shelf, "r")?);
+    Ok(())
+}
+
+#[test]
+fn a_file_is_replaced(rt: HostRuntime) -> Result<(), Fail> {
+    let alloc = rt.alloc();
+    let mut shelf = new_desk(alloc)?;
+    put_file(alloc, &mut shelf, "p", "first")?;
+    put_file(alloc, &mut shelf, "p", "second")?;
+    let (file, _) = file_found(alloc, &mut shelf, "p")?;
+    assert_eq!(rt; file.ok_or("a file")?.as_str(), "second");
+    let (none, _) = file_found(alloc, &mut shelf, "q")?;
+    assert!(rt; none.is_none());
     Ok(())
 }

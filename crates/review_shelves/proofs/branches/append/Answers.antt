@@ -24,7 +24,7 @@ row c = c.take.ensures.row ∙ (λ i. row_in branch_cmp (c.in_ok-reserve.ensures
 
 was : (c : goal.After-restore) → c.match-take.bases ≡ bases_in (rows_of c.args.rows.now) c.args.base.now.project c.args.base.now.branch
 was c = elim c.match-take.branch [
-  in-Some w ↦ w.bases-is ∙ ap (λ o. unwrap_or o []) (sym w.in-Some.is ∙ row c)
+  | in-Some w ↦ w.bases-is ∙ ap (λ o. unwrap_or o []) (sym w.in-Some.is ∙ row c)
   | in-None w ↦ w.bases-is ∙ (w.new-bases.ensures ∙ ap (λ o. unwrap_or o []) (sym w.in-None.is ∙ row c))
 ]
 
