@@ -3,7 +3,7 @@ use Rattle.std.proofs.Common.{◌≡◌, ◌++◌, ◌&&◌, Bool, true, false, 
 use Rattle.std.specs.Io.KnownBytes.{Appends, Keeps, append_known}
 use Rattle.std.proofs.KnownBytes.{Appends-nil, Appends-trans, Appends-kept, append_known-moved}
 use Rattle.review_words.specs.declared.command.Delivery.{Delivery}
-use Rattle.review_words.specs.declared.command.Delivery.TheVariants.{Write}
+use Rattle.review_words.specs.declared.command.Delivery.TheVariants.{Write, Read}
 use Rattle.review_words.specs.declared.reply.Reply.{Reply}
 use Rattle.review_words.specs.declared.reply.Reply.TheVariants.{NotTaken}
 use Rattle.review_words.specs.declared.reply.NotTaken.TheVariants.{Memory}
@@ -171,6 +171,9 @@ did_one a d r s t Q same ran q = subst (λ (x : Asked). Did x s t Q) same (r ∷
 
 -- a delivery that was not begun
 not_begun : (h : List Entry) (d : Delivery) (old new : Shown) → IsRun h [] [] old new → IsRun h (d ∷ []) (NotTaken Memory ∷ []) old new
+not_begun h (Read caller query) old new was =
+    run-append h [] (Read caller query ∷ []) [] (NotTaken Memory ∷ []) old new new was (run_one h (Read caller query) (NotTaken Memory) new new
+    (record { right = refl; history = was.history; view = was.view; stops = λ t s. inl s; alone = λ n s. absurd s }))
 not_begun h (Write caller id command) old new was =
     run-append h [] (Write caller id command ∷ []) [] (NotTaken Memory ∷ []) old new new was (run_one h (Write caller id command) (NotTaken Memory) new new
     (record { right = refl; history = was.history; view = was.view; stops = λ t s. inl s; alone = λ n s. absurd s }))

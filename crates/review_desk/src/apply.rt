@@ -60,11 +60,11 @@ fn asked_by(alloc: Global, line: &Line) -> Result<Asked, AllocError>
 }
 
 /// The reply of a run of one delivery. It has none where there was no memory to begin.
-fn first_or_stopped(replies: &[Reply]) -> Reply
-    ensures { result ≡ first_or_stopped replies.now }
+fn first_or_stopped(replies: Vec<Reply>) -> Reply
+    ensures { result ≡ first_or_stopped replies.items }
 {
-    match replies.first() {
-        Some(reply) => *reply,
+    match replies.into_iter().next() {
+        Some(reply) => reply,
         None => Reply::NotTaken(NotTaken::Memory),
     }
 }
@@ -75,8 +75,8 @@ fn reply_to<S: Shelf>(alloc: Global, shelf: &mut S, delivery: Delivery) -> Reply
         IsRun h (delivery ∷ []) (result ∷ []) (S.state shelf.old) (S.state shelf.new) }
 {
     match run(alloc, shelf, &[delivery]) {
-        Ok(replies) => first_or_stopped(&replies),
-        Err(stopped) => first_or_stopped(&stopped.replies),
+        Ok(replies) => first_or_stopped(replies),
+        Err(stopped) => first_or_stopped(stopped.replies),
     }
 }
 

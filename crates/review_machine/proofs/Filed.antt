@@ -225,8 +225,12 @@ has_same (Some t) old is = sym (ap is_some is.2)
 -- a file that keeps the labels of the old one, where there is one or there are few projects
 pub file_passes : (had : Option (List ℕ)) (count : ℕ) (project : List ℕ) (old : Option File) (new : File) → HasFile had old → option_map_or (λ f. covers f new) old true ≡ true → (is_some old ≡ true) ⊎ (count < 1000) →
     IsFileRefusal had count project new None
-file_passes had count project old new is keeps few = (old, is, λ h same counted. checks_by h project old new true true keeps
-    (⊎_elim
-    (λ (some : is_some old ≡ true). ap (λ b. b || nat_lt (project_count h) 1000) (same ∙ (has_same had old is ∙ some)))
-    (λ (less : count < 1000). ap (λ b. is_project h project || b) (lt-ltb (project_count h) 1000 (omega arith)) ∙ or_true (is_project h project))
-    few))
+file_passes had count project old new is keeps few = (
+  old,
+  is,
+  λ h same counted. checks_by h project old new true true keeps
+      (⊎_elim
+      (λ (some : is_some old ≡ true). ap (λ b. b || nat_lt (project_count h) 1000) (same ∙ (has_same had old is ∙ some)))
+      (λ (less : count < 1000). ap (λ b. is_project h project || b) (lt-ltb (project_count h) 1000 (omega arith)) ∙ or_true (is_project h project))
+      few),
+)

@@ -17,9 +17,7 @@ use crate::callers::{has_account, is_admin};
 use crate::deltas::{nothing, refused};
 use review_rows::{Delta, MemberKey, Rows};
 use review_table::{Change, Key};
-use review_words::{
-    AccountName, AccountNo, Answer, GroupName, Members, NotTaken, Refusal, Reply,
-};
+use review_words::{AccountName, AccountNo, Answer, GroupName, Members, NotTaken, Refusal, Reply};
 use std::alloc::{AllocError, Global};
 
 pub fn create_account(

@@ -26,4 +26,3 @@ pub fn is_admin(alloc: Global, rows: &Rows, caller: AccountNo) -> Result<bool, A
     };
     Ok(rows.members.get(&key).is_some())
 }
-

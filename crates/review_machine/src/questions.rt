@@ -14,12 +14,7 @@ use std::alloc::{AllocError, Global};
 
 /// The answer to a question: the first check that fails refuses, in the order of the question's checks. It changes
 /// nothing. The only error is want of memory.
-pub fn show(
-    alloc: Global,
-    rows: &Rows,
-    caller: AccountNo,
-    query: &Query,
-) -> Result<Reply, NotTaken>
+pub fn show(alloc: Global, rows: &Rows, caller: AccountNo, query: &Query) -> Result<Reply, NotTaken>
     ensures shown { IfOk result (λ r. (h : List Entry) → IsLoaded h (wanted_for caller query.now) rows.now → r ≡ query_answer h caller query.now) }
     ensures answered { IfOk result IsAnswered }
     ensures cause { IfErr result (λ e. e ≡ Memory) }
@@ -32,12 +27,7 @@ pub fn show(
 }
 
 // The answer to a question of an account.
-fn answer(
-    alloc: Global,
-    rows: &Rows,
-    caller: AccountNo,
-    query: &Query,
-) -> Result<Reply, AllocError>
+fn answer(alloc: Global, rows: &Rows, caller: AccountNo, query: &Query) -> Result<Reply, AllocError>
     ensures answered { IfOk result IsAnswered }
     ensures shown { IfOk result (λ r. (h : List Entry) → is_account h caller ≡ true → IsLoaded h (wanted_for caller query.now) rows.now → r ≡ query_answer h caller query.now) }
 {

@@ -3,8 +3,8 @@ use Rattle.review_desk.proofs.apply.reply_to.Goals as goal
 
 pub returns-in-Ok-clause-ran : goal.returns-in-Ok-clause-ran
 returns-in-Ok-clause-ran g c = λ honest h hist v.
-    rw (c.first_or_stopped.ensures, c.deref.ensures.value) (ran_one h _ _ _ _ (c.in-Ok.ensures.acts_once honest h hist v))
+    rw c.first_or_stopped.ensures (ran_one h _ _ _ _ (c.in-Ok.ensures.acts_once honest h hist v))
 
 pub returns-clause-ran : goal.returns-clause-ran
 returns-clause-ran g c = λ honest h hist v.
-    rw (c.first_or_stopped-in-Err.ensures, c.deref-in-Err.ensures.value) (stopped_one h _ _ _ _ (c.in-Err.ensures.acts_once honest h hist v))
+    rw c.first_or_stopped-in-Err.ensures (stopped_one h _ _ _ _ (c.in-Err.ensures.acts_once honest h hist v))
