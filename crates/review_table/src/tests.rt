@@ -51,3 +51,30 @@ fn each_key_stands_once(rt: HostRuntime) -> Result<(), Fail> {
     }
     Ok(())
 }
+
+#[test]
+fn a_row_is_taken_out_and_put_back(rt: HostRuntime) -> Result<(), Fail> {
+    let alloc = rt.alloc();
+    let mut table = table_of(alloc, &[(3, 30), (1, 10)])?;
+    assert_eq!(rt; table.take(3), Some(30));
+    assert_eq!(rt; table.take(3), None);
+    assert_eq!(rt; table.get(&3).copied(), None);
+    table.restore(3, 31);
+    assert_eq!(rt; table.get(&3).copied(), Some(31));
+    assert_eq!(rt; table.get(&1).copied(), Some(10));
+    Ok(())
+}
+
+#[test]
+fn a_row_is_put_where_a_place_was_made(rt: HostRuntime) -> Result<(), Fail> {
+    let alloc = rt.alloc();
+    let mut table = table_of(alloc, &[(1, 10)])?;
+    table.restore(2, 20);
+    assert_eq!(rt; table.get(&2).copied(), None);
+    table.reserve(2)?;
+    assert_eq!(rt; table.get(&2).copied(), None);
+    table.restore(2, 20);
+    assert_eq!(rt; table.get(&2).copied(), Some(20));
+    assert_eq!(rt; table.rows(alloc)?.len(), 2);
+    Ok(())
+}
