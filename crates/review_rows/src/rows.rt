@@ -3,7 +3,8 @@ ghost use Rattle.std.specs.Prelude.{◌≡◌, IfOk};
 
 use review_table::{Change, Key, Table};
 use review_words::{
-    AccountName, AccountNo, Bases, BranchName, CommitName, FileText, GroupName, ProjectName, RequestId,
+    AccountName, AccountNo, Bases, BranchName, CommitName, FileText, GroupName, ProjectName,
+    RequestId,
 };
 use std::alloc::{AllocError, Global};
 
