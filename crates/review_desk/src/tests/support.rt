@@ -38,6 +38,11 @@ pub fn rows_of<S: Shelf>(alloc: Global, shelf: &mut S, account: u32) -> Result<R
         members: Vec::new(alloc),
         group: None,
         last_account: false,
+        file: None,
+        project_count: false,
+        project: None,
+        base: None,
+        branch: None,
     };
     shelf
         .load(alloc, &need)
