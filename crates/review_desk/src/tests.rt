@@ -2,5 +2,6 @@
 
 mod faults;
 mod lines;
+mod projects;
 mod rows;
 mod support;

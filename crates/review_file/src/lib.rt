@@ -12,8 +12,8 @@
 //! ```
 //!
 //! [`read_file`] gives the file that a text spells, or the first of its faults in the order of
-//! [`FileFault`]; its contract says which. [`covers`], [`range_of`], [`may`] and [`has_pattern`] ask a
-//! file and take no memory. What an expression is, and when it holds, `review_expr` says.
+//! [`FileFault`]; its contract says which. [`covers`], [`range_of`] and [`may`] ask a file and take no
+//! memory. What an expression is, and when it holds, `review_expr` says.
 #![tactic(auto)]
 
 mod access;
@@ -21,7 +21,6 @@ pub mod fault;
 pub mod file;
 mod labels;
 pub mod laws;
-pub mod patterns;
 pub mod read;
 mod requirements;
 pub mod rights;
@@ -30,7 +29,6 @@ mod unknown;
 pub use fault::ReadFault;
 pub use file::{Access, Grant, Label, LabelValue, ProjectFile, Requirement};
 pub use laws::{one_fault, one_file, read_or_fault, refused_has_pattern};
-pub use patterns::has_pattern;
 pub use read::read_file;
 pub use review_document::limits::{MOST_BYTES, MOST_DESCRIPTION, MOST_PARTS, MOST_TEXT};
 pub use review_words::FileFault;
@@ -40,7 +38,5 @@ pub use rights::{Right, covers, may, range_of};
 mod fault_tests;
 #[cfg(test)]
 mod limit_tests;
-#[cfg(test)]
-mod page_tests;
 #[cfg(test)]
 mod tests;

@@ -7,7 +7,7 @@ use std::collections::BTreeMap;
 use std::test::Fail;
 
 /// The example that `docs/project-files.md` ends with.
-pub(crate) const WHOLE: &str = r#"[access]
+const WHOLE: &str = r#"[access]
 create = ["Registered-Users"]
 submit = ["Core"]
 [label.Code-Review]
@@ -47,7 +47,7 @@ pub(crate) fn expression_fault(alloc: Global, text: &str) -> Option<(&'static st
 }
 
 /// A file that a text is.
-pub(crate) fn read(alloc: Global, text: &str) -> Result<ProjectFile, Fail> {
+fn read(alloc: Global, text: &str) -> Result<ProjectFile, Fail> {
     Ok(read_file(alloc, text).ok().ok_or("no file")?)
 }
 
@@ -113,7 +113,7 @@ fn a_file_gives_rights(rt: HostRuntime) -> Result<(), Fail> {
 }
 
 /// Whether the file of one text covers that of another.
-pub(crate) fn is_covered(alloc: Global, old: &str, new: &str) -> Result<bool, Fail> {
+fn is_covered(alloc: Global, old: &str, new: &str) -> Result<bool, Fail> {
     let old = read(alloc, old)?;
     let new = read(alloc, new)?;
     Ok(covers(&old, &new))
@@ -220,44 +220,43 @@ fn a_file_shows_its_label(rt: HostRuntime) -> Result<(), Fail> {
     Ok(())
 }
 
-/// Whether the file of one requirement has a pattern.
-fn requires_pattern(alloc: Global, keys: &str) -> Result<bool, Fail> {
-    let text = format!(in alloc; "[submit-requirement.R]\n{keys}")?;
-    let file = read(alloc, text.as_str())?;
-    Ok(has_pattern(&file))
-}
+/// What the first lines of the example are: none of them, the first, the first two ..
+const FRONTS: [&str; 17] = [
+    "a file",
+    "a file",
+    "a file",
+    "a file",
+    "MISSING",
+    "MISSING",
+    "BAD_VALUES",
+    "BAD_VALUES",
+    "BAD_VALUES",
+    "a file",
+    "a file",
+    "a file",
+    "a file",
+    "a file",
+    "a file",
+    "MISSING",
+    "a file",
+];
 
 #[test]
-fn patterns_are_seen(rt: HostRuntime) -> Result<(), Fail> {
+fn each_front_of_a_file_has_its_fault(rt: HostRuntime) -> Result<(), Fail> {
     let alloc = rt.alloc();
-    for (keys, wanted) in [
-        ("submittableIf = 'is:true'", false),
-        ("submittableIf = 'path:docs branch:main file:a'", false),
-        (
-            "submittableIf = 'is:true AND (is:false OR NOT branch:^m)'",
-            true,
-        ),
-        ("submittableIf = 'file:^docs'", true),
-        (
-            "submittableIf = 'is:true'\napplicableIf = 'path:^docs'",
-            true,
-        ),
-        ("submittableIf = 'is:true'\noverrideIf = 'path:^docs'", true),
-    ] {
-        assert_eq!(rt; requires_pattern(alloc, keys)?, wanted);
+    let mut lines = 0usize;
+    let mut is_begun = false;
+    for (length, byte) in WHOLE.as_bytes().iter().enumerate() {
+        // No part of a line but the whole of it, or nothing, is TOML.
+        let is_whole = !is_begun || *byte == b'\n';
+        if is_whole && is_begun {
+            lines = lines.saturating_add(1);
+        }
+        is_begun = *byte != b'\n';
+        let front = WHOLE.get(..length).ok_or("no front")?;
+        let wanted = if is_whole { FRONTS[lines] } else { "TOML" };
+        assert_eq!(rt; outcome(alloc, front), wanted, "{length}");
     }
-    Ok(())
-}
-
-#[test]
-fn each_front_of_a_file_is_answered(rt: HostRuntime) -> Result<(), Fail> {
-    let alloc = rt.alloc();
-    for length in 0..WHOLE.len() {
-        let Some(front) = WHOLE.get(..length) else {
-            continue;
-        };
-        let found = outcome(alloc, front);
-        assert!(rt; found != "MEMORY" && found != "PATTERN");
-    }
+    assert_eq!(rt; outcome(alloc, WHOLE), "a file");
     Ok(())
 }

@@ -23,6 +23,7 @@ pub use deliveries::deliver;
 pub use laws::{restart_completes, runs_compose};
 pub use memory::run_in_memory;
 pub use needs::{need_of, need_of_query};
+pub use projects::unread_cause;
 pub use questions::show;
 pub use review_rows::{Delta, Kept, Need, Rows, Shelf, ShelfFault};
 pub use review_shelves::{FaultyShelf, MemoryShelf, ShuttingShelf};

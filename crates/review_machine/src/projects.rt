@@ -190,13 +190,13 @@ fn stored_file(
     };
     match read_file(alloc, text.as_str()) {
         Ok(file) => Ok(Some(file)),
-        Err(fault) => Err(unread(fault)),
+        Err(fault) => Err(unread_cause(fault)),
     }
 }
 
-// Why a stored file is not read. It was read when it was put: a bad value shows a pattern that the engine refuses now, any
-// other fault damage.
-fn unread(fault: ReadFault) -> NotTaken
+/// Why a stored file is not read. It was read when it was put: a bad value shows a pattern that the engine refuses now, any
+/// other fault damage.
+pub fn unread_cause(fault: ReadFault) -> NotTaken
     ensures { result ≡ unread_cause fault }
 {
     match fault {

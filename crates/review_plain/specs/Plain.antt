@@ -4,15 +4,16 @@ use Rattle.review_words.specs.declared.command.Command.{Command}
 use Rattle.review_words.specs.declared.command.Command.TheVariants.{PutProject}
 use Rattle.review_words.specs.declared.command.Delivery.{Delivery}
 use Rattle.review_words.specs.declared.command.Delivery.TheVariants.{Write, Read}
-use Rattle.review_words.specs.declared.faults.FileFault.{FileFault}
 use Rattle.review_words.specs.declared.reply.Reply.{Reply}
 use Rattle.review_words.specs.declared.reply.Answer.TheVariants.{Nothing}
 use Rattle.review_words.specs.declared.reply.NotTaken.{NotTaken as Cause}
-use Rattle.review_words.specs.declared.reply.NotTaken.TheVariants.{Memory, Damaged, Pattern}
+use Rattle.review_words.specs.declared.reply.NotTaken.TheVariants.{Memory, Pattern}
 use Rattle.review_words.specs.History as words
-use Rattle.review_file.specs.Reading.{IsReadFault, IsFileFault}
+use Rattle.review_file.specs.Reading.{IsReadFault}
+use Rattle.review_file.specs.declared.fault.ReadFault.{ReadFault}
 use Rattle.review_file.specs.declared.fault.ReadFault.TheVariants as read
 use Rattle.review_rows.specs.Files.{File}
+use Rattle.review_machine.specs.Files.{unread_cause}
 use Rattle.review_rows.specs.Answer.{HasFile, file_checks, first_refusal, refused_or}
 use Rattle.review_plain.specs.declared.history.Entry.{Entry}
 
@@ -33,16 +34,13 @@ IsUnread text Memory = Unit {0}
 IsUnread text Pattern = IsReadFault text read.Pattern
 IsUnread text _ = ⊥
 
--- a text that a project has is not read again: it has a fault
-abbrev pub IsFaulty : List ℕ → Type 0
-IsFaulty text = (f : FileFault) × IsFileFault text f
+-- this cause is why a text that was a file is not read again
+abbrev pub IsCauseFor : Cause → List ℕ → Type 0
+IsCauseFor cause text = (f : ReadFault) × IsReadFault text f × (unread_cause f ≡ cause)
 
 -- why the file that a project has is not read again
 abbrev pub IsOldUnread : Option (List ℕ) → Cause → Type 0
-IsOldUnread text Memory = Unit {0}
-IsOldUnread text Pattern = IsSomeAnd text (λ t. IsReadFault t read.Pattern)
-IsOldUnread text Damaged = IsSomeAnd text IsFaulty
-IsOldUnread text _ = ⊥
+IsOldUnread text cause = IsSomeAnd text (IsCauseFor cause)
 
 -- why a command has no answer: a file that it puts, or the one that the project has, is not read
 abbrev pub IsUnanswered : List words.Entry → Command → Cause → Type 0

@@ -14,6 +14,7 @@ use crate::history::{
     is_listed, is_project, name_taken, project_count,
 };
 use review_file::{ProjectFile, ReadFault, covers, read_file};
+use review_machine::unread_cause;
 use review_words::{
     AccountName, AccountNo, Answer, BranchName, Command, CommitName, FileFault, FileText,
     GroupName, Members, NotTaken, ProjectName, Query, Refusal, Reply,
@@ -22,7 +23,7 @@ use std::alloc::{AllocError, Global};
 
 /// The answer to a command: the first check that fails, or what it gives. An error is want of memory; Pattern, where the
 /// engine refuses a pattern in the file that is put or in the one that the project has; or Damaged, where the text of the
-/// latter isn't read again.
+/// latter has a fault now that no pattern makes.
 pub fn answer(
     alloc: Global,
     entries: &[Entry],
@@ -174,9 +175,9 @@ fn stored_file(
 {
     match file_text(entries, project.as_str()) {
         None => Ok(None),
-        Some(text) => match read(alloc, text)? {
+        Some(text) => match read_file(alloc, text.as_str()) {
             Ok(file) => Ok(Some(file)),
-            Err(_) => Err(NotTaken::Damaged),
+            Err(fault) => Err(unread_cause(fault)),
         },
     }
 }

@@ -41,7 +41,7 @@ impl PlainDesk {
     /// Takes one delivery: a repeat is told what is stored, another command under a stored identity that it is used, a first
     /// arrival its answer, which is stored, and a question its answer, which is not. An error is want of memory; Pattern, where the
     /// engine refuses a pattern in the file that is put or in the one that the project has; or Damaged, where the text of the
-    /// latter isn't read again. Then nothing is taken.
+    /// latter has a fault now that no pattern makes. Then nothing is taken.
     pub fn deliver(&mut self, alloc: Global, delivery: Delivery) -> Result<Reply, NotTaken>
         ensures told { IfOk result (λ r. IsTold self.old delivery r) }
         ensures taken { IfOk result (λ r. self.new ≡ history_after self.old (delivery ∷ []) (r ∷ [])) }

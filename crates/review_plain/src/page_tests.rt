@@ -1,6 +1,9 @@
-//! The examples of `docs/project-files.md`, each as it stands there.
-use super::*;
-use crate::tests::{WHOLE, expression_fault, is_covered, outcome};
+//! The examples of `docs/project-files.md`, each as it stands there, put on a desk.
+
+use crate::support::put;
+use review_machine::MemoryShelf;
+use review_words::{Answer, ExprCode, ExprFault, FileFault, Refusal, Reply};
+use std::alloc::Global;
 use std::test::Fail;
 
 const RIGHTS: &str = r#"[access]
@@ -37,6 +40,24 @@ Core = [-2, 2]
 Registered-Users = [-1, 1]
 [submit-requirement.Code-Review]
 submittableIf = "label:Code-Review=MAX AND -label:Code-Review=MIN"
+"#;
+
+const WHOLE: &str = r#"[access]
+create = ["Registered-Users"]
+submit = ["Core"]
+[label.Code-Review]
+copyCondition = "is:MIN OR changekind:NO_CODE_CHANGE"
+[label.Code-Review.values]
+"-2" = "Do not submit"
+"-1" = "Prefer not"
+"0" = "No score"
+"+1" = "Looks good"
+"+2" = "Approved"
+[label.Code-Review.grant]
+Core = [-2, 2]
+Registered-Users = [-1, 1]
+[submit-requirement.Code-Review]
+submittableIf = "label:Code-Review=MAX,user=non_uploader AND -label:Code-Review=MIN"
 "#;
 
 const REQUIREMENTS: &str = r#"[submit-requirement.Docs-Owner]
@@ -105,40 +126,64 @@ const LABEL_NOT_THERE: &str = r#"[submit-requirement.Verified]
 submittableIf = "label:Verified=MAX"
 "#;
 
+/// What a desk answers to the only file that is put.
+fn answer(alloc: Global, text: &str) -> Result<Reply, Fail> {
+    let mut shelf = MemoryShelf::new(alloc)?;
+    put(alloc, &mut shelf, "put", "tools", text)
+}
+
 #[test]
 fn the_example_grows(rt: HostRuntime) -> Result<(), Fail> {
     let alloc = rt.alloc();
-    for text in [RIGHTS, WITH_A_LABEL, WITH_GRANTS, WHOLE, REQUIREMENTS] {
-        assert_eq!(rt; outcome(alloc, text), "a file");
+    let mut shelf = MemoryShelf::new(alloc)?;
+    for (id, text) in [
+        ("1", RIGHTS),
+        ("2", WITH_A_LABEL),
+        ("3", WITH_GRANTS),
+        ("4", WHOLE),
+    ] {
+        let reply = put(alloc, &mut shelf, id, "tools", text)?;
+        assert_eq!(rt; reply, Reply::Done(Answer::Nothing), "{id}");
     }
+    assert_eq!(rt; answer(alloc, REQUIREMENTS)?, Reply::Done(Answer::Nothing));
     Ok(())
 }
 
 #[test]
-fn one_file_covers_the_other(rt: HostRuntime) -> Result<(), Fail> {
+fn a_label_keeps_its_values(rt: HostRuntime) -> Result<(), Fail> {
     let alloc = rt.alloc();
-    assert!(rt; is_covered(alloc, NARROW, WIDE)?);
-    assert!(rt; !is_covered(alloc, WIDE, NARROW)?);
+    let mut shelf = MemoryShelf::new(alloc)?;
+    for (id, text, wanted) in [
+        ("1", NARROW, Reply::Done(Answer::Nothing)),
+        ("2", WIDE, Reply::Done(Answer::Nothing)),
+        ("3", NARROW, Reply::Refused(Refusal::LabelNarrowed)),
+    ] {
+        let reply = put(alloc, &mut shelf, id, "tools", text)?;
+        assert_eq!(rt; reply, wanted, "{id}");
+    }
     Ok(())
 }
 
 #[test]
 fn each_faulty_example_has_its_fault(rt: HostRuntime) -> Result<(), Fail> {
-    let alloc = rt.alloc();
-    for (text, wanted) in [
-        (NO_TOML, "TOML"),
-        (UNKNOWN_RIGHT, "UNKNOWN_KEY"),
-        (GROUP_WITHOUT_BRACKETS, "UNKNOWN_KEY"),
-        (NO_VALUES, "MISSING"),
-        (NAME_WITH_UNDERLINE, "BAD_NAME"),
-        (VALUE_TWICE, "TWICE"),
-        (GAP, "BAD_VALUES"),
-        (GRANT_OUT_OF_ORDER, "BAD_VALUES"),
-        (ZERO_MEETS, "EXPR"),
-        (LABEL_NOT_THERE, "UNKNOWN_LABEL"),
+    let zero = ExprFault {
+        code: ExprCode::Zero,
+        place: 12,
+    };
+    for (text, fault) in [
+        (NO_TOML, FileFault::Toml),
+        (UNKNOWN_RIGHT, FileFault::UnknownKey),
+        (GROUP_WITHOUT_BRACKETS, FileFault::UnknownKey),
+        (NO_VALUES, FileFault::Missing),
+        (NAME_WITH_UNDERLINE, FileFault::BadName),
+        (VALUE_TWICE, FileFault::Twice),
+        (GAP, FileFault::BadValues),
+        (GRANT_OUT_OF_ORDER, FileFault::BadValues),
+        (ZERO_MEETS, FileFault::Expr(zero)),
+        (LABEL_NOT_THERE, FileFault::UnknownLabel),
     ] {
-        assert_eq!(rt; outcome(alloc, text), wanted);
+        let reply = answer(rt.alloc(), text)?;
+        assert_eq!(rt; reply, Reply::Refused(Refusal::BadFile(fault)), "{text}");
     }
-    assert_eq!(rt; expression_fault(alloc, ZERO_MEETS), Some(("ZERO", 12)));
     Ok(())
 }
