@@ -70,6 +70,7 @@ abbrev pub is_taken : Reply → Bool
 is_taken (NotTaken cause) = false
 is_taken _ = true
 
+-- whether a line was blank, or a delivery that was taken, and what comes later is as said
 abbrev pub is_done : Asked → List Reply → (List Reply → Bool) → Bool
 is_done Nothing rs later = later rs
 is_done Unreadable rs later = false
@@ -81,7 +82,7 @@ abbrev pub all_done : List (List ℕ) → List Reply → Bool
 all_done [] rs = true
 all_done (line ∷ lines) rs = is_done (asked line) rs (all_done lines)
 
--- whether an outcome says so
+-- whether an outcome says that each line was blank or taken
 abbrev pub is_complete : Outcome → Bool
 is_complete Complete = true
 is_complete Incomplete = false

@@ -46,7 +46,7 @@ impl Display for Fault {
 /// How a command ended that no fault cut short.
 #[derive(Clone, Copy, Debug, PartialEq, Eq)]
 pub enum Outcome {
-    /// Each line was a delivery, and was taken.
+    /// Each line was blank, or a delivery that was taken.
     Complete,
     /// A line was no delivery, or was not taken.
     Incomplete,

@@ -32,7 +32,7 @@ first_fault file =
 abbrev pub HasFile : Data → FileView Expr → Type 0
 HasFile file f = (first_fault file ≡ None) × IsFile (spelled file) f
 
--- a document spells a file and has no fault
+-- a document spells a file, names no unknown label and is past no limit
 abbrev pub IsFaultless : Data → FileView Expr → Type 0
 IsFaultless file f = HasFile file f × (has_unknown_label f ≡ false) × (is_past_limits file ≡ false)
 
@@ -68,7 +68,7 @@ IsReadFault text f = MatchBool (nat_lt most_bytes (length text)) (f ≡ File fau
 abbrev pub IsFileFault : List ℕ → FileFault → Type 0
 IsFileFault text f = IsReadFault text (File f)
 
--- A text spells a file and has no fault.
+-- A text is a project file: it spells one, names no unknown label and is past no limit.
 abbrev pub IsRead : List ℕ → FileView Expr → Type 0
 IsRead text f = (nat_lt most_bytes (length text) ≡ false) × ((ms : Members) × (parse_document text ≡ Some ms) × IsFaultless (table ms) f)
 

@@ -15,7 +15,7 @@ is_value values v = list_any (λ w. int_eq w.0 v) values
 abbrev pub is_far : ℤ → Bool
 is_far v = int_lt v (neg_ℤ (pos 20)) || int_lt (pos 20) v
 
--- two or more values from -20 to 20: 0 is one, and with each value the next one towards 0
+-- Two or more values from -20 to 20, each once as the document has them: 0 is one, and with each value the next one towards 0
 abbrev pub is_run : List (ℤ × List ℕ) → Bool
 is_run values = not (nat_lt (length values) 2) && (is_value values (pos 0) && list_all (λ v. not (is_far v.0) && is_value values (towards_zero v.0)) values)
 

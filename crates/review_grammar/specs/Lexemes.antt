@@ -25,7 +25,7 @@ abbrev pub all_blank : List ℕ → Bool
 all_blank [] = true
 all_blank (c ∷ cs) = is_blank c && all_blank cs
 
--- a word is longest
+-- a word may end before this text
 abbrev pub ends : List ℕ → Bool
 ends [] = true
 ends (c ∷ cs) = is_end c

@@ -3,7 +3,7 @@ use Rattle.std.specs.Prelude.{ℕ, List, if◌then◌else◌, Option, None, opti
 use Rattle.std.specs.Str.{bytes_eq}
 use Rattle.serde_json.specs.Data.{Data}
 use Rattle.review_words.specs.Names.{is_word}
-use Rattle.review_words.specs.Forms.{is_place, is_commit}
+use Rattle.review_words.specs.Forms.{is_slashed_name, is_commit}
 use Rattle.review_words.specs.declared.command.Command.{Command}
 use Rattle.review_words.specs.declared.command.Command.TheVariants.{CreateAccount, PutGroup, PutProject, RecordBase}
 use Rattle.review_json.specs.Parts.{text_at, name_at, members_at}
@@ -20,12 +20,12 @@ put_group line body =
 -- the line has the project, the body its file
 unfoldable pub put_project : Data → Data → Option Command
 put_project line body =
-    option_and_then (λ project. option_map (λ file. PutProject project file) (text_at (codes "file") body)) (name_at is_place (codes "project") line)
+    option_and_then (λ project. option_map (λ file. PutProject project file) (text_at (codes "file") body)) (name_at is_slashed_name (codes "project") line)
 
 -- the line has the project and the branch, the body the commit
 unfoldable pub record_base : Data → Data → Option Command
 record_base line body =
-    option_and_then (λ project. option_and_then (λ branch. option_map (λ commit. RecordBase project branch commit) (name_at is_commit (codes "commit") body)) (name_at is_place (codes "branch") line)) (name_at is_place (codes "project") line)
+    option_and_then (λ project. option_and_then (λ branch. option_map (λ commit. RecordBase project branch commit) (name_at is_commit (codes "commit") body)) (name_at is_slashed_name (codes "branch") line)) (name_at is_slashed_name (codes "project") line)
 
 -- the command of a name
 unfoldable pub command_named : List ℕ → Data → Data → Option Command

@@ -20,7 +20,7 @@ use Rattle.review_words.specs.declared.reply.Refusal.TheVariants.{UnknownCaller,
 use Rattle.review_words.specs.History.{Entry, account_count, name_of, name_taken, is_account, is_admin, is_listed, listed_members, file_text, is_project, project_count, bases, base_count, is_base}
 use Rattle.review_rows.specs.declared.rows.Rows.{Rows}
 use Rattle.review_rows.specs.declared.rows.Delta.{Delta}
-use Rattle.review_rows.specs.Rows.{Key, AccountKey, MemberKey, FileKey, BranchKey, OddKey, Row, AccountRow, MemberRow, FileRow, Count, Projects, BasesOf, loaded_row, member_row, member_cmp, account_change, member_change, file_after, with_base, branch_after, projects_after, bases_after, has_commit, after, count_after, is_group, ChangesNothing}
+use Rattle.review_rows.specs.Rows.{Key, AccountKey, MemberKey, FileKey, BranchKey, OddKey, Row, AccountRow, MemberRow, FileRow, Count, Projects, BasesOf, loaded_row, member_row, member_cmp, account_change, member_change, file_after, with_base, branch_after, projects_after, bases_after, has_commit, after, count_after, is_asked_name, ChangesNothing}
 use Rattle.review_rows.specs.Answer.{IsAnswer, IsOutcome, first_refusal, refused_by, checks}
 use Rattle.review_rows.specs.View.{fact, branch_row, counted, needed, needed_group, is_needed, IsLoaded, IsDecided}
 use Rattle.review_machine.specs.Decisions.{IsEmpty, added, dropped, is_held, member_of}
@@ -65,7 +65,7 @@ held_is : (h : List Entry) (group : List ℕ) (account : ℕ) (o : Option (Unit 
 held_is h group account o e = sym (some_member o) ∙ (ap is_some e ∙ some_where (is_listed h group account))
 
 admin_needed : (caller : ℕ) (command : Command) → is_needed caller command (MemberKey administrators caller) ≡ true
-admin_needed caller command = λ i. (text_same administrators i && eq_same caller i) || is_group (needed_group command) administrators
+admin_needed caller command = λ i. (text_same administrators i && eq_same caller i) || is_asked_name (needed_group command) administrators
 
 -- whether the caller is an administrator
 pub admin_is : (h : List Entry) (caller : ℕ) (command : Command) (rows : Rows) → IsLoaded h (needed caller command) rows →

@@ -156,12 +156,12 @@ unread_undecided caller project text rows cause is = at (file_in rows project) r
     at (Some t) here Damaged is = λ h hist l. let f = project_read h hist project t (stored h t here l) in is f.0 f.1
 
 -- why it is not decided where the file that is put is not read
-pub unreadable_undecided : (caller : ℕ) (project text : List ℕ) (rows : Rows) (fault : ReadFault) (cause : Cause) → (fault ≡ read.Pattern → HasPattern text) → IsReadCause fault cause → IsUndecided caller (PutProject project text) rows cause
-unreadable_undecided caller project text rows fault Memory pattern is = tt
-unreadable_undecided caller project text rows fault Pattern pattern is = λ h hist l. inl (pattern is)
-unreadable_undecided caller project text rows fault Store pattern is = absurd is
-unreadable_undecided caller project text rows fault Damaged pattern is = absurd is
-unreadable_undecided caller project text rows fault Full pattern is = absurd is
+pub unreadable_undecided : (caller : ℕ) (project text : List ℕ) (rows : Rows) (fault : ReadFault) (cause : Cause) → IsReadFault text fault → IsReadCause fault cause → IsUndecided caller (PutProject project text) rows cause
+unreadable_undecided caller project text rows fault Memory refused is = tt
+unreadable_undecided caller project text rows fault Pattern refused is = λ h hist l. inl (subst (IsReadFault text) is refused)
+unreadable_undecided caller project text rows fault Store refused is = absurd is
+unreadable_undecided caller project text rows fault Damaged refused is = absurd is
+unreadable_undecided caller project text rows fault Full refused is = absurd is
 
 -- a text with a fault is refused with it
 pub fault_decided : (h : List Entry) (caller : ℕ) (project text : List ℕ) (r : Delta × Reply) (fault : FileFault) → is_account h caller ≡ true → is_admin h caller ≡ true →
@@ -234,3 +234,8 @@ file_passes had count project old new is keeps few = (
       (λ (less : count < 1000). ap (λ b. is_project h project || b) (lt-ltb (project_count h) 1000 (omega arith)) ∙ or_true (is_project h project))
       few),
 )
+
+pub unreadable_by : (caller : ℕ) (project text : List ℕ) (rows : Rows) (fault : ReadFault) (result : Result (Delta × Reply) Cause) →
+    IsReadFault text fault → IfErr result (IsReadCause fault) → IfErr result (IsUndecided caller (PutProject project text) rows)
+unreadable_by caller project text rows fault (Ok r) refused x = tt
+unreadable_by caller project text rows fault (Err e) refused x = unreadable_undecided caller project text rows fault e refused x

@@ -10,7 +10,7 @@ use Rattle.review_words.specs.declared.reply.Reply.{Reply}
 use Rattle.review_words.specs.declared.reply.Reply.TheVariants.{Done, Refused, IdentityReused, NotTaken}
 use Rattle.review_words.specs.History.{Entry, Identity, stored, is_same}
 use Rattle.review_rows.specs.Answer.{IsHistory}
-use Rattle.review_machine.specs.Replies.{taken, with_taken, with_write, StopGoesOnFrom, first_arrivals as first, arrivals_after as first_after, has_identity, history_after, with_entries as hist, entry_of, IsRight, AreRight, AreJoined, IsServed, IsRun, StopsWithin, HasEffect}
+use Rattle.review_machine.specs.Replies.{taken, with_taken, with_write, StopGoesOnFrom, first_arrivals as first, arrivals_after as first_after, has_identity, history_after, with_entries as hist, entry_of, IsRight, AreRight, CountsFollow, IsServed, IsRun, StopsWithin, HasEffect}
 use Rattle.review_rows.specs.Shelf.{Shown, Views}
 use Rattle.review_rows.specs.Rows.{Tables}
 use Rattle.review_machine.proofs.Histories.{same_from, stored_here, stored_there}
@@ -109,8 +109,8 @@ pub history_after-append : (h0 : List Entry) (ds es : List Delivery) (rs ss : Li
 history_after-append h0 ds es rs ss same = ap (λ xs. hist h0 (first h0 xs)) (taken-append ds es rs ss same) ∙ first-append h0 (taken ds rs) (taken es ss)
 
 -- counts of two runs, of which the second begins where the first one ends
-joined-append : (from mid to : ℕ) (cs os : List (ℕ × ℕ)) → AreJoined from cs mid → AreJoined mid os to → AreJoined from (cs ++ os) to
-joined-append from mid to [] os one other = subst (λ n. AreJoined n os to) one other
+joined-append : (from mid to : ℕ) (cs os : List (ℕ × ℕ)) → CountsFollow from cs mid → CountsFollow mid os to → CountsFollow from (cs ++ os) to
+joined-append from mid to [] os one other = subst (λ n. CountsFollow n os to) one other
 joined-append from mid to (c ∷ cs) os one other = (one.0, joined-append c.1 mid to cs os one.1 other)
 
 right_at : (h0 : List Entry) (ds : List Delivery) (rs : List Reply) {h : List Entry} {d d' : Delivery} {r r' : Reply} {c c' : ℕ × ℕ} →
@@ -201,7 +201,7 @@ run-append h0 ds es rs ss old mid new one other =
       view = subst (λ h. Views h new.tables) (sym grown) other.view;
       counts = one.counts ++ other.counts;
       right = right-append h0 ds es rs ss one.counts other.counts one.right other.right;
-      joined = joined-append old.faults mid.faults new.faults one.counts other.counts one.joined other.joined;
+      follow = joined-append old.faults mid.faults new.faults one.counts other.counts one.follow other.follow;
       stops = λ t x. ⊎_elim
           (λ (y : mid.stops t). ⊎_elim (λ (z : old.stops t). inl z) (λ (w : StopsWithin h0 ds rs t). inr (stops_early h0 ds es rs ss t one.right.replies w)) (one.stops t y))
           (λ (w : StopsWithin (history_after h0 ds rs) es ss t). inr (stops_late h0 ds es rs ss t one.right.replies w))
@@ -215,7 +215,7 @@ run_none h s history view = record {
   view = view;
   counts = [];
   right = record { replies = refl; counted = refl; each = λ i d r c below. absurd (omega arith) };
-  joined = refl;
+  follow = refl;
   stops = λ t x. inl x;
   since = λ since. since;
 }
@@ -227,7 +227,7 @@ run_one h d r old new served = record {
   view = served.view;
   counts = (old.faults, new.faults) ∷ [];
   right = record { replies = refl; counted = refl; each = only };
-  joined = (refl, refl);
+  follow = (refl, refl);
   stops = λ t x. ⊎_elim (λ (y : old.stops t). inl y) (λ (e : HasEffect h d t). inr (0, d, omega arith, e)) (served.stops t x);
   since = leaves_since h d r old new served;
 }

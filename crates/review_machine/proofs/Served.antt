@@ -29,7 +29,7 @@ use Rattle.review_rows.specs.Answer.{IsHistory, IsAnswer, query_answer, query_ch
 use Rattle.review_rows.specs.View.{IsLoaded, IsView, IsDecided, answer_row, needed, wanted_for}
 use Rattle.review_rows.specs.Shelf.{IsCommitted, AreSelected, Shown, Shows, Views, StaysOrShuts, StopLeavesOwnTables, AddsNoStop, IsCounted, Blames, cause_of}
 use Rattle.review_machine.specs.Decisions.{WantsAs, IsUndecided}
-use Rattle.review_machine.specs.Replies.{history_after, with_entries as hist, entry_of, IsRight, IsTold, IsToldOfStored, IsServed, IsToldAgain, IsLawful, reply_of, IsNew, HasEffect, StopGoesOnFrom, StopHasEntry, IsEntered, GoesOn, KeepsUntaken, CountsReply, IsAnswered}
+use Rattle.review_machine.specs.Replies.{history_after, with_entries as hist, entry_of, IsRight, IsTold, IsToldOfStored, IsServed, IsToldAgain, IsLawful, reply_of, IsNew, HasEffect, StopGoesOnFrom, StopHasEntry, IsEntered, GoesOn, KeepsUntaken, CountsReply, IsDoneOrRefused}
 use Rattle.review_machine.proofs.Histories.{loaded, recalled, not_recalled, view_grows, answer_stored, stored_stays, stored_here, same_to, stored_identity}
 
 -- a new identity adds its entry, and an old one nothing
@@ -333,14 +333,14 @@ shown_served h caller query (Err e) rows old new hist v l shown cause stays quie
     subst (λ c. IsServed h (Read caller query) (NotTaken c) old new) (sym cause)
     (not_taken_served h (Read caller query) Memory old new hist (views_stay h old.tables new.tables stays v) quiet (λ t x. inl (adds t x)))
 
-pub shown_counts : (r : Result Reply Cause) (before after : ℕ) → IfOk r IsAnswered → IfErr r (λ e. e ≡ Memory) → after ≡ before → CountsReply (reply_of r) before after
+pub shown_counts : (r : Result Reply Cause) (before after : ℕ) → IfOk r IsDoneOrRefused → IfErr r (λ e. e ≡ Memory) → after ≡ before → CountsReply (reply_of r) before after
 shown_counts (Ok (Done a)) before after answered cause same = same
 shown_counts (Ok (Refused x)) before after answered cause same = same
 shown_counts (Ok IdentityReused) before after answered cause same = absurd answered
 shown_counts (Ok (NotTaken c)) before after answered cause same = absurd answered
 shown_counts (Err e) before after answered cause same = subst (λ c. CountsReply (NotTaken c) before after) (sym cause) same
 
-pub shown_keeps : (caller : ℕ) (query : Query) (r : Result Reply Cause) (old new : Option Tables) → IfOk r IsAnswered → new ≡ old → KeepsUntaken (Read caller query) (reply_of r) old new
+pub shown_keeps : (caller : ℕ) (query : Query) (r : Result Reply Cause) (old new : Option Tables) → IfOk r IsDoneOrRefused → new ≡ old → KeepsUntaken (Read caller query) (reply_of r) old new
 shown_keeps caller query (Ok (Done a)) old new answered same = same
 shown_keeps caller query (Ok (Refused x)) old new answered same = same
 shown_keeps caller query (Ok IdentityReused) old new answered same = same

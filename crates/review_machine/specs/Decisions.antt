@@ -1,4 +1,4 @@
--- What a command wants of the tables, and what it changes in a group.
+-- Why a command is not decided, what it wants of the tables, and what it changes in a group.
 use Rattle.std.specs.Prelude.{ℕ, ◌≡◌, ◌⊎◌, IsSomeAnd, List, [], ◌∷◌, Some, None, Bool, false, not, map, ◌&&◌, ◌==◌, is_some}
 use Rattle.std.specs.declared.cmp.Ordering.{Ordering}
 use Rattle.std.specs.Ordering.{nat_cmp}
@@ -11,6 +11,8 @@ use Rattle.review_words.specs.declared.command.Command.TheVariants.{PutProject}
 use Rattle.review_words.specs.declared.reply.NotTaken.{NotTaken as Cause}
 use Rattle.review_words.specs.declared.reply.NotTaken.TheVariants.{Memory, Pattern, Damaged}
 use Rattle.review_words.specs.History.{Entry, file_text}
+use Rattle.review_file.specs.Reading.{IsReadFault}
+use Rattle.review_file.specs.declared.fault.ReadFault.TheVariants as read
 use Rattle.review_rows.specs.Files.{HasPattern}
 use Rattle.review_rows.specs.Answer.{IsHistory}
 use Rattle.review_rows.specs.View.{IsLoaded, needed}
@@ -20,9 +22,9 @@ use Rattle.review_rows.specs.declared.rows.Delta.{Delta}
 use Rattle.review_rows.specs.declared.rows.Need.{Need}
 use Rattle.review_rows.specs.Rows.{Key, Wanted, member_cmp}
 
--- The command reads a project file with a pattern: that which is put, or that of its project.
+-- The command reads a pattern that the engine may refuse: in the file that is put, all before it being good, or in the file of its project.
 abbrev pub ReadsPattern : List Entry → Command → Type 0
-ReadsPattern h (PutProject project text) = HasPattern text ⊎ IsSomeAnd (file_text h project) HasPattern
+ReadsPattern h (PutProject project text) = IsReadFault text read.Pattern ⊎ IsSomeAnd (file_text h project) HasPattern
 ReadsPattern h command = ⊥
 
 -- Why a command is not decided: want of memory, a pattern that the engine refuses in a file that the command reads, or rows that are those of no history.

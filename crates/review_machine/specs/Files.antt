@@ -25,11 +25,13 @@ use Rattle.review_machine.specs.Decisions.{IsEmpty}
 abbrev pub file_in : Rows → List ℕ → Option (List ℕ)
 file_in rows project = row_in (slice_cmp nat_cmp) (rows_of rows.files) project
 
+-- what a fault of an expression in a stored file shows
 abbrev pub bad_value_cause : ExprCode → Cause
 bad_value_cause BadValue = Pattern
 bad_value_cause code = Damaged
 
--- Why a stored file is not read. It was read when it was put: a bad value shows a pattern that the engine refuses now, any other fault damage.
+-- Why a stored file is not read. The file of a history was read when it was put: a bad value shows a pattern that the engine refuses now, any
+-- other fault damage. In tables of no history it may be another bad value.
 abbrev pub unread_cause : ReadFault → Cause
 unread_cause read.Memory = Memory
 unread_cause read.Pattern = Pattern
@@ -42,7 +44,7 @@ IsReadCause fault Memory = fault ≡ read.Memory
 IsReadCause fault Pattern = fault ≡ read.Pattern
 IsReadCause fault _ = ⊥
 
--- why a text that spells a file is not read
+-- why a text that should spell a file is not read
 abbrev pub IsUnreadText : List ℕ → Cause → Type 0
 IsUnreadText text Memory = Unit {0}
 IsUnreadText text Pattern = (f : File) → IsRead text f → HasPattern text

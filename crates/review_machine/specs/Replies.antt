@@ -31,7 +31,7 @@ abbrev pub with_taken : Delivery → Reply → List Entry → List Entry
 with_taken (Write caller id command) reply es = with_write reply (entry_of caller id command reply) es
 with_taken (Read caller query) reply es = es
 
--- the deliveries that were taken: those whose reply isn't NotTaken
+-- the writes that were taken, as entries with their replies: those whose reply isn't NotTaken
 abbrev pub taken : List Delivery → List Reply → List Entry
 taken [] rs = []
 taken (d ∷ ds) [] = []
@@ -96,9 +96,9 @@ pub record AreRight (h0 : List Entry) (ds : List Delivery) (rs : List Reply) (co
       IsRight (history_after h0 (take i ds) (take i rs)) (slice_index_or ds i d) (slice_index_or rs i r) (slice_index_or counts i c).0 (slice_index_or counts i c).1
 
 -- the count of faults went from one number to another in these steps
-abbrev pub AreJoined : ℕ → List (ℕ × ℕ) → ℕ → Type 0
-AreJoined from [] to = to ≡ from
-AreJoined from (c ∷ cs) to = (c.0 ≡ from) × AreJoined c.1 cs to
+abbrev pub CountsFollow : ℕ → List (ℕ × ℕ) → ℕ → Type 0
+CountsFollow from [] to = to ≡ from
+CountsFollow from (c ∷ cs) to = (c.0 ≡ from) × CountsFollow c.1 cs to
 
 -- a first arrival
 abbrev pub IsNew : List Entry → Delivery → Type 0
@@ -111,10 +111,10 @@ HasEffect h (Write caller id command) t = (reply : Reply) × IsHistory (entry_of
 HasEffect h (Read caller query) t = ⊥
 
 -- an answer or a refusal
-abbrev pub IsAnswered : Reply → Type 0
-IsAnswered (Done a) = Unit {0}
-IsAnswered (Refused r) = Unit {0}
-IsAnswered _ = ⊥
+abbrev pub IsDoneOrRefused : Reply → Type 0
+IsDoneOrRefused (Done a) = Unit {0}
+IsDoneOrRefused (Refused r) = Unit {0}
+IsDoneOrRefused _ = ⊥
 
 -- what one delivery does: the right reply, the tables of the history after it, and what a stop then may leave
 pub record IsServed (h : List Entry) (d : Delivery) (reply : Reply) (old new : Shown) : Type 0 where
@@ -151,11 +151,12 @@ pub record IsRun (h0 : List Entry) (ds : List Delivery) (rs : List Reply) (old n
   pub view : Views (history_after h0 ds rs) new.tables
   pub counts : List (ℕ × ℕ)
   pub right : AreRight h0 ds rs counts
-  pub joined : AreJoined old.faults counts new.faults
+  pub follow : CountsFollow old.faults counts new.faults
   -- a stop leaves what it could leave at the start, or the tables with the whole effect of a first arrival among these
   pub stops : (t : Tables) → new.stops t → old.stops t ⊎ StopsWithin h0 ds rs t
   pub since : StopGoesOnFrom h0 old → StopGoesOnFrom (history_after h0 ds rs) new
 
+-- what is told of what was taken, or why it wasn't
 abbrev pub reply_of : Result Reply Cause → Reply
 reply_of (Ok reply) = reply
 reply_of (Err cause) = NotTaken cause
@@ -168,7 +169,7 @@ IsToldAgain row content (Err Memory) = Unit {0}
 IsToldAgain row content (Err Damaged) = (reply : Reply) → IsStored reply → reply_text reply ≡ row.reply → ⊥
 IsToldAgain row content (Err _) = ⊥
 
--- the identity is stored, and so is its request
+-- the identity is stored, with a request of which this is true
 abbrev pub HasStored : Identity → Option Tables → (AnswerRow → Type 0) → Type 0
 HasStored i tables IsSo = Shows tables (λ t. (row : AnswerRow) × (t.answer i ≡ Some row) × IsSo row)
 

@@ -45,7 +45,7 @@ abbrev pub RestartKeepsHistory : Type 0
 RestartKeepsHistory = (h0 es1 es2 : List Entry) →
     with_entries (with_entries h0 (first_arrivals h0 es1)) (first_arrivals (with_entries h0 (first_arrivals h0 es1)) (es1 ++ es2)) ≡ with_entries h0 (first_arrivals h0 (es1 ++ es2))
 
--- Two runs of the same deliveries that leave the same history gave the same replies to writes.
+-- Two runs of the same deliveries, all of them taken, that leave the same history gave the same replies to writes.
 abbrev pub RepliesFollowHistory : Type 0
 RepliesFollowHistory = (h0 h last : List Entry) (ds : List Delivery) (rs ss : List Reply) (counts others : List (ℕ × ℕ)) → IsHistory last →
     AreRight h0 ds rs counts → WereTaken rs → AreRight h ds ss others → WereTaken ss →

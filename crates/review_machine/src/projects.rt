@@ -194,8 +194,8 @@ fn stored_file(
     }
 }
 
-/// Why a stored file is not read. It was read when it was put: a bad value shows a pattern that the engine refuses now, any
-/// other fault damage.
+/// Why a stored file is not read. The file of a history was read when it was put: a bad value shows a pattern that the engine
+/// refuses now, any other fault damage.
 pub fn unread_cause(fault: ReadFault) -> NotTaken
     ensures { result ≡ unread_cause fault }
 {

@@ -5,7 +5,7 @@ ghost use Rattle.review_words.specs.declared.command.Query.TheVariants.{Branch};
 ghost use Rattle.review_words.specs.declared.reply.NotTaken.TheVariants.{Memory};
 ghost use Rattle.review_rows.specs.Answer.{query_answer};
 ghost use Rattle.review_rows.specs.View.{wanted_for, IsLoaded};
-ghost use Rattle.review_machine.specs.Replies.{IsAnswered};
+ghost use Rattle.review_machine.specs.Replies.{IsDoneOrRefused};
 
 use crate::callers::has_account;
 use review_rows::{BranchKey, Rows};
@@ -16,7 +16,7 @@ use std::alloc::{AllocError, Global};
 /// nothing. The only error is want of memory.
 pub fn show(alloc: Global, rows: &Rows, caller: AccountNo, query: &Query) -> Result<Reply, NotTaken>
     ensures shown { IfOk result (λ r. (h : List Entry) → IsLoaded h (wanted_for caller query.now) rows.now → r ≡ query_answer h caller query.now) }
-    ensures answered { IfOk result IsAnswered }
+    ensures answered { IfOk result IsDoneOrRefused }
     ensures cause { IfErr result (λ e. e ≡ Memory) }
 {
     let known = has_account(rows, caller);
@@ -28,7 +28,7 @@ pub fn show(alloc: Global, rows: &Rows, caller: AccountNo, query: &Query) -> Res
 
 // The answer to a question of an account.
 fn answer(alloc: Global, rows: &Rows, caller: AccountNo, query: &Query) -> Result<Reply, AllocError>
-    ensures answered { IfOk result IsAnswered }
+    ensures answered { IfOk result IsDoneOrRefused }
     ensures shown { IfOk result (λ r. (h : List Entry) → is_account h caller ≡ true → IsLoaded h (wanted_for caller query.now) rows.now → r ≡ query_answer h caller query.now) }
 {
     match query {
@@ -43,7 +43,7 @@ fn show_branch(
     project: &ProjectName,
     branch: &BranchName,
 ) -> Result<Reply, AllocError>
-    ensures answered { IfOk result IsAnswered }
+    ensures answered { IfOk result IsDoneOrRefused }
     ensures shown { IfOk result (λ r. (h : List Entry) → is_account h caller ≡ true → IsLoaded h (wanted_for caller (Branch project.now branch.now)) rows.now → r ≡ query_answer h caller (Branch project.now branch.now)) }
 {
     if !rows.has_project {

@@ -47,7 +47,7 @@ abbrev pub IsUnanswered : List words.Entry → Command → Cause → Type 0
 IsUnanswered h (PutProject project text) cause = IsUnread text cause ⊎ IsOldUnread (words.file_text h project) cause
 IsUnanswered h command cause = cause ≡ Memory
 
--- why a delivery is not taken; a question only for want of memory
+-- why a delivery is not taken; a question and a repeat only for want of memory
 abbrev pub IsUntaken : List words.Entry → Delivery → Cause → Type 0
-IsUntaken h (Write caller id command) cause = (cause ≡ Memory) ⊎ IsUnanswered h command cause
+IsUntaken h (Write caller id command) cause = (cause ≡ Memory) ⊎ ((words.stored h (record { caller = caller; id = id }) ≡ None) × IsUnanswered h command cause)
 IsUntaken h (Read caller query) cause = cause ≡ Memory

@@ -58,6 +58,7 @@ abbrev pub done : List Entry → Command → Answer
 done h (CreateAccount name) = Account (account_count h + 1)
 done h _ = Nothing
 
+-- a refusal where there is one, and otherwise this answer
 abbrev pub refused_or : Option Refusal → Answer → Reply
 refused_or None otherwise = Done otherwise
 refused_or (Some refusal) otherwise = Refused refusal
@@ -81,8 +82,8 @@ IsFileAnswer h project text reply =
 abbrev pub IsFaultAnswer : List ℕ → Reply → Type 0
 IsFaultAnswer text reply = (fault : FileFault) × IsFileFault text fault × IsPlaced fault × (reply ≡ Refused (BadFile fault))
 
--- What a command is told that no check refuses. One place is free: a text with a pattern that nests deeper than the pattern engine reads spells a file,
--- and may be told a fault all the same.
+-- What a command is told that no check refuses. One place is free: a text with a pattern that nests deeper than the pattern engine reads may spell a file
+-- and be told a fault all the same.
 abbrev pub IsOutcome : List Entry → Command → Reply → Type 0
 IsOutcome h (PutProject project text) reply = IsFaultAnswer text reply ⊎ IsFileAnswer h project text reply
 IsOutcome h command reply = reply ≡ Done (done h command)
@@ -107,8 +108,8 @@ query_answer h caller query = refused_or (first_refusal ((is_account h caller, U
 abbrev pub most_requests : ℕ
 most_requests = 9007199254740991
 
--- A history: each identity stands once, and each reply is an answer after what stood before. Nothing is asked of the forms of names and
--- numbers in it, so a statement about every history speaks of more lists than the desk can make.
+-- A history: each identity stands once, each reply is an answer after what stood before, and there are at most so many requests. Nothing is
+-- asked of the forms of names and numbers in it, so where a history is assumed, more lists are spoken of than the desk can make.
 abbrev pub IsHistory : List Entry → Type 0
 IsHistory [] = Unit {0}
 IsHistory (e ∷ h) = (stored h e.identity ≡ None) × IsAnswer h e.identity.caller e.command e.reply × (length h < most_requests) × IsHistory h

@@ -80,16 +80,16 @@ abbrev pub is_member_key : List ℕ → ℕ → Member → Bool
 is_member_key group account m = bytes_eq m.group group && (m.account == account)
 
 -- whether a name is the one that is asked for
-abbrev pub is_group : Option (List ℕ) → List ℕ → Bool
-is_group None group = false
-is_group (Some asked) group = bytes_eq asked group
+abbrev pub is_asked_name : Option (List ℕ) → List ℕ → Bool
+is_asked_name None group = false
+is_asked_name (Some asked) group = bytes_eq asked group
 
 -- whether a branch is the one that is asked for
 abbrev pub is_branch_key : Option Branch → List ℕ → List ℕ → Bool
 is_branch_key None project branch = false
 is_branch_key (Some asked) project branch = bytes_eq asked.project project && bytes_eq asked.branch branch
 
--- what is wanted of tables: the rows of some keys, the account of a name, the greatest number of an account, the number of projects, whether a project is there, and whether a commit is a base
+-- what is wanted of tables: the rows of some keys, the account of a name, the greatest number of an account, the number of projects, whether a project is there, and whether a commit is a base, with how many bases its project has
 pub record Wanted : Type 0 where
   pub row : Key → Bool
   pub name : Option (List ℕ)
@@ -101,8 +101,8 @@ pub record Wanted : Type 0 where
 -- whether a need asks for the row of a key
 abbrev pub selects : Need → Key → Bool
 selects need (AccountKey number) = list_any (λ n. n == number) need.accounts.items
-selects need (MemberKey group account) = list_any (is_member_key group account) need.members.items || is_group need.group group
-selects need (FileKey project) = is_group need.file project
+selects need (MemberKey group account) = list_any (is_member_key group account) need.members.items || is_asked_name need.group group
+selects need (FileKey project) = is_asked_name need.file project
 selects need (BranchKey project branch) = is_branch_key need.branch project branch
 selects need (OddKey o) = false
 
@@ -132,7 +132,7 @@ abbrev pub file_after : Option ProjectRow → List ℕ → Option Row → Option
 file_after None project was = was
 file_after (Some put) project was = if bytes_eq put.project project then Some (FileRow put.file) else was
 
--- a commit after the bases of a branch; where the row is none of a branch, an odd row stays one
+-- a commit after the bases of a branch; where the row is none of a branch, it becomes an odd row
 abbrev pub with_base : List ℕ → Option Row → Option Row
 with_base commit None = Some (BranchRow (commit ∷ []))
 with_base commit (Some (BranchRow commits)) = Some (BranchRow (commits ++ commit ∷ []))

@@ -13,7 +13,7 @@ use Rattle.review_words.specs.declared.reply.Reply.{Reply}
 use Rattle.review_rows.specs.declared.rows.Base.{Base}
 use Rattle.review_rows.specs.declared.rows.Rows.{Rows}
 use Rattle.review_rows.specs.declared.rows.Delta.{Delta}
-use Rattle.review_rows.specs.Rows.{Key, AccountKey, MemberKey, FileKey, BranchKey, OddKey, Row, AccountRow, MemberRow, FileRow, BranchRow, Count, Projects, BasesOf, AnswerRow, Tables, Wanted, is_group, after, count_after, ArePicked}
+use Rattle.review_rows.specs.Rows.{Key, AccountKey, MemberKey, FileKey, BranchKey, OddKey, Row, AccountRow, MemberRow, FileRow, BranchRow, Count, Projects, BasesOf, AnswerRow, Tables, Wanted, is_asked_name, after, count_after, ArePicked}
 use Rattle.review_rows.specs.Answer.{IsAnswer}
 
 -- the row of a branch that has bases
@@ -78,8 +78,8 @@ needed_file _ = None
 -- whether the row of a key decides a command
 abbrev pub is_needed : ℕ → Command → Key → Bool
 is_needed caller command (AccountKey number) = needed_account caller command number
-is_needed caller command (MemberKey group account) = (bytes_eq administrators group && (caller == account)) || is_group (needed_group command) group
-is_needed caller command (FileKey project) = is_group (needed_file command) project
+is_needed caller command (MemberKey group account) = (bytes_eq administrators group && (caller == account)) || is_asked_name (needed_group command) group
+is_needed caller command (FileKey project) = is_asked_name (needed_file command) project
 is_needed caller command _ = false
 
 -- whether the greatest number of an account decides it

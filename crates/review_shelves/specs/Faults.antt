@@ -18,6 +18,7 @@ abbrev pub after_call : Turn → Turn
 after_call (Ahead n) = if n == 1 then Past else Ahead (n - 1)
 after_call Past = Past
 
+-- whether the call whose turn it was has come
 abbrev pub is_past : Turn → Bool
 is_past (Ahead n) = false
 is_past Past = true
@@ -26,10 +27,11 @@ is_past Past = true
 abbrev pub failing : Bool → Shown → Shown
 failing failed s = record { tables = s.tables; is_honest = s.is_honest; faults = one_more failed s.faults; stops = s.stops }
 
+-- what a faulty shelf shows
 abbrev pub faulty : {T : Type 0} → (T → Shown) → FaultyShelf T → Shown
 faulty shown s = failing (is_past s.turn) (shown s.inner)
 
--- The call whose turn it is answers Store, and the shelf below doesn't see it; any other is answered by the shelf below.
+-- The call whose turn it is answers Store, and the shelf below doesn't see it; after any other the count of faults went as the shelf below counts.
 pub record FailsInTurn {T X : Type 0} (shown : T → Shown) (old : FaultyShelf T) (result : Result X ShelfFault) (new : FaultyShelf T) : Type 0 where
   pub turn : new.turn ≡ after_call old.turn
   pub fails : is_next old.turn ≡ true → (result ≡ Err Store) × (new.inner ≡ old.inner)
@@ -39,10 +41,11 @@ pub record FailsInTurn {T X : Type 0} (shown : T → Shown) (old : FaultyShelf T
 abbrev pub shut_or_not : Bool → ℕ → Shown → Shown
 shut_or_not shut refused s = record { tables = if shut then None else s.tables; is_honest = s.is_honest; faults = min (s.faults + refused) greatest_count; stops = s.stops }
 
+-- what a shutting shelf shows
 abbrev pub shutting : {T : Type 0} → (T → Shown) → ShuttingShelf T → Shown
 shutting shown s = shut_or_not (is_past s.turn) s.refused (shown s.inner)
 
--- Whose turn it is then: once that is past, the shelf is shut and the call answers Store; before, it is answered by the shelf below.
+-- Whose turn it is then: once that is past, the shelf is shut and the call answers Store; before, the count of faults went as the shelf below counts.
 pub record ShutsInTurn {T X : Type 0} (shown : T → Shown) (old : ShuttingShelf T) (result : Result X ShelfFault) (next : Turn) (new : ShuttingShelf T) : Type 0 where
   pub turn : new.turn ≡ next
   pub refuses : is_past next ≡ true → result ≡ Err Store

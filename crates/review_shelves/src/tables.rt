@@ -6,7 +6,7 @@ ghost use Rattle.std.specs.Ordering.{nat_cmp};
 ghost use Rattle.std.specs.Cmp.Lexicographic.{slice_cmp};
 ghost use Rattle.std.specs.Str.{bytes_eq};
 ghost use Rattle.review_table.specs.Rows.{row_in, rows_of};
-ghost use Rattle.review_rows.specs.Rows.{BranchRow, member_cmp, branch_cmp, is_member_key, is_group, is_branch_key, has_commit, projects_after, kept_row, wanted_by, IsLastAccount, IsFoundWhereAsked, ArePicked};
+ghost use Rattle.review_rows.specs.Rows.{BranchRow, member_cmp, branch_cmp, is_member_key, is_asked_name, is_branch_key, has_commit, projects_after, kept_row, wanted_by, IsLastAccount, IsFoundWhereAsked, ArePicked};
 ghost use Rattle.review_rows.specs.Shelf.{IsRecalled, AreSelected, IsCommitted};
 ghost use Rattle.review_rows.specs.View.{IsView, branch_row};
 ghost use Rattle.review_shelves.specs.Desk.{tables_of, desk_of, row_of, file_row, name_cmp, IsIndexed, IsNumbered, IsBounded, IsSound, AreIndexed, KeepsNames, HasRoom, AreApplied, IsWithBase, IsSameDesk, with_branches};
@@ -131,7 +131,7 @@ impl MemoryTables {
         alloc: Global,
         project: &Option<ProjectName>,
     ) -> Result<Table<ProjectName, FileText>, AllocError>
-        ensures { IfOk result (λ rows. (q : List ℕ) → row_in (slice_cmp nat_cmp) (rows_of rows) q ≡ (if is_group project.now q then row_in (slice_cmp nat_cmp) (rows_of self.now.files) q else None)) }
+        ensures { IfOk result (λ rows. (q : List ℕ) → row_in (slice_cmp nat_cmp) (rows_of rows) q ≡ (if is_asked_name project.now q then row_in (slice_cmp nat_cmp) (rows_of self.now.files) q else None)) }
     {
         let mut rows = Table::new(alloc);
         let Some(project) = project else {

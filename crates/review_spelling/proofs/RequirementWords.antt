@@ -4,7 +4,7 @@ use Rattle.std.specs.Prelude.{codes}
 use Rattle.std.specs.Str.{bytes_eq}
 use Rattle.review_words.specs.Names.{is_word}
 use Rattle.review_words.specs.Reading as Steps
-use Rattle.review_words.specs.Forms.{is_place, is_path}
+use Rattle.review_words.specs.Forms.{is_slashed_name, is_path}
 use Rattle.review_grammar.specs.Words.{NoTerm, Reading, Good, Bad}
 use Rattle.review_terms.specs.Patterns.{is_pattern}
 use Rattle.review_terms.specs.declared.terms.LabelTerm.{LabelTerm}
@@ -111,13 +111,13 @@ has_of true t e = cc
 has_of false t e = absurd (cc)
 
 spelled_branch : (x : List ℕ) (o : Option (List ℕ)) (t : RequirementTerm) → lacks 34 x ≡ true → requirement_value of_requirement.Branch x ≡ Good t → ((re : List ℕ) → o ≡ Some re → x ≡ codes "^" ++ re)
-    → pattern_or o requirement.BranchMatches (option_map requirement.Branch (formed is_place x)) ≡ Good t → Spelled t
+    → pattern_or o requirement.BranchMatches (option_map requirement.Branch (formed is_slashed_name x)) ≡ Good t → Spelled t
 unfolding name
 spelled_branch x (Some re) t bare gives front e =
     let same = formed_good is_pattern requirement.BranchMatches (is_pattern re) re t e in
     record { key = of_requirement.Branch; text = x; is = ap requirement_word (sym same) ∙ ap (word_of (codes "branch")) (sym (front re refl)); bare = bare; gives = gives }
 spelled_branch x None t bare gives front e =
-    let same = formed_good is_place requirement.Branch (is_place x) x t e in
+    let same = formed_good is_slashed_name requirement.Branch (is_slashed_name x) x t e in
     record { key = of_requirement.Branch; text = x; is = ap requirement_word (sym same); bare = bare; gives = gives }
 
 spelled_path : (x : List ℕ) (o : Option (List ℕ)) (t : RequirementTerm) → lacks 34 x ≡ true → requirement_value of_requirement.Path x ≡ Good t → ((re : List ℕ) → o ≡ Some re → x ≡ codes "^" ++ re)

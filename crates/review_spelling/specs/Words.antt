@@ -1,7 +1,7 @@
 -- What a word is read as.
 use Rattle.std.specs.Prelude.{ℕ, List, ◌&&◌, Bool, true, false, if◌then◌else◌, codes, Option, Some, None, option_map, IsSomeAnd}
 use Rattle.std.specs.Str.{bytes_eq}
-use Rattle.review_words.specs.Forms.{is_place, is_path}
+use Rattle.review_words.specs.Forms.{is_slashed_name, is_path}
 use Rattle.review_words.specs.Names.{is_word}
 use Rattle.review_grammar.specs.Words.{Reading, Good, Bad}
 use Rattle.review_terms.specs.Patterns.{is_pattern, IsDeepPattern, IsEnginePattern}
@@ -53,11 +53,12 @@ truth_in text =
     else if bytes_eq text (codes "false") then Some false
     else None
 
--- a component of a path: a path without a slash
+-- what was cut at a slash had none
 abbrev pub no_slash : Option (List ℕ × List ℕ) → Bool
 no_slash None = true
 no_slash (Some halves) = false
 
+-- a component of a path: a path without a slash
 abbrev pub is_component : List ℕ → Bool
 is_component text = no_slash (cut_at 47 text) && is_path text
 
@@ -74,7 +75,7 @@ requirement_value of_requirement.Label value = do
   unless_zero (is_met_by_zero term.comparison) (requirement.Label term)
 requirement_value of_requirement.UploaderIn value = in_value (option_map requirement.UploaderIn (formed is_word value))
 requirement_value of_requirement.OwnerIn value = in_value (option_map requirement.OwnerIn (formed is_word value))
-requirement_value of_requirement.Branch value = pattern_or (behind (codes "^") value) requirement.BranchMatches (option_map requirement.Branch (formed is_place value))
+requirement_value of_requirement.Branch value = pattern_or (behind (codes "^") value) requirement.BranchMatches (option_map requirement.Branch (formed is_slashed_name value))
 requirement_value of_requirement.Path value = pattern_or (behind (codes "^") value) requirement.PathMatches (option_map requirement.Path (formed is_path value))
 requirement_value of_requirement.File value = pattern_or (behind (codes "^") value) requirement.PathMatches (option_map requirement.File (formed is_component value))
 requirement_value of_requirement.Has value = in_value (if bytes_eq value (codes "unresolved") then Some requirement.Unresolved else None)

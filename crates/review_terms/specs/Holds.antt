@@ -111,7 +111,7 @@ requirement_holds f (requirement.PathMatches re) = list_any (matches_whole re) f
 requirement_holds f (requirement.File name) = list_any (λ p. list_any (λ part. bytes_eq part name) (components p)) f.paths
 requirement_holds f requirement.Unresolved = f.unresolved
 
--- a kind that is asked for matches the kind of a patch set; REWORK matches every kind, and no patch set has two parents
+-- a kind that is asked for matches the kind of a patch set; REWORK matches every kind, and MERGE_FIRST_PARENT_UPDATE none, since no patch set has two parents
 abbrev pub kind_matches : ChangeKind → ChangeKind → Bool
 kind_matches kind.Rework given = true
 kind_matches kind.NoChange kind.NoChange = true

@@ -13,11 +13,12 @@ use Rattle.review_terms.specs.declared.pattern.PatternFault.TheVariants.{Syntax,
 abbrev pub anchored : List ℕ → List ℕ
 anchored re = codes "\\A(?:" ++ re ++ codes ")\\z"
 
--- what the grammar of `regex` reads in a text has a match in the other
+-- what was read of a pattern has a match in a text
 abbrev pub found_by : Option (Nested Re × Names) → List ℕ → Bool
 found_by None hay = false
 found_by (Some found) hay = is_some (find_str found.0.value hay 0)
 
+-- what the grammar of `regex` reads in a text has a match in the other
 abbrev pub has_match : List ℕ → List ℕ → Bool
 has_match source hay = found_by (read default_config (chars source)) hay
 
@@ -41,22 +42,25 @@ IsTooDeep source = IsSomeAnd (read default_config (chars source)) (λ found. def
 abbrev pub IsDeepPattern : List ℕ → Type 0
 IsDeepPattern re = IsTooDeep re ⊎ IsTooDeep (anchored re)
 
--- a pattern, which the engine may refuse all the same, as for its size
+-- A pattern. The engine may refuse it all the same, as for its size.
 abbrev pub IsEnginePattern : List ℕ → Type 0
 IsEnginePattern re = is_pattern re ≡ true
 
+-- a compiled pattern is that of the text
 abbrev pub IsReadFrom : List ℕ → Regex → Type 0
 IsReadFrom source r = (regex_source r ≡ source) × (regex_config r ≡ default_config) × IsReadFromSource r
 
+-- a compiled pattern is the text held to the whole
 abbrev pub IsHeld : List ℕ → Regex → Type 0
 IsHeld text r = IsReadFrom (anchored text) r
 
--- which fault may be given for one text, and for a pattern
+-- which fault may be given for one text
 abbrev pub IsRefusedBy : List ℕ → PatternFault → Type 0
 IsRefusedBy source Syntax = (is_read source ≡ false) ⊎ IsTooDeep source
 IsRefusedBy source Engine = is_read source ≡ true
 IsRefusedBy source Memory = Unit {0}
 
+-- which fault may be given for a pattern
 abbrev pub IsLawful : List ℕ → PatternFault → Type 0
 IsLawful re Syntax = (is_pattern re ≡ false) ⊎ IsDeepPattern re
 IsLawful re Engine = IsEnginePattern re

@@ -33,8 +33,8 @@ unfoldable pub is_step : List ℕ → Bool
 is_step s = nat_le 1 (length s) && list_all is_plain s && not (bytes_eq s (codes ".")) && not (bytes_eq s (codes ".."))
 
 -- the name of a project or a branch: steps joined by slashes, at most 128 bytes
-unfoldable pub is_place : List ℕ → Bool
-is_place s = nat_le (length s) 128 && list_all is_step (components s)
+unfoldable pub is_slashed_name : List ℕ → Bool
+is_slashed_name s = nat_le (length s) 128 && list_all is_step (components s)
 
 -- a digit, or a small letter from a to f
 abbrev pub is_hexadecimal : ℕ → Bool
@@ -45,12 +45,12 @@ unfoldable pub is_commit : List ℕ → Bool
 is_commit s = length s == 40 && list_all is_hexadecimal s
 
 -- the name of a file or folder: at least one byte, and no control character of ASCII
-unfoldable pub is_file : List ℕ → Bool
-is_file s = nat_le 1 (length s) && list_all (λ c. not (is_ascii_control c)) s
+unfoldable pub is_path_step : List ℕ → Bool
+is_path_step s = nat_le 1 (length s) && list_all (λ c. not (is_ascii_control c)) s
 
 -- a path: files joined by slashes, at most 512 bytes
 unfoldable pub is_path : List ℕ → Bool
-is_path s = nat_le (length s) 512 && list_all is_file (components s)
+is_path s = nat_le (length s) 512 && list_all is_path_step (components s)
 
 -- a number from 1 to the greatest one
 unfoldable pub is_within : ℕ → ℕ → Bool

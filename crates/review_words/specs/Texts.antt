@@ -106,10 +106,10 @@ abbrev pub reply_text : Reply → List ℕ
 reply_text reply = text_of (reply_fields reply)
 
 -- an answer that is stored, with numbers of their forms; a query's never is
-abbrev pub IsAnswerOf : Answer → Type 0
-IsAnswerOf (Account number) = (1 ≤ number) × (number ≤ 1000000)
-IsAnswerOf Nothing = Unit {0}
-IsAnswerOf (Branch bases) = ⊥
+abbrev pub IsStoredAnswer : Answer → Type 0
+IsStoredAnswer (Account number) = (1 ≤ number) × (number ≤ 1000000)
+IsStoredAnswer Nothing = Unit {0}
+IsStoredAnswer (Branch bases) = ⊥
 
 -- a file's fault whose place, if it has one, is below 2^64
 abbrev pub IsPlaced : FileFault → Type 0
@@ -123,6 +123,6 @@ IsRefusalOf _ = Unit {0}
 
 -- a reply that is stored
 abbrev pub IsStored : Reply → Type 0
-IsStored (Done answer) = IsAnswerOf answer
+IsStored (Done answer) = IsStoredAnswer answer
 IsStored (Refused refusal) = IsRefusalOf refusal
 IsStored _ = ⊥

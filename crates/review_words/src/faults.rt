@@ -50,8 +50,8 @@ pub enum FileFault {
     BadName,
     /// A value of a label stands under two keys, as `"1"` and `"+1"`.
     Twice,
-    /// The values of a label are no unbroken run within -20 to 20 with 0 among them and at least
-    /// one other, or the ends of a grant aren't values in order.
+    /// A key under the values of a label is no number of a value, the values are no unbroken run within
+    /// -20 to 20 with 0 among them and at least one other, or the ends of a grant aren't values in order.
     BadValues,
     /// A copy condition or an expression of a requirement is none: the fault of the first one.
     Expr(ExprFault),

@@ -2,7 +2,7 @@
 ghost use Rattle.std.specs.Prelude.{◌≡◌, ◌==◌, ◌&&◌, not};
 ghost use Rattle.std.specs.List.{list_all};
 ghost use Rattle.std.specs.Char.{is_ascii_control};
-ghost use Rattle.review_words.specs.Forms.{components, goes_on, is_hexadecimal, is_label, is_place, is_step, is_commit, is_path, is_file};
+ghost use Rattle.review_words.specs.Forms.{components, goes_on, is_hexadecimal, is_label, is_slashed_name, is_step, is_commit, is_path, is_path_step};
 
 use crate::forms::{Form, Name};
 use crate::names::is_all_plain;
@@ -64,18 +64,18 @@ impl Form for OfLabel {
 }
 
 impl Form for OfProject {
-    ghost is_form = { is_place };
+    ghost is_form = { is_slashed_name };
 
     fn is_met(text: &str) -> bool {
-        is_place(text)
+        is_slashed_name(text)
     }
 }
 
 impl Form for OfBranch {
-    ghost is_form = { is_place };
+    ghost is_form = { is_slashed_name };
 
     fn is_met(text: &str) -> bool {
-        is_place(text)
+        is_slashed_name(text)
     }
 }
 
@@ -109,9 +109,9 @@ impl Form for OfStep {
 }
 
 impl Form for OfFile {
-    ghost is_form = { is_file };
+    ghost is_form = { is_path_step };
 
-    #[tactic(auto, unfolding(crate::specs::Forms::is_file))]
+    #[tactic(auto, unfolding(crate::specs::Forms::is_path_step))]
     fn is_met(text: &str) -> bool {
         let shown = has_no_control(text);
         1 <= text.len() && shown
@@ -171,9 +171,9 @@ fn has_components<F: Form>(text: &str) -> bool
     F::is_met(rest)
 }
 
-#[tactic(auto, unfolding(crate::specs::Forms::is_place))]
-fn is_place(text: &str) -> bool
-    ensures { result ≡ is_place text.now }
+#[tactic(auto, unfolding(crate::specs::Forms::is_slashed_name))]
+fn is_slashed_name(text: &str) -> bool
+    ensures { result ≡ is_slashed_name text.now }
 {
     text.len() <= 128 && has_components::<OfStep>(text)
 }

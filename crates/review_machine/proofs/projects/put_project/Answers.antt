@@ -5,7 +5,7 @@ use Rattle.review_words.specs.declared.reply.Refusal.TheVariants.{NotAdmin}
 use Rattle.review_file.specs.Reading.{IsReadFault}
 use Rattle.review_rows.specs.Files.{IsRead}
 use Rattle.review_machine.proofs.Decided.{admin_is, refused_pair, project_refused}
-use Rattle.review_machine.proofs.Filed.{put_project_by, unread_by, fault_by}
+use Rattle.review_machine.proofs.Filed.{put_project_by, unread_by, fault_by, unreadable_by}
 use Rattle.review_machine.proofs.projects.put_project.Goals as goal
 
 pub returns-then-not-admin-clause-decided : goal.returns-then-not-admin-clause-decided
@@ -31,3 +31,9 @@ returns-in-Err-clause-decided c =
     fault_by a.caller a.project.now a.file.now a.rows.now c.in-Err.fault c.refuse_file.result
     (λ h l. sym (admin_is h a.caller (PutProject a.project.now a.file.now) a.rows.now l) ∙ (sym c.in_ok-admin.ensures ∙ c.if-not-admin.false))
     (subst (λ t. IsReadFault t c.in-Err.fault) c.as_str.ensures c.in-Err.ensures.fault) c.refuse_file.ensures.file
+
+pub returns-in-Err-clause-cause : goal.returns-in-Err-clause-cause
+returns-in-Err-clause-cause c =
+    let a = c.args in
+    unreadable_by a.caller a.project.now a.file.now a.rows.now c.in-Err.fault c.refuse_file.result
+    (subst (λ t. IsReadFault t c.in-Err.fault) c.as_str.ensures c.in-Err.ensures.fault) c.refuse_file.ensures.cause
