@@ -29,6 +29,7 @@ abbrev pub lines_of : List ℕ → List (List ℕ)
 lines_of [] = []
 lines_of (b ∷ bytes) = if b == line_feed then [] ∷ lines_of bytes else with_first b (lines_of bytes)
 
+-- what a line asks that may spell a delivery
 abbrev pub if_spelled : Option Delivery → Asked
 if_spelled None = Unreadable
 if_spelled (Some d) = Asks d
@@ -37,6 +38,7 @@ if_spelled (Some d) = Asks d
 abbrev pub asked : List ℕ → Asked
 asked line = if nat_lt most_bytes (length line) then Unreadable else (if list_all is_space line then Nothing else if_spelled (delivery_spelled line))
 
+-- the deliveries of the later lines with that of this one in front, where it asks one
 abbrev pub with_asked : Asked → List Delivery → List Delivery
 with_asked (Asks d) ds = d ∷ ds
 with_asked _ ds = ds
@@ -54,6 +56,7 @@ reply_line r = compact_text (reply_data r) ++ line_feed ∷ []
 unfoldable pub bad_line : List ℕ
 bad_line = codes "{\"fault\":\"BAD_LINE\"}\n"
 
+-- the answer to one line, and then those to the later ones
 abbrev pub answered : Asked → List Reply → (List Reply → List ℕ) → List ℕ
 answered Nothing rs later = later rs
 answered Unreadable rs later = bad_line ++ later rs

@@ -6,9 +6,11 @@ use Rattle.std.specs.Str.{bytes_eq}
 use Rattle.toml.specs.Data.{Data, Items, as_str, as_bool, as_integer, as_array, get}
 use Rattle.review_document.specs.Document.{values, members_at, is_no_table_of, is_no_array_of}
 
+-- whether a value is no text
 abbrev pub is_no_text : Data → Bool
 is_no_text d = is_none (as_str d)
 
+-- whether a value is no whole number
 abbrev pub is_no_integer : Data → Bool
 is_no_integer d = is_none (as_integer d)
 

@@ -63,12 +63,14 @@ placed place word.Memory = fault.Memory
 abbrev pub whole_text : ExprCode → ParseFault
 whole_text c = fault.Text (record { place = 0; code = c })
 
+-- why a text is not cut into words and parentheses, as its fault
 abbrev pub cut_fault : CutFault → ParseFault
 cut_fault cut.TooLong = whole_text code.TooLong
 cut_fault cut.Empty = whole_text code.Empty
 cut_fault cut.Unbalanced = whole_text code.Unbalanced
 cut_fault cut.Memory = fault.Memory
 
+-- why tokens have no tree, as the fault of the text
 abbrev pub shape_fault : ShapeFault → ParseFault
 shape_fault shape.BadTerm = whole_text code.BadTerm
 shape_fault shape.TooDeep = whole_text code.TooDeep

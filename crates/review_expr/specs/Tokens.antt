@@ -13,6 +13,7 @@ operator_by false true is_not = Some OrWord
 operator_by false false true = Some NotWord
 operator_by false false false = None
 
+-- the token of a word that is an operator
 abbrev pub operator : {A : Type 0} → List ℕ → Option (Tok A)
 operator w = operator_by (bytes_eq w (codes "AND")) (bytes_eq w (codes "OR")) (bytes_eq w (codes "NOT"))
 
@@ -21,6 +22,7 @@ abbrev pub term_token : {A : Type 0} → Reading A → Reading (Tok A)
 term_token (Good a) = Good (Term a)
 term_token (Bad flaw) = Bad flaw
 
+-- an operator, or otherwise a term
 abbrev pub operator_or : {A : Type 0} → Option (Tok A) → Reading A → Reading (Tok A)
 operator_or (Some t) r = Good t
 operator_or None r = term_token r
@@ -39,10 +41,12 @@ abbrev pub unsigned : List ℕ → List ℕ
 unsigned [] = []
 unsigned (c ∷ cs) = (if c == 45 then cs else c ∷ cs)
 
+-- a token as a list of one
 abbrev pub alone : {A : Type 0} → Reading (Tok A) → Reading (List (Tok A))
 alone (Good t) = Good (t ∷ [])
 alone (Bad flaw) = Bad flaw
 
+-- a token with its minus in front
 abbrev pub behind_minus : {A : Type 0} → Reading (Tok A) → Reading (List (Tok A))
 behind_minus (Good t) = Good (Minus ∷ t ∷ [])
 behind_minus (Bad flaw) = Bad flaw
@@ -72,6 +76,7 @@ lexeme_tokens reading (Word place w) after = word_tokens reading (opens_at (plac
 lexeme_tokens reading (Open place) after = Good (Opens ∷ [])
 lexeme_tokens reading Close after = Good (Closes ∷ [])
 
+-- the tokens of a word in front of those of the later ones
 abbrev pub joined : {A : Type 0} → Reading (List (Tok A)) → Option (List (Tok A)) → Option (List (Tok A))
 joined (Good ts) (Some us) = Some (ts ++ us)
 joined (Good ts) None = None

@@ -84,6 +84,7 @@ IsStoppedBy p fault =
 abbrev pub names_other : List (LabelView Expr) → Expr → Bool
 names_other labels e = list_any (λ name. not (list_any (λ l. bytes_eq l.name name) labels)) (text_set (labels_in e))
 
+-- a requirement names a label that is not among these
 abbrev pub requires_other : List (LabelView Expr) → RequirementView Expr → Bool
 requires_other labels r =
     option_map_or (names_other labels) r.applicable_if false || (names_other labels r.submittable_if || option_map_or (names_other labels) r.override_if false)

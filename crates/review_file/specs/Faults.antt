@@ -5,6 +5,7 @@ use Rattle.review_expr.specs.declared.fault.ParseFault.TheVariants as parse
 use Rattle.review_file.specs.declared.fault.ReadFault.{ReadFault}
 use Rattle.review_file.specs.declared.fault.ReadFault.TheVariants.{File, Memory, Pattern}
 
+-- why an expression is not read, as the fault of the file
 abbrev pub read_fault : ParseFault → ReadFault
 read_fault (parse.Text fault) = File (Expr fault)
 read_fault parse.Memory = Memory

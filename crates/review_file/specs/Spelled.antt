@@ -17,6 +17,7 @@ groups_in d = filter is_word (map text_of (values_of d))
 abbrev pub groups_at : List ℕ → Data → List (List ℕ)
 groups_at key access = option_map_or groups_in (get key access) []
 
+-- the rights in the table of that key
 abbrev pub access_in : Data → AccessView
 access_in access = record {
   create = groups_at (codes "create") access;
@@ -25,6 +26,7 @@ access_in access = record {
   abandon = groups_at (codes "abandon") access;
 }
 
+-- no rights, where the document has no such table
 abbrev pub no_access : AccessView
 no_access = record { create = []; upload = []; submit = []; abandon = [] }
 
@@ -40,6 +42,7 @@ narrowed z = if int_le (neg_ℤ (pos 128)) z && int_le z (pos 127) then z else p
 abbrev pub grant_in : List ℕ × Data → Grant
 grant_in m = record { group = m.0; least = narrowed (end_at 0 m.1); greatest = narrowed (end_at 1 m.1) }
 
+-- a label, from its key and its table
 abbrev pub label_in : List ℕ × Data → LabelView (List ℕ)
 label_in m = record {
   name = m.0;
@@ -52,6 +55,7 @@ label_in m = record {
 abbrev pub is_flag : List ℕ → Data → Bool
 is_flag key d = unwrap_or (option_and_then as_bool (get key d)) false
 
+-- a requirement, from its key and its table
 abbrev pub requirement_in : List ℕ × Data → RequirementView (List ℕ)
 requirement_in m = record {
   name = m.0;

@@ -13,13 +13,16 @@ pub data ExprTree : Type 0 where
   OfRequirement : Tree RequirementTerm → ExprTree
   OfCopy : Tree CopyTerm → ExprTree
 
+-- the tree of an expression, with its kind
 abbrev pub tree_of : Expr → ExprTree
 tree_of (expr.Requirement e) = OfRequirement (view e.node)
 tree_of (expr.Copy e) = OfCopy (view e.node)
 
+-- a label with its copy condition as a tree
 abbrev pub label_trees : LabelView Expr → LabelView ExprTree
 label_trees l = record { name = l.name; values = l.values; grants = l.grants; copy_condition = option_map tree_of l.copy_condition }
 
+-- a requirement with its expressions as trees
 abbrev pub requirement_trees : RequirementView Expr → RequirementView ExprTree
 requirement_trees r = record {
   name = r.name;

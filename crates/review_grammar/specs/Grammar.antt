@@ -1,6 +1,7 @@
 -- The grammar of expressions over tokens, and the tree that tokens of the grammar have. A term may be anything: A.
 use Rattle.std.specs.Prelude.{◌≡◌, ◌≢◌, ℕ, ◌+◌, ◌<◌, ◌≤◌, max, Bool, true, false, ◌&&◌, ◌||◌, List, [], ◌∷◌, ◌++◌}
 
+-- a token of an expression: a term, a parenthesis, an operator or a minus
 pub data Tok (A : Type 0) : Type 0 where
   Word : A → Tok A
   Open : Tok A
@@ -28,10 +29,12 @@ mutual
     One : Unary A → Members A
     Next : Unary A → Join → Members A → Members A
 
+-- the token of a minus, where there is one
 abbrev pub minus : {A : Type 0} → Bool → List (Tok A)
 minus true = Minus ∷ []
 minus false = []
 
+-- the token that stands between two members
 abbrev pub between : {A : Type 0} → Join → List (Tok A)
 between Blank = []
 between And = AndWord ∷ []
@@ -60,14 +63,17 @@ mutual
     End : Trees A
     With : Tree A → Trees A → Trees A
 
+-- a tree, negated where it is to be
 abbrev pub negated_if : {A : Type 0} → Bool → Tree A → Tree A
 negated_if true t = Neg t
 negated_if false t = t
 
+-- a list of trees as the members of one
 abbrev pub trees : {A : Type 0} → List (Tree A) → Trees A
 trees [] = End
 trees (t ∷ ts) = With t (trees ts)
 
+-- two or more trees joined by OR, or by AND
 abbrev pub many : {A : Type 0} → Bool → List (Tree A) → Tree A
 many true ts = Any (trees ts)
 many false ts = All (trees ts)
@@ -78,18 +84,22 @@ listed or [] = many or []
 listed or (t ∷ []) = t
 listed or (t ∷ u ∷ ts) = many or (t ∷ u ∷ ts)
 
+-- whether two members are joined by OR
 abbrev pub is_or : Join → Bool
 is_or Or = true
 is_or _ = false
 
+-- whether two members are joined by AND, or by nothing between them, which means AND
 abbrev pub is_and : Join → Bool
 is_and Or = false
 is_and _ = true
 
+-- whether two of the members are joined by OR
 abbrev pub has_or : {A : Type 0} → Members A → Bool
 has_or (One u) = false
 has_or (Next u j ms) = is_or j || has_or ms
 
+-- whether two of the members are joined by AND
 abbrev pub has_and : {A : Type 0} → Members A → Bool
 has_and (One u) = false
 has_and (Next u j ms) = is_and j || has_and ms
@@ -104,6 +114,7 @@ abbrev mutual
   trees_of (One u) = tree_of u ∷ []
   trees_of (Next u j ms) = tree_of u ∷ trees_of ms
 
+-- one more, where it is so
 abbrev pub more_if : Bool → ℕ → ℕ
 more_if true n = n + 1
 more_if false n = n
@@ -134,6 +145,7 @@ abbrev mutual
 abbrev pub tree : {A : Type 0} → Members A → Tree A
 tree ms = listed (has_or ms) (trees_of ms)
 
+-- whether AND and OR stand at one level, here or within a member
 abbrev pub mixed : {A : Type 0} → Members A → Bool
 mixed ms = (has_or ms && has_and ms) || any_mixed ms
 
@@ -141,6 +153,7 @@ mixed ms = (has_or ms && has_and ms) || any_mixed ms
 abbrev pub HasTree : {A : Type 0} → List (Tok A) → Tree A → Type 0
 HasTree {A = A} ts t = (ms : Members A) × (all_spelled ms ≡ ts) × (all_depth ms ≤ 32) × (mixed ms ≡ false) × (tree ms ≡ t)
 
+-- why tokens are no expression
 pub data Fault : Type 0 where
   BadTerm : Fault
   TooDeep : Fault

@@ -1,6 +1,7 @@
 -- What a text is cut into.
 use Rattle.std.specs.Prelude.{◌≡◌, ℕ, zero, suc, ◌+◌, Bool, true, false, not, ◌&&◌, ◌||◌, ◌==◌, List, [], ◌∷◌, ◌++◌, length, if◌then◌else◌, IsTrue}
 
+-- a piece of a text: a word or a parenthesis
 pub data Lexeme : Type 0 where
   -- a word: where it starts, and its bytes
   Word : (place : ℕ) (bytes : List ℕ) → Lexeme
@@ -12,6 +13,7 @@ pub data Lexeme : Type 0 where
 abbrev pub is_blank : ℕ → Bool
 is_blank c = c == 32 || c == 9 || c == 10 || c == 13
 
+-- a byte before which a word may end: white space or a parenthesis
 abbrev pub is_end : ℕ → Bool
 is_end c = is_blank c || c == 40 || c == 41
 
@@ -21,6 +23,7 @@ runs quoted [] = not quoted
 runs true (c ∷ cs) = runs (not (c == 34)) cs
 runs false (c ∷ cs) = not (is_end c) && runs (c == 34) cs
 
+-- white space alone
 abbrev pub all_blank : List ℕ → Bool
 all_blank [] = true
 all_blank (c ∷ cs) = is_blank c && all_blank cs

@@ -14,6 +14,7 @@ lexeme text (piece.Word start end) = Word start (slice_range text start end)
 lexeme text (piece.Open place) = Open place
 lexeme text piece.Close = Close
 
+-- pieces of a text as its lexemes
 abbrev pub lexemes : List ℕ → List Piece → List Lexeme
 lexemes text = map (lexeme text)
 
@@ -35,15 +36,19 @@ abbrev pub mode_of : List ℕ → ℕ → Option ℕ → Bool → Mode
 mode_of text at None quoted = Between
 mode_of text at (Some start) quoted = Within start (slice_range text start at) quoted
 
+-- what the scanner has at a place: the lexemes so far, and where the scan stands
 abbrev pub scanner_at : List ℕ → ℕ → Scanner → List Lexeme × Mode
 scanner_at text at s = (lexemes text s.pieces.items, mode_of text at s.start s.quoted)
 
+-- the lexemes so far and those that a byte begins
 abbrev pub begun : List Lexeme → ℕ → ℕ → List Lexeme × Mode
 begun ls at c = (ls ++ (begins at c).0, (begins at c).1)
 
+-- a byte further from these lexemes
 abbrev pub advanced : List Lexeme × Mode → ℕ → ℕ → List Lexeme × Mode
 advanced x at c = (x.0 ++ (step x.1 at c).0, (step x.1 at c).1)
 
+-- a word that was begun starts no later than here
 abbrev pub starts_by : Option ℕ → ℕ → Type 0
 starts_by None at = Unit {0}
 starts_by (Some start) at = start ≤ at

@@ -28,6 +28,7 @@ tok token.Not = NotWord
 tok token.And = AndWord
 tok token.Or = OrWord
 
+-- tokens as the definitions see them
 abbrev pub toks : {A : Type 0} → List (Token A) → List (Tok A)
 toks = map tok
 
@@ -42,11 +43,13 @@ node (Node-F.Or es) = Any (trees es.items)
 abbrev pub view : {A : Type 0} → Node A → Tree A
 view {A = A} = fold-Node A (Tree A) node
 
+-- what joins two members, as the definitions see it
 abbrev pub join : Joint → Join
 join joint.Blank = Blank
 join joint.And = And
 join joint.Or = Or
 
+-- what stands in front of a member, as the definitions see it
 abbrev pub sign_of : Prefix → Sign
 sign_of prefix.None = NoSign
 sign_of prefix.Not = NotSign
@@ -66,18 +69,23 @@ pub record Sums (A : Type 0) : Type 0 where
   pub depth : ℕ
   pub mixed : Bool
 
+-- a depth, counted no further than one beyond the greatest
 abbrev pub capped : ℕ → ℕ
 capped n = min n 33
 
+-- what the parser keeps of a member: its tree, its depth and whether it is mixed
 abbrev pub summary : {A : Type 0} → Unary A → Summary A
 summary u = record { tree = tree_of u; depth = capped (depth u); mixed = is_mixed u }
 
+-- what the parser keeps of no members
 abbrev pub no_sums : {A : Type 0} → Sums A
 no_sums = record { trees = []; has_and = false; has_or = false; depth = 0; mixed = false }
 
+-- the same with one member more
 abbrev pub with_part : {A : Type 0} → Sums A → Summary A → Sums A
 with_part s p = record s { trees = s.trees ++ p.tree ∷ []; depth = max s.depth p.depth; mixed = s.mixed || p.mixed }
 
+-- the same with one more thing that joins two
 abbrev pub with_join : {A : Type 0} → Sums A → Join → Sums A
 with_join s j = record s { has_and = s.has_and || is_and j; has_or = s.has_or || is_or j }
 
@@ -107,9 +115,11 @@ negated_part p = record p { tree = Neg p.tree; depth = capped (p.depth + 1) }
 abbrev pub term_part : {A : Type 0} → A → Summary A
 term_part a = record { tree = Term a; depth = 1; mixed = false }
 
+-- a member that the parser keeps, as the definitions see it
 abbrev pub part_view : {A : Type 0} → Part A → Summary A
 part_view p = record { tree = view p.node; depth = p.depth; mixed = p.mixed }
 
+-- members that the parser keeps, as the definitions see them
 abbrev pub run_view : {A : Type 0} → Run A → Sums A
 run_view r = record { trees = map view r.members.items; has_and = r.has_and; has_or = r.has_or; depth = r.depth; mixed = r.mixed }
 
@@ -127,6 +137,7 @@ Gives see (Err e) read = Fails e read
 abbrev pub seen : {A : Type 0} → Unary A × List (Tok A) → Summary A × List (Tok A)
 seen x = (summary x.0, x.1)
 
+-- what the parser keeps after all members, and the tokens behind them
 abbrev pub seen_all : {A : Type 0} → Sums A → Members A × List (Tok A) → Sums A × List (Tok A)
 seen_all s x = (with_members s x.0, x.1)
 

@@ -15,6 +15,7 @@ use Rattle.review_words.specs.declared.faults.FileFault.TheVariants.{Expr}
 use Rattle.review_words.specs.declared.reply.NotTaken.{NotTaken as Cause}
 use Rattle.review_words.specs.declared.reply.NotTaken.TheVariants.{Memory, Store, Damaged, Pattern, Full}
 
+-- a whole number as JSON
 abbrev pub number_data : ℕ → Data
 number_data n = number (unsigned n)
 

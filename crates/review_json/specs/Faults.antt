@@ -4,6 +4,7 @@ use Rattle.review_words.specs.declared.names.BadName.TheVariants as names
 use Rattle.review_json.specs.declared.fault.BadBody.{BadBody}
 use Rattle.review_json.specs.declared.fault.BadBody.TheVariants.{Form, Memory}
 
+-- why a name in a body is not read, as the fault of the body
 abbrev pub body_fault : BadName → BadBody
 body_fault names.Form = Form
 body_fault names.Memory = Memory

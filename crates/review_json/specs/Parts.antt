@@ -16,6 +16,7 @@ Gives (Err Memory) spelled = Unit {0}
 unfoldable pub text_at : List ℕ → Data → Option (List ℕ)
 text_at key d = option_and_then as_str (get key d)
 
+-- the text, where it is of a form
 abbrev pub formed : (List ℕ → Bool) → List ℕ → Option (List ℕ)
 formed is_form text = if is_form text then Some text else None
 
@@ -23,6 +24,7 @@ formed is_form text = if is_form text then Some text else None
 unfoldable pub name_at : (List ℕ → Bool) → List ℕ → Data → Option (List ℕ)
 name_at is_form key d = option_and_then (formed is_form) (text_at key d)
 
+-- the number, where it is that of an account
 abbrev pub account_from : ℕ → Option ℕ
 account_from n = if is_account_number n then Some n else None
 

@@ -63,9 +63,11 @@ pub record AsksFor (accounts : List ℕ) (members : List Member) (need : Need) :
   pub base : need.base ≡ None
   pub branch : need.branch ≡ None
 
+-- the key of an account in a group
 abbrev pub member_of : List ℕ → ℕ → Member
 member_of group account = record { group = group; account = account }
 
+-- whether a key is among loaded rows of members
 abbrev pub is_held : List (Member × Unit {0}) → Member → Bool
 is_held held k = is_some (row_in member_cmp held k)
 

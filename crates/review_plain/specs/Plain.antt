@@ -21,6 +21,7 @@ use Rattle.review_plain.specs.declared.history.Entry.{Entry}
 abbrev pub shown : Entry → words.Entry
 shown e = record { identity = record { caller = e.caller; id = e.id }; command = e.command; reply = e.reply }
 
+-- the history of a list of entries
 abbrev pub history : List Entry → List words.Entry
 history es = map shown es
 

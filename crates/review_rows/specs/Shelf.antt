@@ -49,6 +49,7 @@ StaysOrShuts old new = (new ≡ old) ⊎ (new ≡ None)
 abbrev pub IsDamaged : Tables → Type 0
 IsDamaged t = (h : List Entry) → IsHistory h → IsView h t → ⊥
 
+-- a stored request that was recalled, or none, as a row
 abbrev pub kept_rows : Option Kept → Option AnswerRow
 kept_rows None = None
 kept_rows (Some k) = Some (kept_row k)
@@ -70,12 +71,13 @@ pub record IsCommitted (t : Tables) (delta : Delta) (kept : AnswerRow) (new : Ta
   pub version : new.version ≡ t.version
   pub requests : new.requests ≡ t.requests + 1
 
--- the count of faults never falls, rises only in a call that answers Store, and stops at its greatest value
+-- the count of faults rises where a call answers Store, but not beyond its greatest value, and stays for any other error
 abbrev pub IsCounted : ShelfFault → ℕ → ℕ → Type 0
 IsCounted fault.Memory before after = after ≡ before
 IsCounted fault.Store before after = (before < after) ⊎ ((before ≡ greatest_count) × (after ≡ before))
 IsCounted fault.Damaged before after = after ≡ before
 
+-- the count of faults never falls, rises only in a call that answers Store, and stops at its greatest value
 abbrev pub CountsFaults : {X : Type 0} → Result X ShelfFault → ℕ → ℕ → Type 0
 CountsFaults (Ok x) before after = after ≡ before
 CountsFaults (Err e) before after = IsCounted e before after
@@ -91,6 +93,7 @@ Blames fault.Memory old = Unit {0}
 Blames fault.Store old = Unit {0}
 Blames fault.Damaged old = Shows old IsDamaged
 
+-- an error of a call blames the tables only where they are damaged
 abbrev pub BlamesTables : {X : Type 0} → Result X ShelfFault → Option Tables → Type 0
 BlamesTables (Ok x) old = Unit {0}
 BlamesTables (Err e) old = Blames e old

@@ -39,6 +39,7 @@ pub record Desk : Type 0 where
   pub answers : List (AnswerKey × StoredAnswer)
   pub requests : ℕ
 
+-- what a desk in memory holds, table by table
 abbrev pub desk_of : MemoryTables → Desk
 desk_of t = record {
   accounts = rows_of t.accounts;
@@ -50,6 +51,7 @@ desk_of t = record {
   requests = t.requests;
 }
 
+-- a stored request with its identity, as a row
 abbrev pub stored_row : Identity → Option StoredAnswer → Option AnswerRow
 stored_row i None = None
 stored_row i (Some s) = Some (record { identity = i; request = s.request; content = string_bytes s.content; reply = string_bytes s.reply })
@@ -88,6 +90,7 @@ with_branches t branches = record {
 abbrev pub answer_of : List (AnswerKey × StoredAnswer) → Identity → Option AnswerRow
 answer_of answers i = stored_row i (row_in answer_cmp answers (record { caller = i.caller; id = i.id }))
 
+-- a desk as the tables that contracts see
 abbrev pub tables_of : Desk → Tables
 tables_of d = record { row = row_of d; count = count_of d; answer = answer_of d.answers; version = tables_version; requests = d.requests }
 

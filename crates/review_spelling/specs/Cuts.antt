@@ -24,6 +24,7 @@ closed None = None
 closed (Some (inner, [])) = Some inner
 closed (Some (inner, c ∷ cs)) = None
 
+-- a text without the quotes that it begins with, where it does
 abbrev pub unquoted_by : Option (List ℕ × List ℕ) → List ℕ → Option (List ℕ)
 unquoted_by None text = Some text
 unquoted_by (Some ([], rest)) text = closed (cut_at 34 rest)

@@ -39,6 +39,7 @@ user_in text =
     else if bytes_eq text (codes "owner") then Some voters.Owner
     else option_map voters.Account (account_of text)
 
+-- the name of a group, where the text is one
 abbrev pub group_in : List ℕ → Option (List ℕ)
 group_in text = if is_word text then Some text else None
 
@@ -60,6 +61,7 @@ two_parts first (Some asked) a b = option_map (λ who. (who, Some asked)) (voter
 two_parts (Some asked) None a b = option_map (λ who. (who, Some asked)) (voters_in b)
 two_parts None None a b = None
 
+-- what stands behind the commas of a label term: one part or two
 abbrev pub parts_by : Option (List ℕ × List ℕ) → List ℕ → Option (Voters × Option Count)
 parts_by None parts = one_part (count_in parts) parts
 parts_by (Some (a, b)) parts = two_parts (count_in a) (count_in b) a b

@@ -24,12 +24,14 @@ unfoldable pub number_text : ℤ → List ℕ
 number_text (pos n) = numeral n
 number_text (negsuc n) = codes "-" ++ numeral (suc n)
 
+-- the text of a value of a vote
 abbrev pub vote_text : VoteValue → List ℕ
 vote_text value.Max = codes "MAX"
 vote_text value.Min = codes "MIN"
 vote_text value.Any = codes "ANY"
 vote_text (value.Exactly n) = number_text n
 
+-- the text of a comparison with its value
 abbrev pub comparison_text : Comparison → List ℕ
 comparison_text (comparison.Is asked) = codes "=" ++ vote_text asked
 comparison_text (comparison.AtLeast n) = codes ">=" ++ number_text n
@@ -64,6 +66,7 @@ quoted value = if list_any is_end value then codes "\"" ++ (value ++ codes "\"")
 unfoldable pub word_of : List ℕ → List ℕ → List ℕ
 word_of key value = key ++ (codes ":" ++ quoted value)
 
+-- the text of true and false
 abbrev pub truth_text : Bool → List ℕ
 truth_text true = codes "true"
 truth_text false = codes "false"

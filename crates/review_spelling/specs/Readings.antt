@@ -6,6 +6,7 @@ use Rattle.review_grammar.specs.declared.word.WordFault.TheVariants as fault
 
 -- a reading, and a second one of what the first gave; a flaw of the first is that of the whole
 infixl 10 ◌>>=◌
+-- a reading, and what is read further where it is good
 abbrev pub ◌>>=◌ : {A B : Type 0} → Reading A → (A → Reading B) → Reading B
 (Good x) >>= f = f x
 (Bad flaw) >>= f = Bad flaw

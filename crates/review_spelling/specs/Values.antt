@@ -17,6 +17,7 @@ digits_in text = do
   n ← number_of text
   if nat_le n 99 then Some n else None
 
+-- a number with its sign turned
 abbrev pub negative : ℕ → ℤ
 negative n = neg_ℤ (pos n)
 

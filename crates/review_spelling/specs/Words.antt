@@ -80,6 +80,7 @@ requirement_value of_requirement.Path value = pattern_or (behind (codes "^") val
 requirement_value of_requirement.File value = pattern_or (behind (codes "^") value) requirement.PathMatches (option_map requirement.File (formed is_component value))
 requirement_value of_requirement.Has value = in_value (if bytes_eq value (codes "unresolved") then Some requirement.Unresolved else None)
 
+-- the term of a copy condition that a key and a value are
 unfoldable pub copy_value : CopyKey → List ℕ → Reading CopyTerm
 copy_value of_copy.Is value = do
   asked ← in_value (vote_in value)

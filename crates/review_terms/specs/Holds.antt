@@ -53,6 +53,7 @@ is_value None value.Min v = false
 is_value range value.Any v = true
 is_value range (value.Exactly n) v = int_eq v n
 
+-- a vote compares as asked, where the range says what MIN and MAX are
 abbrev pub compares : Option ValueRange → Comparison → ℤ → Bool
 compares range (comparison.Is asked) v = is_value range asked v
 compares range (comparison.AtLeast n) v = int_le n v
@@ -72,6 +73,7 @@ is_voter f voters.Owner account = account == f.owner
 is_voter f (voters.Account asked) account = account == asked
 is_voter f (voters.Group group) account = has_account f.groups.0 group account
 
+-- as many accounts as asked; at least one where nothing is asked
 abbrev pub is_count : Option Count → ℕ → Bool
 is_count None n = nat_le 1 n
 is_count (Some (count.Exactly k)) n = n == k
@@ -87,6 +89,7 @@ abbrev pub votes_on : Option (BTreeMap ℕ ℤ) → List (ℕ × ℤ)
 votes_on None = []
 votes_on (Some votes) = votes.entries
 
+-- the votes on a label of a change, each with its account
 abbrev pub votes_of : ChangeFacts → List ℕ → List (ℕ × ℤ)
 votes_of f label = votes_on (get (slice_cmp nat_cmp) f.votes label)
 

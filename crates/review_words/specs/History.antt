@@ -23,6 +23,7 @@ pub record Entry : Type 0 where
   pub command : Command
   pub reply : Reply
 
+-- the command, where its reply says that it was done
 abbrev pub if_done : Reply → Command → Option Command
 if_done (Done answer) command = Some command
 if_done _ command = None
@@ -36,6 +37,7 @@ abbrev pub stored : List Entry → Identity → Option Entry
 stored [] i = None
 stored (e ∷ h) i = if is_same e.identity i then Some e else stored h i
 
+-- one account more, where the command makes one
 abbrev pub counted : Option Command → ℕ → ℕ
 counted (Some (CreateAccount name)) n = n + 1
 counted _ n = n
@@ -45,6 +47,7 @@ abbrev pub account_count : List Entry → ℕ
 account_count [] = 1
 account_count (e ∷ h) = counted (accepted e) (account_count h)
 
+-- the name of a number, once this command is done
 abbrev pub named : Option Command → ℕ → ℕ → Option (List ℕ) → Option (List ℕ)
 named (Some (CreateAccount name)) number next before = if number == next then Some name else before
 named _ number next before = before
@@ -54,6 +57,7 @@ abbrev pub name_of : List Entry → ℕ → Option (List ℕ)
 name_of [] number = if number == 1 then Some admin_name else None
 name_of (e ∷ h) number = named (accepted e) number (account_count h + 1) (name_of h number)
 
+-- whether an account has the name, once this command is done
 abbrev pub is_named : Option Command → List ℕ → Bool → Bool
 is_named (Some (CreateAccount given)) name before = bytes_eq given name || before
 is_named _ name before = before
@@ -67,6 +71,7 @@ name_taken (e ∷ h) name = is_named (accepted e) name (name_taken h name)
 abbrev pub is_account : List Entry → ℕ → Bool
 is_account h number = nat_le 1 number && nat_le number (account_count h)
 
+-- the members of a group, once this command is done
 abbrev pub put : Option Command → List ℕ → List ℕ → List ℕ
 put (Some (PutGroup group members)) name before = if bytes_eq group name then members else before
 put _ name before = before
@@ -84,6 +89,7 @@ is_listed h group number = list_any (λ m. m == number) (listed_members h group)
 abbrev pub is_admin : List Entry → ℕ → Bool
 is_admin h number = is_listed h administrators number
 
+-- the text of a project, once this command is done
 abbrev pub text_put : Option Command → List ℕ → Option (List ℕ) → Option (List ℕ)
 text_put (Some (PutProject given file)) project before = if bytes_eq given project then Some file else before
 text_put _ project before = before
@@ -97,6 +103,7 @@ file_text (e ∷ h) project = text_put (accepted e) project (file_text h project
 abbrev pub is_project : List Entry → List ℕ → Bool
 is_project h project = is_some (file_text h project)
 
+-- how many projects there are, once this command is done
 abbrev pub project_counted : Option Command → (List ℕ → Bool) → ℕ → ℕ
 project_counted (Some (PutProject project file)) was_project n = if was_project project then n else n + 1
 project_counted _ was_project n = n
@@ -106,6 +113,7 @@ abbrev pub project_count : List Entry → ℕ
 project_count [] = 0
 project_count (e ∷ h) = project_counted (accepted e) (is_project h) (project_count h)
 
+-- the bases of a branch, once this command is done
 abbrev pub with_base : Option Command → List ℕ → List ℕ → List (List ℕ) → List (List ℕ)
 with_base (Some (RecordBase in_project in_branch commit)) project branch before =
     if bytes_eq in_project project && bytes_eq in_branch branch then before ++ commit ∷ [] else before
@@ -116,6 +124,7 @@ abbrev pub bases : List Entry → List ℕ → List ℕ → List (List ℕ)
 bases [] project branch = []
 bases (e ∷ h) project branch = with_base (accepted e) project branch (bases h project branch)
 
+-- how many bases a project has, once this command is done
 abbrev pub base_counted : Option Command → List ℕ → ℕ → ℕ
 base_counted (Some (RecordBase in_project branch commit)) project n = if bytes_eq in_project project then n + 1 else n
 base_counted _ project n = n

@@ -15,6 +15,7 @@ use Rattle.review_words.specs.declared.faults.FileFault.TheVariants as file
 
 -- a reading, and a second one of what the first gave; nothing where either gives nothing
 infixl 10 ◌>>=◌
+-- what is read further, where something was read
 abbrev pub ◌>>=◌ : {A B : Type 0} → Option A → (A → Option B) → Option B
 (Some x) >>= f = f x
 None >>= f = None
