@@ -6,3 +6,4 @@ pub mod Together
 pub mod SoundLabels
 pub mod Ranges
 pub mod OneFile
+pub mod Placed
