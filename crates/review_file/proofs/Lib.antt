@@ -7,3 +7,5 @@ pub mod SoundLabels
 pub mod Ranges
 pub mod OneFile
 pub mod Placed
+pub mod KeysInOrder
+pub mod NamesInOrder
