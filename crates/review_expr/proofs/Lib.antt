@@ -11,3 +11,4 @@ pub mod Leaves
 pub mod Again
 pub mod Excluded
 pub mod OneFault
+pub mod Within

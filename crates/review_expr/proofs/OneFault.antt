@@ -1,5 +1,5 @@
--- A text has one fault, unless a word's pattern nests too deep.
-use Rattle.std.proofs.Common.{◌≡◌, inl, inr, ℕ, ◌≤◌, ◌<◌, false, List, [], ◌∷◌, ◌++◌, length, Option, Some, None, IsSome, IsTrue, refl, sym, ap, ap₂, ◌∙◌, subst, arith}
+-- A text has one fault, but for bad values at words whose patterns nest too deep.
+use Rattle.std.proofs.Common.{◌≡◌, ◌⊎◌, inl, inr, ℕ, ◌≤◌, ◌<◌, false, List, [], ◌∷◌, ◌++◌, length, Option, Some, None, IsSome, IsTrue, refl, sym, ap, ap₂, ◌∙◌, subst, arith}
 use Rattle.review_grammar.specs.Grammar.{Tok, Fault, BadTerm, TooDeep, Mixed, HasFault, all_depth}
 use Rattle.review_grammar.specs.Lexemes.{Lexeme, Word, IsCut, all_blank, balanced}
 use Rattle.review_grammar.specs.Words.{Reading, Good, Bad, Flaw, NoTerm, NoValue, Zero}
@@ -149,23 +149,29 @@ record Caused {A : Type 0} (reading : List ℕ → Reading A) (text : List ℕ) 
 at_zero : (place : ℕ) (c : ExprCode) → place ≡ 0 → (let x : ℕ × ExprCode = (0, c) in x) ≡ (place, c)
 at_zero place c e = ap (λ (n : ℕ). (let x : ℕ × ExprCode = (n, c) in x)) (sym e)
 
+-- a fault is a bad value at a word whose pattern nests too deep, or has its cause
 caused : {A : Type 0} → (reading : List ℕ → Reading A) (IsDeep : List ℕ → Type 0) (text : List ℕ) (place : ℕ) (c : ExprCode) →
-    ((p : ℕ) → HasWord reading IsDeep text p → ⊥) → IsFault reading IsDeep text place c → Caused reading text place c
-caused reading IsDeep text place code.TooLong none h = record { cause = Long; is = h.1; answers = at_zero place code.TooLong h.0 }
-caused reading IsDeep text place code.Empty none h = record { cause = Blank; is = (h.1, h.2); answers = at_zero place code.Empty h.0 }
-caused reading IsDeep text place code.Unbalanced none h = record { cause = Loose; is = (h.1, h.2); answers = at_zero place code.Unbalanced h.0 }
-caused reading IsDeep text place code.BadTerm none (inl h) = record { cause = Flawed place NoTerm; is = h; answers = refl }
-caused reading IsDeep text place code.BadTerm none (inr h) = record { cause = Shaped BadTerm; is = h.1; answers = at_zero place code.BadTerm h.0 }
-caused reading IsDeep text place code.BadValue none (inl h) = record { cause = Flawed place NoValue; is = h; answers = refl }
-caused reading IsDeep text place code.BadValue none (inr h) = absurd (none place h)
-caused reading IsDeep text place code.Zero none h = record { cause = Flawed place Zero; is = h; answers = refl }
-caused reading IsDeep text place code.TooDeep none h = record { cause = Shaped TooDeep; is = h.1; answers = at_zero place code.TooDeep h.0 }
-caused reading IsDeep text place code.Mixed none h = record { cause = Shaped Mixed; is = h.1; answers = at_zero place code.Mixed h.0 }
+    IsFault reading IsDeep text place c → ((c ≡ code.BadValue) × HasWord reading IsDeep text place) ⊎ Caused reading text place c
+caused reading IsDeep text place code.TooLong h = inr (record { cause = Long; is = h.1; answers = at_zero place code.TooLong h.0 })
+caused reading IsDeep text place code.Empty h = inr (record { cause = Blank; is = (h.1, h.2); answers = at_zero place code.Empty h.0 })
+caused reading IsDeep text place code.Unbalanced h = inr (record { cause = Loose; is = (h.1, h.2); answers = at_zero place code.Unbalanced h.0 })
+caused reading IsDeep text place code.BadTerm (inl h) = inr (record { cause = Flawed place NoTerm; is = h; answers = refl })
+caused reading IsDeep text place code.BadTerm (inr h) = inr (record { cause = Shaped BadTerm; is = h.1; answers = at_zero place code.BadTerm h.0 })
+caused reading IsDeep text place code.BadValue (inl h) = inr (record { cause = Flawed place NoValue; is = h; answers = refl })
+caused reading IsDeep text place code.BadValue (inr h) = inl (refl, h)
+caused reading IsDeep text place code.Zero h = inr (record { cause = Flawed place Zero; is = h; answers = refl })
+caused reading IsDeep text place code.TooDeep h = inr (record { cause = Shaped TooDeep; is = h.1; answers = at_zero place code.TooDeep h.0 })
+caused reading IsDeep text place code.Mixed h = inr (record { cause = Shaped Mixed; is = h.1; answers = at_zero place code.Mixed h.0 })
 
 pub one_fault : {A : Type 0} → (reading : List ℕ → Reading A) (IsDeep : List ℕ → Type 0) (text : List ℕ) (p q : ℕ) (a b : ExprCode) →
-    ((p : ℕ) → HasWord reading IsDeep text p → ⊥) → IsFault reading IsDeep text p a → IsFault reading IsDeep text q b → (p ≡ q) × (a ≡ b)
-one_fault reading IsDeep text p q a b none h k =
-    let x = caused reading IsDeep text p a none h in
-    let y = caused reading IsDeep text q b none k in
-    let same = sym x.answers ∙ ap answer (one_cause reading text x.cause y.cause x.is y.is) ∙ y.answers in
-    (ap (λ (z : ℕ × ExprCode). z.0) same, ap (λ (z : ℕ × ExprCode). z.1) same)
+    IsFault reading IsDeep text p a → IsFault reading IsDeep text q b →
+    ((p ≡ q) × (a ≡ b)) ⊎ (((a ≡ code.BadValue) × HasWord reading IsDeep text p) ⊎ ((b ≡ code.BadValue) × HasWord reading IsDeep text q))
+one_fault reading IsDeep text p q a b h k = by (caused reading IsDeep text p a h) (caused reading IsDeep text q b k)
+  where
+    by : ((a ≡ code.BadValue) × HasWord reading IsDeep text p) ⊎ Caused reading text p a → ((b ≡ code.BadValue) × HasWord reading IsDeep text q) ⊎ Caused reading text q b →
+        ((p ≡ q) × (a ≡ b)) ⊎ (((a ≡ code.BadValue) × HasWord reading IsDeep text p) ⊎ ((b ≡ code.BadValue) × HasWord reading IsDeep text q))
+    by (inl deep) y = inr (inl deep)
+    by (inr x) (inl deep) = inr (inr deep)
+    by (inr x) (inr y) =
+        let same = sym x.answers ∙ ap answer (one_cause reading text x.cause y.cause x.is y.is) ∙ y.answers in
+        inl (ap (λ (z : ℕ × ExprCode). z.0) same, ap (λ (z : ℕ × ExprCode). z.1) same)

@@ -28,8 +28,8 @@ IsTextOf text (expr.Requirement e) = HasExpr requirement_reading text (view e.no
 IsTextOf text (expr.Copy e) = HasExpr copy_reading text (view e.node)
 
 -- no word of a copy condition has a pattern, be it deep or refused
-abbrev pub NeverDeep : List ℕ → Type 0
-NeverDeep w = ⊥
+abbrev pub NoWord : List ℕ → Type 0
+NoWord w = ⊥
 
 -- the text of an expression
 abbrev pub expr_text : Expr → List ℕ

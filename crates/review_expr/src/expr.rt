@@ -5,7 +5,7 @@ ghost use Rattle.review_terms.specs.declared.terms.CopyTerm.{CopyTerm};
 ghost use Rattle.review_terms.specs.declared.terms.RequirementTerm.{RequirementTerm};
 ghost use Rattle.review_spelling.specs.Words.{copy_reading, requirement_reading, IsDeep, IsPattern};
 ghost use Rattle.review_expr.specs.Faults.{IsParseFault};
-ghost use Rattle.review_expr.specs.Exprs.{expr_text, holds_for, labels_in, IsCopyOf, IsRequirementOf, IsTextOf, NeverDeep};
+ghost use Rattle.review_expr.specs.Exprs.{expr_text, holds_for, labels_in, IsCopyOf, IsRequirementOf, IsTextOf, NoWord};
 
 use crate::expression::Expression;
 use crate::fault::ParseFault;
@@ -60,7 +60,7 @@ pub fn parse_requirement(alloc: Global, text: &str) -> Result<Expr, ParseFault>
 /// never answered, for its words have no patterns.
 pub fn parse_copy(alloc: Global, text: &str) -> Result<Expr, ParseFault>
     ensures tree { IfOk result (IsCopyOf text.now) }
-    ensures fault { IfErr result (IsParseFault copy_reading NeverDeep NeverDeep text.now) }
+    ensures fault { IfErr result (IsParseFault copy_reading NoWord NoWord text.now) }
 {
     match Expression::<CopyTerm>::parse(alloc, text) {
         Ok(expression) => Ok(Expr::Copy(expression)),

@@ -1,5 +1,5 @@
 //! Laws of expressions.
-ghost use Rattle.std.specs.Prelude.{◌≡◌, ◌≤◌, ℕ, List, length};
+ghost use Rattle.std.specs.Prelude.{◌≡◌, ◌⊎◌, ◌≤◌, ℕ, List, length};
 ghost use Rattle.review_grammar.specs.Grammar.{Tree};
 ghost use Rattle.review_spelling.specs.Printed.{copy_word, requirement_word};
 ghost use Rattle.review_spelling.specs.Words.{copy_reading, requirement_reading};
@@ -31,10 +31,15 @@ pub fn never_both<T: Spelled>()
     ensures { (text : List ℕ) (t : Tree T) (place : ℕ) (code : ExprCode) → HasExpr T.reading text t → IsFault T.reading T.is_deep text place code → (code ≡ BadValue) × HasWord T.reading T.is_deep text place }
 {}
 
-/// A text has at most one fault, and that has one place, unless a word in it has a pattern that
-/// nests deeper than the engine reads.
+/// A text has at most one fault, and that has one place, but for a bad value, at a word whose
+/// pattern nests deeper than the engine reads.
 pub fn one_fault<T: Spelled>()
-    ensures { (text : List ℕ) (p q : ℕ) (a b : ExprCode) → ((r : ℕ) → HasWord T.reading T.is_deep text r → ⊥) → IsFault T.reading T.is_deep text p a → IsFault T.reading T.is_deep text q b → (p ≡ q) × (a ≡ b) }
+    ensures { (text : List ℕ) (p q : ℕ) (a b : ExprCode) → IsFault T.reading T.is_deep text p a → IsFault T.reading T.is_deep text q b → ((p ≡ q) × (a ≡ b)) ⊎ (((a ≡ BadValue) × HasWord T.reading T.is_deep text p) ⊎ ((b ≡ BadValue) × HasWord T.reading T.is_deep text q)) }
+{}
+
+/// The place of a fault lies in the text, and is at most 4,096.
+pub fn place_within<T: Spelled>()
+    ensures { (text : List ℕ) (place : ℕ) (code : ExprCode) → IsFault T.reading T.is_deep text place code → (place ≤ length text) × (place ≤ 4096) }
 {}
 
 /// The text that a submit requirement's expression is printed as is that expression again, where

@@ -27,7 +27,8 @@ pub use expr::{EvalFault, Expr, Facts, eval, labels_of, parse_copy, parse_requir
 pub use expression::Expression;
 pub use fault::ParseFault;
 pub use laws::{
-    copy_print_tells, never_both, one_expression, one_fault, print_tells, requirement_print_tells,
+    copy_print_tells, never_both, one_expression, one_fault, place_within, print_tells,
+    requirement_print_tells,
 };
 pub use review_words::{ExprCode, ExprFault};
 pub use spelled::{Respelled, Spelled};

@@ -6,3 +6,6 @@ pub mod Together
 pub mod SoundLabels
 pub mod Ranges
 pub mod OneFile
+pub mod Placed
+pub mod KeysInOrder
+pub mod NamesInOrder

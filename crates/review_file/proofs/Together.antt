@@ -1,5 +1,5 @@
 -- What two answers to one text have in common: two files that it spells, a file and a fault, two faults.
-use Rattle.std.proofs.Common.{◌≡◌, inl, inr, ℕ, ℤ, Bool, true, false, List, [], ◌∷◌, Option, Some, None, refl, sym, ap, ap₂, ◌∙◌, subst}
+use Rattle.std.proofs.Common.{◌≡◌, ◌⊎◌, inl, inr, ℕ, ℤ, Bool, true, false, List, [], ◌∷◌, Option, Some, None, refl, sym, ap, ap₂, ◌∙◌, subst}
 use Rattle.std.proofs.lemmas.Option.{same_Some}
 use Rattle.std.specs.Prelude.{not, ◌&&◌, ◌||◌, length, nat_lt}
 use Rattle.std.specs.Bool.{MatchBool}
@@ -21,7 +21,7 @@ use Rattle.review_document.specs.Limits.{most_bytes, is_past_limits}
 use Rattle.review_expr.specs.declared.expr.Expr.{Expr}
 use Rattle.review_expr.specs.declared.expr.Expr.TheVariants as expr
 use Rattle.review_expr.specs.declared.fault.ParseFault.TheVariants as parse
-use Rattle.review_expr.specs.Exprs.{IsCopyOf, IsRequirementOf, NeverDeep, labels_in}
+use Rattle.review_expr.specs.Exprs.{IsCopyOf, IsRequirementOf, NoWord, labels_in}
 use Rattle.review_expr.specs.Faults.{IsFault, HasWord}
 use Rattle.review_expr.proofs.Excluded.{bad_value, one_tree}
 use Rattle.review_expr.proofs.OneFault.{one_fault}
@@ -123,9 +123,9 @@ not_both a b e h k = cc
 
 -- ---- a file, and a faulty expression
 
-copy_both : (text : List ℕ) (e : Expr) (fault : ExprFault) → IsCopyOf text e → IsFault copy_reading NeverDeep text fault.place fault.code → ⊥
+copy_both : (text : List ℕ) (e : Expr) (fault : ExprFault) → IsCopyOf text e → IsFault copy_reading NoWord text fault.place fault.code → ⊥
 copy_both text (expr.Requirement e) fault is refused = is
-copy_both text (expr.Copy e) fault is refused = (bad_value copy_reading NeverDeep text (view e.node) fault.place fault.code is refused).1.3
+copy_both text (expr.Copy e) fault is refused = (bad_value copy_reading NoWord text (view e.node) fault.place fault.code is refused).1.3
 
 copies_both : (texts : List (List ℕ)) (fault : ExprFault) → AllRead IsCopyOf texts → FirstFault IsCopyOf IsNoCopy texts (parse.Text fault) → ⊥
 copies_both [] fault all first = first
@@ -182,30 +182,54 @@ read_or_fault text f x (short, (ms, parsed, good)) refused =
 
 -- ---- two faults
 
-same_fault : (d e : ExprFault) → (d.place ≡ e.place) × (d.code ≡ e.code) → d ≡ e
-same_fault d e h = ap₂ (λ p c. let x : ExprFault = record { place = p; code = c } in x) h.0 h.1
+-- two faults are one, or one of them is a bad value, and a pattern nests too deep
+abbrev OneOrBadValue : Type 0 → FileFault → FileFault → Type 0
+OneOrBadValue Deep x y = (x ≡ y) ⊎ ((IsBadValue x ⊎ IsBadValue y) × Deep)
 
-one_copy : (texts : List (List ℕ)) (d e : ExprFault) → FirstFault IsCopyOf IsNoCopy texts (parse.Text d) → FirstFault IsCopyOf IsNoCopy texts (parse.Text e) → d ≡ e
+one_or : {A B : Type 0} (x y : FileFault) → (A → B) → OneOrBadValue A x y → OneOrBadValue B x y
+one_or x y f (inl same) = inl same
+one_or x y f (inr (bad, deep)) = inr (bad, f deep)
+
+same_fault : (d e : ExprFault) → (d.place ≡ e.place) × (d.code ≡ e.code) → Faulty d ≡ Faulty e
+same_fault d e h = ap₂ (λ p c. let x : ExprFault = record { place = p; code = c } in Faulty x) h.0 h.1
+
+same_copy : (text : List ℕ) (d e : ExprFault) →
+    ((d.place ≡ e.place) × (d.code ≡ e.code)) ⊎ (((d.code ≡ BadValue) × HasWord copy_reading NoWord text d.place) ⊎ ((e.code ≡ BadValue) × HasWord copy_reading NoWord text e.place)) →
+    Faulty d ≡ Faulty e
+same_copy text d e (inl same) = same_fault d e same
+same_copy text d e (inr (inl deep)) = absurd deep.1.3
+same_copy text d e (inr (inr deep)) = absurd deep.1.3
+
+one_copy : (texts : List (List ℕ)) (d e : ExprFault) → FirstFault IsCopyOf IsNoCopy texts (parse.Text d) → FirstFault IsCopyOf IsNoCopy texts (parse.Text e) → Faulty d ≡ Faulty e
 one_copy [] d e h k = absurd h
-one_copy (text ∷ texts) d e (inl h) (inl k) = same_fault d e (one_fault copy_reading NeverDeep text d.place e.place d.code e.code (λ p word. word.3) h k)
+one_copy (text ∷ texts) d e (inl h) (inl k) = same_copy text d e (one_fault copy_reading NoWord text d.place e.place d.code e.code h k)
 one_copy (text ∷ texts) d e (inl h) (inr k) = absurd (copy_both text k.0.0 d k.0.1 h)
 one_copy (text ∷ texts) d e (inr h) (inl k) = absurd (copy_both text h.0.0 e h.0.1 k)
 one_copy (text ∷ texts) d e (inr h) (inr k) = one_copy texts d e h.1 k.1
 
-one_requirement : (texts : List (List ℕ)) (d e : ExprFault) → (SomeWord IsDeep texts → ⊥) → FirstFault IsRequirementOf IsNoRequirement texts (parse.Text d) →
-    FirstFault IsRequirementOf IsNoRequirement texts (parse.Text e) → d ≡ e
-one_requirement [] d e none h k = absurd h
-one_requirement (text ∷ texts) d e none (inl h) (inl k) =
-    same_fault d e (one_fault requirement_reading IsDeep text d.place e.place d.code e.code (λ p word. none (inl (p, word))) h k)
-one_requirement (text ∷ texts) d e none (inl h) (inr k) = absurd (none (inl (d.place, (requirement_both text k.0.0 d k.0.1 h).1)))
-one_requirement (text ∷ texts) d e none (inr h) (inl k) = absurd (none (inl (e.place, (requirement_both text h.0.0 e h.0.1 k).1)))
-one_requirement (text ∷ texts) d e none (inr h) (inr k) = one_requirement texts d e (λ word. none (inr word)) h.1 k.1
+same_requirement : (text : List ℕ) (texts : List (List ℕ)) (d e : ExprFault) →
+    ((d.place ≡ e.place) × (d.code ≡ e.code))
+    ⊎ (((d.code ≡ BadValue) × HasWord requirement_reading IsDeep text d.place) ⊎ ((e.code ≡ BadValue) × HasWord requirement_reading IsDeep text e.place)) →
+    OneOrBadValue (SomeWord IsDeep (text ∷ texts)) (Faulty d) (Faulty e)
+same_requirement text texts d e (inl same) = inl (same_fault d e same)
+same_requirement text texts d e (inr (inl deep)) = inr (inl deep.0, inl (d.place, deep.1))
+same_requirement text texts d e (inr (inr deep)) = inr (inr deep.0, inl (e.place, deep.1))
 
-one_stop : (p : FileView (List ℕ)) (d e : ExprFault) → (SomeWord IsDeep (requirement_texts p.requirements) → ⊥) → IsStoppedBy p (parse.Text d) → IsStoppedBy p (parse.Text e) → d ≡ e
-one_stop p d e none (inl h) (inl k) = one_copy (copy_texts p.labels) d e h k
-one_stop p d e none (inl h) (inr k) = absurd (copies_both (copy_texts p.labels) d k.0 h)
-one_stop p d e none (inr h) (inl k) = absurd (copies_both (copy_texts p.labels) e h.0 k)
-one_stop p d e none (inr h) (inr k) = one_requirement (requirement_texts p.requirements) d e none h.1 k.1
+one_requirement : (texts : List (List ℕ)) (d e : ExprFault) → FirstFault IsRequirementOf IsNoRequirement texts (parse.Text d) →
+    FirstFault IsRequirementOf IsNoRequirement texts (parse.Text e) → OneOrBadValue (SomeWord IsDeep texts) (Faulty d) (Faulty e)
+one_requirement [] d e h k = absurd h
+one_requirement (text ∷ texts) d e (inl h) (inl k) =
+    same_requirement text texts d e (one_fault requirement_reading IsDeep text d.place e.place d.code e.code h k)
+one_requirement (text ∷ texts) d e (inl h) (inr k) = let bad = requirement_both text k.0.0 d k.0.1 h in inr (inl bad.0, inl (d.place, bad.1))
+one_requirement (text ∷ texts) d e (inr h) (inl k) = let bad = requirement_both text h.0.0 e h.0.1 k in inr (inr bad.0, inl (e.place, bad.1))
+one_requirement (text ∷ texts) d e (inr h) (inr k) = one_or (Faulty d) (Faulty e) inr (one_requirement texts d e h.1 k.1)
+
+one_stop : (p : FileView (List ℕ)) (d e : ExprFault) → IsStoppedBy p (parse.Text d) → IsStoppedBy p (parse.Text e) →
+    OneOrBadValue (SomeWord IsDeep (requirement_texts p.requirements)) (Faulty d) (Faulty e)
+one_stop p d e (inl h) (inl k) = inl (one_copy (copy_texts p.labels) d e h k)
+one_stop p d e (inl h) (inr k) = absurd (copies_both (copy_texts p.labels) d k.0 h)
+one_stop p d e (inr h) (inl k) = absurd (copies_both (copy_texts p.labels) e h.0 k)
+one_stop p d e (inr h) (inr k) = one_requirement (requirement_texts p.requirements) d e h.1 k.1
 
 -- how a document has a fault
 data Verdict (file : Data) (x : FileFault) : Type 0 where
@@ -225,40 +249,43 @@ verdict file BadName least = Early least
 verdict file Twice least = Early least
 verdict file BadValues least = Early least
 
-module _ (file : Data) (none : SomeWord IsDeep (requirement_texts (spelled file).requirements) → ⊥) where
-  no_stop : (f : FileView Expr) (e : ExprFault) → HasFile file f → IsStoppedBy (spelled file) (parse.Text e) → ⊥
-  no_stop f e has stop = none (file_both (spelled file) f e has.1 stop).1
+module _ (file : Data) where
+  abbrev Deep : Type 0
+  Deep = SomeWord IsDeep (requirement_texts (spelled file).requirements)
 
-  one_verdict : (x y : FileFault) → Verdict file x → Verdict file y → x ≡ y
-  one_verdict x y (Early h) (Early k) = same_Some x y (sym h ∙ k)
+  stopped : (x : FileFault) (f : FileView Expr) (e : ExprFault) → x ≡ Faulty e → HasFile file f → IsStoppedBy (spelled file) (parse.Text e) → IsBadValue x × Deep
+  stopped x f e is has stop = let bad = file_both (spelled file) f e has.1 stop in (subst IsBadValue (sym is) bad.0, bad.1)
+
+  one_verdict : (x y : FileFault) → Verdict file x → Verdict file y → OneOrBadValue Deep x y
+  one_verdict x y (Early h) (Early k) = inl (same_Some x y (sym h ∙ k))
   one_verdict x y (Early h) (Stopped e is first stop) = absurd (no_first _ x first h)
   one_verdict x y (Early h) (Unknown f is has unknown) = absurd (no_first _ x has.0 h)
   one_verdict x y (Early h) (Past f is has known) = absurd (no_first _ x has.0 h)
   one_verdict x y (Stopped d was first stop) (Early k) = absurd (no_first _ y first k)
-  one_verdict x y (Stopped d was first stop) (Stopped e is second end) = was ∙ (ap Faulty (one_stop (spelled file) d e none stop end) ∙ sym is)
-  one_verdict x y (Stopped d was first stop) (Unknown f is has unknown) = absurd (no_stop f d has stop)
-  one_verdict x y (Stopped d was first stop) (Past f is has known) = absurd (no_stop f d has stop)
+  one_verdict x y (Stopped d was first stop) (Stopped e is second end) = subst (λ z. OneOrBadValue Deep z y) (sym was) (subst (OneOrBadValue Deep (Faulty d)) (sym is) (one_stop (spelled file) d e stop end))
+  one_verdict x y (Stopped d was first stop) (Unknown f is has unknown) = let bad = stopped x f d was has stop in inr (inl bad.0, bad.1)
+  one_verdict x y (Stopped d was first stop) (Past f is has known) = let bad = stopped x f d was has stop in inr (inl bad.0, bad.1)
   one_verdict x y (Unknown f was has unknown) (Early k) = absurd (no_first _ y has.0 k)
-  one_verdict x y (Unknown f was has unknown) (Stopped e is first stop) = absurd (no_stop f e has stop)
-  one_verdict x y (Unknown f was has unknown) (Unknown g is spells another) = was ∙ sym is
+  one_verdict x y (Unknown f was has unknown) (Stopped e is first stop) = let bad = stopped y f e is has stop in inr (inr bad.0, bad.1)
+  one_verdict x y (Unknown f was has unknown) (Unknown g is spells another) = inl (was ∙ sym is)
   one_verdict x y (Unknown f was has unknown) (Past g is spells known) = absurd (not_both _ _ (unknown_alike (spelled file) f g has.1 spells.1) unknown known)
   one_verdict x y (Past f was has known) (Early k) = absurd (no_first _ y has.0 k)
-  one_verdict x y (Past f was has known) (Stopped e is first stop) = absurd (no_stop f e has stop)
+  one_verdict x y (Past f was has known) (Stopped e is first stop) = let bad = stopped y f e is has stop in inr (inr bad.0, bad.1)
   one_verdict x y (Past f was has known) (Unknown g is spells unknown) = absurd (not_both _ _ (unknown_alike (spelled file) g f spells.1 has.1) unknown known)
-  one_verdict x y (Past f was has known) (Past g is spells within) = was ∙ sym is
+  one_verdict x y (Past f was has known) (Past g is spells within) = inl (was ∙ sym is)
 
 same_refusal : (x y : FileFault) → File x ≡ File y → x ≡ y
 same_refusal x y h = cc
 
-one_refused : (o : Option Members) (text : List ℕ) (x y : FileFault) → parse_document text ≡ o → (HasDeepPattern text → ⊥) → IsRefused o (File x) → IsRefused o (File y) → x ≡ y
-one_refused None text x y parsed none h k = same_refusal x y (h ∙ sym k)
-one_refused (Some ms) text x y parsed none h k = one_verdict (table ms) (λ word. none (ms, parsed, word)) x y (verdict (table ms) x h) (verdict (table ms) y k)
+one_refused : (o : Option Members) (text : List ℕ) (x y : FileFault) → parse_document text ≡ o → IsRefused o (File x) → IsRefused o (File y) → OneOrBadValue (HasDeepPattern text) x y
+one_refused None text x y parsed h k = inl (same_refusal x y (h ∙ sym k))
+one_refused (Some ms) text x y parsed h k = one_or x y (λ word. (ms, parsed, word)) (one_verdict (table ms) x y (verdict (table ms) x h) (verdict (table ms) y k))
 
-one_by : (long : Bool) (text : List ℕ) (x y : FileFault) → (HasDeepPattern text → ⊥) → MatchBool long (File x ≡ File Limit) (IsRefused (parse_document text) (File x)) →
-    MatchBool long (File y ≡ File Limit) (IsRefused (parse_document text) (File y)) → x ≡ y
-one_by true text x y none h k = same_refusal x y (h ∙ sym k)
-one_by false text x y none h k = one_refused (parse_document text) text x y refl none h k
+one_by : (long : Bool) (text : List ℕ) (x y : FileFault) → MatchBool long (File x ≡ File Limit) (IsRefused (parse_document text) (File x)) →
+    MatchBool long (File y ≡ File Limit) (IsRefused (parse_document text) (File y)) → OneOrBadValue (HasDeepPattern text) x y
+one_by true text x y h k = inl (same_refusal x y (h ∙ sym k))
+one_by false text x y h k = one_refused (parse_document text) text x y refl h k
 
--- a text without a pattern that nests too deep has one fault
-pub one_refusal : (text : List ℕ) (x y : FileFault) → (HasDeepPattern text → ⊥) → IsFileFault text x → IsFileFault text y → x ≡ y
-one_refusal text x y none h k = one_by (nat_lt most_bytes (length text)) text x y none h k
+-- of two different faults of a text one is a bad value, for a pattern that nests too deep
+pub one_refusal : (text : List ℕ) (x y : FileFault) → IsFileFault text x → IsFileFault text y → (x ≡ y) ⊎ ((IsBadValue x ⊎ IsBadValue y) × HasDeepPattern text)
+one_refusal text x y h k = one_by (nat_lt most_bytes (length text)) text x y h k

@@ -7,13 +7,13 @@ use Rattle.review_words.specs.Forms.{text_set}
 use Rattle.review_spelling.specs.Words.{requirement_reading, copy_reading, IsDeep, IsPattern}
 use Rattle.review_expr.specs.declared.expr.Expr.{Expr}
 use Rattle.review_expr.specs.declared.fault.ParseFault.{ParseFault}
-use Rattle.review_expr.specs.Exprs.{IsCopyOf, IsRequirementOf, NeverDeep, labels_in}
+use Rattle.review_expr.specs.Exprs.{IsCopyOf, IsRequirementOf, NoWord, labels_in}
 use Rattle.review_expr.specs.Faults.{IsParseFault}
 use Rattle.review_file.specs.View.{LabelView, RequirementView, FileView}
 
 -- the text is no copy condition, for this cause
 abbrev pub IsNoCopy : List ℕ → ParseFault → Type 0
-IsNoCopy text fault = IsParseFault copy_reading NeverDeep NeverDeep text fault
+IsNoCopy text fault = IsParseFault copy_reading NoWord NoWord text fault
 
 -- the text is no expression of a requirement, for this cause
 abbrev pub IsNoRequirement : List ℕ → ParseFault → Type 0

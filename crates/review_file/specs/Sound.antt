@@ -1,7 +1,9 @@
 -- What is true of every project file.
-use Rattle.std.specs.Prelude.{ℕ, ℤ, pos, neg_ℤ, List, Bool, not, ◌&&◌, ◌||◌, length, nat_lt, int_lt, int_le}
+use Rattle.std.specs.Prelude.{ℕ, ℤ, pos, neg_ℤ, List, Bool, not, ◌&&◌, ◌||◌, length, map, nat_lt, int_lt, int_le}
+use Rattle.std.specs.Cmp.Lexicographic.{slice_cmp}
 use Rattle.std.specs.List.{list_all, list_any}
-use Rattle.std.specs.Ordering.{int_eq}
+use Rattle.std.specs.List.Sorted.{IsStrictlySortedBy}
+use Rattle.std.specs.Ordering.{int_eq, nat_cmp}
 use Rattle.review_document.specs.Values.{towards_zero}
 use Rattle.review_expr.specs.declared.expr.Expr.{Expr}
 use Rattle.review_file.specs.declared.file.Grant.{Grant}
@@ -30,3 +32,7 @@ is_sound_label l = is_run l.values && list_all (is_range l.values) l.grants
 -- each label of a file is sound
 abbrev pub has_sound_labels : FileView Expr → Bool
 has_sound_labels f = list_all is_sound_label f.labels
+
+-- the names of the labels ascend in the order of their bytes, and so do those of the requirements: each stands once
+abbrev pub HasNamesInOrder : FileView Expr → Type 0
+HasNamesInOrder f = IsStrictlySortedBy (slice_cmp nat_cmp) (map (λ l. l.name) f.labels) × IsStrictlySortedBy (slice_cmp nat_cmp) (map (λ r. r.name) f.requirements)

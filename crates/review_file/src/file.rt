@@ -3,7 +3,7 @@ ghost use Rattle.std.specs.Prelude.{◌≡◌, true, false, find, option_copied,
 ghost use Rattle.std.specs.Str.{bytes_eq};
 ghost use Rattle.review_file.specs.Expressions.{has_unknown_label};
 ghost use Rattle.review_file.specs.Reading.{IsProjectFile};
-ghost use Rattle.review_file.specs.Sound.{has_sound_labels};
+ghost use Rattle.review_file.specs.Sound.{HasNamesInOrder, has_sound_labels};
 ghost use Rattle.review_file.specs.Rights.{greatest_value, least_value};
 
 use review_expr::Expr;
@@ -289,12 +289,14 @@ impl ProjectFile {
 
     /// What is true of every file. Some text spells it. The values of each label are two or more,
     /// an unbroken run within -20 to 20 with 0 among them, and the ends of its grants are such
-    /// values in order. Its requirements name its labels alone.
-    #[tactic(auto, using(crate::proofs::SoundLabels::known_labels, crate::proofs::SoundLabels::sound_labels))]
+    /// values in order. Its requirements name its labels alone. The names of the labels ascend in
+    /// the order of their bytes, and so do those of the requirements.
+    #[tactic(auto, using(crate::proofs::NamesInOrder::labels_in_order, crate::proofs::NamesInOrder::requirements_in_order, crate::proofs::SoundLabels::known_labels, crate::proofs::SoundLabels::sound_labels))]
     pub fn facts(&self)
         ensures spelled { IsProjectFile self.now }
         ensures labels { has_sound_labels self.now ≡ true }
         ensures requirements { has_unknown_label self.now ≡ false }
+        ensures names { HasNamesInOrder self.now }
     {
         let _ = &self.content;
     }

@@ -1,6 +1,8 @@
 //! Laws of project files.
-ghost use Rattle.std.specs.Prelude.{◌≡◌, ℕ, List};
+ghost use Rattle.std.specs.Prelude.{◌≡◌, ◌⊎◌, ◌≤◌, ℕ, List};
+ghost use Rattle.review_words.specs.declared.faults.ExprFault.{ExprFault};
 ghost use Rattle.review_words.specs.declared.faults.FileFault.{FileFault};
+ghost use Rattle.review_words.specs.declared.faults.FileFault.TheVariants.{Expr as Faulty};
 ghost use Rattle.review_expr.specs.declared.expr.Expr.{Expr};
 ghost use Rattle.review_file.specs.declared.fault.ReadFault.TheVariants.{Pattern};
 ghost use Rattle.review_file.specs.Patterns.{HasDeepPattern, HasPattern};
@@ -23,9 +25,15 @@ pub fn read_or_fault()
     ensures { (text : List ℕ) (f : FileView Expr) (fault : FileFault) → IsRead text f → IsFileFault text fault → IsBadValue fault × HasDeepPattern text × HasPattern text }
 {}
 
-/// A text has at most one fault, unless a pattern in it nests deeper than the engine reads.
+/// A text has at most one fault, unless a pattern in it nests deeper than the engine reads: of two
+/// different faults one is then a bad value of an expression.
 pub fn one_fault()
-    ensures { (text : List ℕ) (a b : FileFault) → (HasDeepPattern text → ⊥) → IsFileFault text a → IsFileFault text b → a ≡ b }
+    ensures { (text : List ℕ) (a b : FileFault) → IsFileFault text a → IsFileFault text b → (a ≡ b) ⊎ ((IsBadValue a ⊎ IsBadValue b) × HasDeepPattern text) }
+{}
+
+/// The place of an expression's fault is at most 4,096.
+pub fn place_within()
+    ensures { (text : List ℕ) (fault : ExprFault) → IsFileFault text (Faulty fault) → fault.place ≤ 4096 }
 {}
 
 /// A text spells at most one file: its expressions have the same trees, and all else is equal. So

@@ -28,7 +28,7 @@ mod unknown;
 
 pub use fault::ReadFault;
 pub use file::{Access, Grant, Label, LabelValue, ProjectFile, Requirement};
-pub use laws::{one_fault, one_file, read_or_fault, refused_has_pattern};
+pub use laws::{one_fault, one_file, place_within, read_or_fault, refused_has_pattern};
 pub use read::read_file;
 pub use review_document::limits::{MOST_BYTES, MOST_DESCRIPTION, MOST_PARTS, MOST_TEXT};
 pub use review_words::FileFault;

@@ -23,7 +23,6 @@ use Rattle.review_words.specs.declared.reply.Refusal.{Refusal}
 use Rattle.review_words.specs.declared.reply.Refusal.TheVariants.{BadFile, LabelNarrowed, Limit}
 use Rattle.review_words.specs.declared.reply.NotTaken.{NotTaken as Cause}
 use Rattle.review_words.specs.declared.reply.NotTaken.TheVariants.{Memory, Store, Damaged, Pattern, Full}
-use Rattle.review_words.specs.Texts.{IsPlaced}
 use Rattle.review_words.specs.History.{Entry, Identity, accepted, text_put, file_text, is_account, is_admin, is_project, project_count}
 use Rattle.review_file.specs.declared.fault.ReadFault.{ReadFault}
 use Rattle.review_file.specs.declared.fault.ReadFault.TheVariants as read
@@ -95,7 +94,7 @@ accepted_read : (h : List Entry) (caller : ℕ) (project text : List ℕ) (a : A
 accepted_read h caller project text a is = at (refused_by h caller (PutProject project text)) is
   where
     outcome : IsOutcome h (PutProject project text) (Done a) → (f : File) × IsRead text f
-    outcome (inl x) = let bad = x.3 in absurd (cc)
+    outcome (inl x) = let bad = x.2 in absurd (cc)
     outcome (inr x) = (x.0, x.2)
 
     at : (o : Option Refusal) → MatchOption o (IsOutcome h (PutProject project text) (Done a)) (λ r. Done a ≡ Refused r) → (f : File) × IsRead text f
@@ -165,11 +164,11 @@ unreadable_undecided caller project text rows fault Full refused is = absurd is
 
 -- a text with a fault is refused with it
 pub fault_decided : (h : List Entry) (caller : ℕ) (project text : List ℕ) (r : Delta × Reply) (fault : FileFault) → is_account h caller ≡ true → is_admin h caller ≡ true →
-    IsEmpty r.0 → IsFileFault text fault → IsPlaced fault → r.1 ≡ Refused (BadFile fault) → IsDecided h caller (PutProject project text) r.0 r.1
-fault_decided h caller project text r fault known admin empty faulty placed is =
+    IsEmpty r.0 → IsFileFault text fault → r.1 ≡ Refused (BadFile fault) → IsDecided h caller (PutProject project text) r.0 r.1
+fault_decided h caller project text r fault known admin empty faulty is =
     subst (λ reply. IsDecided h caller (PutProject project text) r.0 reply) (sym is)
     (refused_decided h caller (PutProject project text) r.0 (BadFile fault) empty
-    (outcome_answer h caller (PutProject project text) (Refused (BadFile fault)) (project_refused h caller project text true true known admin) (inl (fault, faulty, placed, refl))))
+    (outcome_answer h caller (PutProject project text) (Refused (BadFile fault)) (project_refused h caller project text true true known admin) (inl (fault, faulty, refl))))
 
 -- a text that spells a file is put by its checks
 pub put_decided_by : (h : List Entry) (caller : ℕ) (project text : List ℕ) (rows : Rows) (new : File) (delta : Delta) (reply : Reply) → is_account h caller ≡ true → is_admin h caller ≡ true →
@@ -208,10 +207,10 @@ unread_by caller project text rows (Err e) x = unread_undecided caller project t
 
 pub fault_by : (caller : ℕ) (project text : List ℕ) (rows : Rows) (fault : ReadFault) (result : Result (Delta × Reply) Cause) →
     ((h : List Entry) → IsLoaded h (needed caller (PutProject project text)) rows → is_admin h caller ≡ true) → IsReadFault text fault →
-    IfOk result (λ r. IsEmpty r.0 × ((f : FileFault) × (fault ≡ read.File f) × IsPlaced f × (r.1 ≡ Refused (BadFile f)))) →
+    IfOk result (λ r. IsEmpty r.0 × ((f : FileFault) × (fault ≡ read.File f) × (r.1 ≡ Refused (BadFile f)))) →
     IfOk result (λ r. (h : List Entry) → is_account h caller ≡ true → IsLoaded h (needed caller (PutProject project text)) rows → IsDecided h caller (PutProject project text) r.0 r.1)
 fault_by caller project text rows fault (Ok r) admin faulty x = λ h known l.
-    fault_decided h caller project text r x.1.0 known (admin h l) x.0 (subst (IsReadFault text) x.1.1 faulty) x.1.2 x.1.3
+    fault_decided h caller project text r x.1.0 known (admin h l) x.0 (subst (IsReadFault text) x.1.1 faulty) x.1.2
 fault_by caller project text rows fault (Err e) admin faulty x = tt
 
 or_true : (b : Bool) → (b || true) ≡ true

@@ -13,6 +13,7 @@ use Rattle.review_words.specs.declared.reply.Answer.TheVariants.{Nothing}
 use Rattle.review_words.specs.declared.reply.Refusal.{Refusal}
 use Rattle.review_words.specs.declared.reply.Refusal.TheVariants.{UnknownCaller}
 use Rattle.review_words.specs.History.{Entry, Identity, stored, is_same, is_account, account_count}
+use Rattle.review_file.proofs.Placed.{placed}
 use Rattle.review_rows.specs.declared.rows.Delta.{Delta}
 use Rattle.review_rows.specs.declared.rows.Need.{Need}
 use Rattle.review_rows.specs.declared.rows.Rows.{Rows}
@@ -81,7 +82,7 @@ outcome_stored h caller (CreateAccount name) reply all is =
     let below = ltb-true (account_count h) 1000000 all.1.1.0 in subst IsStored (sym is) (omega arith, omega arith)
 outcome_stored h caller (PutGroup group members) reply all is = subst IsStored (sym is) tt
 outcome_stored h caller (RecordBase project branch commit) reply all is = subst IsStored (sym is) tt
-outcome_stored h caller (PutProject project text) reply all (inl f) = subst IsStored (sym f.3) f.2
+outcome_stored h caller (PutProject project text) reply all (inl f) = subst IsStored (sym f.2) (placed text f.0 f.1)
 outcome_stored h caller (PutProject project text) reply all (inr f) =
     subst IsStored (sym f.4) (refused_or_stored (first_refusal (file_checks h project f.1 f.0)) (λ r is. first_stored (file_checks h project f.1 f.0) r (tt, (tt, tt)) is))
 

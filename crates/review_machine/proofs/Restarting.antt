@@ -1,5 +1,5 @@
 -- A run that begins again.
-use Rattle.std.proofs.Common.{◌≡◌, ℕ, zero, suc, ◌<◌, take, get_or, List, [], ◌∷◌, ◌++◌, length, Option, Some, None, true, false, cond, ◌||◌, refl, sym, ap, ◌∙◌, subst, ⊎_elim, arith}
+use Rattle.std.proofs.Common.{◌≡◌, ◌⊎◌, ℕ, zero, suc, ◌<◌, take, get_or, List, [], ◌∷◌, ◌++◌, length, Option, Some, None, true, false, cond, ◌||◌, refl, sym, ap, ◌∙◌, subst, ⊎_elim, arith}
 use Rattle.std.specs.Prelude.{is_some, MatchOption}
 use Rattle.std.proofs.lemmas.Bool.{cases_Bool}
 use mathlib.Core.List.{append_assoc}
@@ -10,11 +10,10 @@ use Rattle.review_words.specs.declared.command.Delivery.TheVariants.{Write, Read
 use Rattle.review_words.specs.declared.reply.Reply.{Reply}
 use Rattle.review_words.specs.declared.reply.Reply.TheVariants.{Done, Refused, IdentityReused, NotTaken}
 use Rattle.review_words.specs.History.{Entry, Identity, stored, is_same}
-use Rattle.review_rows.specs.Answer.{IsHistory, IsAnswer, IsOutcome, refused_by}
-use Rattle.review_words.specs.declared.reply.Refusal.{Refusal}
-use Rattle.review_machine.proofs.Outcomes.{one_outcome}
+use Rattle.review_rows.specs.Answer.{IsHistory, IsAnswer}
+use Rattle.review_machine.proofs.Outcomes.{one_answer}
 use Rattle.review_machine.specs.Replies.{IsTold, IsRight, AreRight, IsToldOfStored, history_after, with_entries as hist, has_identity, first_arrivals as first, arrivals_after as first_after, taken, with_taken, entry_of}
-use Rattle.review_machine.specs.Restart.{IsSettled, AreSettled, WasTaken, WereTaken, AgreeFor, AgreeOnWrites, RestartCompletes, RestartKeepsHistory, RepliesFollowHistory}
+use Rattle.review_machine.specs.Restart.{IsFree, RefusesBadValue, IsSettled, AreSettled, WasTaken, WereTaken, AgreeFor, AgreeOnWrites, RestartCompletes, RestartKeepsHistory, RepliesFollowHistory}
 use Rattle.review_machine.proofs.Histories.{answer_stored, stored_stays, stored_here, stored_there, same_to}
 use Rattle.review_machine.proofs.Served.{new_history, same_history, same_command}
 use Rattle.review_machine.proofs.Going.{HasSince, since_old, since_new, or_false, with_taken-append, first-append}
@@ -47,12 +46,9 @@ one_repeat e command r s a b =
     ⊎_elim (λ (c : command ≡ e.command). a.equal c ∙ sym (b.equal c)) (λ (n : command ≡ e.command → ⊥). a.other n ∙ sym (b.other n)) (same_command command e.command)
 
 -- one answer to each command that leaves no choice
-one_answer : (h : List Entry) (caller : ℕ) (id : List ℕ) (command : Command) (r s : Reply) → IsSettled (Write caller id command) → IsAnswer h caller command r → IsAnswer h caller command s → r ≡ s
-one_answer h caller id command r s settled a b = at (refused_by h caller command) a b
-  where
-    at : (o : Option Refusal) → MatchOption o (IsOutcome h command r) (λ x. r ≡ Refused x) → MatchOption o (IsOutcome h command s) (λ x. s ≡ Refused x) → r ≡ s
-    at None a b = one_outcome h caller id command r s settled a b
-    at (Some x) a b = a ∙ sym b
+settled_answer : (h : List Entry) (caller : ℕ) (command : Command) (r s : Reply) → (IsFree command → ⊥) → IsAnswer h caller command r → IsAnswer h caller command s → r ≡ s
+settled_answer h caller command r s settled a b =
+    ⊎_elim (λ (same : r ≡ s). same) (λ (free : IsFree command × (RefusesBadValue r ⊎ RefusesBadValue s)). absurd (settled free.0)) (one_answer h caller command r s a b)
 
 -- one right reply
 one_told : (h : List Entry) (d : Delivery) (r s : Reply) → IsSettled d → IsTold h d r → IsTold h d s → r ≡ s
@@ -60,7 +56,7 @@ one_told h (Read caller query) r s settled a b = a ∙ sym b
 one_told h (Write caller id command) r s settled a b = at (stored h (record { caller = caller; id = id })) refl
   where
     at : (o : Option Entry) → stored h (record { caller = caller; id = id }) ≡ o → r ≡ s
-    at None is = one_answer h caller id command r s settled (told_at h caller id command r None is a) (told_at h caller id command s None is b)
+    at None is = settled_answer h caller command r s settled (told_at h caller id command r None is a) (told_at h caller id command s None is b)
     at (Some e) is = one_repeat e command r s (told_at h caller id command r (Some e) is a) (told_at h caller id command s (Some e) is b)
 
 agrees : (d : Delivery) (r s : Reply) → r ≡ s → AgreeFor d r s

@@ -1,12 +1,15 @@
 -- Runs one after the other, and a run that begins again after a stop.
-use Rattle.std.specs.Prelude.{ℕ, ◌≡◌, List, [], ◌∷◌, ◌++◌, length}
+use Rattle.std.specs.Prelude.{ℕ, ◌≡◌, ◌⊎◌, List, [], ◌∷◌, ◌++◌, length}
+use Rattle.review_words.specs.declared.command.Command.{Command}
 use Rattle.review_words.specs.declared.command.Command.TheVariants.{PutProject}
 use Rattle.review_words.specs.declared.command.Delivery.{Delivery}
 use Rattle.review_words.specs.declared.command.Delivery.TheVariants.{Write, Read}
 use Rattle.review_words.specs.declared.reply.Reply.{Reply}
-use Rattle.review_words.specs.declared.reply.Reply.TheVariants.{NotTaken}
+use Rattle.review_words.specs.declared.reply.Reply.TheVariants.{Refused, NotTaken}
+use Rattle.review_words.specs.declared.reply.Refusal.TheVariants.{BadFile}
 use Rattle.review_words.specs.History.{Entry}
-use Rattle.review_rows.specs.Answer.{IsHistory}
+use Rattle.review_file.specs.Reading.{IsBadValue}
+use Rattle.review_rows.specs.Answer.{IsAnswer, IsHistory}
 use Rattle.review_rows.specs.Files.{HasDeepPattern}
 use Rattle.review_machine.specs.Replies.{AreRight, history_after, with_entries, first_arrivals}
 
@@ -51,10 +54,25 @@ RepliesFollowHistory = (h0 h last : List Entry) (ds : List Delivery) (rs ss : Li
     AreRight h0 ds rs counts → WereTaken rs → AreRight h ds ss others → WereTaken ss →
     last ≡ history_after h0 ds rs → last ≡ history_after h ds ss → AgreeOnWrites ds rs ss
 
--- a delivery whose answer leaves no choice: it puts no project file with a pattern that nests deeper than the pattern engine reads
+-- a command whose answer is free: it puts a project file with a pattern that nests deeper than the pattern engine reads
+abbrev pub IsFree : Command → Type 0
+IsFree (PutProject project text) = HasDeepPattern text
+IsFree _ = ⊥
+
+-- it refuses a file for a bad value in an expression
+abbrev pub RefusesBadValue : Reply → Type 0
+RefusesBadValue (Refused (BadFile fault)) = IsBadValue fault
+RefusesBadValue _ = ⊥
+
+-- A command has one answer, unless its answer is free: then of two different ones, one refuses the file for a bad value in an expression.
+abbrev pub OneAnswer : Type 0
+OneAnswer = (h : List Entry) (caller : ℕ) (command : Command) (r s : Reply) → IsAnswer h caller command r → IsAnswer h caller command s →
+    (r ≡ s) ⊎ (IsFree command × (RefusesBadValue r ⊎ RefusesBadValue s))
+
+-- a delivery whose answer leaves no choice
 abbrev pub IsSettled : Delivery → Type 0
-IsSettled (Write caller id (PutProject project text)) = HasDeepPattern text → ⊥
-IsSettled d = Unit {0}
+IsSettled (Write caller id command) = IsFree command → ⊥
+IsSettled (Read caller query) = Unit {0}
 
 -- all are such deliveries
 abbrev pub AreSettled : List Delivery → Type 0

@@ -20,7 +20,7 @@ pub mod runs;
 
 pub use decisions::decide;
 pub use deliveries::deliver;
-pub use laws::{restart_completes, runs_compose};
+pub use laws::{one_answer, restart_completes, runs_compose};
 pub use memory::run_in_memory;
 pub use needs::{need_of, need_of_query};
 pub use projects::unread_cause;

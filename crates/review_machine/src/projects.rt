@@ -7,7 +7,6 @@ ghost use Rattle.review_words.specs.declared.command.Command.TheVariants.{PutPro
 ghost use Rattle.review_words.specs.declared.reply.NotTaken.TheVariants.{Memory};
 ghost use Rattle.review_rows.specs.Rows.{HasNoEffect};
 ghost use Rattle.review_rows.specs.View.{needed, IsLoaded, IsDecided};
-ghost use Rattle.review_words.specs.Texts.{IsPlaced};
 ghost use Rattle.review_words.specs.declared.reply.Reply.TheVariants.{Done, Refused};
 ghost use Rattle.review_words.specs.declared.reply.Answer.TheVariants.{Nothing};
 ghost use Rattle.review_words.specs.declared.reply.Refusal.TheVariants.{BadFile};
@@ -96,8 +95,9 @@ pub fn put_project(
 
 // Refuses a text that is no project file.
 fn refuse_file(alloc: Global, fault: ReadFault) -> Result<(Delta, Reply), NotTaken>
-    ensures file { IfOk result (λ r. IsEmpty r.0 × ((f : FileFault) × (fault ≡ File f) × IsPlaced f × (r.1 ≡ Refused (BadFile f)))) }
+    ensures file { IfOk result (λ r. IsEmpty r.0 × ((f : FileFault) × (fault ≡ File f) × (r.1 ≡ Refused (BadFile f)))) }
     ensures cause { IfErr result (IsReadCause fault) }
+    ensures stored { IfOk result (λ r. IsStored r.1) }
 {
     match fault {
         ReadFault::File(fault) => Ok(refused(alloc, Refusal::BadFile(fault))),

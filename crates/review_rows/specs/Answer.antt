@@ -17,7 +17,6 @@ use Rattle.review_words.specs.declared.reply.Refusal.TheVariants.{UnknownCaller,
 use Rattle.review_words.specs.declared.faults.FileFault.{FileFault}
 use Rattle.review_words.specs.History.{Entry, stored, account_count, name_taken, is_account, is_admin, file_text, is_project, project_count, bases, base_count, is_branch, is_base}
 use Rattle.review_words.specs.Names.{registered_users}
-use Rattle.review_words.specs.Texts.{IsPlaced}
 use Rattle.review_rows.specs.Files.{File, IsRead, IsFileFault, covers}
 
 -- the most accounts of a desk
@@ -78,9 +77,9 @@ abbrev pub IsFileAnswer : List Entry → List ℕ → List ℕ → Reply → Typ
 IsFileAnswer h project text reply =
     (new : File) × (old : Option File) × IsRead text new × HasFile (file_text h project) old × (reply ≡ refused_or (first_refusal (file_checks h project old new)) Nothing)
 
--- what a PutProject is told where its text has a fault, with its place, a machine number
+-- what a PutProject is told where its text has a fault
 abbrev pub IsFaultAnswer : List ℕ → Reply → Type 0
-IsFaultAnswer text reply = (fault : FileFault) × IsFileFault text fault × IsPlaced fault × (reply ≡ Refused (BadFile fault))
+IsFaultAnswer text reply = (fault : FileFault) × IsFileFault text fault × (reply ≡ Refused (BadFile fault))
 
 -- What a command is told that no check refuses. One place is free: a text with a pattern that nests deeper than the pattern engine reads may spell a file
 -- and be told a fault all the same.

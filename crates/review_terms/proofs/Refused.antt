@@ -10,7 +10,7 @@ use Rattle.regex_syntax.specs.declared.error.ErrorKind.TheVariants.{OutOfMemory}
 use Rattle.regex.specs.Failures.{IsPattern}
 use Rattle.regex.specs.Names.{names_of}
 use Rattle.regex.specs.declared.string.regex.Regex.{Regex}
-use Rattle.review_terms.specs.Patterns.{anchored, is_read, is_pattern, IsTooDeep, IsDeepPattern, IsReadFrom, IsRefusedBy, IsLawful}
+use Rattle.review_terms.specs.Patterns.{anchored, is_read, is_pattern, NestsTooDeep, IsDeepPattern, IsReadFrom, IsRefusedBy, IsLawful}
 use Rattle.review_terms.specs.declared.pattern.PatternFault.{PatternFault}
 use Rattle.review_terms.specs.declared.pattern.PatternFault.TheVariants.{Syntax, Engine, Memory}
 
@@ -28,8 +28,8 @@ read_from source r h =
     let reads : Reads default_config source r.pattern.program.hir (names_of r.pattern.names.items) = rw (h.0, h.1) at h.2 in
     some_of _ (read default_config (chars source)) reads
 
-pub refused_text : (source : List ℕ) (k : ErrorKind) → Refuses default_config source k → (k ≡ OutOfMemory → ⊥) → (is_read source ≡ false) ⊎ IsTooDeep source
-unfolding is_read IsTooDeep Refuses
+pub refused_text : (source : List ℕ) (k : ErrorKind) → Refuses default_config source k → (k ≡ OutOfMemory → ⊥) → (is_read source ≡ false) ⊎ NestsTooDeep source
+unfolding is_read NestsTooDeep Refuses
 refused_text source k h other =
     elim h [
       | inl memory ↦ absurd (other memory)
@@ -48,14 +48,14 @@ and_false true = refl
 and_false false = refl
 
 -- one of the two texts is refused
-pub alone_refused : (re : List ℕ) → (is_read re ≡ false) ⊎ IsTooDeep re → (is_pattern re ≡ false) ⊎ IsDeepPattern re
+pub alone_refused : (re : List ℕ) → (is_read re ≡ false) ⊎ NestsTooDeep re → (is_pattern re ≡ false) ⊎ IsDeepPattern re
 unfolding is_pattern
 alone_refused re h = elim h [
   | inl none ↦ inl (ap (λ b. b && is_read (anchored re)) none)
   | inr deep ↦ inr (inl deep)
 ]
 
-pub whole_refused : (re : List ℕ) → (is_read (anchored re) ≡ false) ⊎ IsTooDeep (anchored re) → (is_pattern re ≡ false) ⊎ IsDeepPattern re
+pub whole_refused : (re : List ℕ) → (is_read (anchored re) ≡ false) ⊎ NestsTooDeep (anchored re) → (is_pattern re ≡ false) ⊎ IsDeepPattern re
 unfolding is_pattern
 whole_refused re h = elim h [
   | inl none ↦ inl (ap (λ b. is_read re && b) none ∙ and_false (is_read re))

@@ -35,12 +35,12 @@ unfoldable pub is_pattern : List ℕ → Bool
 is_pattern re = is_read re && is_read (anchored re)
 
 -- the grammar of `regex` reads the text, and it nests deeper than the engine reads
-unfoldable pub IsTooDeep : List ℕ → Type 0
-IsTooDeep source = IsSomeAnd (read default_config (chars source)) (λ found. default_config.nest_limit < found.0.depth)
+unfoldable pub NestsTooDeep : List ℕ → Type 0
+NestsTooDeep source = IsSomeAnd (read default_config (chars source)) (λ found. default_config.nest_limit < found.0.depth)
 
 -- the one free place: a pattern that nests deeper than the engine reads, alone or held to the whole
 abbrev pub IsDeepPattern : List ℕ → Type 0
-IsDeepPattern re = IsTooDeep re ⊎ IsTooDeep (anchored re)
+IsDeepPattern re = NestsTooDeep re ⊎ NestsTooDeep (anchored re)
 
 -- A pattern. The engine may refuse it all the same, as for its size.
 abbrev pub IsEnginePattern : List ℕ → Type 0
@@ -56,7 +56,7 @@ IsHeld text r = IsReadFrom (anchored text) r
 
 -- which fault may be given for one text
 abbrev pub IsRefusedBy : List ℕ → PatternFault → Type 0
-IsRefusedBy source Syntax = (is_read source ≡ false) ⊎ IsTooDeep source
+IsRefusedBy source Syntax = (is_read source ≡ false) ⊎ NestsTooDeep source
 IsRefusedBy source Engine = is_read source ≡ true
 IsRefusedBy source Memory = Unit {0}
 
