@@ -254,7 +254,11 @@ fn each_front_of_a_file_has_its_fault(rt: HostRuntime) -> Result<(), Fail> {
         }
         is_begun = *byte != b'\n';
         let front = WHOLE.get(..length).ok_or("no front")?;
-        let wanted = if is_whole { FRONTS[lines] } else { "TOML" };
+        let wanted = if is_whole {
+            FRONTS.get(lines).copied().unwrap_or("no line")
+        } else {
+            "TOML"
+        };
         assert_eq!(rt; outcome(alloc, front), wanted, "{length}");
     }
     assert_eq!(rt; outcome(alloc, WHOLE), "a file");
