@@ -1,5 +1,5 @@
 -- A fault's place lies within the text.
-use Rattle.std.proofs.Common.{◌≡◌, inl, inr, ℕ, ◌+◌, ◌≤◌, ◌<◌, List, [], ◌∷◌, ◌++◌, length, sym, ap, arith, length-append}
+use Rattle.std.proofs.Common.{◌≡◌, inl, inr, ℕ, ◌+◌, ◌≤◌, ◌<◌, List, [], ◌∷◌, ◌++◌, length, ap, arith, length-append}
 use Rattle.review_grammar.specs.Lexemes.{Lexeme, Word, Open, Close, IsCut}
 use Rattle.review_grammar.specs.Words.{Reading}
 use Rattle.review_words.specs.declared.faults.ExprCode.{ExprCode}

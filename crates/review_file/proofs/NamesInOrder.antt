@@ -1,5 +1,5 @@
 -- The names of the labels and of the requirements of a file ascend.
-use Rattle.std.proofs.Common.{◌≡◌, ℕ, Ordering, Less, Equal, Greater, nat_cmp, Bool, true, false, cond, List, [], ◌∷◌, map, filter, Option, Some, None, option_and_then, refl, sym, ap, ap₂, ◌∙◌, subst, codes}
+use Rattle.std.proofs.Common.{◌≡◌, ℕ, Ordering, Less, Equal, Greater, nat_cmp, Bool, true, false, cond, List, [], ◌∷◌, map, filter, Option, Some, None, option_and_then, refl, sym, ap, ap₂, subst, codes}
 use Rattle.std.specs.List.{AllByRecursion}
 use Rattle.std.specs.List.Sorted.{IsStrictlySortedBy}
 use Rattle.std.specs.Ordering.{match_ordering}

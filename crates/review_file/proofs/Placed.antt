@@ -1,8 +1,8 @@
 -- A fault's place is below 2^64.
-use Rattle.std.proofs.Common.{◌≡◌, inl, inr, ℕ, ◌≤◌, Bool, true, false, List, [], ◌∷◌, Option, Some, None, refl, arith}
+use Rattle.std.proofs.Common.{◌≡◌, inl, inr, ℕ, ◌≤◌, Bool, true, false, List, [], ◌∷◌, Option, Some, None, arith}
 use Rattle.std.specs.Prelude.{length, nat_lt}
 use Rattle.std.specs.Bool.{MatchBool}
-use Rattle.toml.specs.Data.{Data, Members, table}
+use Rattle.toml.specs.Data.{Members, table}
 use Rattle.toml.specs.Parse.{parse_document}
 use Rattle.review_words.specs.Texts.{IsPlaced}
 use Rattle.review_words.specs.declared.faults.ExprFault.{ExprFault}

@@ -17,7 +17,7 @@ use Rattle.review_words.specs.declared.faults.FileFault.TheVariants.{Expr as Fau
 use Rattle.review_grammar.specs.Views.{view}
 use Rattle.review_terms.specs.Labels.{labels}
 use Rattle.review_spelling.specs.Words.{requirement_reading, copy_reading, IsDeep, IsPattern}
-use Rattle.review_document.specs.Limits.{most_bytes, is_past_limits}
+use Rattle.review_document.specs.Limits.{most_bytes}
 use Rattle.review_expr.specs.declared.expr.Expr.{Expr}
 use Rattle.review_expr.specs.declared.expr.Expr.TheVariants as expr
 use Rattle.review_expr.specs.declared.fault.ParseFault.TheVariants as parse
@@ -25,7 +25,6 @@ use Rattle.review_expr.specs.Exprs.{IsCopyOf, IsRequirementOf, NoWord, labels_in
 use Rattle.review_expr.specs.Faults.{IsFault, HasWord}
 use Rattle.review_expr.proofs.Excluded.{bad_value, one_tree}
 use Rattle.review_expr.proofs.OneFault.{one_fault}
-use Rattle.review_file.specs.declared.fault.ReadFault.{ReadFault}
 use Rattle.review_file.specs.declared.fault.ReadFault.TheVariants.{File}
 use Rattle.review_file.specs.View.{LabelView, RequirementView, FileView}
 use Rattle.review_file.specs.Rights.{covers, is_covered, has_values}

@@ -1,5 +1,5 @@
 -- One answer to each command, unless a pattern nests too deep.
-use Rattle.std.proofs.Common.{◌≡◌, ◌⊎◌, ℕ, List, [], ◌∷◌, Option, Some, None, Bool, true, ◌||◌, ◌∙◌, sym, ap, subst, inl, inr}
+use Rattle.std.proofs.Common.{◌≡◌, ◌⊎◌, ℕ, List, [], ◌∷◌, Option, Some, None, true, ◌||◌, ◌∙◌, sym, ap, subst, inl, inr}
 use Rattle.std.specs.Prelude.{nat_lt, MatchOption}
 use Rattle.std.specs.Option.{option_map_or}
 use Rattle.review_words.specs.declared.command.Command.{Command}
@@ -13,7 +13,7 @@ use Rattle.review_words.specs.History.{Entry, is_project, project_count, file_te
 use Rattle.review_file.specs.Reading.{IsBadValue}
 use Rattle.review_file.proofs.Together.{same_covers, read_or_fault, one_refusal}
 use Rattle.review_rows.specs.Files.{File, IsRead, covers, HasDeepPattern}
-use Rattle.review_rows.specs.Answer.{IsAnswer, IsOutcome, HasFile, IsFaultAnswer, IsFileAnswer, first_refusal, refused_by, refused_or}
+use Rattle.review_rows.specs.Answer.{IsOutcome, HasFile, first_refusal, refused_by, refused_or}
 use Rattle.review_machine.specs.Restart.{IsFree, RefusesBadValue, OneAnswer}
 
 -- what the old file covers, whichever of those is taken that its text and the new one spell
