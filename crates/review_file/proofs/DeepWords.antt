@@ -11,12 +11,12 @@ use Rattle.review_terms.specs.declared.terms.RequirementTerm.{RequirementTerm}
 use Rattle.review_terms.specs.declared.terms.RequirementTerm.TheVariants.{BranchMatches, PathMatches}
 use Rattle.review_spelling.specs.Cuts.{behind, cut_at, key_and_value}
 use Rattle.review_spelling.specs.Readings.{◌>>=◌, in_value}
-use Rattle.review_spelling.specs.Words.{formed, pattern_or, pattern_of, pattern_in, keyed, requirement_value, requirement_reading, IsDeep, IsPattern}
+use Rattle.review_spelling.specs.Words.{pattern_or, pattern_of, pattern_in, keyed, requirement_value, requirement_reading, IsDeep, IsPattern}
 use Rattle.review_spelling.specs.declared.keys.RequirementKey.{RequirementKey}
 use Rattle.review_spelling.specs.declared.keys.RequirementKey.TheVariants as key
-use Rattle.review_expr.specs.Tokens.{operator_by, operator_or, term_token, meaning, is_signed, unsigned, alone, behind_minus, lone_minus, after_minus, opens_at, lexeme_tokens}
+use Rattle.review_expr.specs.Tokens.{operator_by, operator_or, term_token, meaning, is_signed, unsigned, alone, behind_minus, after_minus, opens_at, lexeme_tokens}
 use Rattle.review_expr.specs.Expressions.{HasExpr}
-use Rattle.review_expr.specs.Faults.{HasWord, IsReached}
+use Rattle.review_expr.specs.Faults.{HasWord}
 use Rattle.review_expr.proofs.Excluded.{no_flaw}
 
 by_form : (b : Bool) (re : List ℕ) (term : List ℕ → RequirementTerm) (a : RequirementTerm) → in_value (option_map term (cond b (Some re) None)) ≡ Good a → b ≡ true

@@ -1,5 +1,5 @@
 -- What reading finds is in the grammar, and nothing else is.
-use Rattle.std.proofs.Common.{◌≡◌, ◌≢◌, ℕ, zero, suc, ◌+◌, ◌*◌, ◌≤◌, ◌<◌, Bool, true, false, List, [], ◌∷◌, ◌++◌, length, Option, Some, None, IfSome, refl, sym, ap, ◌∙◌, subst, arith, append_assoc, max}
+use Rattle.std.proofs.Common.{◌≡◌, ℕ, zero, suc, ◌≤◌, Bool, true, false, List, [], ◌∷◌, ◌++◌, Some, None, refl, sym, ap, ◌∙◌, subst, arith, append_assoc, max}
 use Rattle.review_grammar.specs.Grammar.{Tok, Word, Open, Close, Minus, NotWord, AndWord, OrWord, Join, Blank, And, Or, Unary, Members, Leaf, Group, Not, One, Next, minus, between, spelled, all_spelled}
 use Rattle.review_grammar.specs.Reading.{Read, not_read, closed, primary, unary_of, followed, more_of, members_of, unary, members}
 

@@ -1,6 +1,6 @@
 -- One byte more of an open word.
 use Rattle.std.proofs.Common.{◌≡◌, ℕ, zero, suc, ◌+◌, ◌-◌, ◌≤◌, ◌<◌, List, [], ◌∷◌, ◌++◌, length, take, drop, get_or, length-drop, get_or-drop, refl, sym, ap, ap₂, ◌∙◌, arith, slice_range}
-use Rattle.std.proofs.Common.{Option, Some, None, IfSome, subst, add-one, Bool, true, false, not, ◌==◌, ◌≢◌, ne_eqb, map}
+use Rattle.std.proofs.Common.{Option, Some, None, IfSome, subst, add-one, Bool, true, false, not, ◌==◌, ◌≢◌, ne_eqb}
 use Rattle.std.proofs.Math.Seq.{take-suc, drop-cons}
 use Rattle.std.proofs.lemmas.List.{append-nil}
 use Rattle.review_grammar.specs.Lexemes.{Lexeme, Word, Close, IsCut, is_blank, is_end, balanced}

@@ -1,9 +1,9 @@
 -- One step of reading, as the code sees it.
-use Rattle.std.proofs.Common.{◌≡◌, ◌≢◌, ℕ, zero, suc, ◌+◌, ◌-◌, ◌≤◌, ◌<◌, min, max, Bool, true, false, ◌&&◌, ◌||◌, List, [], ◌∷◌, ◌++◌, length, map, Option, Some, None, option_map, Result, Ok, Err, refl, sym, ap, ap₂, ◌∙◌, subst, arith, append_assoc}
+use Rattle.std.proofs.Common.{◌≡◌, ◌≢◌, ℕ, zero, suc, ◌+◌, ◌-◌, max, Bool, true, false, ◌||◌, List, [], ◌∷◌, length, Option, Some, None, option_map, refl, sym, ap, ◌∙◌, subst, arith, append_assoc}
 use Rattle.std.proofs.lemmas.Option.{same_Some}
-use Rattle.review_grammar.specs.Grammar.{Tok, Word, Open, Close, Minus, NotWord, AndWord, OrWord, Join, Blank, And, Or, Unary, Members, Leaf, Group, Not, One, Next, Tree, Term, Neg, All, Any, listed, many, negated_if, tree_of, trees_of, depth, all_depth, is_mixed, any_mixed, has_and, has_or, is_and, is_or}
-use Rattle.review_grammar.specs.Reading.{Read, not_read, closed, primary, unary_of, followed, more_of, members_of, unary, members, joint, by_joint, Sign, NoSign, NotSign, MinusSign, sign, by_sign}
-use Rattle.review_grammar.specs.Views.{Fails, Summary, Sums, capped, deeper, negated_part, no_sums, seen, seen_all, summary, whole, with_join, with_members, with_part}
+use Rattle.review_grammar.specs.Grammar.{Tok, Word, Open, Close, Join, Unary, Members, Group, One, Next, Tree, Neg, listed, many, tree_of, trees_of, depth, all_depth, is_mixed, any_mixed, has_and, has_or, is_and, is_or}
+use Rattle.review_grammar.specs.Reading.{Read, not_read, closed, primary, followed, members_of, unary, members, joint, by_joint, NoSign, NotSign, MinusSign, sign, by_sign}
+use Rattle.review_grammar.specs.Views.{Fails, Summary, Sums, capped, negated_part, seen, seen_all, summary, with_join, with_members, with_part}
 use Rattle.review_grammar.specs.declared.parser.Refusal.{Refusal}
 use Rattle.review_grammar.specs.declared.parser.Refusal.TheVariants as refusal
 

@@ -1,7 +1,7 @@
 -- What the whole of the tokens gives.
-use Rattle.std.proofs.Common.{◌≡◌, ◌≢◌, ℕ, zero, suc, ◌+◌, ◌*◌, ◌≤◌, ◌<◌, min, max, Bool, true, false, ◌&&◌, ◌||◌, List, [], ◌∷◌, ◌++◌, length, map, Option, Some, None, option_map, refl, sym, ap, ◌∙◌, subst, arith, append_assoc, length-append}
+use Rattle.std.proofs.Common.{◌≡◌, ◌≢◌, ℕ, ◌+◌, ◌*◌, ◌≤◌, true, false, List, [], ◌∷◌, ◌++◌, length, Some, None, option_map, refl, sym, ap, ◌∙◌, subst, arith, length-append}
 use Rattle.std.proofs.lemmas.Option.{same_Some}
-use Rattle.review_grammar.specs.Grammar.{Tok, Join, Blank, And, Or, Unary, Members, Leaf, Group, Not, One, Next, Tree, minus, between, spelled, all_spelled, depth, all_depth, tree, mixed, listed, has_and, has_or, trees_of, any_mixed}
+use Rattle.review_grammar.specs.Grammar.{Tok, Unary, Members, Leaf, Group, Not, One, Next, between, spelled, all_spelled, all_depth, tree, mixed}
 use Rattle.review_grammar.specs.Reading.{Read, members}
 use Rattle.review_grammar.specs.Views.{Summary, Sums, capped, no_sums, seen_all, whole, with_members}
 use Rattle.review_grammar.proofs.Grammatical.{calls, all_calls, members_again, members_found, Spells}

@@ -1,5 +1,5 @@
 -- Scanning byte by byte; the law above it is `IsCut`.
-use Rattle.std.specs.Prelude.{ℕ, ◌+◌, Bool, true, false, not, ◌==◌, List, [], ◌∷◌, ◌++◌, Option, Some, None, option_map, if◌then◌else◌}
+use Rattle.std.specs.Prelude.{ℕ, ◌+◌, Bool, true, false, not, ◌==◌, List, [], ◌∷◌, ◌++◌, Option, Some, None, option_map}
 use Rattle.review_grammar.specs.Lexemes.{Lexeme, Word, Open, Close, is_blank, is_end}
 
 -- where a scan stands in a text

@@ -1,5 +1,5 @@
 -- How the values of the parser stand to those of the grammar.
-use Rattle.std.specs.Prelude.{◌≡◌, ℕ, ◌+◌, min, max, Bool, true, false, ◌&&◌, ◌||◌, List, [], ◌∷◌, ◌++◌, map, Option, Some, None, Result, Ok, Err, option_map}
+use Rattle.std.specs.Prelude.{◌≡◌, ℕ, ◌+◌, min, max, Bool, false, ◌&&◌, ◌||◌, List, [], ◌∷◌, ◌++◌, map, Option, Some, None, Result, Ok, Err}
 use Rattle.review_grammar.specs.declared.tree.Node.{Node}
 use Rattle.review_grammar.specs.declared.tree.Node.TheOpen.{Node-F}
 use Rattle.review_grammar.specs.declared.tree.Node.TheFolds.{fold-Node}

@@ -1,5 +1,5 @@
 -- What a word of an expression is read as.
-use Rattle.std.specs.Prelude.{◌≡◌, ◌⊎◌, List, ℕ}
+use Rattle.std.specs.Prelude.{◌≡◌, ◌⊎◌}
 use Rattle.review_grammar.specs.declared.word.WordFault.{WordFault}
 use Rattle.review_grammar.specs.declared.word.WordFault.TheVariants as fault
 

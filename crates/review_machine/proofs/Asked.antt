@@ -1,8 +1,7 @@
 -- What the loaded rows tell of the history, for a question.
-use Rattle.std.proofs.Common.{◌≡◌, ℕ, ◌≤◌, ◌==◌, arith, List, [], ◌∷◌, length, Option, Some, None, Bool, true, false, cond, ◌&&◌, refl, sym, ap, ◌∙◌}
+use Rattle.std.proofs.Common.{◌≡◌, ℕ, ◌≤◌, arith, List, [], ◌∷◌, length, Option, Some, None, Bool, true, false, cond, ◌&&◌, refl, sym, ap, ◌∙◌}
 use Rattle.std.specs.Prelude.{is_some, nat_le, option_map}
 use Rattle.std.proofs.lemmas.Bool.Decides.{nat_tests}
-use Rattle.std.specs.Str.{bytes_eq}
 use Rattle.std.specs.Ordering.{nat_cmp}
 use Rattle.review_table.specs.Rows.{row_in, rows_of}
 use Rattle.review_words.specs.declared.command.Query.{Query}
@@ -13,7 +12,7 @@ use Rattle.review_words.specs.declared.reply.Refusal.{Refusal}
 use Rattle.review_words.specs.declared.reply.Refusal.TheVariants.{UnknownCaller, NoProject, NoBranch}
 use Rattle.review_words.specs.History.{Entry, is_account, is_project, is_branch, bases}
 use Rattle.review_rows.specs.declared.rows.Rows.{Rows}
-use Rattle.review_rows.specs.Rows.{AccountKey, BranchKey, Row, BranchRow, branch_cmp}
+use Rattle.review_rows.specs.Rows.{AccountKey, BranchKey, BranchRow, branch_cmp}
 use Rattle.review_rows.specs.Answer.{query_answer, refused_or}
 use Rattle.review_rows.specs.View.{fact, branch_row, wanted_for, IsLoaded}
 use Rattle.review_machine.proofs.Decided.{eq_same, text_same}

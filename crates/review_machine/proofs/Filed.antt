@@ -3,16 +3,12 @@ use Rattle.std.proofs.Common.{◌≡◌, ℕ, List, [], ◌∷◌, Option, Some,
 use Rattle.std.specs.Prelude.{is_some, nat_lt, IfErr, IfOk, IsSomeAnd, MatchOption, option_map}
 use Rattle.std.specs.Result.{IsErr, IsErrAnd}
 use Rattle.std.specs.Option.{option_map_or}
-use Rattle.std.specs.Ordering.{nat_cmp}
-use Rattle.std.specs.Cmp.Lexicographic.{slice_cmp}
 use Rattle.std.specs.Str.{bytes_eq}
-use Rattle.std.proofs.lemmas.Bool.{cases_Bool, lt-ltb}
-use Rattle.std.proofs.lemmas.Slice.Eq.{bytes_eq-Decides}
+use Rattle.std.proofs.lemmas.Bool.{lt-ltb}
 use Rattle.review_words.specs.declared.command.Command.{Command}
 use Rattle.review_words.specs.declared.command.Command.TheVariants.{CreateAccount, PutGroup, PutProject, RecordBase}
 use Rattle.review_words.specs.declared.faults.ExprCode.{ExprCode}
 use Rattle.review_words.specs.declared.faults.ExprCode.TheVariants as code
-use Rattle.review_words.specs.declared.faults.ExprFault.{ExprFault}
 use Rattle.review_words.specs.declared.faults.FileFault.{FileFault}
 use Rattle.review_words.specs.declared.faults.FileFault.TheVariants as file
 use Rattle.review_words.specs.declared.reply.Reply.{Reply}
@@ -32,10 +28,10 @@ use Rattle.review_rows.specs.declared.rows.Rows.{Rows}
 use Rattle.review_rows.specs.declared.rows.Delta.{Delta}
 use Rattle.review_rows.specs.Files.{File, IsRead, IsFileFault, covers, HasPattern}
 use Rattle.review_rows.specs.Rows.{FileKey, FileRow, HasNoEffect}
-use Rattle.review_rows.specs.Answer.{IsHistory, IsAnswer, IsOutcome, IsFaultAnswer, IsFileAnswer, HasFile, file_checks, first_refusal, refused_or, refused_by}
+use Rattle.review_rows.specs.Answer.{IsHistory, IsAnswer, IsOutcome, HasFile, file_checks, first_refusal, refused_or, refused_by}
 use Rattle.review_rows.specs.View.{fact, needed, IsLoaded, IsDecided}
 use Rattle.review_machine.specs.Decisions.{IsEmpty, IsUndecided, ReadsPattern}
-use Rattle.review_machine.specs.Files.{file_in, bad_value_cause, unread_cause, IsReadCause, IsUnreadText, IsUnread, PutsFile, IsFileRefusal, IsPutBy, IsFilePut}
+use Rattle.review_machine.specs.Files.{file_in, bad_value_cause, unread_cause, IsReadCause, IsUnreadText, IsUnread, IsFileRefusal, IsPutBy, IsFilePut}
 use Rattle.review_machine.proofs.Decided.{text_same, empty_changes, outcome_answer, project_refused, refused_decided, file_decided}
 
 -- a refusal changes nothing

@@ -1,5 +1,5 @@
 -- The history that the plain desk's list shows, the newest first, and why the desk gives no answer.
-use Rattle.std.specs.Prelude.{◌≡◌, ◌⊎◌, ℕ, List, Option, Some, None, map, IsSomeAnd}
+use Rattle.std.specs.Prelude.{◌≡◌, ◌⊎◌, ℕ, List, Option, None, map, IsSomeAnd}
 use Rattle.review_words.specs.declared.command.Command.{Command}
 use Rattle.review_words.specs.declared.command.Command.TheVariants.{PutProject}
 use Rattle.review_words.specs.declared.command.Delivery.{Delivery}

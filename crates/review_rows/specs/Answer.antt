@@ -1,6 +1,5 @@
 -- The answer to a command and to a question, and which lists of entries are histories.
 use Rattle.std.specs.Prelude.{ℕ, ◌+◌, ◌<◌, ◌≡◌, ◌⊎◌, List, [], ◌∷◌, Option, Some, None, Bool, true, not, nat_lt, ◌||◌, length, if◌then◌else◌, MatchOption}
-use Rattle.std.specs.Bool.{MatchBool}
 use Rattle.std.specs.Option.{option_map_or}
 use Rattle.std.specs.Str.{bytes_eq}
 use Rattle.std.specs.List.{list_all}

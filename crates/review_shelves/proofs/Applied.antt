@@ -31,7 +31,7 @@ use Rattle.review_shelves.specs.declared.keys.NameKey.{NameKey}
 use Rattle.review_shelves.specs.declared.keys.StoredAnswer.{StoredAnswer}
 use Rattle.review_shelves.specs.declared.tables.MemoryTables.{MemoryTables}
 use Rattle.review_shelves.specs.Desk.{Desk, desk_of, tables_of, row_of, count_of, stored_row, file_changes, answer_cmp, name_cmp, IsNumber, IsIndexed, IsNumbered, IsBounded, IsSound, IsGiven, IsHeld, AreIndexed, KeepsNames, AreChangesOf, AreApplied, IsWithBase, IsSameDesk, HasRoom, with_branches}
-use Rattle.review_shelves.specs.Branches.{BranchesView, IsAdded, IsAsBefore, bases_in, total_in}
+use Rattle.review_shelves.specs.Branches.{BranchesView, bases_in, total_in}
 use Rattle.review_shelves.proofs.Orders.{exact_member, exact_answer, at_answer}
 
 -- names that are listed stay so

@@ -15,8 +15,6 @@ use Rattle.review_rows.specs.declared.rows.MemberKey.{MemberKey as Member}
 use Rattle.review_rows.specs.Rows.{Key, AccountKey, MemberKey, FileKey, BranchKey, OddKey, AccountRow, MemberRow, Count, Projects, BasesOf, member_cmp, member_row}
 use Rattle.review_rows.specs.View.{IsView, fact, counted}
 use Rattle.review_shelves.specs.declared.keys.NameKey.{NameKey}
-use Rattle.review_shelves.specs.declared.keys.AnswerKey.{AnswerKey}
-use Rattle.review_shelves.specs.declared.keys.StoredAnswer.{StoredAnswer}
 use Rattle.review_shelves.specs.Desk.{Desk, tables_of, row_of, count_of, name_cmp, IsNumber, IsIndexed, IsNumbered}
 use Rattle.review_shelves.proofs.Orders.{exact_member, at_account, at_member}
 use Rattle.review_shelves.proofs.Indexed.{at_itself}

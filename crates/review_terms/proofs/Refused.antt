@@ -1,9 +1,7 @@
 -- What is read, and what is refused.
-use Rattle.std.proofs.Common.{◌≡◌, ◌⊎◌, inl, inr, ◌<◌, ◌&&◌, ℕ, List, Bool, true, false, Option, Some, None, IfSome, IsSomeAnd, is_some, refl, ap, ◌∙◌}
+use Rattle.std.proofs.Common.{◌≡◌, ◌⊎◌, inl, inr, ◌&&◌, ℕ, List, Bool, true, false, Option, Some, None, IfSome, IsSomeAnd, is_some, refl, ap, ◌∙◌}
 use Rattle.std.specs.Str.{chars}
-use Rattle.regex_hir.specs.Re.{Re}
-use Rattle.regex_syntax.specs.Brackets.{Nested}
-use Rattle.regex_syntax.specs.Grammar.{Names, read}
+use Rattle.regex_syntax.specs.Grammar.{read}
 use Rattle.regex_syntax.specs.Verdict.{Reads, Refuses, default_config}
 use Rattle.regex_syntax.specs.declared.error.ErrorKind.{ErrorKind}
 use Rattle.regex_syntax.specs.declared.error.ErrorKind.TheVariants.{OutOfMemory}

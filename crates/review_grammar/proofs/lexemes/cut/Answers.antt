@@ -1,4 +1,4 @@
-use Rattle.std.proofs.Common.{◌≡◌, ◌≤◌, length, false, ap, sym, ◌∙◌, arith}
+use Rattle.std.proofs.Common.{◌≤◌, length, ap, sym, ◌∙◌, arith}
 use Rattle.review_grammar.specs.Lexemes.{balanced}
 use Rattle.review_grammar.specs.Scanned.{lexemes}
 use Rattle.review_grammar.proofs.Moves.{unbalanced}

@@ -1,4 +1,4 @@
-use Rattle.std.proofs.Common.{◌≡◌, ◌≤◌, ◌+◌, ◌-◌, ℕ, suc, List, drop, length, sym, ◌∙◌, ap, arith}
+use Rattle.std.proofs.Common.{◌≡◌, ◌≤◌, ◌+◌, suc, drop, sym, ◌∙◌, ap, arith}
 use Rattle.review_grammar.specs.Lexemes.{balanced}
 use Rattle.review_grammar.specs.Scanned.{lexemes}
 use Rattle.review_grammar.proofs.Moves.{piece_front, none_closes, one_closes, none_left}

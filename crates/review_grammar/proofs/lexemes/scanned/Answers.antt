@@ -1,6 +1,5 @@
-use Rattle.std.proofs.Common.{◌≡◌, sym, ◌∙◌, ap, arith, length, Some}
+use Rattle.std.proofs.Common.{◌≡◌, sym, ◌∙◌, arith, length}
 use Rattle.std.proofs.lemmas.List.{map-append}
-use Rattle.review_grammar.specs.Scanned.{lexemes, lexeme}
 use Rattle.review_grammar.proofs.Moves.{at_end, cut_of, uncut, unclosed, closed, between}
 use Rattle.review_grammar.proofs.lexemes.scanned.Goals as goal
 

@@ -1,7 +1,7 @@
-use Rattle.std.proofs.Common.{rules, ◌≡◌, ℕ, ◌+◌, ◌-◌, ap, ◌∙◌, sym, option_map, Some}
+use Rattle.std.proofs.Common.{◌-◌, ap, ◌∙◌, sym, option_map, Some}
 use Rattle.std.proofs.lemmas.Result.{err_from_is_err_and}
 use Rattle.review_grammar.specs.Reading.{members}
-use Rattle.review_grammar.specs.Views.{seen, seen_all, with_join, with_part, run_view, part_view, toks, Sums, join}
+use Rattle.review_grammar.specs.Views.{seen, seen_all, with_join, run_view, toks, Sums, join}
 use Rattle.review_grammar.proofs.Steps.{unary_zero, members_zero, at_not, at_minus, at_none, at_last, at_next, at_failing, fails_map, negated_read}
 use Rattle.review_grammar.proofs.parser.+levels.Goals as goal
 

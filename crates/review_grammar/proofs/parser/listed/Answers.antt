@@ -1,4 +1,4 @@
-use Rattle.std.proofs.Common.{◌≡◌, ◌≢◌, length, arith}
+use Rattle.std.proofs.Common.{◌≢◌, length, arith}
 use Rattle.review_grammar.proofs.Nodes.{all_listed, any_listed}
 use Rattle.review_grammar.proofs.parser.listed.Goals as goal
 

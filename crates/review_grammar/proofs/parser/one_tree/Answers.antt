@@ -1,5 +1,5 @@
-use Rattle.std.proofs.Common.{◌≡◌, ap, sym, ◌∙◌}
-use Rattle.review_grammar.specs.Grammar.{Tree, Members, tree}
+use Rattle.std.proofs.Common.{ap, sym, ◌∙◌}
+use Rattle.review_grammar.specs.Grammar.{tree}
 use Rattle.review_grammar.proofs.Verdicts.{one_spelling}
 use Rattle.review_grammar.proofs.parser.one_tree.Goals as goal
 

@@ -1,8 +1,7 @@
-use Rattle.std.proofs.Common.{rules, ◌≡◌, ℕ, ◌+◌, ◌≤◌, ◌<◌, option_map, length, map, ap, ◌∙◌, sym, arith, min, Some, None}
+use Rattle.std.proofs.Common.{◌∙◌, arith}
 use Rattle.std.proofs.lemmas.List.{length-map}
-use Rattle.review_grammar.specs.Views.{no_sums, seen_all, toks, run_view, part_view, tok}
-use Rattle.review_grammar.specs.Reading.{members}
-use Rattle.review_grammar.proofs.Verdicts.{none_fails, none_left, found, Found}
+use Rattle.review_grammar.specs.Views.{toks, run_view, tok}
+use Rattle.review_grammar.proofs.Verdicts.{none_fails, none_left, found}
 use Rattle.review_grammar.proofs.parser.parse.Goals as goal
 
 pub returns-in-Err-Grammar-clause-fault : goal.returns-in-Err-Grammar-clause-fault

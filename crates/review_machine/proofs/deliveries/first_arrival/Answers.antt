@@ -11,7 +11,7 @@ use Rattle.review_machine.specs.Replies.{entry_of, IsServed, KeepsUntaken, Count
 use Rattle.review_machine.proofs.Histories.{history_length}
 use Rattle.review_machine.proofs.Served.{undecided_lawful, undecided_keeps, undecided_counts, first_served, not_taken_served, fault_served, after_read, views_stay, effect, loaded_shown, err_reply}
 use Rattle.review_words.specs.History.{Identity}
-use Rattle.review_machine.proofs.Effects.{stores_once, stored_shown, full_keeps, fault_keeps, decided_keeps}
+use Rattle.review_machine.proofs.Effects.{stores_once, stored_shown}
 use Rattle.review_machine.proofs.deliveries.first_arrival.Goals as goal
 
 pub returns-then-rows-ge-MOST_REQUESTS-clause-served : goal.returns-then-rows-ge-MOST_REQUESTS-clause-served

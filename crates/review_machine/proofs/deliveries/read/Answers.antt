@@ -1,4 +1,3 @@
-use Rattle.std.proofs.Common.{◌≡◌}
 use Rattle.review_rows.specs.View.{wanted_for}
 use Rattle.review_machine.proofs.Served.{loaded_shown, shown_served, shown_counts, shown_keeps}
 use Rattle.review_machine.proofs.deliveries.read.Goals as goal

@@ -1,4 +1,4 @@
-use Rattle.std.proofs.Common.{◌≡◌, ◌∙◌, ap, sym, inl, inr, not, true, arith}
+use Rattle.std.proofs.Common.{◌∙◌, ap, sym, inl, inr, not, arith}
 use Rattle.review_machine.proofs.Filed.{file_passes}
 use Rattle.review_machine.proofs.projects.file_refusal.Goals.{else-is_none-via-then-is_none+else-rows-ge-MOST_PROJECTS, else-is_none-via-else-is_none}
 use Rattle.review_machine.proofs.projects.file_refusal.Goals as goal

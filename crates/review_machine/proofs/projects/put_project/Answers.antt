@@ -1,5 +1,4 @@
-use Rattle.std.proofs.Common.{◌≡◌, ◌∙◌, true, false, refl, sym, ap, subst, Ok, Err, Result}
-use Rattle.std.specs.Prelude.{IfOk, IfErr}
+use Rattle.std.proofs.Common.{◌∙◌, true, false, sym, subst}
 use Rattle.review_words.specs.declared.command.Command.TheVariants.{PutProject}
 use Rattle.review_words.specs.declared.reply.Refusal.TheVariants.{NotAdmin}
 use Rattle.review_file.specs.Reading.{IsReadFault}

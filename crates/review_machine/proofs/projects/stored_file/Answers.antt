@@ -1,9 +1,5 @@
-use Rattle.std.proofs.Common.{◌≡◌, ◌∙◌, ap, sym, subst, Some}
+use Rattle.std.proofs.Common.{◌∙◌, ap, sym, subst, Some}
 use Rattle.std.specs.Option.{option_copied}
-use Rattle.std.specs.Prelude.{IfErr}
-use Rattle.review_file.specs.Reading.{IsReadFault}
-use Rattle.review_file.specs.declared.fault.ReadFault.TheVariants.{Pattern}
-use Rattle.review_rows.specs.Files.{HasPattern}
 use Rattle.review_machine.specs.Files.{IsUnread, IsUnreadText}
 use Rattle.review_machine.proofs.Filed.{unread_is}
 use Rattle.review_machine.proofs.projects.stored_file.Goals as goal

@@ -1,4 +1,4 @@
-use Rattle.std.proofs.Common.{◌≡◌, ◌∙◌, sym}
+use Rattle.std.proofs.Common.{◌∙◌, sym}
 use Rattle.review_machine.proofs.Asked.{asker_is, unknown_asker}
 use Rattle.review_machine.proofs.questions.show.Goals as goal
 

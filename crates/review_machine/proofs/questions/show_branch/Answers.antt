@@ -1,11 +1,10 @@
-use Rattle.std.proofs.Common.{◌≡◌, ◌∙◌, Some, None, true, false, refl, sym, ap, subst}
+use Rattle.std.proofs.Common.{◌≡◌, ◌∙◌, true, false, refl, sym, ap}
 use Rattle.std.specs.Option.{option_copied, option_map}
 use Rattle.review_words.specs.declared.reply.Reply.TheVariants.{Done}
 use Rattle.review_words.specs.declared.reply.Answer.TheVariants as made
 use Rattle.review_words.specs.History.{bases, is_branch}
 use Rattle.review_table.specs.Rows.{row_in, rows_of}
 use Rattle.review_rows.specs.Rows.{BranchRow, branch_cmp}
-use Rattle.review_rows.specs.View.{branch_row}
 use Rattle.review_machine.proofs.Decided.{project_is}
 use Rattle.review_machine.proofs.Asked.{branch_loaded, found_bases, no_bases, branch_answer}
 use Rattle.review_machine.proofs.questions.show_branch.Goals as goal

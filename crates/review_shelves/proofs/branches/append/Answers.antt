@@ -1,9 +1,9 @@
-use Rattle.std.proofs.Common.{◌≡◌, ◌∙◌, ap, sym, subst, refl, true}
+use Rattle.std.proofs.Common.{◌≡◌, ◌∙◌, ap, sym, subst, true}
 use Rattle.std.specs.Option.{unwrap_or}
-use Rattle.std.specs.Prelude.{OnOk, OnErr, [], ◌∷◌, ◌++◌, None, Some}
+use Rattle.std.specs.Prelude.{OnOk, [], ◌∷◌, ◌++◌}
 use Rattle.review_table.specs.Rows.{rows_of, row_in, has_place}
 use Rattle.review_rows.specs.Rows.{branch_cmp}
-use Rattle.review_shelves.specs.Branches.{HaveBase, HaveSameBases, bases_in}
+use Rattle.review_shelves.specs.Branches.{bases_in}
 use Rattle.review_shelves.proofs.Based.{WithRow, branch_of, put_back, added_or_same}
 use Rattle.review_shelves.proofs.branches.append.Goals.{in-Some, in-None}
 use Rattle.review_shelves.proofs.branches.append.Goals as goal

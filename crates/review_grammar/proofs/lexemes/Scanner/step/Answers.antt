@@ -1,4 +1,4 @@
-use Rattle.std.proofs.Common.{◌≡◌, sym, ◌∙◌}
+use Rattle.std.proofs.Common.{sym, ◌∙◌}
 use Rattle.review_grammar.specs.Scanned.{lexemes}
 use Rattle.review_grammar.proofs.Moves.{in_quote, in_word}
 use Rattle.review_grammar.proofs.lexemes.Scanner.step.Goals as goal

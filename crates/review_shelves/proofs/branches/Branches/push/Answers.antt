@@ -1,4 +1,4 @@
-use Rattle.std.proofs.Common.{◌≡◌, ◌∙◌, ◌+◌, ap, sym, subst}
+use Rattle.std.proofs.Common.{◌∙◌, ◌+◌, ap, sym, subst}
 use Rattle.std.specs.Ordering.{nat_cmp}
 use Rattle.std.specs.Cmp.Lexicographic.{slice_cmp}
 use Rattle.review_table.specs.Rows.{rows_of, row_in, changed, HavePlaces}

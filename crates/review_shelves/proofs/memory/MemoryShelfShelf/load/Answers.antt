@@ -1,6 +1,6 @@
-use Rattle.std.proofs.Common.{◌≡◌, ◌∙◌, sym, subst}
+use Rattle.std.proofs.Common.{sym, subst}
 use Rattle.std.specs.Prelude.{IfOk}
-use Rattle.review_rows.specs.Shelf.{Shows, AreSelected}
+use Rattle.review_rows.specs.Shelf.{AreSelected}
 use Rattle.review_shelves.specs.Desk.{desk_of, tables_of}
 use Rattle.review_shelves.proofs.memory.MemoryShelfShelf.load.Goals.{in-Ok, in-Err}
 use Rattle.review_shelves.proofs.memory.MemoryShelfShelf.load.Goals as goal

@@ -1,5 +1,5 @@
-use Rattle.std.proofs.Common.{◌≡◌, ◌∙◌, ap, sym, subst}
-use Rattle.review_shelves.specs.Desk.{Desk, desk_of, HasRoom, AreApplied, with_branches}
+use Rattle.std.proofs.Common.{sym, subst}
+use Rattle.review_shelves.specs.Desk.{desk_of, HasRoom, AreApplied}
 use Rattle.review_shelves.proofs.Applied.{room_beside, applied_from}
 use Rattle.review_shelves.proofs.tables.MemoryTables.make.Goals as goal
 

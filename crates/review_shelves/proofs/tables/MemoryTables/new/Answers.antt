@@ -1,4 +1,4 @@
-use Rattle.std.proofs.Common.{◌∙◌, ◌≤◌, ap, sym, subst, cond, Some, arith}
+use Rattle.std.proofs.Common.{◌∙◌, ◌≤◌, sym, subst, cond, Some, arith}
 use Rattle.std.specs.Ordering.{nat_cmp}
 use Rattle.std.specs.BTreeMap.{is_at}
 use Rattle.review_table.specs.Rows.{row_in, rows_of}

@@ -1,4 +1,4 @@
-use Rattle.std.proofs.Common.{rules, ◌≡◌, ◌∙◌, sym}
+use Rattle.std.proofs.Common.{rules, ◌≡◌}
 use Rattle.std.proofs.lemmas.Result.{err_from_is_err_and}
 use Rattle.review_terms.specs.Patterns.{anchored}
 use Rattle.review_terms.proofs.Refused.{both_read, lawful_alone, lawful_whole}
