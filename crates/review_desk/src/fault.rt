@@ -19,12 +19,20 @@ pub enum Fault {
 }
 
 impl From<AllocError> for Fault {
+    ghost use Rattle.review_desk.specs.declared.fault.Fault.TheVariants.{Memory};
+
+    ghost from_gives = { λ _ e. e ≡ Memory };
+
     fn from(_error: AllocError) -> Fault {
         Fault::Memory
     }
 }
 
 impl From<LineFault> for Fault {
+    ghost use Rattle.review_desk.specs.Faults.{fault_of};
+
+    ghost from_gives = { λ fault e. e ≡ fault_of fault };
+
     fn from(fault: LineFault) -> Fault {
         match fault {
             LineFault::Input => Fault::Input,

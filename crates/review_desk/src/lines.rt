@@ -149,6 +149,10 @@ pub enum LineFault {
 }
 
 impl From<AllocError> for LineFault {
+    ghost use Rattle.review_desk.specs.declared.lines.LineFault.TheVariants.{Memory};
+
+    ghost from_gives = { λ _ e. e ≡ Memory };
+
     fn from(_error: AllocError) -> LineFault {
         LineFault::Memory
     }

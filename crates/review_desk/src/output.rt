@@ -1,5 +1,6 @@
 //! Answers on their way out.
-ghost use Rattle.std.specs.Prelude.{◌≡◌, ◌≤◌, ◌++◌, [], ℕ, OnOk, OnErr, take, drop, length};
+ghost use Rattle.std.specs.Prelude.{◌≡◌, ◌≤◌, ◌++◌, [], ℕ, IfErr, OnOk, OnErr, take, drop, length};
+ghost use Rattle.review_desk.specs.declared.fault.Fault.TheVariants as fault;
 ghost use Rattle.std.specs.Io.KnownBytes.{Appends, Keeps, append_known};
 
 use crate::fault::Fault;
@@ -18,6 +19,7 @@ fn write_whole<W: Write>(writer: &mut W, bytes: &[u8]) -> Result<(), Fault>
     ensures whole { OnOk result (Appends (W.contents writer.old) (W.contents writer.new) bytes.now) }
     ensures part { OnErr result ((n : ℕ) × (n ≤ length bytes.now)
         × Appends (W.contents writer.old) (W.contents writer.new) (take n bytes.now)) }
+    ensures cause { IfErr result (λ e. e ≡ fault.Output) }
 {
     let mut start = 0;
     while start < bytes.len() {
@@ -31,7 +33,8 @@ fn write_whole<W: Write>(writer: &mut W, bytes: &[u8]) -> Result<(), Fault>
 }
 
 fn write_and_flush<W: Write>(writer: &mut W, bytes: &[u8]) -> Result<(), Fault>
-    ensures { OnOk result (Appends (W.contents writer.old) (W.contents writer.new) bytes.now) }
+    ensures whole { OnOk result (Appends (W.contents writer.old) (W.contents writer.new) bytes.now) }
+    ensures cause { IfErr result (λ e. e ≡ fault.Output) }
 {
     write_whole(writer, bytes)?;
     match writer.flush() {
@@ -67,6 +70,7 @@ impl Output {
     pub fn send<W: Write>(&mut self, writer: &mut W) -> Result<(), Fault>
         ensures none { self.new.waiting.items ≡ [] }
         ensures sent { OnOk result (Appends (W.contents writer.old) (W.contents writer.new) self.old.waiting.items) }
+        ensures cause { IfErr result (λ e. e ≡ fault.Output) }
     {
         if self.waiting.is_empty() {
             return Ok(());
@@ -79,7 +83,8 @@ impl Output {
     /// The same where the next line isn't at hand, since whoever sends it may wait for these answers. What was written,
     /// followed by what waits, stays the same.
     pub fn send_unless<W: Write>(&mut self, is_at_hand: bool, writer: &mut W) -> Result<(), Fault>
-        ensures { OnOk result (Keeps (append_known (W.contents writer.old) self.old.waiting.items) (append_known (W.contents writer.new) self.new.waiting.items)) }
+        ensures kept { OnOk result (Keeps (append_known (W.contents writer.old) self.old.waiting.items) (append_known (W.contents writer.new) self.new.waiting.items)) }
+        ensures cause { IfErr result (λ e. e ≡ fault.Output) }
     {
         if is_at_hand {
             return Ok(());

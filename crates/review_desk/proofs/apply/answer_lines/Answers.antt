@@ -34,7 +34,7 @@ returns-clause-ran g c =
 pub returns-in_default-clause-ran : goal.returns-in_default-clause-ran
 returns-in_default-clause-ran g c =
     let was = c.loop.invariant.so_far in
-    let now = kept _ _ _ _ _ _ _ _ _ _ was.2 c.in_ok-send_unless.ensures in
+    let now = kept _ _ _ _ _ _ _ _ _ _ was.2 c.in_ok-send_unless.ensures.kept in
     let left = prepend_known c.loop.lines.piece (g.R.Read.remaining c.loop.lines.reader) in
     let rest = prepend_known c.next_asked.new.lines.piece (g.R.Read.remaining c.next_asked.new.lines.reader) in
     let end : IsNextAsked left rest None = subst (λ (o : Option Asked). IsNextAsked left rest o) c.in_default.is c.in_ok-asked.ensures in
@@ -58,7 +58,7 @@ returns-in_err-answer-clause-ran g c =
 pub loop-preserved : goal.loop-preserved
 loop-preserved g c =
     let was = c.loop.invariant.so_far in
-    let now = kept _ _ _ _ _ _ _ _ _ _ was.2 c.in_ok-send_unless.ensures in
+    let now = kept _ _ _ _ _ _ _ _ _ _ was.2 c.in_ok-send_unless.ensures.kept in
     let left = prepend_known c.loop.lines.piece (g.R.Read.remaining c.loop.lines.reader) in
     let rest = prepend_known c.next_asked.new.lines.piece (g.R.Read.remaining c.next_asked.new.lines.reader) in
     let next : IsNextAsked left rest (Some c.in-Some.asked) = subst (λ (o : Option Asked). IsNextAsked left rest o) c.in-Some.is c.in_ok-asked.ensures in
