@@ -3,7 +3,7 @@ use review_rows::{
     Base, BranchKey, Delta, Kept, MemberKey, Need, ProjectRow, Rows, Shelf, ShelfFault,
 };
 use review_table::{Change, Key};
-use review_words::{AccountNo, FileText, Name};
+use review_words::{AccountNo, FileText, Name, ProjectName};
 use std::alloc::Global;
 use std::test::Fail;
 
@@ -121,13 +121,19 @@ fn reply_of<S: Shelf>(
 
 /// The rows of accounts 1 and 2, of account 1 as an administrator, and of all administrators.
 fn rows_of_two<S: Shelf>(alloc: Global, shelf: &mut S) -> Result<Rows, Fail> {
-    let mut need = no_need(alloc);
-    need.accounts.push(AccountNo::first())?;
-    need.accounts.push(second()?)?;
-    need.members
-        .push(administrator(alloc, AccountNo::first())?)?;
-    need.group = Some(Name::read(alloc, "Administrators")?);
-    need.last_account = true;
+    let mut accounts = Vec::new(alloc);
+    accounts.push(AccountNo::first())?;
+    accounts.push(second()?)?;
+    let mut members = Vec::new(alloc);
+    members.push(administrator(alloc, AccountNo::first())?)?;
+    let group = Name::read(alloc, "Administrators")?;
+    let need = Need {
+        accounts,
+        members,
+        group: Some(group),
+        last_account: true,
+        ..no_need(alloc)
+    };
     Ok(shelf.load(alloc, &need)?)
 }
 
@@ -137,6 +143,17 @@ fn fault_count<S: Shelf>(shelf: &S) -> u64 {
 
 fn new_desk(alloc: Global) -> Result<MemoryShelf, Fail> {
     Ok(MemoryShelf::new(alloc)?)
+}
+
+/// What tables show of accounts 1 and 2.
+#[derive(Clone, Copy, Debug, PartialEq, Eq)]
+struct Seen {
+    has_admin: bool,
+    has_ann: bool,
+    first_is_administrator: bool,
+    second_is_administrator: bool,
+    last_account: u32,
+    requests: u64,
 }
 
 fn has_name(rows: &Rows, account: AccountNo, name: &str) -> bool {
@@ -151,88 +168,136 @@ fn is_administrator(alloc: Global, rows: &Rows, account: AccountNo) -> Result<bo
     Ok(rows.members.get(&key).is_some())
 }
 
-#[test]
-fn a_new_desk_has_its_administrator(rt: HostRuntime) -> Result<(), Fail> {
-    let alloc = rt.alloc();
+fn look_at(alloc: Global, rows: &Rows) -> Result<Seen, Fail> {
+    let second = second()?;
+    Ok(Seen {
+        has_admin: has_name(rows, AccountNo::first(), "admin"),
+        has_ann: has_name(rows, second, "ann"),
+        first_is_administrator: is_administrator(alloc, rows, AccountNo::first())?,
+        second_is_administrator: is_administrator(alloc, rows, second)?,
+        last_account: rows.last_account,
+        requests: rows.requests,
+    })
+}
+
+fn look<S: Shelf>(alloc: Global, shelf: &mut S) -> Result<Seen, Fail> {
+    let rows = rows_of_two(alloc, shelf)?;
+    look_at(alloc, &rows)
+}
+
+/// What a new desk shows, and after a commit of account 2.
+fn look_twice(alloc: Global) -> Result<(Seen, Seen), Fail> {
     let mut shelf = new_desk(alloc)?;
-    let rows = rows_of_two(alloc, &mut shelf)?;
-    assert!(rt; has_name(&rows, AccountNo::first(), "admin"));
-    assert!(rt; !has_name(&rows, second()?, "ann"));
-    assert!(rt; is_administrator(alloc, &rows, AccountNo::first())?);
-    assert_eq!(rt; rows.last_account, 1);
-    assert_eq!(rt; rows.requests, 0);
-    Ok(())
+    let before = look(alloc, &mut shelf)?;
+    commit_second(alloc, &mut shelf, "ann")??;
+    let after = look(alloc, &mut shelf)?;
+    Ok((before, after))
 }
 
 #[test]
 fn a_commit_is_found_again(rt: HostRuntime) -> Result<(), Fail> {
-    let alloc = rt.alloc();
-    let mut shelf = new_desk(alloc)?;
-    commit_second(alloc, &mut shelf, "ann")??;
-    let rows = rows_of_two(alloc, &mut shelf)?;
-    assert!(rt; has_name(&rows, second()?, "ann"));
-    assert!(rt; !is_administrator(alloc, &rows, AccountNo::first())?);
-    assert!(rt; is_administrator(alloc, &rows, second()?)?);
-    assert_eq!(rt; rows.last_account, 2);
-    assert_eq!(rt; rows.requests, 1);
+    let (before, after) = look_twice(rt.alloc())?;
+    let new = Seen {
+        has_admin: true,
+        has_ann: false,
+        first_is_administrator: true,
+        second_is_administrator: false,
+        last_account: 1,
+        requests: 0,
+    };
+    assert_eq!(rt; before, new);
+    let with_ann = Seen {
+        has_admin: true,
+        has_ann: true,
+        first_is_administrator: false,
+        second_is_administrator: true,
+        last_account: 2,
+        requests: 1,
+    };
+    assert_eq!(rt; after, with_ann);
     Ok(())
+}
+
+/// Whether a request reads as `reply`, and another is stored, after a commit of account 2.
+fn recall_both<S: Shelf>(alloc: Global, shelf: &mut S) -> Result<(bool, bool), Fail> {
+    commit_second(alloc, shelf, "ann")??;
+    let is_there = is_reply(&reply_of(alloc, shelf, "ann")??);
+    let other = reply_of(alloc, shelf, "bob")??;
+    Ok((is_there, other.is_some()))
+}
+
+fn is_reply(reply: &Option<String>) -> bool {
+    match reply {
+        Some(reply) => reply.as_str() == "reply",
+        None => false,
+    }
 }
 
 #[test]
 fn a_request_is_recalled(rt: HostRuntime) -> Result<(), Fail> {
-    let alloc = rt.alloc();
-    let mut shelf = new_desk(alloc)?;
-    commit_second(alloc, &mut shelf, "ann")??;
-    let reply = reply_of(alloc, &mut shelf, "ann")??.ok_or("stored")?;
-    assert_eq!(rt; reply.as_str(), "reply");
-    assert!(rt; reply_of(alloc, &mut shelf, "bob")??.is_none());
+    let mut shelf = new_desk(rt.alloc())?;
+    let recalled = recall_both(rt.alloc(), &mut shelf)?;
+    assert_eq!(rt; recalled, (true, false));
     Ok(())
+}
+
+/// The accounts of two names that account 2 had, one after the other.
+fn name_twice<S: Shelf>(
+    alloc: Global,
+    shelf: &mut S,
+) -> Result<(Option<AccountNo>, Option<AccountNo>), Fail> {
+    commit_second(alloc, shelf, "ann")??;
+    commit_second(alloc, shelf, "bob")??;
+    let first = account_of(alloc, shelf, "ann")??;
+    let last = account_of(alloc, shelf, "bob")??;
+    Ok((first, last))
 }
 
 #[test]
 fn a_name_that_is_given_up_is_free(rt: HostRuntime) -> Result<(), Fail> {
-    let alloc = rt.alloc();
-    let mut shelf = new_desk(alloc)?;
-    commit_second(alloc, &mut shelf, "ann")??;
-    commit_second(alloc, &mut shelf, "bob")??;
-    assert_eq!(rt; account_of(alloc, &mut shelf, "ann")??, None);
-    assert_eq!(rt; account_of(alloc, &mut shelf, "bob")??, Some(second()?));
+    let mut shelf = new_desk(rt.alloc())?;
+    let named = name_twice(rt.alloc(), &mut shelf)?;
+    assert_eq!(rt; named, (None, Some(second()?)));
     Ok(())
+}
+
+/// What four calls answer: a look-up, a commit, and both again; and how many faults were counted.
+fn call_four_times<S: Shelf>(alloc: Global, shelf: &mut S) -> Result<([bool; 4], u64), Fail> {
+    let calls = [
+        account_of(alloc, shelf, "ann")? == Ok(None),
+        commit_second(alloc, shelf, "ann")? == Err(ShelfFault::Store),
+        account_of(alloc, shelf, "ann")? == Ok(None),
+        commit_second(alloc, shelf, "ann")? == Ok(()),
+    ];
+    Ok((calls, fault_count(shelf)))
 }
 
 #[test]
 fn one_call_fails(rt: HostRuntime) -> Result<(), Fail> {
-    let alloc = rt.alloc();
-    let mut shelf = FaultyShelf::new(new_desk(alloc)?, 2);
-    assert_eq!(rt; account_of(alloc, &mut shelf, "ann")?, Ok(None));
-    assert_eq!(rt;
-        commit_second(alloc, &mut shelf, "ann")?,
-        Err(ShelfFault::Store)
-    );
-    assert_eq!(rt; account_of(alloc, &mut shelf, "ann")?, Ok(None));
-    assert_eq!(rt; commit_second(alloc, &mut shelf, "ann")?, Ok(()));
-    assert_eq!(rt; fault_count(&shelf), 1);
+    let mut shelf = FaultyShelf::new(new_desk(rt.alloc())?, 2);
+    let (calls, faults) = call_four_times(rt.alloc(), &mut shelf)?;
+    assert_eq!(rt; calls, [true, true, true, true]);
+    assert_eq!(rt; faults, 1);
     Ok(())
+}
+
+/// Whether the first of four calls, a commit, was taken and each later one answers Store; and how many faults were counted.
+fn call_until_shut<S: Shelf>(alloc: Global, shelf: &mut S) -> Result<([bool; 4], u64), Fail> {
+    let calls = [
+        commit_second(alloc, shelf, "ann")? == Ok(()),
+        commit_second(alloc, shelf, "bob")? == Err(ShelfFault::Store),
+        account_of(alloc, shelf, "ann")? == Err(ShelfFault::Store),
+        reply_of(alloc, shelf, "ann")?.err() == Some(ShelfFault::Store),
+    ];
+    Ok((calls, fault_count(shelf)))
 }
 
 #[test]
 fn a_shut_shelf_stays_shut(rt: HostRuntime) -> Result<(), Fail> {
-    let alloc = rt.alloc();
-    let mut shelf = ShuttingShelf::new(new_desk(alloc)?, 2);
-    assert_eq!(rt; commit_second(alloc, &mut shelf, "ann")?, Ok(()));
-    assert_eq!(rt;
-        commit_second(alloc, &mut shelf, "bob")?,
-        Err(ShelfFault::Store)
-    );
-    assert_eq!(rt;
-        account_of(alloc, &mut shelf, "ann")?,
-        Err(ShelfFault::Store)
-    );
-    assert_eq!(rt;
-        reply_of(alloc, &mut shelf, "ann")?.err(),
-        Some(ShelfFault::Store)
-    );
-    assert_eq!(rt; fault_count(&shelf), 3);
+    let mut shelf = ShuttingShelf::new(new_desk(rt.alloc())?, 2);
+    let (calls, faults) = call_until_shut(rt.alloc(), &mut shelf)?;
+    assert_eq!(rt; calls, [true, true, true, true]);
+    assert_eq!(rt; faults, 3);
     Ok(())
 }
 
@@ -318,7 +383,15 @@ fn file_found<S: Shelf>(
         ..no_need(alloc)
     };
     let rows = shelf.load(alloc, &need)?;
-    let file = match rows.files.get(&project) {
+    file_in(alloc, &rows, &project)
+}
+
+fn file_in(
+    alloc: Global,
+    rows: &Rows,
+    project: &ProjectName,
+) -> Result<(Option<FileText>, u64), Fail> {
+    let file = match rows.files.get(project) {
         Some(file) => Some(file.copy(alloc)?),
         None => None,
     };
@@ -335,23 +408,39 @@ fn is_project<S: Shelf>(alloc: Global, shelf: &mut S, project: &str) -> Result<b
     Ok(rows.has_project)
 }
 
-#[test]
-fn a_base_is_found_by_its_commit(rt: HostRuntime) -> Result<(), Fail> {
-    let alloc = rt.alloc();
-    let mut shelf = new_desk(alloc)?;
-    record_three(alloc, &mut shelf)?;
-    assert_eq!(rt; base_found(alloc, &mut shelf, "main", TWO)?, (true, 3));
-    assert_eq!(rt; base_found(alloc, &mut shelf, "main", ONE)?, (true, 3));
-    assert_eq!(rt; base_found(alloc, &mut shelf, "main", THREE)?, (false, 3));
-    assert_eq!(rt; base_found(alloc, &mut shelf, "next", THREE)?, (true, 3));
-    Ok(())
+/// Four look-ups of bases, after three were recorded.
+fn find_bases<S: Shelf>(alloc: Global, shelf: &mut S) -> Result<[(bool, u64); 4], Fail> {
+    record_three(alloc, shelf)?;
+    Ok([
+        base_found(alloc, shelf, "main", TWO)?,
+        base_found(alloc, shelf, "main", ONE)?,
+        base_found(alloc, shelf, "main", THREE)?,
+        base_found(alloc, shelf, "next", THREE)?,
+    ])
 }
 
 #[test]
-fn a_branch_lists_its_bases_in_order(rt: HostRuntime) -> Result<(), Fail> {
-    let alloc = rt.alloc();
-    let mut shelf = new_desk(alloc)?;
-    record_three(alloc, &mut shelf)?;
+fn a_base_is_found_by_its_commit(rt: HostRuntime) -> Result<(), Fail> {
+    let mut shelf = new_desk(rt.alloc())?;
+    let found = find_bases(rt.alloc(), &mut shelf)?;
+    assert_eq!(rt; found, [(true, 3), (true, 3), (false, 3), (true, 3)]);
+    Ok(())
+}
+
+/// Whether these are commits 2 and 1.
+fn are_two_and_one(rows: &Rows, key: &BranchKey) -> bool {
+    let Some(bases) = rows.branches.get(key) else {
+        return false;
+    };
+    match bases.as_slice() {
+        [first, second] => first.as_str() == TWO && second.as_str() == ONE,
+        _ => false,
+    }
+}
+
+/// Whether a branch has commits 2 and 1 as its bases, after three were recorded.
+fn lists_in_order<S: Shelf>(alloc: Global, shelf: &mut S) -> Result<bool, Fail> {
+    record_three(alloc, shelf)?;
     let key = BranchKey {
         project: Name::read(alloc, "p")?,
         branch: Name::read(alloc, "main")?,
@@ -361,35 +450,62 @@ fn a_branch_lists_its_bases_in_order(rt: HostRuntime) -> Result<(), Fail> {
         ..no_need(alloc)
     };
     let rows = shelf.load(alloc, &need)?;
-    let bases = rows.branches.get(&key).ok_or("a branch")?;
-    let wanted = [Name::read(alloc, TWO)?, Name::read(alloc, ONE)?];
-    assert_eq!(rt; bases.as_slice(), wanted.as_slice());
+    Ok(are_two_and_one(&rows, &key))
+}
+
+#[test]
+fn a_branch_lists_its_bases_in_order(rt: HostRuntime) -> Result<(), Fail> {
+    let mut shelf = new_desk(rt.alloc())?;
+    let is_in_order = lists_in_order(rt.alloc(), &mut shelf)?;
+    assert!(rt; is_in_order);
     Ok(())
+}
+
+/// How many projects there are and whether two are there, after files of two were put.
+fn count_projects<S: Shelf>(alloc: Global, shelf: &mut S) -> Result<(u64, bool, bool), Fail> {
+    put_file(alloc, shelf, "p", "first")?;
+    put_file(alloc, shelf, "p", "second")?;
+    put_file(alloc, shelf, "q", "third")?;
+    let (_, count) = file_found(alloc, shelf, "p")?;
+    let is_there = is_project(alloc, shelf, "q")?;
+    let is_other = is_project(alloc, shelf, "r")?;
+    Ok((count, is_there, is_other))
 }
 
 #[test]
 fn a_project_is_counted_once(rt: HostRuntime) -> Result<(), Fail> {
-    let alloc = rt.alloc();
-    let mut shelf = new_desk(alloc)?;
-    put_file(alloc, &mut shelf, "p", "first")?;
-    put_file(alloc, &mut shelf, "p", "second")?;
-    put_file(alloc, &mut shelf, "q", "third")?;
-    let (_, count) = file_found(alloc, &mut shelf, "p")?;
-    assert_eq!(rt; count, 2);
-    assert!(rt; is_project(alloc, &mut shelf, "q")?);
-    assert!(rt; !is_project(alloc, &mut shelf, "r")?);
+    let mut shelf = new_desk(rt.alloc())?;
+    let counted = count_projects(rt.alloc(), &mut shelf)?;
+    assert_eq!(rt; counted, (2, true, false));
     Ok(())
+}
+
+/// Whether a project has this text as its file.
+fn has_text<S: Shelf>(
+    alloc: Global,
+    shelf: &mut S,
+    project: &str,
+    text: &str,
+) -> Result<bool, Fail> {
+    Ok(match file_found(alloc, shelf, project)? {
+        (Some(file), _) => file.as_str() == text,
+        (None, _) => false,
+    })
+}
+
+/// Whether a project has the text that was put last, and another has one.
+fn replace_file<S: Shelf>(alloc: Global, shelf: &mut S) -> Result<(bool, bool), Fail> {
+    put_file(alloc, shelf, "p", "first")?;
+    put_file(alloc, shelf, "p", "second")?;
+    let is_last = has_text(alloc, shelf, "p", "second")?;
+    let (other, _) = file_found(alloc, shelf, "q")?;
+    Ok((is_last, other.is_some()))
 }
 
 #[test]
 fn a_file_is_replaced(rt: HostRuntime) -> Result<(), Fail> {
-    let alloc = rt.alloc();
-    let mut shelf = new_desk(alloc)?;
-    put_file(alloc, &mut shelf, "p", "first")?;
-    put_file(alloc, &mut shelf, "p", "second")?;
-    let (file, _) = file_found(alloc, &mut shelf, "p")?;
-    assert_eq!(rt; file.ok_or("a file")?.as_str(), "second");
-    let (none, _) = file_found(alloc, &mut shelf, "q")?;
-    assert!(rt; none.is_none());
+    let mut shelf = new_desk(rt.alloc())?;
+    let replaced = replace_file(rt.alloc(), &mut shelf)?;
+    assert_eq!(rt; replaced, (true, false));
     Ok(())
 }
