@@ -2,7 +2,7 @@
 
 use crate::support::{ask, put};
 use review_machine::MemoryShelf;
-use review_words::{Answer, Command, Name, Refusal, Reply};
+use review_words::{Command, Name};
 use std::alloc::Global;
 use std::test::Fail;
 
@@ -15,7 +15,7 @@ fn put_numbered(
     shelf: &mut MemoryShelf,
     id: &str,
     number: u32,
-) -> Result<Reply, Fail> {
+) -> Result<&'static str, Fail> {
     let project = format!(in alloc; "project-{number}")?;
     put(alloc, shelf, id, project.as_str(), FILE)
 }
@@ -26,7 +26,7 @@ fn record(
     shelf: &mut MemoryShelf,
     branch: &str,
     number: u32,
-) -> Result<Reply, Fail> {
+) -> Result<&'static str, Fail> {
     let id = format!(in alloc; "base-{number}")?;
     // With these zeros it has forty digits.
     let digits = format!(in alloc; "{}", u64::from(number).saturating_add(10_000_000_000))?;
@@ -40,44 +40,52 @@ fn record(
     ask(alloc, shelf, id.as_str(), command)
 }
 
+/// Puts the files of so many projects: the number of those that are done.
+fn put_all(alloc: Global, shelf: &mut MemoryShelf, count: u32) -> Result<u32, Fail> {
+    let mut done = 0u32;
+    for number in 0..count {
+        let id = format!(in alloc; "put-{number}")?;
+        if put_numbered(alloc, shelf, id.as_str(), number)? == "done" {
+            done = done.saturating_add(1);
+        }
+    }
+    Ok(done)
+}
+
 #[test]
 fn the_last_project(rt: HostRuntime) -> Result<(), Fail> {
     let alloc = rt.alloc();
     let mut shelf = MemoryShelf::new(alloc)?;
-    for number in 0..1_000u32 {
-        let id = format!(in alloc; "put-{number}")?;
-        let reply = put_numbered(alloc, &mut shelf, id.as_str(), number)?;
-        assert_eq!(rt; reply, Reply::Done(Answer::Nothing), "{number}");
-    }
-    let reply = put_numbered(alloc, &mut shelf, "new", 1_000)?;
-    assert_eq!(rt; reply, Reply::Refused(Refusal::Limit));
-    let reply = put_numbered(alloc, &mut shelf, "known", 7)?;
-    assert_eq!(rt; reply, Reply::Done(Answer::Nothing));
+    assert_eq!(rt; put_all(alloc, &mut shelf, 1_000)?, 1_000);
+    assert_eq!(rt; put_numbered(alloc, &mut shelf, "new", 1_000)?, "LIMIT");
+    assert_eq!(rt; put_numbered(alloc, &mut shelf, "known", 7)?, "done");
     Ok(())
+}
+
+/// Records so many bases, the first half in one branch and the others in another: the number of those that are done.
+fn record_all(alloc: Global, shelf: &mut MemoryShelf, count: u32) -> Result<u32, Fail> {
+    let mut done = 0u32;
+    for number in 0..count {
+        let branch = if number < count / 2 {
+            "main"
+        } else {
+            "release/1.0"
+        };
+        if record(alloc, shelf, branch, number)? == "done" {
+            done = done.saturating_add(1);
+        }
+    }
+    Ok(done)
 }
 
 #[test]
 fn the_last_base(rt: HostRuntime) -> Result<(), Fail> {
     let alloc = rt.alloc();
     let mut shelf = MemoryShelf::new(alloc)?;
-    let reply = put_numbered(alloc, &mut shelf, "put", 0)?;
-    assert_eq!(rt; reply, Reply::Done(Answer::Nothing));
-    for number in 0..100_000u32 {
-        let branch = if number < 50_000 {
-            "main"
-        } else {
-            "release/1.0"
-        };
-        let reply = record(alloc, &mut shelf, branch, number)?;
-        assert_eq!(rt; reply, Reply::Done(Answer::Nothing), "{number}");
-    }
-    for (branch, number) in [
-        ("main", 100_000),
-        ("release/1.0", 100_001),
-        ("release/2.0", 100_002),
-    ] {
-        let reply = record(alloc, &mut shelf, branch, number)?;
-        assert_eq!(rt; reply, Reply::Refused(Refusal::Limit), "{branch}");
-    }
+    assert_eq!(rt; put_all(alloc, &mut shelf, 1)?, 1);
+    assert_eq!(rt; record_all(alloc, &mut shelf, 100_000)?, 100_000);
+    assert_eq!(rt; record(alloc, &mut shelf, "main", 100_000)?, "LIMIT");
+    assert_eq!(rt; record(alloc, &mut shelf, "release/1.0", 100_001)?, "LIMIT");
+    assert_eq!(rt; record(alloc, &mut shelf, "release/2.0", 100_002)?, "LIMIT");
     Ok(())
 }

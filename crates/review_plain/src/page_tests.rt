@@ -2,7 +2,6 @@
 
 use crate::support::put;
 use review_machine::MemoryShelf;
-use review_words::{Answer, ExprCode, ExprFault, FileFault, Refusal, Reply};
 use std::alloc::Global;
 use std::test::Fail;
 
@@ -126,64 +125,63 @@ const LABEL_NOT_THERE: &str = r#"[submit-requirement.Verified]
 submittableIf = "label:Verified=MAX"
 "#;
 
-/// What a desk answers to the only file that is put.
-fn answer(alloc: Global, text: &str) -> Result<Reply, Fail> {
+/// What a desk answers to the only file that is put, in a word.
+fn answer(alloc: Global, text: &str) -> Result<&'static str, Fail> {
     let mut shelf = MemoryShelf::new(alloc)?;
     put(alloc, &mut shelf, "put", "tools", text)
 }
 
 #[test]
 fn the_example_grows(rt: HostRuntime) -> Result<(), Fail> {
-    let alloc = rt.alloc();
-    let mut shelf = MemoryShelf::new(alloc)?;
+    let mut shelf = MemoryShelf::new(rt.alloc())?;
     for (id, text) in [
         ("1", RIGHTS),
         ("2", WITH_A_LABEL),
         ("3", WITH_GRANTS),
         ("4", WHOLE),
     ] {
-        let reply = put(alloc, &mut shelf, id, "tools", text)?;
-        assert_eq!(rt; reply, Reply::Done(Answer::Nothing), "{id}");
+        assert_eq!(rt;
+            put(rt.alloc(), &mut shelf, id, "tools", text)?,
+            "done",
+            "{id}"
+        );
     }
-    assert_eq!(rt; answer(alloc, REQUIREMENTS)?, Reply::Done(Answer::Nothing));
+    assert_eq!(rt; answer(rt.alloc(), REQUIREMENTS)?, "done");
     Ok(())
 }
 
 #[test]
 fn a_label_keeps_its_values(rt: HostRuntime) -> Result<(), Fail> {
-    let alloc = rt.alloc();
-    let mut shelf = MemoryShelf::new(alloc)?;
+    let mut shelf = MemoryShelf::new(rt.alloc())?;
     for (id, text, wanted) in [
-        ("1", NARROW, Reply::Done(Answer::Nothing)),
-        ("2", WIDE, Reply::Done(Answer::Nothing)),
-        ("3", NARROW, Reply::Refused(Refusal::LabelNarrowed)),
+        ("1", NARROW, "done"),
+        ("2", WIDE, "done"),
+        ("3", NARROW, "LABEL_NARROWED"),
     ] {
-        let reply = put(alloc, &mut shelf, id, "tools", text)?;
-        assert_eq!(rt; reply, wanted, "{id}");
+        assert_eq!(rt;
+            put(rt.alloc(), &mut shelf, id, "tools", text)?,
+            wanted,
+            "{id}"
+        );
     }
     Ok(())
 }
 
 #[test]
 fn each_faulty_example_has_its_fault(rt: HostRuntime) -> Result<(), Fail> {
-    let zero = ExprFault {
-        code: ExprCode::Zero,
-        place: 12,
-    };
     for (text, fault) in [
-        (NO_TOML, FileFault::Toml),
-        (UNKNOWN_RIGHT, FileFault::UnknownKey),
-        (GROUP_WITHOUT_BRACKETS, FileFault::UnknownKey),
-        (NO_VALUES, FileFault::Missing),
-        (NAME_WITH_UNDERLINE, FileFault::BadName),
-        (VALUE_TWICE, FileFault::Twice),
-        (GAP, FileFault::BadValues),
-        (GRANT_OUT_OF_ORDER, FileFault::BadValues),
-        (ZERO_MEETS, FileFault::Expr(zero)),
-        (LABEL_NOT_THERE, FileFault::UnknownLabel),
+        (NO_TOML, "TOML"),
+        (UNKNOWN_RIGHT, "UNKNOWN_KEY"),
+        (GROUP_WITHOUT_BRACKETS, "UNKNOWN_KEY"),
+        (NO_VALUES, "MISSING"),
+        (NAME_WITH_UNDERLINE, "BAD_NAME"),
+        (VALUE_TWICE, "TWICE"),
+        (GAP, "BAD_VALUES"),
+        (GRANT_OUT_OF_ORDER, "BAD_VALUES"),
+        (ZERO_MEETS, "ZERO"),
+        (LABEL_NOT_THERE, "UNKNOWN_LABEL"),
     ] {
-        let reply = answer(rt.alloc(), text)?;
-        assert_eq!(rt; reply, Reply::Refused(Refusal::BadFile(fault)), "{text}");
+        assert_eq!(rt; answer(rt.alloc(), text)?, fault, "{text}");
     }
     Ok(())
 }

@@ -1,23 +1,36 @@
 //! Deliveries of account 1 to a desk in memory.
 
 use review_machine::{MemoryShelf, deliver};
-use review_words::{AccountNo, Command, Delivery, FileText, Name, Reply, RequestId};
+use review_words::{
+    AccountNo, Command, Delivery, FileFault, FileText, Name, Refusal, Reply, RequestId,
+};
 use std::alloc::Global;
 use std::test::Fail;
 
-/// The answer to a command of account 1.
+/// A reply in a word: `done`, or the name of what refuses; of a file, its fault, and of an expression, its fault.
+fn word(reply: &Reply) -> &'static str {
+    match reply {
+        Reply::Done(_) => "done",
+        Reply::Refused(Refusal::BadFile(FileFault::Expr(fault))) => fault.code.name(),
+        Reply::Refused(Refusal::BadFile(fault)) => fault.name(),
+        Reply::Refused(refusal) => refusal.name(),
+        _ => "not answered",
+    }
+}
+
+/// The answer to a command of account 1, in a word.
 pub(crate) fn ask(
     alloc: Global,
     shelf: &mut MemoryShelf,
     id: &str,
     command: Command,
-) -> Result<Reply, Fail> {
+) -> Result<&'static str, Fail> {
     let delivery = Delivery::Write {
         caller: AccountNo::first(),
         id: RequestId::read(alloc, id)?,
         command,
     };
-    Ok(deliver(alloc, shelf, &delivery))
+    Ok(word(&deliver(alloc, shelf, &delivery)))
 }
 
 /// Puts the file of a project.
@@ -27,7 +40,7 @@ pub(crate) fn put(
     id: &str,
     project: &str,
     text: &str,
-) -> Result<Reply, Fail> {
+) -> Result<&'static str, Fail> {
     let command = Command::PutProject {
         project: Name::read(alloc, project)?,
         file: FileText::new(String::from_str(alloc, text)?),
