@@ -1,7 +1,7 @@
 -- The answers to lines, one by one.
 use Rattle.std.proofs.Common.{◌≡◌, ◌++◌, ◌&&◌, Bool, true, false, ℕ, List, [], ◌∷◌, length, refl, Option, Some, None, arith, sym, ap, subst, ◌∙◌, append_assoc, append-nil, length-append, take, inl}
-use Rattle.std.specs.Io.KnownBytes.{Appends, Keeps, append_known}
-use Rattle.std.proofs.KnownBytes.{Appends-nil, Appends-trans, Appends-kept, append_known-moved}
+use Rattle.std.specs.Io.KnownBytes.{Appends}
+use Rattle.std.proofs.KnownBytes.{Appends-nil, Appends-trans}
 use Rattle.review_words.specs.declared.command.Delivery.{Delivery}
 use Rattle.review_words.specs.declared.command.Delivery.TheVariants.{Write, Read}
 use Rattle.review_words.specs.declared.reply.Reply.{Reply}
@@ -18,11 +18,13 @@ use Rattle.review_desk.specs.Lines.{HasNoEnd, GaveLine}
 use Rattle.review_desk.specs.Answers.{asked, with_asked, deliveries, answered, answers, bad_line, reply_line, IsRunOf, first_or_stopped, is_taken, is_done, all_done}
 use Rattle.review_desk.proofs.LinesOf.{GaveLines, gave_more, gave_none}
 
--- These lines were read, what they ask for was done, and their answers stand in the output.
-pub record AreAnswered (lines : List (List ℕ)) (replies : List Reply) (complete : Bool) (input left before output : Option (List ℕ)) (old new : Shown) : Type 0 where
+-- These lines were read, what they ask for was done, and their answers were sent or wait.
+pub record AreAnswered (lines : List (List ℕ)) (replies : List Reply) (complete : Bool) (input left before after : Option (List ℕ)) (waiting : List ℕ) (old new : Shown) : Type 0 where
   pub count : length replies ≡ length (deliveries lines)
   pub read : GaveLines input left lines
-  pub written : Appends before output (answers lines replies)
+  pub sent : List ℕ
+  pub written : Appends before after sent
+  pub whole : sent ++ waiting ≡ answers lines replies
   pub ran : IsRunOf lines replies old new
   pub done : all_done lines replies ≡ complete
 
@@ -68,33 +70,30 @@ all_done-append [] more qs (r ∷ rs) count = absurd (omega (arith, count))
 all_done-append (line ∷ lines) more qs rs count = is_done-append (asked line) lines more rs qs (all_done-append lines more qs) count
 
 -- before the first line
-pub started : (input left output : Option (List ℕ)) (s : Shown) → left ≡ input → AreAnswered [] [] true input left output output s s
-started input left output s same = record {
+pub started : (input left output : Option (List ℕ)) (waiting : List ℕ) (s : Shown) → left ≡ input → waiting ≡ [] → AreAnswered [] [] true input left output output waiting s s
+started input left output waiting s same none = record {
   count = refl;
   read = gave_none input left same;
+  sent = [];
   written = Appends-nil output;
+  whole = none;
   ran = λ honest h hist v. run_none h s hist v;
   done = refl;
 }
 
--- the output stays
-pub kept : (lines : List (List ℕ)) (rs : List Reply) (done : Bool) (input left before output after : Option (List ℕ)) (old new : Shown)
-    → AreAnswered lines rs done input left before output old new → Keeps output after → AreAnswered lines rs done input left before after old new
-kept lines rs done input left before output after old new was stays = record {
+-- some of what waits is sent
+pub kept : (lines : List (List ℕ)) (rs : List Reply) (done : Bool) (input left before output after : Option (List ℕ)) (waiting text rest : List ℕ) (old new : Shown)
+    → AreAnswered lines rs done input left before output waiting old new → waiting ≡ text ++ rest → Appends output after text
+    → AreAnswered lines rs done input left before after rest old new
+kept lines rs done input left before output after waiting text rest old new was parts wrote = record {
   count = was.count;
   read = was.read;
-  written = Appends-kept _ _ _ _ was.written stays;
+  sent = was.sent ++ text;
+  written = Appends-trans _ _ _ _ _ was.written wrote;
+  whole = append_assoc was.sent text rest ∙ ap (λ l. was.sent ++ l) (sym parts) ∙ was.whole;
   ran = was.ran;
   done = was.done;
 }
-
-pub sent_stays : (c d : Option (List ℕ)) (waiting rest : List ℕ) → Appends c d waiting → rest ≡ [] → Keeps (append_known c waiting) (append_known d rest)
-sent_stays c d waiting rest gone none = append_known-moved c d waiting rest waiting gone (sym (ap (λ l. waiting ++ l) none ∙ append-nil waiting))
-
--- what is known of a writer's bytes does not change where more waits
-append_known-grown : (c : Option (List ℕ)) (waiting more text : List ℕ) → more ≡ waiting ++ text → Appends (append_known c waiting) (append_known c more) text
-append_known-grown None waiting more text added = tt
-append_known-grown (Some xs) waiting more text added = rw added (sym (append_assoc xs waiting text))
 
 pub counted : (lines more : List (List ℕ)) (rs qs : List Reply) → length rs ≡ length (deliveries lines) → length qs ≡ length (deliveries more) → length (rs ++ qs) ≡ length (deliveries (lines ++ more))
 counted lines more rs qs one other =
@@ -114,21 +113,23 @@ ran_more lines rs qs bytes a old mid new was same honest ran = λ fair h hist v.
     subst (λ (ds : List Delivery). IsRun h ds (rs ++ qs) old new) both (run-append h (deliveries lines) (with_asked a []) rs qs old mid new first next)
 
 -- one line more, with its answer
-pub one_more : (lines : List (List ℕ)) (rs qs : List Reply) (bytes : List ℕ) (a : Asked) (done now all : Bool) (input left after before c : Option (List ℕ)) (waiting more : List ℕ) (old mid new : Shown)
-    → AreAnswered lines rs done input left before (append_known c waiting) old mid → a ≡ asked bytes → HasNoEnd bytes → GaveLine left after bytes
+pub one_more : (lines : List (List ℕ)) (rs qs : List Reply) (bytes : List ℕ) (a : Asked) (done now all : Bool) (input left after before output : Option (List ℕ)) (waiting more : List ℕ) (old mid new : Shown)
+    → AreAnswered lines rs done input left before output waiting old mid → a ≡ asked bytes → HasNoEnd bytes → GaveLine left after bytes
     → length qs ≡ length (with_asked a [])
     → (new.is_honest → mid.is_honest)
     → (new.is_honest → (h : List Entry) → IsHistory h → Views h mid.tables → IsRun h (with_asked a []) qs mid new)
     → (more ≡ waiting ++ answered a qs (answers [])) × (now ≡ is_done a qs (all_done []))
     → all ≡ (done && now)
-    → AreAnswered (lines ++ bytes ∷ []) (rs ++ qs) all input after before (append_known c more) old new
-one_more lines rs qs bytes a done now all input left after before c waiting more old mid new was same plain gave count honest ran added both =
+    → AreAnswered (lines ++ bytes ∷ []) (rs ++ qs) all input after before output more old new
+one_more lines rs qs bytes a done now all input left after before output waiting more old mid new was same plain gave count honest ran added both =
     let text : more ≡ waiting ++ answers (bytes ∷ []) qs = added.0 ∙ ap (λ x. waiting ++ answered x qs (answers [])) same in
-    let grown : Appends (append_known c waiting) (append_known c more) (answers (bytes ∷ []) qs) = append_known-grown c waiting more _ text in
     record {
       count = counted lines (bytes ∷ []) rs qs was.count (count ∙ ap (λ x. length (with_asked x [])) same);
       read = gave_more input left after lines bytes was.read plain gave;
-      written = subst (Appends before (append_known c more)) (sym (answers-append lines (bytes ∷ []) qs rs was.count)) (Appends-trans _ _ _ _ _ was.written grown);
+      sent = was.sent;
+      written = was.written;
+      whole = ap (λ l. was.sent ++ l) text ∙ sym (append_assoc was.sent waiting (answers (bytes ∷ []) qs)) ∙ ap (λ l. l ++ answers (bytes ∷ []) qs) was.whole
+          ∙ sym (answers-append lines (bytes ∷ []) qs rs was.count);
       ran = ran_more lines rs qs bytes a old mid new was.ran same honest ran;
       done = all_done-append lines (bytes ∷ []) qs rs was.count
           ∙ ((λ i. was.done i && (ap (λ x. is_done x qs (all_done [])) (sym same) ∙ sym added.1) i) ∙ sym both);

@@ -3,3 +3,4 @@ pub mod Begun
 pub mod Written
 pub mod LinesOf
 pub mod Answering
+pub mod Left

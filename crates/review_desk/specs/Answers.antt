@@ -1,5 +1,5 @@
 -- What the lines of an input ask for, and what is answered to them.
-use Rattle.std.specs.Prelude.{◌≡◌, ◌==◌, ℕ, ◌++◌, ◌&&◌, Bool, true, false, List, [], ◌∷◌, length, nat_lt, if◌then◌else◌, Option, Some, None, codes}
+use Rattle.std.specs.Prelude.{◌≡◌, ◌==◌, ◌≤◌, ℕ, ◌++◌, ◌&&◌, Bool, true, false, List, [], ◌∷◌, length, nat_lt, if◌then◌else◌, Option, Some, None, codes}
 use Rattle.std.specs.List.{list_all}
 use Rattle.std.specs.Io.KnownBytes.{IsAtEnd}
 use Rattle.serde_json.specs.Written.{compact_text}
@@ -13,6 +13,8 @@ use Rattle.review_rows.specs.Shelf.{Shown, Views}
 use Rattle.review_machine.specs.Replies.{IsRun}
 use Rattle.review_json.specs.Line.{delivery_spelled}
 use Rattle.review_json.specs.Answer.{reply_data}
+use Rattle.review_desk.specs.declared.fault.Fault.{Fault}
+use Rattle.review_desk.specs.declared.fault.Fault.TheVariants as fault
 use Rattle.review_desk.specs.declared.fault.Outcome.{Outcome}
 use Rattle.review_desk.specs.declared.fault.Outcome.TheVariants.{Complete, Incomplete}
 use Rattle.review_desk.specs.declared.apply.Asked.{Asked}
@@ -103,6 +105,17 @@ HasFirst (Some xs) lines = (more : List (List ℕ)) × (lines_of xs ≡ lines ++
 -- from the tables of any history, the deliveries of these lines were a run with these replies
 abbrev pub IsRunOf : List (List ℕ) → List Reply → Shown → Shown → Type 0
 IsRunOf lines replies old new = new.is_honest → (h : List Entry) → IsHistory h → Views h old.tables → IsRun h (deliveries lines) replies old new
+
+-- these bytes are a first part of those
+abbrev pub IsPartOf : List ℕ → List ℕ → Type 0
+IsPartOf text whole = (rest : List ℕ) × (whole ≡ text ++ rest)
+
+-- What a fault leaves of the answers to the lines: where the input failed, all; where there was no memory, those to all lines but at
+-- most the last; where the output failed, some first part of them.
+abbrev pub IsLeftBy : Fault → List (List ℕ) → List Reply → List ℕ → Type 0
+IsLeftBy fault.Input lines rs text = text ≡ answers lines rs
+IsLeftBy fault.Memory lines rs text = (before last : List (List ℕ)) × (lines ≡ before ++ last) × (length last ≤ 1) × (text ≡ answers before rs)
+IsLeftBy fault.Output lines rs text = IsPartOf text (answers lines rs)
 
 -- the reply of a run of one delivery, which has none where there was no memory to begin
 abbrev pub first_or_stopped : List Reply → Reply

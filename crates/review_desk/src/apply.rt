@@ -1,14 +1,14 @@
 //! Deliveries by the line.
-ghost use Rattle.std.specs.Prelude.{◌≡◌, ◌++◌, ◌∷◌, [], ℕ, List, length, IfOk, OnOk, OnErr, string_bytes};
+ghost use Rattle.std.specs.Prelude.{◌≡◌, ◌++◌, ◌∷◌, [], ℕ, List, length, IfOk, IfErr, OnOk, OnErr, string_bytes};
 ghost use Rattle.std.specs.List.{list_all};
-ghost use Rattle.std.specs.Io.KnownBytes.{Appends, append_known, prepend_known};
+ghost use Rattle.std.specs.Io.KnownBytes.{Appends, prepend_known};
 ghost use Rattle.review_words.specs.History.{Entry};
 ghost use Rattle.review_words.specs.declared.reply.Reply.{Reply};
 ghost use Rattle.review_rows.specs.Answer.{IsHistory};
 ghost use Rattle.review_rows.specs.Shelf.{Views};
 ghost use Rattle.review_machine.specs.Replies.{IsRun};
 ghost use Rattle.review_desk.specs.Lines.{is_space, IsLineOf};
-ghost use Rattle.review_desk.specs.Answers.{asked, with_asked, reply_line, bad_line, answered, answers, deliveries, HasLines, HasFirst, is_taken, is_done, all_done, is_complete, IsRunOf, IsNextAsked, first_or_stopped};
+ghost use Rattle.review_desk.specs.Answers.{asked, with_asked, reply_line, bad_line, answered, answers, deliveries, HasLines, HasFirst, is_taken, is_done, all_done, is_complete, IsRunOf, IsLeftBy, IsNextAsked, first_or_stopped};
 
 use crate::fault::{Fault, Outcome};
 use crate::lines::{Line, Lines};
@@ -98,7 +98,7 @@ fn outcome_of(reply: Reply) -> Outcome
     }
 }
 
-/// Does what a line asks for, and adds the answer to the output.
+/// Does what a line asks for, and adds the answer to the output, or nothing where there is no memory.
 #[tactic(auto, unfolding(crate::specs::Answers::bad_line))]
 fn answer<S: Shelf>(
     alloc: Global,
@@ -111,6 +111,7 @@ fn answer<S: Shelf>(
         × ((S.state shelf.new).is_honest → (h : List Entry) → IsHistory h → Views h (S.state shelf.old).tables →
         IsRun h (with_asked asked []) replies (S.state shelf.old) (S.state shelf.new))
         × IfOk result (λ outcome. (output.new.waiting.items ≡ output.old.waiting.items ++ answered asked replies (answers [])) × (is_complete outcome ≡ is_done asked replies (all_done []))) }
+    ensures kept { OnErr result (output.new.waiting.items ≡ output.old.waiting.items) }
 {
     match asked {
         Asked::Nothing => Ok(Outcome::Complete),
@@ -138,6 +139,7 @@ fn next_asked<R: Read + Drop>(alloc: Global, lines: &mut Lines<R>) -> Result<Opt
     Ok(Some(asked))
 }
 
+/// Answers lines, until they end or a fault comes. Answers that were not sent yet wait in the output.
 fn answer_lines<R: Read + Drop, W: Write, S: Shelf>(
     alloc: Global,
     reader: R,
@@ -145,11 +147,14 @@ fn answer_lines<R: Read + Drop, W: Write, S: Shelf>(
     output: &mut Output,
     shelf: &mut S,
 ) -> Result<Outcome, Fault>
+    requires { output.old.waiting.items ≡ [] }
     ensures honest { (S.state shelf.new).is_honest → (S.state shelf.old).is_honest }
     ensures ran { (lines : List (List ℕ)) × (replies : List Reply) × HasFirst (R.remaining reader) lines × (length replies ≡ length (deliveries lines)) × IsRunOf lines replies (S.state shelf.old) (S.state shelf.new)
+        × (sent : List ℕ) × Appends (W.contents writer.old) (W.contents writer.new) sent
         × IfOk result (λ outcome. HasLines (R.remaining reader) lines
-        × Appends (append_known (W.contents writer.old) output.old.waiting.items) (append_known (W.contents writer.new) output.new.waiting.items) (answers lines replies)
-        × (is_complete outcome ≡ all_done lines replies)) }
+        × (sent ++ output.new.waiting.items ≡ answers lines replies)
+        × (is_complete outcome ≡ all_done lines replies))
+        × IfErr result (λ fault. IsLeftBy fault lines replies (sent ++ output.new.waiting.items)) }
 {
     let mut lines = Lines::new(alloc, reader)?;
     let mut outcome = Outcome::Complete;
@@ -168,12 +173,14 @@ fn answer_lines<R: Read + Drop, W: Write, S: Shelf>(
 /// skipped. Each answer is written and flushed before more input is waited for.
 ///
 /// Complete exactly where each line was blank, or a delivery that was taken. A fault ends it early: want of memory for a line or the text
-/// of its answer; a reader that fails, or that hasn't ended after 1,000,000,000 reads; a writer that fails or takes no byte.
-/// What was answered before stands, and so does a delivery that was taken and not answered.
+/// of its answer; a reader that fails, or that hasn't ended after 1,000,000,000 reads; a writer that fails or takes no byte,
+/// which is told also where another fault came before. A delivery that was taken and not answered stands.
 ///
 /// From the tables of any history, the deliveries of the first lines, of all where no fault came, were a run: each acted
-/// once. Where no fault came, the bytes that were written are the answers to all lines, in order, each delivery's with its
-/// reply, whatever the tables.
+/// once. The bytes that were written are the answers to these lines, in order, each delivery's with its reply, whatever the
+/// tables: all of them where no fault came or the input failed, all but at most the last where there was no memory, and some
+/// first part of them where the writer failed. This is said of readers and writers whose bytes are known; of standard input and
+/// output `std` knows none.
 pub fn apply_lines<R: Read, W: Write, S: Shelf>(
     alloc: Global,
     reader: &mut R,
@@ -182,13 +189,12 @@ pub fn apply_lines<R: Read, W: Write, S: Shelf>(
 ) -> Result<Outcome, Fault>
     ensures honest { (S.state shelf.new).is_honest → (S.state shelf.old).is_honest }
     ensures ran { (lines : List (List ℕ)) × (replies : List Reply) × HasFirst (R.remaining reader.old) lines × (length replies ≡ length (deliveries lines)) × IsRunOf lines replies (S.state shelf.old) (S.state shelf.new)
-        × IfOk result (λ outcome. HasLines (R.remaining reader.old) lines × Appends (W.contents writer.old) (W.contents writer.new) (answers lines replies)
-        × (is_complete outcome ≡ all_done lines replies)) }
+        × (text : List ℕ) × Appends (W.contents writer.old) (W.contents writer.new) text
+        × IfOk result (λ outcome. HasLines (R.remaining reader.old) lines × (text ≡ answers lines replies) × (is_complete outcome ≡ all_done lines replies))
+        × IfErr result (λ fault. IsLeftBy fault lines replies text) }
 {
     let mut output = Output::new(alloc);
     let outcome = answer_lines(alloc, reader, writer, &mut output, shelf);
-    let sent = output.send(writer);
-    let outcome = outcome?;
-    sent?;
-    Ok(outcome)
+    output.send(writer)?;
+    outcome
 }

@@ -1,7 +1,8 @@
 //! Answers on their way out.
-ghost use Rattle.std.specs.Prelude.{◌≡◌, ◌≤◌, ◌++◌, [], ℕ, IfErr, OnOk, OnErr, take, drop, length};
+ghost use Rattle.std.specs.Prelude.{◌≡◌, ◌≤◌, ◌++◌, [], ℕ, List, IfErr, OnOk, OnErr, drop, length};
 ghost use Rattle.review_desk.specs.declared.fault.Fault.TheVariants as fault;
-ghost use Rattle.std.specs.Io.KnownBytes.{Appends, Keeps, append_known};
+ghost use Rattle.std.specs.Io.KnownBytes.{Appends};
+ghost use Rattle.review_desk.specs.Answers.{IsPartOf};
 
 use crate::fault::Fault;
 use std::alloc::{AllocError, Global};
@@ -17,8 +18,7 @@ fn bytes_from(bytes: &[u8], start: usize) -> &[u8]
 /// Writes all the bytes, or a first part of them. A writer that takes no byte has failed.
 fn write_whole<W: Write>(writer: &mut W, bytes: &[u8]) -> Result<(), Fault>
     ensures whole { OnOk result (Appends (W.contents writer.old) (W.contents writer.new) bytes.now) }
-    ensures part { OnErr result ((n : ℕ) × (n ≤ length bytes.now)
-        × Appends (W.contents writer.old) (W.contents writer.new) (take n bytes.now)) }
+    ensures part { OnErr result ((part : List ℕ) × IsPartOf part bytes.now × Appends (W.contents writer.old) (W.contents writer.new) part) }
     ensures cause { IfErr result (λ e. e ≡ fault.Output) }
 {
     let mut start = 0;
@@ -32,8 +32,10 @@ fn write_whole<W: Write>(writer: &mut W, bytes: &[u8]) -> Result<(), Fault>
     Ok(())
 }
 
+/// Writes all the bytes, or a first part of them, and flushes.
 fn write_and_flush<W: Write>(writer: &mut W, bytes: &[u8]) -> Result<(), Fault>
     ensures whole { OnOk result (Appends (W.contents writer.old) (W.contents writer.new) bytes.now) }
+    ensures part { OnErr result ((part : List ℕ) × IsPartOf part bytes.now × Appends (W.contents writer.old) (W.contents writer.new) part) }
     ensures cause { IfErr result (λ e. e ≡ fault.Output) }
 {
     write_whole(writer, bytes)?;
@@ -66,10 +68,11 @@ impl Output {
         self.waiting.extend_from_slice(line.as_bytes())
     }
 
-    /// Writes the lines that wait, and flushes. None waits afterwards: where the writer failed, they are lost.
+    /// Writes the lines that wait, or a first part of them where the writer failed, and flushes. None waits afterwards.
     pub fn send<W: Write>(&mut self, writer: &mut W) -> Result<(), Fault>
         ensures none { self.new.waiting.items ≡ [] }
         ensures sent { OnOk result (Appends (W.contents writer.old) (W.contents writer.new) self.old.waiting.items) }
+        ensures part { OnErr result ((part : List ℕ) × IsPartOf part self.old.waiting.items × Appends (W.contents writer.old) (W.contents writer.new) part) }
         ensures cause { IfErr result (λ e. e ≡ fault.Output) }
     {
         if self.waiting.is_empty() {
@@ -80,10 +83,11 @@ impl Output {
         result
     }
 
-    /// The same where the next line isn't at hand, since whoever sends it may wait for these answers. What was written,
-    /// followed by what waits, stays the same.
+    /// The same where the next line isn't at hand, since whoever sends it may wait for these answers.
     pub fn send_unless<W: Write>(&mut self, is_at_hand: bool, writer: &mut W) -> Result<(), Fault>
-        ensures kept { OnOk result (Keeps (append_known (W.contents writer.old) self.old.waiting.items) (append_known (W.contents writer.new) self.new.waiting.items)) }
+        ensures sent { OnOk result ((text : List ℕ) × (self.old.waiting.items ≡ text ++ self.new.waiting.items) × Appends (W.contents writer.old) (W.contents writer.new) text) }
+        ensures none { OnErr result (self.new.waiting.items ≡ []) }
+        ensures part { OnErr result ((part : List ℕ) × IsPartOf part self.old.waiting.items × Appends (W.contents writer.old) (W.contents writer.new) part) }
         ensures cause { IfErr result (λ e. e ≡ fault.Output) }
     {
         if is_at_hand {

@@ -1,7 +1,8 @@
 -- A run that begins again.
-use Rattle.std.proofs.Common.{◌≡◌, ◌⊎◌, ℕ, zero, suc, ◌<◌, take, get_or, List, [], ◌∷◌, ◌++◌, length, Option, Some, None, true, false, cond, ◌||◌, refl, sym, ap, ◌∙◌, subst, ⊎_elim, arith}
+use Rattle.std.proofs.Common.{◌≡◌, ◌⊎◌, ℕ, zero, suc, ◌<◌, take, drop, get_or, List, [], ◌∷◌, ◌++◌, length, Option, Some, None, true, false, cond, ◌||◌, refl, sym, ap, ◌∙◌, subst, ⊎_elim, arith, length-append}
 use Rattle.std.specs.Prelude.{is_some, MatchOption}
 use Rattle.std.proofs.lemmas.Bool.{cases_Bool}
+use Rattle.std.proofs.lemmas.List.{length-take-le}
 use mathlib.Core.List.{append_assoc}
 use Rattle.review_words.specs.Texts.{IsStored}
 use Rattle.review_words.specs.declared.command.Command.{Command}
@@ -11,12 +12,14 @@ use Rattle.review_words.specs.declared.reply.Reply.{Reply}
 use Rattle.review_words.specs.declared.reply.Reply.TheVariants.{Done, Refused, IdentityReused, NotTaken}
 use Rattle.review_words.specs.History.{Entry, Identity, stored, is_same}
 use Rattle.review_rows.specs.Answer.{IsHistory, IsAnswer}
+use Rattle.review_rows.specs.Rows.{Tables}
+use Rattle.review_rows.specs.View.{IsView}
 use Rattle.review_machine.proofs.Outcomes.{one_answer}
-use Rattle.review_machine.specs.Replies.{IsTold, IsRight, AreRight, IsToldOfStored, history_after, with_entries as hist, has_identity, first_arrivals as first, arrivals_after as first_after, taken, with_taken, entry_of}
-use Rattle.review_machine.specs.Restart.{IsFree, RefusesBadValue, IsSettled, AreSettled, WasTaken, WereTaken, AgreeFor, AgreeOnWrites, RestartCompletes, RestartKeepsHistory, RepliesFollowHistory}
+use Rattle.review_machine.specs.Replies.{IsTold, IsRight, AreRight, IsToldOfStored, history_after, with_entries as hist, has_identity, first_arrivals as first, arrivals_after as first_after, taken, with_taken, entry_of, HasEffect}
+use Rattle.review_machine.specs.Restart.{IsFree, RefusesBadValue, IsSettled, AreSettled, WasTaken, WereTaken, AgreeFor, AgreeOnWrites, RestartAfterStop, RestartCompletes, RestartKeepsHistory, RepliesFollowHistory}
 use Rattle.review_machine.proofs.Histories.{answer_stored, stored_stays, stored_here, stored_there, same_to}
 use Rattle.review_machine.proofs.Served.{new_history, same_history, same_command}
-use Rattle.review_machine.proofs.Going.{HasSince, since_old, since_new, or_false, with_taken-append, first-append}
+use Rattle.review_machine.proofs.Going.{HasSince, since_old, since_new, or_false, with_taken-append, first-append, history_after-append}
 
 -- each delivery is taken, and its reply is right after those before it
 abbrev pub AreTold : List Entry → List Delivery → List Reply → Type 0
@@ -259,3 +262,64 @@ follow_history h0 h last ds rs ss counts others hist right given right' given' o
 pub restart : RestartCompletes
 restart h0 h ds1 ds2 rs1 rs2 ss counts others hist is same settled right given right' given' =
     restart_told h0 h ds1 ds2 rs1 rs2 ss hist is same settled (told_right h0 (ds1 ++ ds2) (rs1 ++ rs2) counts right given) (told_right h (ds1 ++ ds2) ss others right' given')
+
+-- a list up to one element, that element, and the rest
+split_at : {A : Type 0} (i : ℕ) (xs : List A) (x : A) → i < length xs → (take i xs ++ get_or xs i x ∷ []) ++ drop (suc i) xs ≡ xs
+split_at i [] x below = absurd (omega (arith, below))
+split_at zero (y ∷ xs) x below = refl
+split_at (suc i) (y ∷ xs) x below = ap (λ l. y ∷ l) (split_at i xs x (omega (arith, below)))
+
+settled_drop : (n : ℕ) (ds : List Delivery) → AreSettled ds → AreSettled (drop n ds)
+settled_drop zero ds all = all
+settled_drop (suc n) [] all = tt
+settled_drop (suc n) (d ∷ ds) all = settled_drop n ds all.1
+
+settled_at : (i : ℕ) (ds : List Delivery) (d : Delivery) → AreSettled ds → i < length ds → IsSettled (get_or ds i d)
+settled_at i [] d all below = absurd (omega (arith, below))
+settled_at zero (e ∷ ds) d all below = all.0
+settled_at (suc i) (e ∷ ds) d all below = settled_at i ds d all.1 (omega (arith, below))
+
+-- the whole effect that a stop left is the one that the run has
+same_effect : (g : List Entry) (d : Delivery) (r : Reply) (t : Tables) → IsSettled d → IsTold g d r → HasEffect g d t →
+    IsHistory (history_after g (d ∷ []) (r ∷ [])) × IsView (history_after g (d ∷ []) (r ∷ [])) t
+same_effect g (Read caller query) r t settled told effect = absurd effect
+same_effect g (Write caller id command) r t settled told effect =
+    let none : stored g (record { caller = caller; id = id }) ≡ None = effect.1.0 in
+    let answer : IsAnswer g caller command r = told_at g caller id command r None none told in
+    let same : effect.0 ≡ r = settled_answer g caller command effect.0 r settled effect.1.1 answer in
+    let now : history_after g (Write caller id command ∷ []) (r ∷ []) ≡ entry_of caller id command r ∷ g =
+    new_history g caller id command r (answer_stored g caller command r answer) none in
+    let P : List Entry → Type 0 = λ h. IsHistory h × IsView h t in
+    subst P (sym now) (subst (λ (x : Reply). P (entry_of caller id command x ∷ g)) same (effect.1, effect.2))
+
+-- the same as `restart_told`, of a list in two parts
+restart_split : (h0 h : List Entry) (ds ds1 ds2 : List Delivery) (rs rs1 rs2 ss : List Reply) → ds1 ++ ds2 ≡ ds → rs1 ++ rs2 ≡ rs →
+    IsHistory h → h ≡ history_after h0 ds1 rs1 → length rs1 ≡ length ds1 → AreSettled ds2 → AreTold h0 ds rs → AreTold h ds ss →
+    AgreeOnWrites ds rs ss × (history_after h ds ss ≡ history_after h0 ds rs)
+restart_split h0 h ds ds1 ds2 rs rs1 rs2 ss whole all hist is same settled =
+    let Goal : List Delivery × List Reply → Type 0 =
+    λ p. AreTold h0 p.0 p.1 → AreTold h p.0 ss → AgreeOnWrites p.0 p.1 ss × (history_after h p.0 ss ≡ history_after h0 p.0 p.1) in
+    subst Goal (λ k. (whole k, all k)) (restart_told h0 h ds1 ds2 rs1 rs2 ss hist is same settled)
+
+pub after_stop : RestartAfterStop
+after_stop h0 ds rs counts left settled right given stop =
+    let i = stop.0 in
+    let below : i < length ds = stop.2 in
+    let lengths : length rs ≡ length ds = right.replies in
+    let d = get_or ds i stop.1 in
+    let r = get_or rs i IdentityReused in
+    let ds1 : List Delivery = take i ds ++ d ∷ [] in
+    let rs1 : List Reply = take i rs ++ r ∷ [] in
+    let g = history_after h0 (take i ds) (take i rs) in
+    let some : length (take i ds) ≡ i = length-take-le i ds (omega (arith, below)) in
+    let others_some : length (take i rs) ≡ i = length-take-le i rs (omega (arith, below, lengths)) in
+    let made = same_effect g d r left (settled_at i ds stop.1 settled below) (each_told h0 ds rs counts right given i stop.1 IdentityReused below) stop.3 in
+    let grown : history_after h0 ds1 rs1 ≡ history_after g (d ∷ []) (r ∷ []) = history_after-append h0 (take i ds) (d ∷ []) (take i rs) (r ∷ []) (others_some ∙ sym some) in
+    let long : length rs1 ≡ length ds1 = omega (arith, some, others_some, length-append (take i ds) (d ∷ []), length-append (take i rs) (r ∷ [])) in (
+      history_after g (d ∷ []) (r ∷ []),
+      made.0,
+      made.1,
+      λ ss others right' given'. restart_split h0 _ ds ds1 (drop (suc i) ds) rs rs1 (drop (suc i) rs) ss (split_at i ds stop.1 below)
+          (split_at i rs IdentityReused (omega (arith, below, lengths))) made.0 (sym grown) long (settled_drop (suc i) ds settled) (told_right h0 ds rs counts right given)
+          (told_right _ ds ss others right' given'),
+    )

@@ -11,7 +11,9 @@ use Rattle.review_words.specs.History.{Entry}
 use Rattle.review_file.specs.Reading.{IsBadValue}
 use Rattle.review_rows.specs.Answer.{IsAnswer, IsHistory}
 use Rattle.review_rows.specs.Files.{HasDeepPattern}
-use Rattle.review_machine.specs.Replies.{AreRight, history_after, with_entries, first_arrivals}
+use Rattle.review_rows.specs.Rows.{Tables}
+use Rattle.review_rows.specs.View.{IsView}
+use Rattle.review_machine.specs.Replies.{AreRight, StopsWithin, history_after, with_entries, first_arrivals}
 
 -- it was taken
 abbrev pub WasTaken : Reply → Type 0
@@ -86,3 +88,12 @@ RestartCompletes = (h0 h : List Entry) (ds1 ds2 : List Delivery) (rs1 rs2 ss : L
     IsHistory h → h ≡ history_after h0 ds1 rs1 → length rs1 ≡ length ds1 → AreSettled ds2 →
     AreRight h0 (ds1 ++ ds2) (rs1 ++ rs2) counts → WereTaken (rs1 ++ rs2) → AreRight h (ds1 ++ ds2) ss others → WereTaken ss →
     AgreeOnWrites (ds1 ++ ds2) (rs1 ++ rs2) ss × (history_after h (ds1 ++ ds2) ss ≡ history_after h0 (ds1 ++ ds2) (rs1 ++ rs2))
+
+-- What a stop within a run left, where no delivery leaves a choice, are the tables of a history from which the whole run, sent again, gives
+-- the history and the replies to writes that it would have given.
+abbrev pub RestartAfterStop : Type 0
+RestartAfterStop = (h0 : List Entry) (ds : List Delivery) (rs : List Reply) (counts : List (ℕ × ℕ)) (left : Tables) →
+    AreSettled ds → AreRight h0 ds rs counts → WereTaken rs → StopsWithin h0 ds rs left →
+    (h : List Entry) × IsHistory h × IsView h left
+    × ((ss : List Reply) (others : List (ℕ × ℕ)) → AreRight h ds ss others → WereTaken ss →
+    AgreeOnWrites ds rs ss × (history_after h ds ss ≡ history_after h0 ds rs))

@@ -1,5 +1,5 @@
 //! Laws over all runs, as contracts of calls that do nothing.
-ghost use Rattle.review_machine.specs.Restart.{OneAnswer, RunsCompose, RestartCompletes, RestartKeepsHistory, RepliesFollowHistory};
+ghost use Rattle.review_machine.specs.Restart.{OneAnswer, RunsCompose, RestartAfterStop, RestartCompletes, RestartKeepsHistory, RepliesFollowHistory};
 
 /// A command has one answer, unless a pattern in the file that it puts nests deeper than the engine reads: of two different
 /// answers one then refuses the file for a bad value in an expression.
@@ -17,4 +17,5 @@ pub fn restart_completes()
     ensures history { RestartKeepsHistory }
     ensures replies { RepliesFollowHistory }
     ensures run { RestartCompletes }
+    ensures stop { RestartAfterStop }
 {}

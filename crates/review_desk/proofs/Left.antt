@@ -1,0 +1,50 @@
+-- What a fault leaves of the answers.
+use Rattle.std.proofs.Common.{◌≡◌, ◌++◌, ◌≤◌, ℕ, List, [], ◌∷◌, length, refl, arith, sym, ap, subst, ◌∙◌, append_assoc, append-nil, take, drop, take-append-drop}
+use Rattle.std.specs.Io.KnownBytes.{Appends}
+use Rattle.std.proofs.KnownBytes.{Appends-trans}
+use Rattle.core.specs.declared.option.Option.{Option}
+use Rattle.review_words.specs.declared.reply.Reply.{Reply}
+use Rattle.review_desk.specs.declared.fault.Fault.{Fault}
+use Rattle.review_desk.specs.declared.fault.Fault.TheVariants.{Memory, Input, Output}
+use Rattle.review_desk.specs.declared.apply.Asked.{Asked}
+use Rattle.review_desk.specs.declared.apply.Asked.TheVariants.{Nothing, Unreadable, Asks}
+use Rattle.review_desk.specs.Answers.{asked, answered, answers, bad_line, reply_line, IsPartOf, IsLeftBy}
+
+-- a first part by its length
+pub taken_part : (n : ℕ) (bytes : List ℕ) → IsPartOf (take n bytes) bytes
+taken_part n bytes = (drop n bytes, sym (take-append-drop n bytes))
+
+pub whole_part : (bytes : List ℕ) → IsPartOf bytes bytes
+whole_part bytes = ([], sym (append-nil bytes))
+
+-- a first part of what comes after others
+part_after : (front text whole : List ℕ) → IsPartOf text whole → IsPartOf (front ++ text) (front ++ whole)
+part_after front text whole part = (part.0, ap (λ l. front ++ l) part.1 ∙ sym (append_assoc front text part.0))
+
+part_of_part : (a b c : List ℕ) → IsPartOf a b → IsPartOf b c → IsPartOf a c
+part_of_part a b c one two = (one.0 ++ two.0, two.1 ∙ ap (λ l. l ++ two.0) one.1 ∙ append_assoc a one.0 two.0)
+
+-- the answer to one line, and a first part of those to the later ones
+answered_part : (a : Asked) (rs : List Reply) (few all : List Reply → List ℕ) → ((ss : List Reply) → IsPartOf (few ss) (all ss)) → IsPartOf (answered a rs few) (answered a rs all)
+answered_part Nothing rs few all part = part rs
+answered_part Unreadable rs few all part = part_after bad_line _ _ (part rs)
+answered_part (Asks d) [] few all part = whole_part []
+answered_part (Asks d) (r ∷ rs) few all part = part_after (reply_line r) _ _ (part rs)
+
+-- the answers to the first lines are a first part of those to all
+answers_part : (before last : List (List ℕ)) (rs : List Reply) → IsPartOf (answers before rs) (answers (before ++ last) rs)
+answers_part [] last rs = (answers last rs, refl)
+answers_part (line ∷ before) last rs = answered_part (asked line) rs (answers before) (answers (before ++ last)) (answers_part before last)
+
+-- what any fault leaves is a first part of the answers
+left_part : (fault : Fault) (lines : List (List ℕ)) (rs : List Reply) (text : List ℕ) → IsLeftBy fault lines rs text → IsPartOf text (answers lines rs)
+left_part Input lines rs text left = ([], sym (append-nil text ∙ left))
+left_part Memory lines rs text left =
+    let P : List (List ℕ) → Type 0 = λ all. IsPartOf text (answers all rs) in
+    let Q : List ℕ → Type 0 = λ t. IsPartOf t (answers (left.0 ++ left.1) rs) in
+    subst P (sym left.2) (subst Q (sym left.4) (answers_part left.0 left.1 rs))
+left_part Output lines rs text left = left
+
+-- what waits is sent in part
+pub sent_less : (sent part waiting whole : List ℕ) → IsPartOf part waiting → IsPartOf (sent ++ waiting) whole → IsPartOf (sent ++ part) whole
+sent_less sent part waiting whole less all = part_of_part _ _ _ (part_after sent part waiting less) all
