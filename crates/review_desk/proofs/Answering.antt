@@ -1,5 +1,5 @@
 -- The answers to lines, one by one.
-use Rattle.std.proofs.Common.{◌≡◌, ◌++◌, ◌&&◌, Bool, true, false, ℕ, List, [], ◌∷◌, length, refl, Option, Some, None, arith, sym, ap, subst, ◌∙◌, append_assoc, append-nil, length-append, take, inl}
+use Rattle.std.proofs.Common.{◌≡◌, ◌++◌, ◌&&◌, Bool, true, false, ℕ, List, [], ◌∷◌, length, refl, Option, arith, sym, ap, subst, ◌∙◌, append_assoc, append-nil, length-append, take, inl}
 use Rattle.std.specs.Io.KnownBytes.{Appends}
 use Rattle.std.proofs.KnownBytes.{Appends-nil, Appends-trans}
 use Rattle.review_words.specs.declared.command.Delivery.{Delivery}
@@ -46,7 +46,7 @@ answered-append (Asks d) lines more [] qs later count = absurd (omega (arith, co
 answered-append (Asks d) lines more (r ∷ rs) qs later count =
     ap (λ l. reply_line r ++ l) (later rs (omega (arith, count))) ∙ sym (append_assoc (reply_line r) (answers lines rs) (answers more qs))
 
-answers-append : (lines more : List (List ℕ)) (qs rs : List Reply) → length rs ≡ length (deliveries lines) → answers (lines ++ more) (rs ++ qs) ≡ answers lines rs ++ answers more qs
+pub answers-append : (lines more : List (List ℕ)) (qs rs : List Reply) → length rs ≡ length (deliveries lines) → answers (lines ++ more) (rs ++ qs) ≡ answers lines rs ++ answers more qs
 answers-append [] more qs [] count = refl
 answers-append [] more qs (r ∷ rs) count = absurd (omega (arith, count))
 answers-append (line ∷ lines) more qs rs count = answered-append (asked line) lines more rs qs (answers-append lines more qs) count
