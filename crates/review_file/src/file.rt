@@ -109,7 +109,6 @@ impl Label {
 
     /// The least value, which `MIN` means. This is Gerrit's. It is a value of the label, as 0 is of
     /// every label of a file, and no value lies below it.
-    #[tactic(auto, using(crate::proofs::Ends::least_is_value, crate::proofs::Ends::none_below))]
     pub fn least(&self) -> i8
         ensures least { result ≡ least_value self.now.values }
         ensures value { is_sound_label self.now ≡ true → is_value self.now.values result ≡ true }
@@ -124,7 +123,6 @@ impl Label {
 
     /// The greatest value, which `MAX` means. This is Gerrit's. It is a value of the label, as 0 is
     /// of every label of a file, and no value lies above it.
-    #[tactic(auto, using(crate::proofs::Ends::greatest_is_value, crate::proofs::Ends::none_above))]
     pub fn greatest(&self) -> i8
         ensures greatest { result ≡ greatest_value self.now.values }
         ensures value { is_sound_label self.now ≡ true → is_value self.now.values result ≡ true }
