@@ -178,6 +178,18 @@ fn longest_texts_are_read(rt: HostRuntime) -> Result<(), Fail> {
 }
 
 #[test]
+fn longest_texts_without_terms_are_refused(rt: HostRuntime) -> Result<(), Fail> {
+    let alloc = rt.alloc();
+    let parentheses = repeated(alloc, "(", "", ")", 2048)?;
+    assert_eq!(rt; parentheses.len(), 4096);
+    assert_eq!(rt; requirement(alloc, &parentheses)?.as_str(), "BAD_TERM 0");
+    let operator = repeated(alloc, "(", "OR", ")", 2047)?;
+    assert_eq!(rt; operator.len(), 4096);
+    assert_eq!(rt; requirement(alloc, &operator)?.as_str(), "BAD_TERM 0");
+    Ok(())
+}
+
+#[test]
 fn copy_conditions_are_read(rt: HostRuntime) -> Result<(), Fail> {
     let alloc = rt.alloc();
     for (text, found) in [
