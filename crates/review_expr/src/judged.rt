@@ -36,7 +36,8 @@ fn votes(alloc: Global, given: &[(u64, i8)]) -> Result<BTreeMap<AccountNo, i8>, 
 }
 
 /// On Code-Review account 3 and account 4 voted 2 and account 5 voted -1. On Verified account 3
-/// voted 1 and account 2 voted -1. On Blocked, whose greatest value is 0, account 4 voted -1.
+/// voted 1 and account 2 voted -1. On Blocked, whose greatest value is 0, account 4 voted -1. On
+/// Praised, whose least value is 0, account 4 voted 1, and account 5 voted 0, which is no vote.
 fn all_votes(alloc: Global) -> Result<BTreeMap<LabelName, BTreeMap<AccountNo, i8>>, Fail> {
     let mut labels = BTreeMap::new(alloc);
     let reviews = votes(alloc, &[(3, 2), (4, 2), (5, -1)])?;
@@ -45,16 +46,19 @@ fn all_votes(alloc: Global) -> Result<BTreeMap<LabelName, BTreeMap<AccountNo, i8
     labels.insert(LabelName::read(alloc, "Verified")?, checks)?;
     let blocks = votes(alloc, &[(4, -1)])?;
     labels.insert(LabelName::read(alloc, "Blocked")?, blocks)?;
+    let praises = votes(alloc, &[(4, 1), (5, 0)])?;
+    labels.insert(LabelName::read(alloc, "Praised")?, praises)?;
     Ok(labels)
 }
 
-/// Code-Review goes from -2 to 2, Verified from -1 to 1, Blocked from -1 to 0.
+/// Code-Review goes from -2 to 2, Verified from -1 to 1, Blocked from -1 to 0, Praised from 0 to 1.
 fn ranges(alloc: Global) -> Result<BTreeMap<LabelName, ValueRange>, Fail> {
     let mut ranges = BTreeMap::new(alloc);
     for (label, least, greatest) in [
         ("Code-Review", -2i8, 2i8),
         ("Verified", -1, 1),
         ("Blocked", -1, 0),
+        ("Praised", 0, 1),
     ] {
         let range = ValueRange { least, greatest };
         ranges.insert(LabelName::read(alloc, label)?, range)?;
@@ -91,6 +95,19 @@ fn vote(alloc: Global, value: i8, kind: ChangeKind, unchanged_files: bool) -> Re
         kind,
         uploader: account(2)?,
         unchanged_files,
+        groups: groups(alloc)?,
+    }))
+}
+
+/// A vote of account 4 on a label of a range, where account 2 sends a rework.
+fn vote_within(alloc: Global, value: i8, range: ValueRange) -> Result<Facts, Fail> {
+    Ok(Facts::Vote(VoteFacts {
+        value,
+        voter: account(4)?,
+        range,
+        kind: ChangeKind::Rework,
+        uploader: account(2)?,
+        unchanged_files: false,
         groups: groups(alloc)?,
     }))
 }
@@ -157,6 +174,9 @@ fn ends_of_ranges(rt: HostRuntime) -> Result<(), Fail> {
         ("label:Blocked=MIN", true),
         ("label:Blocked=MAX", false),
         ("label:Blocked=ANY", true),
+        ("label:Praised=MAX", true),
+        ("label:Praised=MIN", false),
+        ("label:Praised=ANY,count=1", true),
         ("label:Untested=ANY", false),
     ];
     let facts = change(rt.alloc(), false)?;
@@ -277,6 +297,34 @@ fn values_of_copied_votes(rt: HostRuntime) -> Result<(), Fail> {
     ];
     let facts = vote(alloc, 2, ChangeKind::Rework, true)?;
     assert_eq!(rt; miscopied(alloc, &facts, &greatest)?.as_str(), "");
+    Ok(())
+}
+
+/// The terms of a vote's value that hold for a vote on a label of a range, in the order of their
+/// names: `is:ANY`, `is:MAX`, `is:MIN`.
+fn held(alloc: Global, value: i8, least: i8, greatest: i8) -> Result<[bool; 3], Fail> {
+    let facts = vote_within(alloc, value, ValueRange { least, greatest })?;
+    let any = parse_copy(alloc, "is:ANY").ok().ok_or("no copy condition")?;
+    let max = parse_copy(alloc, "is:MAX").ok().ok_or("no copy condition")?;
+    let min = parse_copy(alloc, "is:MIN").ok().ok_or("no copy condition")?;
+    Ok([
+        eval(alloc, &any, &facts)?,
+        eval(alloc, &max, &facts)?,
+        eval(alloc, &min, &facts)?,
+    ])
+}
+
+#[test]
+fn zero_is_no_copied_vote(rt: HostRuntime) -> Result<(), Fail> {
+    for (value, least, greatest, wanted) in [
+        (0i8, -1i8, 1i8, [false, false, false]),
+        (0, -1, 0, [false, false, false]),
+        (-1, -1, 0, [true, false, true]),
+        (0, 0, 1, [false, false, false]),
+        (1, 0, 1, [true, true, false]),
+    ] {
+        assert_eq!(rt; held(rt.alloc(), value, least, greatest)?, wanted);
+    }
     Ok(())
 }
 

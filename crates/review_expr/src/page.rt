@@ -1,7 +1,7 @@
 //! The examples of `docs/expressions.md`, with the answers that stand there.
 
 use super::*;
-use crate::tests::{change, shown};
+use crate::tests::{change, repeated, shown};
 use std::alloc::Global;
 use std::test::Fail;
 
@@ -90,6 +90,31 @@ fn texts_are_refused(rt: HostRuntime) -> Result<(), Fail> {
     assert_eq!(rt; misread(rt.alloc(), &cases)?.as_str(), "");
     let copy = shown(rt.alloc(), parse_copy(rt.alloc(), "is:0"))?;
     assert_eq!(rt; copy.as_str(), "ZERO 0");
+    Ok(())
+}
+
+#[test]
+fn texts_past_limits_are_refused(rt: HostRuntime) -> Result<(), Fail> {
+    let alloc = rt.alloc();
+    let long = repeated(alloc, "", "is:true", " ", 4090)?;
+    let answer = shown(alloc, parse_requirement(alloc, &long))?;
+    assert_eq!(rt; answer.as_str(), "TOO_LONG 0");
+    let deep = repeated(alloc, "NOT ", "is:true", "", 32)?;
+    let answer = shown(alloc, parse_requirement(alloc, &deep))?;
+    assert_eq!(rt; answer.as_str(), "TOO_DEEP 0");
+    Ok(())
+}
+
+#[test]
+fn branches_are_judged(rt: HostRuntime) -> Result<(), Fail> {
+    let alloc = rt.alloc();
+    for (text, held) in [
+        ("branch:main", true),
+        ("branch:refs/heads/main", false),
+        ("branch:^", false),
+    ] {
+        assert_eq!(rt; holds(alloc, text, "docs/a")?, held, "of {text}");
+    }
     Ok(())
 }
 

@@ -5,7 +5,7 @@ use std::alloc::{AllocError, Global};
 
 /// A term that a word of a text is read as, and that is written as a word.
 pub trait Spelled: Drop {
-    ghost use Rattle.std.specs.Prelude.{◌≡◌, ◌++◌, ℕ, List, IfOk, IfErr, OnOk, string_bytes};
+    ghost use Rattle.std.specs.Prelude.{◌≡◌, ◌++◌, ℕ, List, IfOk, IfErr, OnErr, OnOk, string_bytes};
     ghost use Rattle.review_grammar.specs.Words.{Reading, Good, IsWordFault};
 
     ghost reading: { List ℕ → Reading Self };
@@ -22,9 +22,11 @@ pub trait Spelled: Drop {
         ensures term { IfOk result (λ t. reading word.now ≡ Good t) }
         ensures fault { IfErr result (IsWordFault (reading word.now) (is_deep word.now) (is_pattern word.now)) };
 
-    /// Writes the term at the end of a text. An error where there was no memory for it.
+    /// Writes the term at the end of a text. An error where there was no memory for it; the text is
+    /// as it was then.
     fn push(&self, text: &mut String) -> Result<(), AllocError>
-        ensures { OnOk result (string_bytes text.new ≡ string_bytes text.old ++ spelling self.now) };
+        ensures text { OnOk result (string_bytes text.new ≡ string_bytes text.old ++ spelling self.now) }
+        ensures kept { OnErr result (string_bytes text.new ≡ string_bytes text.old) };
 }
 
 /// A term that reads again: where a word is read as a term, so is the word that the term is

@@ -23,7 +23,7 @@ fn requirement(alloc: Global, text: &str) -> Result<String, Fail> {
 }
 
 /// A text so many times, before, round or behind another.
-fn repeated(
+pub(crate) fn repeated(
     alloc: Global,
     front: &str,
     middle: &str,
@@ -92,6 +92,27 @@ fn words_have_faults(rt: HostRuntime) -> Result<(), Fail> {
 }
 
 #[test]
+fn words_behind_others_have_faults(rt: HostRuntime) -> Result<(), Fail> {
+    let alloc = rt.alloc();
+    for (text, fault) in [
+        ("path:a\"b\"", "BAD_TERM 0"),
+        ("is:true path:a\"b\"", "BAD_TERM 8"),
+        ("is:true -path:\"a\"b", "BAD_TERM 8"),
+        ("(path:a\"b\")", "BAD_TERM 1"),
+        ("is:true (is:false path:\"a\"b)", "BAD_TERM 18"),
+        ("colour:red", "BAD_TERM 0"),
+        ("is:true colour:red", "BAD_TERM 8"),
+        ("is:true -colour:red", "BAD_TERM 8"),
+        ("(colour:red)", "BAD_TERM 1"),
+        ("is:true (is:false colour:red)", "BAD_TERM 18"),
+    ] {
+        let found = requirement(alloc, text)?;
+        assert_eq!(rt; found.as_str(), fault, "of {text}");
+    }
+    Ok(())
+}
+
+#[test]
 fn texts_have_faults(rt: HostRuntime) -> Result<(), Fail> {
     let alloc = rt.alloc();
     for (text, fault) in [
@@ -105,6 +126,8 @@ fn texts_have_faults(rt: HostRuntime) -> Result<(), Fail> {
         ("is:true AND is:true OR is:false", "MIXED 0"),
         ("is:true is:true OR is:false", "MIXED 0"),
         ("is:true (is:true OR is:false is:true)", "MIXED 0"),
+        ("-(is:true AND is:true OR is:false)", "MIXED 0"),
+        ("is:true -(is:true is:true OR is:false)", "MIXED 0"),
     ] {
         let found = requirement(alloc, text)?;
         assert_eq!(rt; found.as_str(), fault, "of {text}");
@@ -119,6 +142,12 @@ fn texts_have_limits(rt: HostRuntime) -> Result<(), Fail> {
     assert_eq!(rt; requirement(alloc, &deepest)?.as_str(), "is:true");
     let deeper = repeated(alloc, "(", "is:true", ")", 32)?;
     assert_eq!(rt; requirement(alloc, &deeper)?.as_str(), "TOO_DEEP 0");
+    let negated = repeated(alloc, "(", "-is:true", ")", 30)?;
+    assert_eq!(rt; requirement(alloc, &negated)?.as_str(), "NOT is:true");
+    let deeper = repeated(alloc, "(", "-is:true", ")", 31)?;
+    assert_eq!(rt; requirement(alloc, &deeper)?.as_str(), "TOO_DEEP 0");
+    let minuses = repeated(alloc, "-(", "is:true", ")", 16)?;
+    assert_eq!(rt; requirement(alloc, &minuses)?.as_str(), "TOO_DEEP 0");
     let mixed = repeated(alloc, "(", "is:true is:true OR is:true", ")", 32)?;
     assert_eq!(rt; requirement(alloc, &mixed)?.as_str(), "TOO_DEEP 0");
     let wrong = repeated(alloc, "(", "AND", ")", 32)?;
@@ -149,6 +178,18 @@ fn longest_texts_are_read(rt: HostRuntime) -> Result<(), Fail> {
 }
 
 #[test]
+fn longest_texts_without_terms_are_refused(rt: HostRuntime) -> Result<(), Fail> {
+    let alloc = rt.alloc();
+    let parentheses = repeated(alloc, "(", "", ")", 2048)?;
+    assert_eq!(rt; parentheses.len(), 4096);
+    assert_eq!(rt; requirement(alloc, &parentheses)?.as_str(), "BAD_TERM 0");
+    let operator = repeated(alloc, "(", "OR", ")", 2047)?;
+    assert_eq!(rt; operator.len(), 4096);
+    assert_eq!(rt; requirement(alloc, &operator)?.as_str(), "BAD_TERM 0");
+    Ok(())
+}
+
+#[test]
 fn copy_conditions_are_read(rt: HostRuntime) -> Result<(), Fail> {
     let alloc = rt.alloc();
     for (text, found) in [
@@ -159,6 +200,33 @@ fn copy_conditions_are_read(rt: HostRuntime) -> Result<(), Fail> {
     ] {
         let printed = shown(alloc, parse_copy(alloc, text))?;
         assert_eq!(rt; printed.as_str(), found, "of {text}");
+    }
+    Ok(())
+}
+
+#[test]
+fn copy_conditions_have_faults(rt: HostRuntime) -> Result<(), Fail> {
+    let alloc = rt.alloc();
+    for (text, fault) in [
+        ("", "EMPTY 0"),
+        ("is:MIN (", "UNBALANCED 0"),
+        ("x", "BAD_TERM 0"),
+        ("is:MIN -x", "BAD_TERM 7"),
+        ("(path:a)", "BAD_TERM 1"),
+        ("is:MIN is:\"1\"0", "BAD_TERM 7"),
+        ("is:true", "BAD_VALUE 0"),
+        ("is:MIN -is:100", "BAD_VALUE 7"),
+        ("(changekind:NONE)", "BAD_VALUE 1"),
+        ("is:MIN has:unresolved", "BAD_VALUE 7"),
+        ("-is:+0", "ZERO 0"),
+        ("is:MIN OR -is:-0", "ZERO 10"),
+        ("(is:0)", "ZERO 1"),
+        ("is:MIN AND", "BAD_TERM 0"),
+        ("is:MIN OR is:MAX is:1", "MIXED 0"),
+        ("-(is:MIN is:MAX OR is:1)", "MIXED 0"),
+    ] {
+        let found = shown(alloc, parse_copy(alloc, text))?;
+        assert_eq!(rt; found.as_str(), fault, "of {text}");
     }
     Ok(())
 }
@@ -217,17 +285,30 @@ fn expressions_are_judged(rt: HostRuntime) -> Result<(), Fail> {
     Ok(())
 }
 
-#[test]
-fn labels_are_named(rt: HostRuntime) -> Result<(), Fail> {
-    let alloc = rt.alloc();
-    let text = "label:Code-Review+2 -(is:true label:A>1) NOT label:A=ANY";
+/// The labels that a requirement names, a blank behind each.
+fn names(alloc: Global, text: &str) -> Result<String, Fail> {
     let expr = parse_requirement(alloc, text).ok().ok_or("no expression")?;
     let mut names = String::new(alloc);
     for label in &labels_of(alloc, &expr)? {
         names.push_str(label.as_str())?;
         names.push_str(" ")?;
     }
-    assert_eq!(rt; names.as_str(), "A Code-Review ");
+    Ok(names)
+}
+
+#[test]
+fn labels_are_named(rt: HostRuntime) -> Result<(), Fail> {
+    let alloc = rt.alloc();
+    for (text, wanted) in [
+        ("label:Code-Review+2 -(is:true)", "Code-Review "),
+        (
+            "label:Code-Review+2 -(is:true label:A>1) NOT label:A=ANY",
+            "A Code-Review ",
+        ),
+    ] {
+        let found = names(alloc, text)?;
+        assert_eq!(rt; found.as_str(), wanted, "of {text}");
+    }
     let copy = parse_copy(alloc, "is:1").ok().ok_or("no expression")?;
     assert_eq!(rt; labels_of(alloc, &copy)?.len(), 0);
     Ok(())

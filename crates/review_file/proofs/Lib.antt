@@ -5,7 +5,9 @@ pub mod DeepWords
 pub mod Together
 pub mod SoundLabels
 pub mod Ranges
+pub mod Ends
 pub mod OneFile
 pub mod Placed
 pub mod KeysInOrder
+pub mod TablesInOrder
 pub mod NamesInOrder

@@ -1,26 +1,33 @@
 -- The labels of a file that was read are sound.
-use Rattle.std.proofs.Common.{◌≡◌, ℕ, ℤ, pos, negsuc, Bool, true, false, List, [], ◌∷◌, map, Option, Some, None, refl, ap, sym, subst, ◌∙◌, ◌⊎◌, inl, inr, cond, arith}
+use Rattle.std.proofs.Common.{◌≡◌, ℕ, ℤ, pos, negsuc, Bool, true, false, Less, nat_cmp, is_eq, List, [], ◌∷◌, map, Option, Some, None, refl, ap, sym, subst, ◌∙◌, ◌⊎◌, inl, inr, cond, arith}
 use Rattle.std.proofs.lemmas.List.{length-map}
 use Rattle.std.proofs.lemmas.Bool.Decides.{nat_tests, Decides-int_eq}
+use Rattle.std.proofs.lemmas.Cmp.{nat_list_cmp_total}
+use Rattle.std.proofs.lemmas.Map.Text.{is_eq-slice_cmp}
 use Rattle.std.specs.Prelude.{neg_ℤ, if◌then◌else◌, not, ◌&&◌, ◌||◌, length, nat_lt, int_lt, int_le, filter, codes, unwrap_or}
-use Rattle.std.specs.List.{list_all, list_any}
+use Rattle.std.specs.Cmp.Lexicographic.{slice_cmp}
+use Rattle.std.specs.List.{AllByRecursion, list_all, list_any}
+use Rattle.std.specs.List.Sorted.{IsStrictlySortedBy}
 use Rattle.std.specs.Option.{option_map_or}
-use Rattle.std.specs.Ordering.{int_eq}
+use Rattle.std.specs.Ordering.{int_eq, ordering_reverse}
+use Rattle.std.specs.Str.{bytes_eq}
 use Rattle.toml.specs.Data.{Data, table}
 use Rattle.review_words.specs.Forms.{is_label}
 use Rattle.review_words.specs.Names.{is_word}
 use Rattle.review_document.specs.Document.{members_at}
 use Rattle.review_document.specs.Keys.{has_unknown_key, lacks_key}
 use Rattle.review_document.specs.Names.{has_bad_name}
-use Rattle.review_document.specs.Values.{value_of, spells, has_value, towards_zero, end_at, is_bad_value, is_bad_key, is_bad_grant, is_no_run, is_bad_label, has_value_twice, has_bad_values}
+use Rattle.review_document.specs.Values.{value_of, spells, has_value, has_double, has_twice, towards_zero, end_at, is_bad_value, is_bad_key, is_bad_grant, is_no_run, is_bad_label, has_value_twice, has_bad_values}
 use Rattle.review_expr.specs.declared.expr.Expr.{Expr}
 use Rattle.review_words.specs.declared.faults.FileFault.{FileFault}
 use Rattle.review_words.specs.declared.faults.FileFault.TheVariants.{UnknownKey, Missing, BadName, Twice, BadValues}
 use Rattle.review_file.specs.Expressions.{EachTo, IsLabel, has_unknown_label}
 use Rattle.review_file.specs.Reading.{first_fault, IsProjectFile}
-use Rattle.review_file.specs.Sound.{is_value, is_far, is_run, is_range, is_sound_label, has_sound_labels}
+use Rattle.review_file.specs.Sound.{is_value, is_far, has_number_twice, is_run, is_range, is_sound_label, has_sound_labels}
 use Rattle.review_file.specs.Spelled.{value_in, grant_in, narrowed, label_in, named}
 use Rattle.review_file.specs.View.{LabelView, FileView}
+use Rattle.review_file.proofs.KeysInOrder.{InOrder}
+use Rattle.review_file.proofs.TablesInOrder.{EachInOrder, Sorted, keys, inner_sorted, table_within}
 
 -- a number from -20 to 20 is kept as it is
 near : (v : ℤ) → is_far v ≡ false → narrowed v ≡ v
@@ -52,6 +59,14 @@ or_either : (a b : Bool) → (a || b) ≡ true → (a ≡ true) ⊎ (b ≡ true)
 or_either true b h = inl refl
 or_either false b h = inr h
 
+or_neither : (a b : Bool) → a ≡ false → b ≡ false → (a || b) ≡ false
+or_neither false b h g = g
+or_neither true b h g = h
+
+and_other : (a b : Bool) → a ≡ false → (not a && b) ≡ false → b ≡ false
+and_other false b h g = g
+and_other true b h g = absurd (let none : true ≡ false = h in cc)
+
 far_from : (a b c : Bool) → (a || (b || not c)) ≡ false → ((a || b) ≡ false) × (c ≡ true)
 far_from true b c h = absurd (let none : true ≡ false = h in cc)
 far_from false true c h = absurd (let none : true ≡ false = h in cc)
@@ -63,6 +78,23 @@ all_three true true true h = (refl, refl, refl)
 all_three true true false h = absurd (let none : true ≡ false = h in cc)
 all_three true false c h = absurd (let none : true ≡ false = h in cc)
 all_three false b c h = absurd (let none : true ≡ false = h in cc)
+
+-- a key is not equal to one below it
+apart : (k l : List ℕ) → slice_cmp nat_cmp k l ≡ Less → bytes_eq l k ≡ false
+apart k l below = sym (is_eq-slice_cmp l k) ∙ ap is_eq (nat_list_cmp_total.antisymm l k ∙ ap ordering_reverse below)
+
+-- where no key but one spells a number, none of those above that one does
+none_above : (k : List ℕ) (v : ℤ) (ms : List (List ℕ × Data)) → AllByRecursion (λ l. slice_cmp nat_cmp k l ≡ Less) (keys ms) → list_any (λ m. not (bytes_eq m.0 k) && spells v m.0) ms ≡ false →
+    has_value v ms ≡ false
+none_above k v [] above h = refl
+none_above k v (m ∷ ms) above h =
+    or_neither (spells v m.0) (has_value v ms)
+    (and_other (bytes_eq m.0 k) (spells v m.0) (apart k m.0 above.0) (or_left (not (bytes_eq m.0 k) && spells v m.0) (list_any (λ n. not (bytes_eq n.0 k) && spells v n.0) ms) h))
+    (none_above k v ms above.1 (or_right (not (bytes_eq m.0 k) && spells v m.0) (list_any (λ n. not (bytes_eq n.0 k) && spells v n.0) ms) h))
+
+-- what none of some members is, none of these is
+abbrev IsPart : List (List ℕ × Data) → List (List ℕ × Data) → Type 0
+IsPart ms us = (test : List ℕ × Data → Bool) → list_any test us ≡ false → list_any test ms ≡ false
 
 module _ (us : List (List ℕ × Data)) where
   -- whether a key that isn't bad spells a number
@@ -104,16 +136,36 @@ module _ (us : List (List ℕ × Data)) where
       and_both _ _ (key_joined (value_of m.0) same (or_left (is_bad_key us m.0) (list_any (λ n. is_bad_key us n.0) ms) h))
       (keys_joined ms same (or_right (is_bad_key us m.0) (list_any (λ n. is_bad_key us n.0) ms) h))
 
+  -- no later key spells the number of a key that has no double
+  key_once : (o : Option ℤ) (k : List ℕ) (ms : List (List ℕ × Data)) → IsPart ms us → list_any (λ m. is_bad_key us m.0) ms ≡ false →
+      AllByRecursion (λ l. slice_cmp nat_cmp k l ≡ Less) (keys ms) → option_map_or (is_bad_value us) o true ≡ false →
+      option_map_or (λ v. list_any (λ m. not (bytes_eq m.0 k) && spells v m.0) us) o false ≡ false → is_value (map value_in ms) (unwrap_or o (pos 0)) ≡ false
+  key_once None k ms part good above h double = absurd (let none : true ≡ false = h in cc)
+  key_once (Some v) k ms part good above h double = sym (keys_spell ms v good) ∙ none_above k v ms above (part (λ m. not (bytes_eq m.0 k) && spells v m.0) double)
+
+  -- keys without doubles spell no number twice
+  keys_once : (ms : List (List ℕ × Data)) → IsPart ms us → list_any (λ m. is_bad_key us m.0) ms ≡ false → list_any (λ m. has_double us m.0) ms ≡ false → Sorted (keys ms) →
+      has_number_twice (map value_in ms) ≡ false
+  unfolding IsStrictlySortedBy
+  keys_once [] part good double sorted = refl
+  keys_once (m ∷ ms) part good double sorted =
+      let rest : IsPart ms us = λ test none. or_right (test m) (list_any test ms) (part test none) in
+      let good_here = or_left (is_bad_key us m.0) (list_any (λ n. is_bad_key us n.0) ms) good in
+      let good_rest = or_right (is_bad_key us m.0) (list_any (λ n. is_bad_key us n.0) ms) good in
+      or_neither _ _ (key_once (value_of m.0) m.0 ms rest good_rest sorted.0 good_here (or_left (has_double us m.0) (list_any (λ n. has_double us n.0) ms) double))
+      (keys_once ms rest good_rest (or_right (has_double us m.0) (list_any (λ n. has_double us n.0) ms) double) sorted.1)
+
   good_keys : is_no_run us ≡ false → list_any (λ m. is_bad_key us m.0) us ≡ false
   good_keys h = or_right (not (has_value (pos 0) us)) _ (or_right (nat_lt (length us) 2) _ h)
 
-  -- keys that are those of a run spell one
-  run : is_no_run us ≡ false → is_run (map value_in us) ≡ true
-  run h =
+  -- keys that are those of a run, none with a double, spell one
+  run : is_no_run us ≡ false → has_twice us ≡ false → Sorted (keys us) → is_run (map value_in us) ≡ true
+  run h once sorted =
       let same : (v : ℤ) → has_value v us ≡ is_value (map value_in us) v = λ v. keys_spell us v (good_keys h) in
       let many : nat_lt (length (map value_in us)) 2 ≡ false = ap (λ n. nat_lt n 2) (length-map us value_in) ∙ or_left (nat_lt (length us) 2) _ h in
       let zero_there = not_true (has_value (pos 0) us) (or_left (not (has_value (pos 0) us)) _ (or_right (nat_lt (length us) 2) _ h)) in
-      and_both _ _ (not_false _ many) (and_both _ _ (sym (same (pos 0)) ∙ zero_there) (keys_joined us same (good_keys h)))
+      let each_once = keys_once us (λ test none. none) (good_keys h) once sorted in
+      and_both _ _ (not_false _ many) (and_both _ _ (sym (same (pos 0)) ∙ zero_there) (and_both _ _ (not_false _ each_once) (keys_joined us same (good_keys h))))
 
   -- a grant whose ends are values in order is a range
   range : (g : List ℕ × Data) → is_no_run us ≡ false → is_bad_grant us g.1 ≡ false → is_range (map value_in us) (grant_in g) ≡ true
@@ -137,50 +189,54 @@ module _ (us : List (List ℕ × Data)) where
       one_range (is_word g.0) g (filter (λ k. is_word k.0) gs) (range g h (or_left (is_bad_grant us g.1) (list_any (λ k. is_bad_grant us k.1) gs) good))
       (ranges gs h (or_right (is_bad_grant us g.1) (list_any (λ k. is_bad_grant us k.1) gs) good))
 
-label_sound : (m : List ℕ × Data) (l : LabelView Expr) → is_bad_label m.1 ≡ false → IsLabel (label_in m) l → is_sound_label l ≡ true
-label_sound m l h is =
+label_sound : (m : List ℕ × Data) (l : LabelView Expr) → is_bad_label m.1 ≡ false → has_twice (members_at (codes "values") m.1) ≡ false → InOrder m.1 → IsLabel (label_in m) l →
+    is_sound_label l ≡ true
+label_sound m l h once sorted is =
     let us = members_at (codes "values") m.1 in
     let no_run = or_left (is_no_run us) (list_any (λ g. is_bad_grant us g.1) (members_at (codes "grant") m.1)) h in
     let grants = or_right (is_no_run us) (list_any (λ g. is_bad_grant us g.1) (members_at (codes "grant") m.1)) h in
-    and_both _ _ (ap is_run is.1 ∙ run us no_run)
+    and_both _ _ (ap is_run is.1 ∙ run us no_run once (inner_sorted (codes "values") m.1 sorted))
     (ap (λ gs. list_all (is_range l.values) gs) is.2 ∙ (ap (λ vs. list_all (is_range vs) (map grant_in (filter (λ g. is_word g.0) (members_at (codes "grant") m.1)))) is.1
     ∙ ranges us (members_at (codes "grant") m.1) no_run grants))
 
 -- the labels of members of a table, the first of which may have no name
-one_label : (b : Bool) (m : List ℕ × Data) (ms : List (List ℕ × Data)) (ls : List (LabelView Expr)) → is_bad_label m.1 ≡ false →
+one_label : (b : Bool) (m : List ℕ × Data) (ms : List (List ℕ × Data)) (ls : List (LabelView Expr)) → ((l : LabelView Expr) → IsLabel (label_in m) l → is_sound_label l ≡ true) →
     ((ks : List (LabelView Expr)) → EachTo IsLabel (map label_in (named ms)) ks → list_all is_sound_label ks ≡ true) →
     EachTo IsLabel (map label_in (cond b (m ∷ named ms) (named ms))) ls → list_all is_sound_label ls ≡ true
-one_label true m ms (l ∷ ls) h rest each = and_both _ _ (label_sound m l h each.0) (rest ls each.1)
-one_label true m ms [] h rest each = absurd each
-one_label false m ms ls h rest each = rest ls each
+one_label true m ms (l ∷ ls) here rest each = and_both _ _ (here l each.0) (rest ls each.1)
+one_label true m ms [] here rest each = absurd each
+one_label false m ms ls here rest each = rest ls each
 
-labels_sound : (ms : List (List ℕ × Data)) (ls : List (LabelView Expr)) → list_any (λ m. is_bad_label m.1) ms ≡ false → EachTo IsLabel (map label_in (named ms)) ls →
-    list_all is_sound_label ls ≡ true
-labels_sound [] [] h each = refl
-labels_sound [] (l ∷ ls) h each = absurd each
-labels_sound (m ∷ ms) ls h each =
-    one_label (is_label m.0) m ms ls (or_left (is_bad_label m.1) (list_any (λ n. is_bad_label n.1) ms) h)
-    (λ ks rest. labels_sound ms ks (or_right (is_bad_label m.1) (list_any (λ n. is_bad_label n.1) ms) h) rest) each
+labels_sound : (ms : List (List ℕ × Data)) (ls : List (LabelView Expr)) → list_any (λ m. is_bad_label m.1) ms ≡ false → list_any (λ m. has_twice (members_at (codes "values") m.1)) ms ≡ false →
+    EachInOrder ms → EachTo IsLabel (map label_in (named ms)) ls → list_all is_sound_label ls ≡ true
+labels_sound [] [] h once sorted each = refl
+labels_sound [] (l ∷ ls) h once sorted each = absurd each
+labels_sound (m ∷ ms) ls h once sorted each =
+    let good = or_left (is_bad_label m.1) (list_any (λ n. is_bad_label n.1) ms) h in
+    let good_rest = or_right (is_bad_label m.1) (list_any (λ n. is_bad_label n.1) ms) h in
+    let once_here = or_left (has_twice (members_at (codes "values") m.1)) (list_any (λ n. has_twice (members_at (codes "values") n.1)) ms) once in
+    let once_rest = or_right (has_twice (members_at (codes "values") m.1)) (list_any (λ n. has_twice (members_at (codes "values") n.1)) ms) once in
+    one_label (is_label m.0) m ms ls (λ l is. label_sound m l good once_here sorted.0 is) (λ ks rest. labels_sound ms ks good_rest once_rest sorted.1 rest) each
 
 abbrev ladder : Bool → Bool → Bool → Bool → Bool → Option FileFault
 ladder a b c d e = if a then Some UnknownKey else if b then Some Missing else if c then Some BadName else if d then Some Twice else if e then Some BadValues else None
 
-last_of_five : (a b c d e : Bool) → ladder a b c d e ≡ None → e ≡ false
-last_of_five false false false false false h = refl
-last_of_five false false false false true h = absurd (let none : Some BadValues ≡ None = h in cc)
-last_of_five false false false true e h = absurd (let none : Some Twice ≡ None = h in cc)
-last_of_five false false true d e h = absurd (let none : Some BadName ≡ None = h in cc)
-last_of_five false true c d e h = absurd (let none : Some Missing ≡ None = h in cc)
-last_of_five true b c d e h = absurd (let none : Some UnknownKey ≡ None = h in cc)
+last_two_of_five : (a b c d e : Bool) → ladder a b c d e ≡ None → (d ≡ false) × (e ≡ false)
+last_two_of_five false false false false false h = (refl, refl)
+last_two_of_five false false false false true h = absurd (let none : Some BadValues ≡ None = h in cc)
+last_two_of_five false false false true e h = absurd (let none : Some Twice ≡ None = h in cc)
+last_two_of_five false false true d e h = absurd (let none : Some BadName ≡ None = h in cc)
+last_two_of_five false true c d e h = absurd (let none : Some Missing ≡ None = h in cc)
+last_two_of_five true b c d e h = absurd (let none : Some UnknownKey ≡ None = h in cc)
 
-good_values : (file : Data) → first_fault file ≡ None → has_bad_values file ≡ false
-good_values file h = last_of_five (has_unknown_key file) (lacks_key file) (has_bad_name file) (has_value_twice file) (has_bad_values file) h
+good_values : (file : Data) → first_fault file ≡ None → (has_value_twice file ≡ false) × (has_bad_values file ≡ false)
+good_values file h = last_two_of_five (has_unknown_key file) (lacks_key file) (has_bad_name file) (has_value_twice file) (has_bad_values file) h
 
 -- the labels of a file that some text spells are sound
 pub sound_labels : (f : FileView Expr) → IsProjectFile f → has_sound_labels f ≡ true
-sound_labels f (text, read) =
-    let file = read.1.2.0 in
-    labels_sound (members_at (codes "label") (table read.1.0)) f.labels (good_values (table read.1.0) file.0) file.1.2
+sound_labels f (text, (short, (ms, parsed, read))) =
+    let good = good_values (table ms) read.0.0 in
+    labels_sound (members_at (codes "label") (table ms)) f.labels good.1 good.0 (table_within text (codes "label") ms parsed) read.0.1.2
 
 -- and its requirements name its labels alone
 pub known_labels : (f : FileView Expr) → IsProjectFile f → has_unknown_label f ≡ false

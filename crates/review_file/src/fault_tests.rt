@@ -244,6 +244,7 @@ fn patterns_and_names_are_accepted(rt: HostRuntime) -> Result<(), Fail> {
         "file:docs",
         "path:\"^(src/)?docs/.*\"",
         "path:docs",
+        "path:\"^(src|docs)/.*\\.md\"",
         "label:Code-Review+2 -(is:true)",
     ] {
         assert_eq!(rt; required(alloc, expression)?, None);
@@ -291,6 +292,18 @@ fn the_first_faulty_expression_is_given(rt: HostRuntime) -> Result<(), Fail> {
     ] {
         assert_eq!(rt; expression_fault(alloc, text), Some(wanted));
     }
+    Ok(())
+}
+
+/// The example of EXPR in `docs/project-files.md`.
+const ZERO_MEETS: &str = r#"[submit-requirement.Verified]
+submittableIf = "is:true AND label:Verified<1"
+"#;
+
+#[test]
+fn the_example_of_a_faulty_expression_has_its_place(rt: HostRuntime) -> Result<(), Fail> {
+    let alloc = rt.alloc();
+    assert_eq!(rt; expression_fault(alloc, ZERO_MEETS), Some(("ZERO", 12)));
     Ok(())
 }
 

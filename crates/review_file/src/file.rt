@@ -1,9 +1,10 @@
 //! A project file.
-ghost use Rattle.std.specs.Prelude.{◌≡◌, true, false, find, option_copied, option_map, string_bytes};
+ghost use Rattle.std.specs.Prelude.{◌≡◌, ◌≤ℤ◌, true, false, find, option_copied, option_map, string_bytes};
+ghost use Rattle.std.specs.List.{All};
 ghost use Rattle.std.specs.Str.{bytes_eq};
 ghost use Rattle.review_file.specs.Expressions.{has_unknown_label};
 ghost use Rattle.review_file.specs.Reading.{IsProjectFile};
-ghost use Rattle.review_file.specs.Sound.{HasNamesInOrder, has_sound_labels};
+ghost use Rattle.review_file.specs.Sound.{HasGroupsInOrder, HasNamesInOrder, has_sound_labels, is_sound_label, is_value};
 ghost use Rattle.review_file.specs.Rights.{greatest_value, least_value};
 
 use review_expr::Expr;
@@ -106,9 +107,12 @@ impl Label {
         &self.values
     }
 
-    /// The least value, which `MIN` means. This is Gerrit's.
+    /// The least value, which `MIN` means. This is Gerrit's. It is a value of the label, as 0 is of
+    /// every label of a file, and no value lies below it.
     pub fn least(&self) -> i8
-        ensures { result ≡ least_value self.now.values }
+        ensures least { result ≡ least_value self.now.values }
+        ensures value { is_sound_label self.now ≡ true → is_value self.now.values result ≡ true }
+        ensures below { All (λ v. result ≤ℤ v.0) self.now.values }
     {
         let mut least = 0;
         for value in &self.values {
@@ -117,9 +121,12 @@ impl Label {
         least
     }
 
-    /// The greatest value, which `MAX` means. This is Gerrit's.
+    /// The greatest value, which `MAX` means. This is Gerrit's. It is a value of the label, as 0 is
+    /// of every label of a file, and no value lies above it.
     pub fn greatest(&self) -> i8
-        ensures { result ≡ greatest_value self.now.values }
+        ensures greatest { result ≡ greatest_value self.now.values }
+        ensures value { is_sound_label self.now ≡ true → is_value self.now.values result ≡ true }
+        ensures above { All (λ v. v.0 ≤ℤ result) self.now.values }
     {
         let mut greatest = 0;
         for value in &self.values {
@@ -288,15 +295,17 @@ impl ProjectFile {
     }
 
     /// What is true of every file. Some text spells it. The values of each label are two or more,
-    /// an unbroken run within -20 to 20 with 0 among them, and the ends of its grants are such
-    /// values in order. Its requirements name its labels alone. The names of the labels ascend in
-    /// the order of their bytes, and so do those of the requirements.
-    #[tactic(auto, using(crate::proofs::NamesInOrder::labels_in_order, crate::proofs::NamesInOrder::requirements_in_order, crate::proofs::SoundLabels::known_labels, crate::proofs::SoundLabels::sound_labels))]
+    /// an unbroken run within -20 to 20 with 0 among them and no number twice, and the ends of its
+    /// grants are such values in order. Its requirements name its labels alone. The names of the
+    /// labels ascend in the order of their bytes, and so do those of the requirements and the groups
+    /// of each label's grants.
+    #[tactic(auto, using(crate::proofs::NamesInOrder::groups_in_order, crate::proofs::NamesInOrder::labels_in_order, crate::proofs::NamesInOrder::requirements_in_order, crate::proofs::SoundLabels::known_labels, crate::proofs::SoundLabels::sound_labels))]
     pub fn facts(&self)
         ensures spelled { IsProjectFile self.now }
         ensures labels { has_sound_labels self.now ≡ true }
         ensures requirements { has_unknown_label self.now ≡ false }
         ensures names { HasNamesInOrder self.now }
+        ensures groups { HasGroupsInOrder self.now }
     {
         let _ = &self.content;
     }

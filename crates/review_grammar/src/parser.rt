@@ -270,8 +270,8 @@ fn unary<W: Drop>(
             Ok(part.negated(alloc)?)
         }
         Prefix::Minus => {
-            let part = primary(alloc, tokens, fuel - 1)?;
-            Ok(part.negated(alloc)?)
+            let member = primary(alloc, tokens, fuel - 1)?;
+            Ok(member.negated(alloc)?)
         }
         Prefix::None => {
             let part = primary(alloc, tokens, fuel - 1)?;

@@ -1,5 +1,5 @@
 //! Terms written as words.
-ghost use Rattle.std.specs.Prelude.{◌≡◌, ◌++◌, ℕ, List, codes, OnOk, string_bytes};
+ghost use Rattle.std.specs.Prelude.{◌≡◌, ◌++◌, ℕ, List, codes, OnErr, OnOk, string_bytes};
 ghost use Rattle.std.specs.List.{list_any};
 ghost use Rattle.review_words.specs.Texts.{numeral};
 ghost use Rattle.review_grammar.specs.Lexemes.{is_end};
@@ -173,11 +173,7 @@ fn truth_text(holds: bool) -> &'static str
     if holds { "true" } else { "false" }
 }
 
-/// Appends the word of a submit requirement's term, `path:^RE` for a pattern of paths. A label's
-/// numbers stand without a plus, and its user or group part before its count. The value stands in
-/// quotes exactly where it has white space or a parenthesis. An error where there was no memory for
-/// it; part of the word may stand in the text then.
-pub fn push_requirement(text: &mut String, term: &RequirementTerm) -> Result<(), AllocError>
+fn push_requirement_word(text: &mut String, term: &RequirementTerm) -> Result<(), AllocError>
     ensures { OnOk result (string_bytes text.new ≡ string_bytes text.old ++ requirement_word term.now) }
 {
     match term {
@@ -192,6 +188,19 @@ pub fn push_requirement(text: &mut String, term: &RequirementTerm) -> Result<(),
         RequirementTerm::File(name) => push_word(text, "file", name.as_str()),
         RequirementTerm::Unresolved => push_word(text, "has", "unresolved"),
     }
+}
+
+/// Appends the word of a submit requirement's term, `path:^RE` for a pattern of paths. A label's
+/// numbers stand without a plus, and its user or group part before its count. The value stands in
+/// quotes exactly where it has white space or a parenthesis. An error where there was no memory for
+/// it; the text is as it was then.
+pub fn push_requirement(text: &mut String, term: &RequirementTerm) -> Result<(), AllocError>
+    ensures text { OnOk result (string_bytes text.new ≡ string_bytes text.old ++ requirement_word term.now) }
+    ensures kept { OnErr result (string_bytes text.new ≡ string_bytes text.old) }
+{
+    let mut word = String::new(*text.allocator());
+    push_requirement_word(&mut word, term)?;
+    text.push_str(word.as_str())
 }
 
 fn kind_name(kind: ChangeKind) -> &'static str
@@ -217,9 +226,7 @@ fn push_vote_word(text: &mut String, asked: VoteValue) -> Result<(), AllocError>
     Ok(())
 }
 
-/// Appends the word of a copy condition's term, its number without a plus. An error where there was
-/// no memory for it; part of the word may stand in the text then.
-pub fn push_copy(text: &mut String, term: &CopyTerm) -> Result<(), AllocError>
+fn push_copy_word(text: &mut String, term: &CopyTerm) -> Result<(), AllocError>
     ensures { OnOk result (string_bytes text.new ≡ string_bytes text.old ++ copy_word term.now) }
 {
     match term {
@@ -229,4 +236,15 @@ pub fn push_copy(text: &mut String, term: &CopyTerm) -> Result<(), AllocError>
         CopyTerm::UploaderIn(group) => push_word(text, "uploaderin", group.as_str()),
         CopyTerm::UnchangedFiles => push_word(text, "has", "unchanged-files"),
     }
+}
+
+/// Appends the word of a copy condition's term, its number without a plus. An error where there was
+/// no memory for it; the text is as it was then.
+pub fn push_copy(text: &mut String, term: &CopyTerm) -> Result<(), AllocError>
+    ensures text { OnOk result (string_bytes text.new ≡ string_bytes text.old ++ copy_word term.now) }
+    ensures kept { OnErr result (string_bytes text.new ≡ string_bytes text.old) }
+{
+    let mut word = String::new(*text.allocator());
+    push_copy_word(&mut word, term)?;
+    text.push_str(word.as_str())
 }

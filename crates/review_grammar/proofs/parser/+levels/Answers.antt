@@ -18,14 +18,14 @@ unary-returns-in_ok-negated-in-Not g t c =
     at_not c.args.fuel _ _ c.if-fuel-eq0.false c.in-Not.ensures ∙ ap (option_map negated_read) c.in_ok-part-in-Not.ensures
     ∙ ap (λ p. Some (p, toks c.unary.new.tokens.items)) (sym (c.in_ok-negated-in-Not.ensures))
 
-pub unary-returns-in_err-part-in-Minus : goal.unary-returns-in_err-part-in-Minus
-unary-returns-in_err-part-in-Minus g t c =
-    let p = err_from_is_err_and c.from_residual-in_err-part-in-Minus.result c.from_residual-in_err-part-in-Minus.ensures.1 in
-    rw (p.1, p.2, at_minus c.args.fuel _ _ c.if-fuel-eq0.false c.in-Minus.ensures) (fails_map negated_read _ _ c.in_err-part-in-Minus.ensures)
+pub unary-returns-in_err-member-in-Minus : goal.unary-returns-in_err-member-in-Minus
+unary-returns-in_err-member-in-Minus g t c =
+    let p = err_from_is_err_and c.from_residual-in_err-member-in-Minus.result c.from_residual-in_err-member-in-Minus.ensures.1 in
+    rw (p.1, p.2, at_minus c.args.fuel _ _ c.if-fuel-eq0.false c.in-Minus.ensures) (fails_map negated_read _ _ c.in_err-member-in-Minus.ensures)
 
 pub unary-returns-in_ok-negated-in-Minus : goal.unary-returns-in_ok-negated-in-Minus
 unary-returns-in_ok-negated-in-Minus g t c =
-    at_minus c.args.fuel _ _ c.if-fuel-eq0.false c.in-Minus.ensures ∙ ap (option_map negated_read) c.in_ok-part-in-Minus.ensures
+    at_minus c.args.fuel _ _ c.if-fuel-eq0.false c.in-Minus.ensures ∙ ap (option_map negated_read) c.in_ok-member-in-Minus.ensures
     ∙ ap (λ p. Some (p, toks c.primary.new.tokens.items)) (sym (c.in_ok-negated-in-Minus.ensures))
 
 pub unary-returns-in_ok-part-in-None : goal.unary-returns-in_ok-part-in-None
