@@ -7,10 +7,10 @@ use review_words::{AccountNo, RequestId};
 use std::alloc::Global;
 
 /// A shelf over another one that passes its commit of a given number on, then answers Store, and is shut from then on: as a
-/// store whose last sync failed.
+/// store whose last sync failed. Its turn counts commits.
 #[derive(Drop)]
 pub struct ShuttingShelf<T> {
-    inner: T,
+    pub(crate) inner: T,
     turn: Turn,
     refused: u64,
 }
