@@ -1,5 +1,6 @@
 -- Which of many calls fails.
-use Rattle.std.proofs.Common.{◌≡◌, ◌≢◌, ℕ, zero, suc, ◌+◌, ◌-◌, ◌≤◌, ◌==◌, ◌↔◌, Bool, true, false, cond, refl, sym, ap, ◌∙◌, arith, eqb-true, eqb-false, eq-eqb}
+use Rattle.std.proofs.Common.{◌≡◌, ◌≢◌, ℕ, zero, suc, ◌+◌, ◌-◌, ◌≤◌, ◌==◌, ◌↔◌, Bool, true, false, cond, refl, sym, ap, ◌∙◌, arith, eqb-true, eq-eqb}
+use Rattle.std.proofs.lemmas.Bool.{eqb-false}
 use Rattle.review_shelves.specs.declared.faulty.Turn.{Turn}
 use Rattle.review_shelves.specs.declared.faulty.Turn.TheVariants.{Ahead, Past}
 use Rattle.review_shelves.specs.Faults.{is_next, is_past, after_calls}
