@@ -44,9 +44,10 @@ to_end [] = (refl, refl)
 to_end (c ∷ cs) =
     let rest = to_end cs in
     let all = list_all is_label_character cs in
-    let after = has_letters_after_hyphens cs in
-    (behind (is_label_character c) (c == 45) cs (begins_with_letter cs) all after rest.0 rest.1,
-    first_letter c (is_ascii_alphabetic c) refl (begins_with_letter cs) all after (goes_on false cs) rest.0)
+    let after = has_letters_after_hyphens cs in (
+      behind (is_label_character c) (c == 45) cs (begins_with_letter cs) all after rest.0 rest.1,
+      first_letter c (is_ascii_alphabetic c) refl (begins_with_letter cs) all after (goes_on false cs) rest.0,
+    )
 
 pub label_is : (s : List ℕ) → is_label s ≡ (nat_le (length s) 40 && (begins_with_letter s && (list_all is_label_character s && has_letters_after_hyphens s)))
 unfolding is_label
