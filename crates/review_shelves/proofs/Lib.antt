@@ -6,3 +6,4 @@ pub mod Applied
 pub mod First
 pub mod Based
 pub mod Lengths
+pub mod Turns

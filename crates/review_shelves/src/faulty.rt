@@ -5,7 +5,8 @@ use review_rows::{Delta, Kept, Need, Rows, Shelf, ShelfFault};
 use review_words::{AccountNo, RequestId};
 use std::alloc::Global;
 
-/// Which call to come fails.
+/// Which call to come fails: a shelf's turn, which contracts see beside the shelf below. Each call that may fail takes it one
+/// further, and the one fails that finds it at 1 (`only_that_fails`).
 #[derive(Clone, Copy, Debug, PartialEq, Eq)]
 pub enum Turn {
     /// The call of this number, counted from 1; with 0 none does.
@@ -14,7 +15,8 @@ pub enum Turn {
     Past,
 }
 
-/// A shelf over another one, whose call of a given number answers Store and isn't passed on.
+/// A shelf over another one, whose call of a given number answers Store and isn't passed on. Its turn counts `recall`, `load` and
+/// `commit`.
 #[derive(Drop)]
 pub struct FaultyShelf<T> {
     inner: T,

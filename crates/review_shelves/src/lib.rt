@@ -5,11 +5,13 @@ mod branches;
 mod changes;
 mod faulty;
 mod keys;
+mod laws;
 mod memory;
 mod shutting;
 mod tables;
 
 pub use faulty::FaultyShelf;
+pub use laws::{only_that_fails, shut_from_then};
 pub use memory::MemoryShelf;
 pub use shutting::ShuttingShelf;
 

@@ -1,6 +1,5 @@
 ghost use Rattle.std.specs.Prelude.{◌≡◌, true, false, ℕ, ◌+◌, ◌≤◌, ◌<◌, ◌⊎◌, IfOk, OnOk, OnErr};
 ghost use Rattle.review_rows.specs.Shelf.{ShowsAs, greatest_count};
-ghost use Rattle.review_shelves.specs.Faults.{is_past};
 
 use crate::faulty::Turn;
 use review_rows::{Delta, Kept, Need, Rows, Shelf, ShelfFault};
@@ -8,10 +7,10 @@ use review_words::{AccountNo, RequestId};
 use std::alloc::Global;
 
 /// A shelf over another one that passes its commit of a given number on, then answers Store, and is shut from then on: as a
-/// store whose last sync failed.
+/// store whose last sync failed. Its turn counts commits.
 #[derive(Drop)]
 pub struct ShuttingShelf<T> {
-    inner: T,
+    pub(crate) inner: T,
     turn: Turn,
     refused: u64,
 }
@@ -28,12 +27,6 @@ impl<T: Shelf> ShuttingShelf<T> {
             turn: Turn::Ahead(k),
             refused: 0,
         }
-    }
-
-    fn is_shut(&self) -> bool
-        ensures { result ≡ is_past self.now.turn }
-    {
-        matches!(self.turn, Turn::Past)
     }
 
     // Is shut from now on, and counts a refused call.
@@ -69,11 +62,13 @@ impl<T: Shelf> Shelf for ShuttingShelf<T> {
         ensures counted { CountsFaults result (shutting T.state self.old).faults (shutting T.state self.new).faults }
         ensures in_turn { ShutsInTurn T.state self.old result self.old.turn self.new }
     {
-        if self.is_shut() {
-            self.refuse();
-            return Err(ShelfFault::Store);
+        match self.turn {
+            Turn::Ahead(_) => self.inner.recall(alloc, caller, id),
+            Turn::Past => {
+                self.refuse();
+                Err(ShelfFault::Store)
+            }
         }
-        self.inner.recall(alloc, caller, id)
     }
 
     fn load(&mut self, alloc: Global, need: &Need) -> Result<Rows, ShelfFault>
@@ -85,11 +80,13 @@ impl<T: Shelf> Shelf for ShuttingShelf<T> {
         ensures counted { CountsFaults result (shutting T.state self.old).faults (shutting T.state self.new).faults }
         ensures in_turn { ShutsInTurn T.state self.old result self.old.turn self.new }
     {
-        if self.is_shut() {
-            self.refuse();
-            return Err(ShelfFault::Store);
+        match self.turn {
+            Turn::Ahead(_) => self.inner.load(alloc, need),
+            Turn::Past => {
+                self.refuse();
+                Err(ShelfFault::Store)
+            }
         }
-        self.inner.load(alloc, need)
     }
 
     fn commit(&mut self, alloc: Global, delta: &Delta, kept: &Kept) -> Result<(), ShelfFault>

@@ -5,11 +5,11 @@ ghost use Rattle.std.specs.List.{All, list_any};
 ghost use Rattle.std.specs.Ordering.{nat_cmp};
 ghost use Rattle.std.specs.Cmp.Lexicographic.{slice_cmp};
 ghost use Rattle.std.specs.Str.{bytes_eq};
-ghost use Rattle.review_table.specs.Rows.{row_in, rows_of};
+ghost use Rattle.review_table.specs.Rows.{row_in, rows_of, IsEmptyPlace};
 ghost use Rattle.review_rows.specs.Rows.{BranchRow, member_cmp, branch_cmp, is_member_key, is_asked_name, is_branch_key, has_commit, projects_after, kept_row, wanted_by, IsLastAccount, IsFoundWhereAsked, ArePicked};
 ghost use Rattle.review_rows.specs.Shelf.{IsRecalled, AreSelected, IsCommitted};
 ghost use Rattle.review_rows.specs.View.{IsView, branch_row};
-ghost use Rattle.review_shelves.specs.Desk.{tables_of, desk_of, row_of, file_row, name_cmp, IsIndexed, IsNumbered, IsBounded, IsSound, AreIndexed, KeepsNames, HasRoom, AreApplied, IsWithBase, IsSameDesk, with_branches};
+ghost use Rattle.review_shelves.specs.Desk.{tables_of, desk_of, row_of, file_row, name_cmp, answer_cmp, IsIndexed, IsNumbered, IsBounded, IsSound, AreIndexed, KeepsNames, HasRoom, AreApplied, IsWithBase, IsSameDesk, with_branches};
 ghost use Rattle.review_shelves.specs.Branches.{bases_in, total_in, IsAsBefore};
 
 use crate::branches::Branches;
@@ -269,7 +269,7 @@ impl MemoryTables {
         Ok(None)
     }
 
-    /// Applies a delta and stores its request, or changes no row.
+    /// Applies a delta and stores its request, or changes no row. Places that were made for rows that didn't come are given back.
     pub fn commit(&mut self, alloc: Global, delta: &Delta, kept: &Kept) -> Result<(), AllocError>
         requires sound { IsSound self.old }
         requires room { self.old.requests < 2 ^ 64 - 1 }
@@ -279,11 +279,14 @@ impl MemoryTables {
     {
         let held = names_held(alloc, &self.accounts, &delta.accounts)?;
         let given = names_given(alloc, &delta.accounts)?;
+        let identity = AnswerKey {
+            caller: kept.caller,
+            id: kept.id.copy(alloc)?,
+        };
         let changes = Changes::new(alloc, delta, kept)?;
         let projects = self.projects_with(&delta.file);
         let made = self.make(alloc, &given, changes, projects, &delta.base);
-        self.accounts.release(&delta.accounts);
-        self.members.release(&delta.members);
+        self.release(delta, &identity);
         self.drop_names(&given);
         self.drop_names(&held);
         made
@@ -337,8 +340,7 @@ impl MemoryTables {
         }
     }
 
-    /// Makes room for changes and lists names in the index, which changes no other row. The request comes last: no place for it
-    /// stays where there is no memory.
+    /// Makes room for changes and lists names in the index, which changes no other row.
     fn reserve(
         &mut self,
         alloc: Global,
@@ -367,6 +369,21 @@ impl MemoryTables {
             self.names.put(key.copy(alloc)?, ())?;
         }
         Ok(())
+    }
+
+    /// Drops the places that hold no row, of those that a delta and its request name.
+    fn release(&mut self, delta: &Delta, identity: &AnswerKey)
+        ensures same { desk_of self.new ≡ desk_of self.old }
+        ensures names { self.new.names ≡ self.old.names }
+        ensures accounts { All (λ c. IsEmptyPlace nat_cmp self.new.accounts c.key → ⊥) delta.now.accounts.items }
+        ensures members { All (λ c. IsEmptyPlace member_cmp self.new.members c.key → ⊥) delta.now.members.items }
+        ensures file { IfSome delta.now.file (λ put. IsEmptyPlace (slice_cmp nat_cmp) self.new.files put.project → ⊥) }
+        ensures answer { IsEmptyPlace answer_cmp self.new.answers identity.now → ⊥ }
+    {
+        self.accounts.release(&delta.accounts);
+        self.members.release(&delta.members);
+        release_file(&mut self.files, &delta.file);
+        self.answers.release_one(identity);
     }
 
     /// Makes changes for which there is room.
@@ -433,5 +450,15 @@ impl MemoryTables {
             Some(number) => number.get(),
             None => 0,
         }
+    }
+}
+
+// Drops the place of a project's file, where it holds none.
+fn release_file(files: &mut Table<ProjectName, FileText>, file: &Option<ProjectRow>)
+    ensures same { rows_of files.new ≡ rows_of files.old }
+    ensures gone { IfSome file.now (λ put. IsEmptyPlace (slice_cmp nat_cmp) files.new put.project → ⊥) }
+{
+    if let Some(put) = file {
+        files.release_one(&put.project);
     }
 }

@@ -185,6 +185,18 @@ fn look<S: Shelf>(alloc: Global, shelf: &mut S) -> Result<Seen, Fail> {
     look_at(alloc, &rows)
 }
 
+/// What a desk shows after a commit of account 2.
+fn with_ann() -> Seen {
+    Seen {
+        has_admin: true,
+        has_ann: true,
+        first_is_administrator: false,
+        second_is_administrator: true,
+        last_account: 2,
+        requests: 1,
+    }
+}
+
 /// What a new desk shows, and after a commit of account 2.
 fn look_twice(alloc: Global) -> Result<(Seen, Seen), Fail> {
     let mut shelf = new_desk(alloc)?;
@@ -206,15 +218,7 @@ fn a_commit_is_found_again(rt: HostRuntime) -> Result<(), Fail> {
         requests: 0,
     };
     assert_eq!(rt; before, new);
-    let with_ann = Seen {
-        has_admin: true,
-        has_ann: true,
-        first_is_administrator: false,
-        second_is_administrator: true,
-        last_account: 2,
-        requests: 1,
-    };
-    assert_eq!(rt; after, with_ann);
+    assert_eq!(rt; after, with_ann());
     Ok(())
 }
 
@@ -298,6 +302,22 @@ fn a_shut_shelf_stays_shut(rt: HostRuntime) -> Result<(), Fail> {
     let (calls, faults) = call_until_shut(rt.alloc(), &mut shelf)?;
     assert_eq!(rt; calls, [true, true, true, true]);
     assert_eq!(rt; faults, 3);
+    Ok(())
+}
+
+/// Whether a commit that shuts the shelf answers Store, and what is then seen of the shelf below.
+fn shut_and_look_below(alloc: Global) -> Result<(bool, Seen), Fail> {
+    let mut shelf = ShuttingShelf::new(new_desk(alloc)?, 1);
+    let is_refused = commit_second(alloc, &mut shelf, "ann")? == Err(ShelfFault::Store);
+    let below = look(alloc, &mut shelf.inner)?;
+    Ok((is_refused, below))
+}
+
+#[test]
+fn the_commit_that_shuts_a_shelf_is_made_below(rt: HostRuntime) -> Result<(), Fail> {
+    let (is_refused, below) = shut_and_look_below(rt.alloc())?;
+    assert!(rt; is_refused);
+    assert_eq!(rt; below, with_ann());
     Ok(())
 }
 

@@ -1,4 +1,4 @@
-//! Keyed tables whose changes are taken whole or not at all.
+//! Keyed tables. Places for changes are made first, which changes no row; then all changes are made, and that can't fail.
 #![tactic(auto)]
 
 pub mod table;

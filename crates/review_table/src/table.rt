@@ -1,4 +1,4 @@
-ghost use Rattle.std.specs.Prelude.{◌≡◌, ◌++◌, ◌&&◌, List, Option, Some, None, [], IfOk, IfErr, IfSome, IsNone, OnOk, OnErr, ◌↔◌, map, length, option_copied, if◌then◌else◌, Result, Ok, Err, IsSome};
+ghost use Rattle.std.specs.Prelude.{◌≡◌, ◌++◌, ◌&&◌, List, Option, Some, None, [], IfOk, IfErr, IfSome, IsNone, OnOk, OnErr, ◌↔◌, map, length, option_copied, if◌then◌else◌, Result, Ok, Err, IsSome, false};
 ghost use Rattle.std.specs.Ordering.{eq_by_cmp};
 ghost use Rattle.std.specs.List.{All, IsDistinct, filter};
 ghost use Rattle.std.specs.List.Sorted.{IsStrictlySortedBy};
@@ -136,6 +136,7 @@ impl<K: Key, V: Drop> Table<K, V> {
     pub fn reserve_all(&mut self, alloc: Global, changes: &[Change<K, V>]) -> Result<(), AllocError>
         ensures same { rows_of self.new ≡ rows_of self.old }
         ensures rows { (q : K) → row_at K.cmp self.new q ≡ row_at K.cmp self.old q }
+        ensures stay { (q : K) → HasPlace K.cmp self.old q → HasPlace K.cmp self.new q }
         ensures ok { OnOk result (HavePlaces K.cmp self.new changes.now) }
     {
         for change in changes {
@@ -176,7 +177,8 @@ impl<K: Key, V: Drop> Table<K, V> {
 
     /// Takes the row of a key away, with its place.
     pub fn remove(&mut self, key: &K)
-        ensures { (q : K) → row_in K.cmp (rows_of self.new) q ≡ (if is_at (K.cmp key.now) q then None else row_in K.cmp (rows_of self.old) q) }
+        ensures rows { (q : K) → row_in K.cmp (rows_of self.new) q ≡ (if is_at (K.cmp key.now) q then None else row_in K.cmp (rows_of self.old) q) }
+        ensures places { (q : K) → has_place K.cmp self.new q ≡ (if is_at (K.cmp key.now) q then false else has_place K.cmp self.old q) }
     {
         self.once();
         self.remove_place(key);
@@ -184,7 +186,8 @@ impl<K: Key, V: Drop> Table<K, V> {
     }
 
     fn remove_place(&mut self, key: &K)
-        ensures { (q : K) → row_at K.cmp self.new q ≡ (if is_at (K.cmp key.now) q then None else row_at K.cmp self.old q) }
+        ensures rows { (q : K) → row_at K.cmp self.new q ≡ (if is_at (K.cmp key.now) q then None else row_at K.cmp self.old q) }
+        ensures places { (q : K) → has_place K.cmp self.new q ≡ (if is_at (K.cmp key.now) q then false else has_place K.cmp self.old q) }
     {
         let _ = self.places.remove(key);
     }
@@ -232,12 +235,12 @@ impl<K: Key, V: Drop> Table<K, V> {
         ensures no_more { (q : K) → IsEmptyPlace K.cmp self.new q → IsEmptyPlace K.cmp self.old q }
     {
         for change in changes {
-            self.release_key(&change.key);
+            self.release_one(&change.key);
         }
     }
 
     /// Drops the place of a key that holds no row.
-    fn release_key(&mut self, key: &K)
+    pub fn release_one(&mut self, key: &K)
         ensures same { rows_of self.new ≡ rows_of self.old }
         ensures gone { IsEmptyPlace K.cmp self.new key.now → ⊥ }
         ensures no_more { (q : K) → IsEmptyPlace K.cmp self.new q → IsEmptyPlace K.cmp self.old q }
@@ -245,16 +248,6 @@ impl<K: Key, V: Drop> Table<K, V> {
         if let Some(None) = self.places.get(key) {
             let _ = self.places.remove(key);
         }
-    }
-
-    /// Makes all changes, or none.
-    pub fn commit(&mut self, alloc: Global, changes: Vec<Change<K, V>>) -> Result<(), AllocError>
-        ensures done { OnOk result ((q : K) → row_in K.cmp (rows_of self.new) q ≡ changed K.cmp changes.items q (row_in K.cmp (rows_of self.old) q)) }
-        ensures same { OnErr result (rows_of self.new ≡ rows_of self.old) }
-    {
-        self.reserve_all(alloc, &changes)?;
-        self.apply(changes);
-        Ok(())
     }
 
     fn set_all(&mut self, changes: Vec<Change<K, V>>)

@@ -25,7 +25,8 @@ fn changes_are_made(rt: HostRuntime) -> Result<(), Fail> {
         key: 3u32,
         row: None,
     })?;
-    table.commit(alloc, changes)?;
+    table.reserve_all(alloc, &changes)?;
+    table.apply(changes);
     assert_eq!(rt; table.get(&2).copied(), Some(20));
     assert_eq!(rt; table.get(&3).copied(), None);
     assert_eq!(rt; table.last_key().copied(), Some(2));

@@ -7,3 +7,4 @@ mod Replies
 pub mod Fields
 pub mod Components
 mod Bounds
+mod LabelForms

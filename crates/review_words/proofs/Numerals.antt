@@ -1,5 +1,5 @@
 -- Numerals read back.
-use Rattle.std.proofs.Common.{◌≡◌, ◌≢◌, ℕ, zero, suc, ◌+◌, ◌*◌, ◌-◌, ◌/◌, ◌%◌, ◌<◌, ◌≤◌, ◌^◌, List, [], ◌∷◌, ◌++◌, append-nil, append_assoc, length, map, Option, Some, None, Bool, true, false, cond, refl, sym, ap, ◌∙◌, subst, arith, get_or}
+use Rattle.std.proofs.Common.{◌≡◌, ◌≢◌, ℕ, zero, suc, ◌+◌, ◌*◌, ◌-◌, ◌/◌, ◌%◌, ◌<◌, ◌≤◌, ◌^◌, List, [], ◌∷◌, ◌++◌, append-nil, append_assoc, length, map, Option, Some, None, Bool, true, false, cond, refl, sym, ap, ◌∙◌, subst, arith, get_or, ◌↔◌}
 use Rattle.std.specs.Prelude.{nat_le, nat_lt, ◌&&◌}
 use Rattle.std.specs.List.{AllByRecursion}
 use Rattle.std.specs.Int.Digits.{digits_of, number_from_digits, number_from_digits_after}
@@ -142,3 +142,21 @@ pub number_shown : (n : ℕ) (cs : List ℕ) → number_of cs ≡ Some n → num
 unfolding number_of
 number_shown n [] e = absurd (cc)
 number_shown n (c ∷ cs) e = let read = of_test (begins_well (c ∷ cs)) (number_after 0 (c ∷ cs)) n e in first_numeral n c cs read.0 read.1
+
+-- a number that is read is below 2^64
+low_of : (c m : ℕ) → (nat_le 48 c && nat_le c 57 && nat_lt m 18446744073709551616) ≡ true → m < 18446744073709551616
+low_of c m e = grind (arith, nat_tests, e)
+
+low_after : (m n : ℕ) (cs : List ℕ) → m < 18446744073709551616 → number_after m cs ≡ Some n → n < 18446744073709551616
+low_after m n [] low e = let same : m ≡ n = cc in subst (λ x. x < 18446744073709551616) same low
+low_after m n (c ∷ cs) low e =
+    let next = m * 10 + (c - 48) in
+    let read = of_test (nat_le 48 c && nat_le c 57 && nat_lt next 18446744073709551616) (number_after next cs) n e in
+    low_after next n cs (low_of c next read.0) read.1
+
+number_low : (n : ℕ) (cs : List ℕ) → number_of cs ≡ Some n → n < 18446744073709551616
+unfolding number_of
+number_low n cs e = let read = of_test (begins_well cs) (number_after 0 cs) n e in low_after 0 n cs (omega arith) read.1
+
+pub number_told : (n : ℕ) (cs : List ℕ) → (number_of cs ≡ Some n) ↔ ((n < 18446744073709551616) × (numeral n ≡ cs))
+number_told n cs = (λ e. (number_low n cs e, number_shown n cs e), λ h. subst (λ text. number_of text ≡ Some n) h.1 (number_back n h.0))

@@ -7,3 +7,4 @@ pub mod Shown
 pub mod Cutting
 pub mod Reading
 pub mod History
+pub mod Laws

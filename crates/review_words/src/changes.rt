@@ -66,7 +66,7 @@ impl ChangeNo {
 /// The number of a patch set of a change, from 1 to 1,000.
 #[derive(Clone, Copy, Debug, PartialEq, Eq, PartialOrd, Ord)]
 pub struct PatchNo {
-    number: u32,
+    patch: u32,
 }
 
 impl Model for PatchNo {
@@ -75,11 +75,11 @@ impl Model for PatchNo {
 
     ghost Value = { ℕ };
 
-    ghost view = { λ p. p.number };
+    ghost view = { λ p. p.patch };
 
-    ghost invariant = { λ p. IsTrue (is_within most_patches p.number) };
+    ghost invariant = { λ p. IsTrue (is_within most_patches p.patch) };
 
-    ghost inverse = { λ n. record { number = n } };
+    ghost inverse = { λ n. record { patch = n } };
 }
 
 impl PatchNo {
@@ -90,7 +90,7 @@ impl PatchNo {
     {
         if number >= 1 && number <= 1_000 {
             Some(PatchNo {
-                number: number as u32,
+                patch: number as u32,
             })
         } else {
             None
@@ -103,8 +103,8 @@ impl PatchNo {
         ensures ok { IfOk result (λ n. (numeral n ≡ text.now) × (is_within most_patches n ≡ true)) }
         ensures form { IfErr result (λ e. (e ≡ BadName.Form) × ((n : ℕ) → is_within most_patches n ≡ true → numeral n ≡ text.now → ⊥)) }
     {
-        let number = read_within(text, 1_000)?;
-        Ok(PatchNo { number })
+        let patch = read_within(text, 1_000)?;
+        Ok(PatchNo { patch })
     }
 
     /// The number, from 1 to 1,000.
@@ -114,7 +114,7 @@ impl PatchNo {
         ensures least { 1 ≤ self }
         ensures most { self ≤ most_patches }
     {
-        self.number
+        self.patch
     }
 }
 

@@ -24,7 +24,7 @@ pub use faults::{ExprCode, ExprFault, FileFault};
 pub use files::FileText;
 pub use forms::{Form, Name};
 pub use groups::{Groups, Paths};
-pub use laws::{content_tells, reply_tells};
+pub use laws::{content_tells, label_form, number_tells, reply_tells};
 pub use names::{
     AccountName, AccountNo, BadName, GroupName, Members, RequestId, admin_name, administrators,
 };

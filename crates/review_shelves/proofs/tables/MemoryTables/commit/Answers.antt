@@ -14,21 +14,12 @@ drop_names-requires c =
     (subst (All (IsGiven given)) c.deref-2.ensures.value c.in_ok-given.ensures)
     c.make-made.ensures.kept (subst (λ keys. OnOk c.make-made.result (AreIndexed (rows_of made.names) keys)) c.deref-3.ensures.value c.make-made.ensures.listed)
     c.make-made.ensures.done c.make-made.ensures.based c.projects_with-projects.ensures c.make-made.ensures.same c.requires.sound in
-    subst (λ rows. IsIndexed rows (rows_of made.names)) (sym c.release.ensures.same) sound.indexed
+    subst (λ names. IsIndexed (rows_of c.release.new.self.accounts) (rows_of names)) (sym c.release.ensures.names)
+    (subst (λ (d : Desk). IsIndexed d.accounts (rows_of made.names)) (sym c.release.ensures.same) sound.indexed)
 
 -- the desk at the end is the one that was made
 same_desk : (c : goal.After-drop-held-2) → desk_of c.drop_names-2.new.self ≡ desk_of c.make-made.new.self
-same_desk c =
-    c.drop_names-2.ensures.same ∙ c.drop_names.ensures.same
-    ∙ (λ i. record {
-      accounts = c.release.ensures.same i;
-      members = c.release-2.ensures.same i;
-      files = rows_of c.make-made.new.self.files;
-      branches = c.make-made.new.self.branches;
-      projects = c.make-made.new.self.projects;
-      answers = rows_of c.make-made.new.self.answers;
-      requests = c.make-made.new.self.requests;
-    })
+same_desk c = c.drop_names-2.ensures.same ∙ c.drop_names.ensures.same ∙ c.release.ensures.same
 
 pub returns-clause-sound : goal.returns-clause-sound
 returns-clause-sound c =

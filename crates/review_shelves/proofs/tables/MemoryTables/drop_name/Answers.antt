@@ -7,11 +7,11 @@ pub returns-then-not-has_name-clause-indexed : goal.returns-then-not-has_name-cl
 returns-then-not-has_name-clause-indexed c = λ indexed.
     let key = c.args.key.now in
     remove_indexed (rows_of c.args.self.now.accounts) (rows_of c.args.self.now.names) (rows_of c.remove.new.self) key
-    (λ has. let yes = c.has_name.ensures.1 has in let no = c.if-not-has_name.true in absurd (cc)) c.remove.ensures indexed
+    (λ has. let yes = c.has_name.ensures.1 has in let no = c.if-not-has_name.true in absurd (cc)) c.remove.ensures.rows indexed
 
 pub returns-then-not-has_name-clause-no_more : goal.returns-then-not-has_name-clause-no_more
-returns-then-not-has_name-clause-no_more c = remove_adds_none (rows_of c.args.self.now.names) (rows_of c.remove.new.self) c.args.key.now c.remove.ensures
+returns-then-not-has_name-clause-no_more c = remove_adds_none (rows_of c.args.self.now.names) (rows_of c.remove.new.self) c.args.key.now c.remove.ensures.rows
 
 pub returns-then-not-has_name-clause-dropped : goal.returns-then-not-has_name-clause-dropped
 returns-then-not-has_name-clause-dropped c = λ there.
-    let gone = sym (with_row_here (rows_of c.args.self.now.names) (rows_of c.remove.new.self) c.args.key.now None c.remove.ensures) ∙ there in absurd (cc)
+    let gone = sym (with_row_here (rows_of c.args.self.now.names) (rows_of c.remove.new.self) c.args.key.now None c.remove.ensures.rows) ∙ there in absurd (cc)

@@ -9,13 +9,13 @@ loop-change-preserved g c =
     let R = g.K.Ord.cmp in
     let xs = c.args.changes.now in
     let item = c.change-item.result in
-    let new = c.release_key.new.self in
+    let new = c.release_one.new.self in
     record {
-      same = c.release_key.ensures.same ∙ c.loop-change.invariant.same;
+      same = c.release_one.ensures.same ∙ c.loop-change.invariant.same;
       gone = All-more (λ ch. IsEmptyPlace R new ch.key → ⊥) xs c.loop-change.change-index item (omega arith)
-          (All-weaker (λ ch. IsEmptyPlace R c.loop-change.self ch.key → ⊥) (λ ch. IsEmptyPlace R new ch.key → ⊥) (λ ch gone empty. gone (c.release_key.ensures.no_more ch.key empty)) (take c.loop-change.change-index xs) c.loop-change.invariant.gone)
-          (subst (λ ch. IsEmptyPlace R new ch.key → ⊥) c.change-item.is c.release_key.ensures.gone);
-      no_more = λ q empty. c.loop-change.invariant.no_more q (c.release_key.ensures.no_more q empty);
+          (All-weaker (λ ch. IsEmptyPlace R c.loop-change.self ch.key → ⊥) (λ ch. IsEmptyPlace R new ch.key → ⊥) (λ ch gone empty. gone (c.release_one.ensures.no_more ch.key empty)) (take c.loop-change.change-index xs) c.loop-change.invariant.gone)
+          (subst (λ ch. IsEmptyPlace R new ch.key → ⊥) c.change-item.is c.release_one.ensures.gone);
+      no_more = λ q empty. c.loop-change.invariant.no_more q (c.release_one.ensures.no_more q empty);
     }
 
 pub returns-clause-gone : goal.returns-clause-gone

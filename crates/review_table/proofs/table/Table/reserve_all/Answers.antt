@@ -12,6 +12,7 @@ loop-change-preserved g c =
     record {
       same = c.reserve.ensures.same ∙ c.loop-change.invariant.same;
       rows = λ q. c.reserve.ensures.rows q ∙ c.loop-change.invariant.rows q;
+      stay = λ q there. c.reserve.ensures.stay q (c.loop-change.invariant.stay q there);
       places = All-more (λ ch. HasPlace R c.reserve.new.self ch.key) xs c.loop-change.change-index item (omega arith)
           (All-weaker (λ ch. HasPlace R c.loop-change.self ch.key) (λ ch. HasPlace R c.reserve.new.self ch.key) (λ ch. c.reserve.ensures.stay ch.key) (take c.loop-change.change-index xs) c.loop-change.invariant.places)
           (subst (λ ch. HasPlace R c.reserve.new.self ch.key) c.change-item.is (subst (HasPlace R c.reserve.new.self) c.in_ok-key.ensures c.in_ok-reserve.ensures.ok));
