@@ -1,5 +1,5 @@
 -- A run that begins again.
-use Rattle.std.proofs.Common.{◌≡◌, ◌⊎◌, ℕ, zero, suc, ◌<◌, take, drop, get_or, List, [], ◌∷◌, ◌++◌, length, Option, Some, None, true, false, cond, ◌||◌, refl, sym, ap, ◌∙◌, subst, ⊎_elim, arith, length-append}
+use Rattle.std.proofs.Common.{◌≡◌, ◌⊎◌, ℕ, zero, suc, ◌<◌, take, drop, get_or, List, [], ◌∷◌, ◌++◌, length, Option, Some, None, true, false, cond, ◌||◌, refl, sym, ap, ◌∙◌, subst, ⊎_elim, arith}
 use Rattle.std.specs.Prelude.{is_some, MatchOption}
 use Rattle.std.proofs.lemmas.Bool.{cases_Bool}
 use Rattle.std.proofs.lemmas.List.{length-take-le}
@@ -16,7 +16,7 @@ use Rattle.review_rows.specs.Rows.{Tables}
 use Rattle.review_rows.specs.View.{IsView}
 use Rattle.review_machine.proofs.Outcomes.{one_answer}
 use Rattle.review_machine.specs.Replies.{IsTold, IsRight, AreRight, IsToldOfStored, history_after, with_entries as hist, has_identity, first_arrivals as first, arrivals_after as first_after, taken, with_taken, entry_of, HasEffect}
-use Rattle.review_machine.specs.Restart.{IsFree, RefusesBadValue, IsSettled, AreSettled, WasTaken, WereTaken, AgreeFor, AgreeOnWrites, RestartAfterStop, RestartCompletes, RestartKeepsHistory, RepliesFollowHistory}
+use Rattle.review_machine.specs.Restart.{IsFree, RefusesBadValue, IsSettled, AreSettled, WasTaken, WereTaken, AgreeFor, AgreeOnWrites, RunsAsFrom, RestartIsRun, RestartAfterStop, RestartCompletes, RestartKeepsHistory, RepliesFollowHistory}
 use Rattle.review_machine.proofs.Histories.{answer_stored, stored_stays, stored_here, stored_there, same_to}
 use Rattle.review_machine.proofs.Served.{new_history, same_history, same_command}
 use Rattle.review_machine.proofs.Going.{HasSince, since_old, since_new, or_false, with_taken-append, first-append, history_after-append}
@@ -269,57 +269,130 @@ split_at i [] x below = absurd (omega (arith, below))
 split_at zero (y ∷ xs) x below = refl
 split_at (suc i) (y ∷ xs) x below = ap (λ l. y ∷ l) (split_at i xs x (omega (arith, below)))
 
-settled_drop : (n : ℕ) (ds : List Delivery) → AreSettled ds → AreSettled (drop n ds)
-settled_drop zero ds all = all
-settled_drop (suc n) [] all = tt
-settled_drop (suc n) (d ∷ ds) all = settled_drop n ds all.1
+-- a list of deliveries that were taken, and then another
+told_append : (h : List Entry) (ds es : List Delivery) (rs ss : List Reply) → AreTold h ds rs → AreTold (history_after h ds rs) es ss → AreTold h (ds ++ es) (rs ++ ss)
+told_append h [] es [] ss a b = b
+told_append h [] es (r ∷ rs) ss a b = absurd a
+told_append h (d ∷ ds) es [] ss a b = absurd a
+told_append h (d ∷ ds) es (r ∷ rs) ss a b =
+    let g = history_after h (d ∷ []) (r ∷ []) in
+    (a.0, a.1, told_append g ds es rs ss a.2 (subst (λ x. AreTold x es ss) (history_cons h d ds r rs) b))
 
-settled_at : (i : ℕ) (ds : List Delivery) (d : Delivery) → AreSettled ds → i < length ds → IsSettled (get_or ds i d)
-settled_at i [] d all below = absurd (omega (arith, below))
-settled_at zero (e ∷ ds) d all below = all.0
-settled_at (suc i) (e ∷ ds) d all below = settled_at i ds d all.1 (omega (arith, below))
+told_take : (i : ℕ) (h : List Entry) (ds : List Delivery) (rs : List Reply) → AreTold h ds rs → AreTold h (take i ds) (take i rs)
+told_take zero h ds rs a = tt
+told_take (suc i) h [] [] a = tt
+told_take (suc i) h [] (r ∷ rs) a = absurd a
+told_take (suc i) h (d ∷ ds) [] a = absurd a
+told_take (suc i) h (d ∷ ds) (r ∷ rs) a = (a.0, a.1, told_take i (history_after h (d ∷ []) (r ∷ [])) ds rs a.2)
 
--- the whole effect that a stop left is the one that the run has
-same_effect : (g : List Entry) (d : Delivery) (r : Reply) (t : Tables) → IsSettled d → IsTold g d r → HasEffect g d t →
-    IsHistory (history_after g (d ∷ []) (r ∷ [])) × IsView (history_after g (d ∷ []) (r ∷ [])) t
-same_effect g (Read caller query) r t settled told effect = absurd effect
-same_effect g (Write caller id command) r t settled told effect =
+told_length : (h : List Entry) (ds : List Delivery) (rs : List Reply) → AreTold h ds rs → length rs ≡ length ds
+told_length h [] [] a = refl
+told_length h [] (r ∷ rs) a = absurd a
+told_length h (d ∷ ds) [] a = absurd a
+told_length h (d ∷ ds) (r ∷ rs) a = let rest = told_length (history_after h (d ∷ []) (r ∷ [])) ds rs a.2 in omega (arith, rest)
+
+told_taken : (h : List Entry) (ds : List Delivery) (rs : List Reply) → AreTold h ds rs → WereTaken rs
+told_taken h [] [] a = tt
+told_taken h [] (r ∷ rs) a = absurd a
+told_taken h (d ∷ ds) [] a = absurd a
+told_taken h (d ∷ ds) (r ∷ rs) a = (a.0, told_taken (history_after h (d ∷ []) (r ∷ [])) ds rs a.2)
+
+-- counts of faults that stay
+abbrev quiet : List Delivery → List (ℕ × ℕ)
+quiet [] = []
+quiet (d ∷ ds) = (0, 0) ∷ quiet ds
+
+quiet_length : (ds : List Delivery) → length (quiet ds) ≡ length ds
+quiet_length [] = refl
+quiet_length (d ∷ ds) = let rest = quiet_length ds in omega (arith, rest)
+
+quiet_right : (h : List Entry) (d : Delivery) (r : Reply) → WasTaken r → IsTold h d r → IsRight h d r 0 0
+quiet_right h d (Done a) given told = (told, refl)
+quiet_right h d (Refused x) given told = (told, refl)
+quiet_right h d IdentityReused given told = (told, refl)
+quiet_right h d (NotTaken c) given told = absurd given
+
+right_each : (h : List Entry) (ds : List Delivery) (rs : List Reply) → AreTold h ds rs → (i : ℕ) (d : Delivery) (r : Reply) (c : ℕ × ℕ) → i < length ds →
+    IsRight (history_after h (take i ds) (take i rs)) (get_or ds i d) (get_or rs i r) (get_or (quiet ds) i c).0 (get_or (quiet ds) i c).1
+right_each h [] rs told i d r c below = absurd (omega (arith, below))
+right_each h (e ∷ ds) [] told i d r c below = absurd told
+right_each h (e ∷ ds) (s ∷ rs) told zero d r c below = quiet_right h e s told.0 told.1
+right_each h (e ∷ ds) (s ∷ rs) told (suc i) d r c below =
+    subst (λ g. IsRight g (get_or ds i d) (get_or rs i r) (get_or (quiet ds) i c).0 (get_or (quiet ds) i c).1) (sym (history_cons h e (take i ds) s (take i rs)))
+    (right_each (history_after h (e ∷ []) (s ∷ [])) ds rs told.2 i d r c (omega (arith, below)))
+
+told_all_right : (h : List Entry) (ds : List Delivery) (rs : List Reply) → AreTold h ds rs → AreRight h ds rs (quiet ds)
+told_all_right h ds rs told = record { replies = told_length h ds rs told; counted = quiet_length ds; each = right_each h ds rs told }
+
+agree_same : (ds : List Delivery) (rs : List Reply) → AgreeOnWrites ds rs rs
+agree_same [] rs = tt
+agree_same (d ∷ ds) [] = tt
+agree_same (d ∷ ds) (r ∷ rs) = (agrees d r r refl, agree_same ds rs)
+
+-- the first part is told again what it was told, and the rest is told after it
+as_whole : (g h : List Entry) (ds1 ds2 : List Delivery) (rs1 ss : List Reply) → IsHistory h → h ≡ history_after g ds1 rs1 → AreTold g ds1 rs1 → AreTold h (ds1 ++ ds2) ss →
+    (rs2 : List Reply) × AreTold g (ds1 ++ ds2) (rs1 ++ rs2) × AgreeOnWrites (ds1 ++ ds2) (rs1 ++ rs2) ss
+    × (history_after h (ds1 ++ ds2) ss ≡ history_after g (ds1 ++ ds2) (rs1 ++ rs2))
+as_whole g h [] ds2 [] ss hist is a b = (ss, subst (λ x. AreTold x ds2 ss) is b, agree_same ds2 ss, ap (λ x. history_after x ds2 ss) is)
+as_whole g h [] ds2 (r ∷ rs1) ss hist is a b = absurd a
+as_whole g h (d ∷ ds1) ds2 [] ss hist is a b = absurd a
+as_whole g h (d ∷ ds1) ds2 (r ∷ rs1) [] hist is a b = absurd b
+as_whole g h (d ∷ ds1) ds2 (r ∷ rs1) (s ∷ ss) hist is a b =
+    let g1 = history_after g (d ∷ []) (r ∷ []) in
+    let later : h ≡ history_after g1 ds1 rs1 = is ∙ history_cons g d ds1 r rs1 in
+    let more = grown g1 (first g1 (taken ds1 rs1)) in
+    let one = again g h more.0 d r s hist (later ∙ more.1) a.1 b.1 in
+    let rest = as_whole g1 h ds1 ds2 rs1 ss hist later a.2 (subst (λ x. AreTold x (ds1 ++ ds2) ss) one.1 b.2) in (
+      rest.0,
+      (a.0, a.1, rest.1),
+      (one.0, rest.2),
+      history_cons h d (ds1 ++ ds2) s ss ∙ ap (λ x. history_after x (ds1 ++ ds2) ss) one.1 ∙ rest.3 ∙ sym (history_cons g d (ds1 ++ ds2) r (rs1 ++ rest.0)),
+    )
+
+runs_as : (h0 h : List Entry) (ds1 ds2 : List Delivery) (rs1 : List Reply) → IsHistory h → h ≡ history_after h0 ds1 rs1 → AreTold h0 ds1 rs1 → RunsAsFrom h0 h (ds1 ++ ds2)
+runs_as h0 h ds1 ds2 rs1 hist is told = λ ss others right given.
+    let whole = as_whole h0 h ds1 ds2 rs1 ss hist is told (told_right h (ds1 ++ ds2) ss others right given) in
+    (rs1 ++ whole.0, quiet (ds1 ++ ds2), told_all_right h0 (ds1 ++ ds2) (rs1 ++ whole.0) whole.1, told_taken h0 (ds1 ++ ds2) (rs1 ++ whole.0) whole.1, whole.2, whole.3)
+
+pub restart_is_run : RestartIsRun
+restart_is_run h0 h ds1 ds2 rs1 counts hist is right given = runs_as h0 h ds1 ds2 rs1 hist is (told_right h0 ds1 rs1 counts right given)
+
+stored_taken : (r : Reply) → IsStored r → WasTaken r
+stored_taken (Done a) is = tt
+stored_taken (Refused x) is = tt
+stored_taken IdentityReused is = tt
+stored_taken (NotTaken c) is = absurd is
+
+-- the whole effect of a first arrival is that of some answer to it
+effect_told : (g : List Entry) (d : Delivery) (t : Tables) → HasEffect g d t →
+    (r : Reply) × WasTaken r × IsTold g d r × IsHistory (history_after g (d ∷ []) (r ∷ [])) × IsView (history_after g (d ∷ []) (r ∷ [])) t
+effect_told g (Read caller query) t effect = absurd effect
+effect_told g (Write caller id command) t effect =
+    let r = effect.0 in
     let none : stored g (record { caller = caller; id = id }) ≡ None = effect.1.0 in
-    let answer : IsAnswer g caller command r = told_at g caller id command r None none told in
-    let same : effect.0 ≡ r = settled_answer g caller command effect.0 r settled effect.1.1 answer in
-    let now : history_after g (Write caller id command ∷ []) (r ∷ []) ≡ entry_of caller id command r ∷ g =
-    new_history g caller id command r (answer_stored g caller command r answer) none in
+    let answer : IsAnswer g caller command r = effect.1.1 in
+    let kept : IsStored r = answer_stored g caller command r answer in
+    let now : history_after g (Write caller id command ∷ []) (r ∷ []) ≡ entry_of caller id command r ∷ g = new_history g caller id command r kept none in
+    let told : IsTold g (Write caller id command) r =
+    subst (λ (o : Option Entry). MatchOption o (IsAnswer g caller command r) (λ e. IsToldOfStored e command r)) (sym none) answer in
     let P : List Entry → Type 0 = λ h. IsHistory h × IsView h t in
-    subst P (sym now) (subst (λ (x : Reply). P (entry_of caller id command x ∷ g)) same (effect.1, effect.2))
-
--- the same as `restart_told`, of a list in two parts
-restart_split : (h0 h : List Entry) (ds ds1 ds2 : List Delivery) (rs rs1 rs2 ss : List Reply) → ds1 ++ ds2 ≡ ds → rs1 ++ rs2 ≡ rs →
-    IsHistory h → h ≡ history_after h0 ds1 rs1 → length rs1 ≡ length ds1 → AreSettled ds2 → AreTold h0 ds rs → AreTold h ds ss →
-    AgreeOnWrites ds rs ss × (history_after h ds ss ≡ history_after h0 ds rs)
-restart_split h0 h ds ds1 ds2 rs rs1 rs2 ss whole all hist is same settled =
-    let Goal : List Delivery × List Reply → Type 0 =
-    λ p. AreTold h0 p.0 p.1 → AreTold h p.0 ss → AgreeOnWrites p.0 p.1 ss × (history_after h p.0 ss ≡ history_after h0 p.0 p.1) in
-    subst Goal (λ k. (whole k, all k)) (restart_told h0 h ds1 ds2 rs1 rs2 ss hist is same settled)
+    let made : P (history_after g (Write caller id command ∷ []) (r ∷ [])) = subst P (sym now) (effect.1, effect.2) in
+    (r, stored_taken r kept, told, made.0, made.1)
 
 pub after_stop : RestartAfterStop
-after_stop h0 ds rs counts left settled right given stop =
+after_stop h0 ds more rs counts left right given stop =
     let i = stop.0 in
     let below : i < length ds = stop.2 in
     let lengths : length rs ≡ length ds = right.replies in
     let d = get_or ds i stop.1 in
-    let r = get_or rs i IdentityReused in
+    let g = history_after h0 (take i ds) (take i rs) in
+    let made = effect_told g d left stop.3 in
+    let r = made.0 in
     let ds1 : List Delivery = take i ds ++ d ∷ [] in
     let rs1 : List Reply = take i rs ++ r ∷ [] in
-    let g = history_after h0 (take i ds) (take i rs) in
-    let some : length (take i ds) ≡ i = length-take-le i ds (omega (arith, below)) in
-    let others_some : length (take i rs) ≡ i = length-take-le i rs (omega (arith, below, lengths)) in
-    let made = same_effect g d r left (settled_at i ds stop.1 settled below) (each_told h0 ds rs counts right given i stop.1 IdentityReused below) stop.3 in
-    let grown : history_after h0 ds1 rs1 ≡ history_after g (d ∷ []) (r ∷ []) = history_after-append h0 (take i ds) (d ∷ []) (take i rs) (r ∷ []) (others_some ∙ sym some) in
-    let long : length rs1 ≡ length ds1 = omega (arith, some, others_some, length-append (take i ds) (d ∷ []), length-append (take i rs) (r ∷ [])) in (
-      history_after g (d ∷ []) (r ∷ []),
-      made.0,
-      made.1,
-      λ ss others right' given'. restart_split h0 _ ds ds1 (drop (suc i) ds) rs rs1 (drop (suc i) rs) ss (split_at i ds stop.1 below)
-          (split_at i rs IdentityReused (omega (arith, below, lengths))) made.0 (sym grown) long (settled_drop (suc i) ds settled) (told_right h0 ds rs counts right given)
-          (told_right _ ds ss others right' given'),
-    )
+    let some : length (take i rs) ≡ length (take i ds) = length-take-le i rs (omega (arith, below, lengths)) ∙ sym (length-take-le i ds (omega (arith, below))) in
+    let grown_to : history_after h0 ds1 rs1 ≡ history_after g (d ∷ []) (r ∷ []) = history_after-append h0 (take i ds) (d ∷ []) (take i rs) (r ∷ []) some in
+    let told : AreTold h0 ds1 rs1 = told_append h0 (take i ds) (d ∷ []) (take i rs) (r ∷ []) (told_take i h0 ds rs (told_right h0 ds rs counts right given)) (made.1, made.2, tt) in
+    let whole : ds1 ++ (drop (suc i) ds ++ more) ≡ ds ++ more = sym (append_assoc ds1 (drop (suc i) ds) more) ∙ ap (λ l. l ++ more) (split_at i ds stop.1 below) in
+    let h = history_after g (d ∷ []) (r ∷ []) in
+    (h, made.3, made.4, subst (λ (l : List Delivery). RunsAsFrom h0 h l) whole (runs_as h0 h ds1 (drop (suc i) ds ++ more) rs1 made.3 (sym grown_to) told))

@@ -89,11 +89,21 @@ RestartCompletes = (h0 h : List Entry) (ds1 ds2 : List Delivery) (rs1 rs2 ss : L
     AreRight h0 (ds1 ++ ds2) (rs1 ++ rs2) counts → WereTaken (rs1 ++ rs2) → AreRight h (ds1 ++ ds2) ss others → WereTaken ss →
     AgreeOnWrites (ds1 ++ ds2) (rs1 ++ rs2) ss × (history_after h (ds1 ++ ds2) ss ≡ history_after h0 (ds1 ++ ds2) (rs1 ++ rs2))
 
--- What a stop within a run left, where no delivery leaves a choice, are the tables of a history from which the whole run, sent again, gives
--- the history and the replies to writes that it would have given.
+-- Deliveries that are all taken from the history h give the replies to writes, and leave the history, of some run of them from h0.
+abbrev pub RunsAsFrom : List Entry → List Entry → List Delivery → Type 0
+RunsAsFrom h0 h ds = (ss : List Reply) (others : List (ℕ × ℕ)) → AreRight h ds ss others → WereTaken ss →
+    (rs : List Reply) × (counts : List (ℕ × ℕ)) × AreRight h0 ds rs counts × WereTaken rs × AgreeOnWrites ds rs ss
+    × (history_after h ds ss ≡ history_after h0 ds rs)
+
+-- Where some first part of a run stood, all of it taken, the whole run from there is as one from the start: what was answered stays, choices
+-- included.
+abbrev pub RestartIsRun : Type 0
+RestartIsRun = (h0 h : List Entry) (ds1 ds2 : List Delivery) (rs1 : List Reply) (counts : List (ℕ × ℕ)) →
+    IsHistory h → h ≡ history_after h0 ds1 rs1 → AreRight h0 ds1 rs1 counts → WereTaken rs1 → RunsAsFrom h0 h (ds1 ++ ds2)
+
+-- What a stop left within deliveries that were all taken (the whole effect of one of them, after those before it) are the tables of a history
+-- from which these deliveries and any more, sent again, are as a run from the start.
 abbrev pub RestartAfterStop : Type 0
-RestartAfterStop = (h0 : List Entry) (ds : List Delivery) (rs : List Reply) (counts : List (ℕ × ℕ)) (left : Tables) →
-    AreSettled ds → AreRight h0 ds rs counts → WereTaken rs → StopsWithin h0 ds rs left →
-    (h : List Entry) × IsHistory h × IsView h left
-    × ((ss : List Reply) (others : List (ℕ × ℕ)) → AreRight h ds ss others → WereTaken ss →
-    AgreeOnWrites ds rs ss × (history_after h ds ss ≡ history_after h0 ds rs))
+RestartAfterStop = (h0 : List Entry) (ds more : List Delivery) (rs : List Reply) (counts : List (ℕ × ℕ)) (left : Tables) →
+    AreRight h0 ds rs counts → WereTaken rs → StopsWithin h0 ds rs left →
+    (h : List Entry) × IsHistory h × IsView h left × RunsAsFrom h0 h (ds ++ more)

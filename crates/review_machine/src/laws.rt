@@ -1,5 +1,5 @@
 //! Laws over all runs, as contracts of calls that do nothing.
-ghost use Rattle.review_machine.specs.Restart.{OneAnswer, RunsCompose, RestartAfterStop, RestartCompletes, RestartKeepsHistory, RepliesFollowHistory};
+ghost use Rattle.review_machine.specs.Restart.{OneAnswer, RunsCompose, RestartAfterStop, RestartCompletes, RestartIsRun, RestartKeepsHistory, RepliesFollowHistory};
 
 /// A command has one answer, unless a pattern in the file that it puts nests deeper than the engine reads: of two different
 /// answers one then refuses the file for a bad value in an expression.
@@ -12,10 +12,12 @@ pub fn runs_compose()
     ensures { RunsCompose }
 {}
 
-/// A run that is begun again after a stop completes what the first one began.
+/// A run that is begun again after a stop, all of it taken, completes what the first one began: it gives the replies to
+/// requests, and leaves the history, of a run that wasn't stopped.
 pub fn restart_completes()
     ensures history { RestartKeepsHistory }
     ensures replies { RepliesFollowHistory }
     ensures run { RestartCompletes }
+    ensures whole { RestartIsRun }
     ensures stop { RestartAfterStop }
 {}
