@@ -9,13 +9,14 @@ use Rattle.review_words.specs.declared.reply.Reply.TheVariants.{NotTaken}
 use Rattle.review_words.specs.declared.reply.NotTaken.TheVariants.{Memory}
 use Rattle.review_words.specs.History.{Entry}
 use Rattle.review_rows.specs.Answer.{IsHistory}
+use Rattle.review_rows.specs.Rows.{Tables}
 use Rattle.review_rows.specs.Shelf.{Shown, Views}
-use Rattle.review_machine.specs.Replies.{IsRun, history_after}
+use Rattle.review_machine.specs.Replies.{IsRun, AreSteps, history_after}
 use Rattle.review_machine.proofs.Going.{run_none, run_one, run-append}
 use Rattle.review_desk.specs.declared.apply.Asked.{Asked}
 use Rattle.review_desk.specs.declared.apply.Asked.TheVariants.{Nothing, Unreadable, Asks}
 use Rattle.review_desk.specs.Lines.{HasNoEnd, GaveLine}
-use Rattle.review_desk.specs.Answers.{asked, with_asked, deliveries, answered, answers, bad_line, reply_line, IsRunOf, first_or_stopped, is_taken, is_done, all_done}
+use Rattle.review_desk.specs.Answers.{asked, with_asked, deliveries, answered, answers, bad_line, reply_line, WasRun, IsRunOf, first_or_stopped, is_taken, is_done, all_done}
 use Rattle.review_desk.proofs.LinesOf.{GaveLines, gave_more, gave_none}
 
 -- These lines were read, what they ask for was done, and their answers were sent or wait.
@@ -77,7 +78,7 @@ started input left output waiting s same none = record {
   sent = [];
   written = Appends-nil output;
   whole = none;
-  ran = λ honest h hist v. run_none h s hist v;
+  ran = λ honest. ((λ h hist v. run_none h s hist v), refl);
   done = refl;
 }
 
@@ -100,24 +101,37 @@ counted lines more rs qs one other =
     let all : length (deliveries (lines ++ more)) ≡ length (deliveries lines ++ deliveries more) = ap length (deliveries-append lines more) in
     omega (arith, one, other, all, length-append rs qs, length-append (deliveries lines) (deliveries more))
 
+-- the steps of a run and then those of another
+steps-append : (ds es : List Delivery) (rs ss : List Reply) (old mid new : Option Tables) → AreSteps ds rs old mid → AreSteps es ss mid new → AreSteps (ds ++ es) (rs ++ ss) old new
+steps-append [] es [] ss old mid new one two = subst (λ (t : Option Tables). AreSteps es ss t new) one two
+steps-append [] es (r ∷ rs) ss old mid new one two = absurd one
+steps-append (d ∷ ds) es [] ss old mid new one two = absurd one
+steps-append (d ∷ ds) es (r ∷ rs) ss old mid new one two = (one.0, one.1, one.2, steps-append ds es rs ss one.0 mid new one.3 two)
+
 -- one run more
 pub ran_more : (lines : List (List ℕ)) (rs qs : List Reply) (bytes : List ℕ) (a : Asked) (old mid new : Shown) → IsRunOf lines rs old mid → a ≡ asked bytes
     → (new.is_honest → mid.is_honest)
-    → (new.is_honest → (h : List Entry) → IsHistory h → Views h mid.tables → IsRun h (with_asked a []) qs mid new)
+    → WasRun (with_asked a []) qs mid new
     → IsRunOf (lines ++ bytes ∷ []) (rs ++ qs) old new
-ran_more lines rs qs bytes a old mid new was same honest ran = λ fair h hist v.
-    let first = was (honest fair) h hist v in
-    let next = ran fair (history_after h (deliveries lines) rs) first.history first.view in
+ran_more lines rs qs bytes a old mid new was same honest ran = λ fair.
+    let before = was (honest fair) in
+    let now = ran fair in
     let both : deliveries lines ++ with_asked a [] ≡ deliveries (lines ++ bytes ∷ []) =
-    ap (λ x. deliveries lines ++ with_asked x []) same ∙ sym (deliveries-append lines (bytes ∷ [])) in
-    subst (λ (ds : List Delivery). IsRun h ds (rs ++ qs) old new) both (run-append h (deliveries lines) (with_asked a []) rs qs old mid new first next)
+    ap (λ x. deliveries lines ++ with_asked x []) same ∙ sym (deliveries-append lines (bytes ∷ [])) in (
+      λ h hist v.
+          let first = before.0 h hist v in
+          let next = now.0 (history_after h (deliveries lines) rs) first.history first.view in
+          subst (λ (ds : List Delivery). IsRun h ds (rs ++ qs) old new) both (run-append h (deliveries lines) (with_asked a []) rs qs old mid new first next),
+      subst (λ (ds : List Delivery). AreSteps ds (rs ++ qs) old.tables new.tables) both
+          (steps-append (deliveries lines) (with_asked a []) rs qs old.tables mid.tables new.tables before.1 now.1),
+    )
 
 -- one line more, with its answer
 pub one_more : (lines : List (List ℕ)) (rs qs : List Reply) (bytes : List ℕ) (a : Asked) (done now all : Bool) (input left after before output : Option (List ℕ)) (waiting more : List ℕ) (old mid new : Shown)
     → AreAnswered lines rs done input left before output waiting old mid → a ≡ asked bytes → HasNoEnd bytes → GaveLine left after bytes
     → length qs ≡ length (with_asked a [])
     → (new.is_honest → mid.is_honest)
-    → (new.is_honest → (h : List Entry) → IsHistory h → Views h mid.tables → IsRun h (with_asked a []) qs mid new)
+    → WasRun (with_asked a []) qs mid new
     → (more ≡ waiting ++ answered a qs (answers [])) × (now ≡ is_done a qs (all_done []))
     → all ≡ (done && now)
     → AreAnswered (lines ++ bytes ∷ []) (rs ++ qs) all input after before output more old new
@@ -157,17 +171,17 @@ told_reply a d r text is same = ap (λ x. answered x (r ∷ []) (answers [])) is
 -- what a line asked for was done, and Q holds of the replies
 abbrev pub Did : Asked → Shown → Shown → (List Reply → Type 0) → Type 0
 Did a s t Q = (replies : List Reply) × (length replies ≡ length (with_asked a []))
-    × (t.is_honest → (h : List Entry) → IsHistory h → Views h s.tables → IsRun h (with_asked a []) replies s t) × Q replies
+    × WasRun (with_asked a []) replies s t × Q replies
 
 -- it asked for no delivery
 pub did_nothing : (a b : Asked) (s : Shown) (Q : List Reply → Type 0) → b ≡ a → with_asked b [] ≡ [] → Q [] → Did a s s Q
 did_nothing a b s Q same none q =
     subst (λ (x : Asked). Did x s s Q) same
-    ([], sym (ap length none), (λ honest h hist v. subst (λ (ds : List Delivery). IsRun h ds [] s s) (sym none) (run_none h s hist v)), q)
+    ([], sym (ap length none), subst (λ (ds : List Delivery). WasRun ds [] s s) (sym none) (λ honest. ((λ h hist v. run_none h s hist v), refl)), q)
 
 -- it asked for a delivery
 pub did_one : (a : Asked) (d : Delivery) (r : Reply) (s t : Shown) (Q : List Reply → Type 0) → Asks d ≡ a
-    → (t.is_honest → (h : List Entry) → IsHistory h → Views h s.tables → IsRun h (d ∷ []) (r ∷ []) s t) → Q (r ∷ []) → Did a s t Q
+    → WasRun (d ∷ []) (r ∷ []) s t → Q (r ∷ []) → Did a s t Q
 did_one a d r s t Q same ran q = subst (λ (x : Asked). Did x s t Q) same (r ∷ [], refl, ran, q)
 
 -- a delivery that was not begun
@@ -190,3 +204,20 @@ pub stopped_one : (h : List Entry) (d : Delivery) (rs : List Reply) (old new : S
 stopped_one h d [] old new was = not_begun h d old new was
 stopped_one h d (r ∷ []) old new was = was
 stopped_one h d (r ∷ (q ∷ rs)) old new was = absurd (omega (arith, was.right.replies))
+
+-- the step of a run of one delivery
+pub step_one : (d : Delivery) (rs : List Reply) (old new : Option Tables) → AreSteps (d ∷ []) rs old new → AreSteps (d ∷ []) (first_or_stopped rs ∷ []) old new
+step_one d [] old new was = absurd was
+step_one d (r ∷ []) old new was = was
+step_one d (r ∷ (q ∷ rs)) old new was = absurd was.3
+
+-- the same of a delivery that was not begun
+step_not_begun : (d : Delivery) (old new : Option Tables) → new ≡ old → AreSteps (d ∷ []) (NotTaken Memory ∷ []) old new
+step_not_begun (Read caller query) old new same = (new, inl same, tt, refl)
+step_not_begun (Write caller id command) old new same = (new, (tt, inl same), tt, refl)
+
+-- the same where the run stopped
+pub step_stopped : (d : Delivery) (rs : List Reply) (old new : Option Tables) → AreSteps (take (length rs) (d ∷ [])) rs old new → AreSteps (d ∷ []) (first_or_stopped rs ∷ []) old new
+step_stopped d [] old new was = step_not_begun d old new was
+step_stopped d (r ∷ []) old new was = was
+step_stopped d (r ∷ (q ∷ rs)) old new was = absurd was.3

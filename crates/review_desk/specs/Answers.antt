@@ -10,7 +10,7 @@ use Rattle.review_words.specs.declared.reply.NotTaken.TheVariants.{Memory}
 use Rattle.review_words.specs.History.{Entry}
 use Rattle.review_rows.specs.Answer.{IsHistory}
 use Rattle.review_rows.specs.Shelf.{Shown, Views}
-use Rattle.review_machine.specs.Replies.{IsRun}
+use Rattle.review_machine.specs.Replies.{IsRun, AreSteps}
 use Rattle.review_json.specs.Line.{delivery_spelled}
 use Rattle.review_json.specs.Answer.{reply_data}
 use Rattle.review_desk.specs.declared.fault.Fault.{Fault}
@@ -102,9 +102,14 @@ abbrev pub HasFirst : Option (List ℕ) → List (List ℕ) → Type 0
 HasFirst None lines = Unit {0}
 HasFirst (Some xs) lines = (more : List (List ℕ)) × (lines_of xs ≡ lines ++ more)
 
--- from the tables of any history, the deliveries of these lines were a run with these replies
+-- Deliveries were a run with these replies: from the tables of any history a right one, and on any tables whatever made of steps, one a delivery.
+abbrev pub WasRun : List Delivery → List Reply → Shown → Shown → Type 0
+WasRun ds rs old new =
+    new.is_honest → ((h : List Entry) → IsHistory h → Views h old.tables → IsRun h ds rs old new) × AreSteps ds rs old.tables new.tables
+
+-- the deliveries of these lines were a run with these replies
 abbrev pub IsRunOf : List (List ℕ) → List Reply → Shown → Shown → Type 0
-IsRunOf lines replies old new = new.is_honest → (h : List Entry) → IsHistory h → Views h old.tables → IsRun h (deliveries lines) replies old new
+IsRunOf lines replies old new = WasRun (deliveries lines) replies old new
 
 -- these bytes are a first part of those
 abbrev pub IsPartOf : List ℕ → List ℕ → Type 0

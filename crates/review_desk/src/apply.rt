@@ -2,13 +2,9 @@
 ghost use Rattle.std.specs.Prelude.{◌≡◌, ◌++◌, ◌∷◌, [], ℕ, List, length, IfOk, IfErr, OnOk, OnErr, string_bytes};
 ghost use Rattle.std.specs.List.{list_all};
 ghost use Rattle.std.specs.Io.KnownBytes.{Appends, prepend_known};
-ghost use Rattle.review_words.specs.History.{Entry};
 ghost use Rattle.review_words.specs.declared.reply.Reply.{Reply};
-ghost use Rattle.review_rows.specs.Answer.{IsHistory};
-ghost use Rattle.review_rows.specs.Shelf.{Views};
-ghost use Rattle.review_machine.specs.Replies.{IsRun};
 ghost use Rattle.review_desk.specs.Lines.{is_space, IsLineOf};
-ghost use Rattle.review_desk.specs.Answers.{asked, with_asked, reply_line, bad_line, answered, answers, deliveries, HasLines, HasFirst, is_taken, is_done, all_done, is_complete, IsRunOf, IsLeftBy, IsNextAsked, first_or_stopped};
+ghost use Rattle.review_desk.specs.Answers.{asked, with_asked, reply_line, bad_line, answered, answers, deliveries, HasLines, HasFirst, is_taken, is_done, all_done, is_complete, WasRun, IsRunOf, IsLeftBy, IsNextAsked, first_or_stopped};
 
 use crate::fault::{Fault, Outcome};
 use crate::lines::{Line, Lines};
@@ -71,8 +67,7 @@ fn first_or_stopped(replies: Vec<Reply>) -> Reply
 
 fn reply_to<S: Shelf>(alloc: Global, shelf: &mut S, delivery: Delivery) -> Reply
     ensures honest { (S.state shelf.new).is_honest → (S.state shelf.old).is_honest }
-    ensures ran { (S.state shelf.new).is_honest → (h : List Entry) → IsHistory h → Views h (S.state shelf.old).tables →
-        IsRun h (delivery ∷ []) (result ∷ []) (S.state shelf.old) (S.state shelf.new) }
+    ensures ran { WasRun (delivery ∷ []) (result ∷ []) (S.state shelf.old) (S.state shelf.new) }
 {
     match run(alloc, shelf, &[delivery]) {
         Ok(replies) => first_or_stopped(replies),
@@ -108,8 +103,7 @@ fn answer<S: Shelf>(
 ) -> Result<Outcome, AllocError>
     ensures honest { (S.state shelf.new).is_honest → (S.state shelf.old).is_honest }
     ensures answered { (replies : List Reply) × (length replies ≡ length (with_asked asked []))
-        × ((S.state shelf.new).is_honest → (h : List Entry) → IsHistory h → Views h (S.state shelf.old).tables →
-        IsRun h (with_asked asked []) replies (S.state shelf.old) (S.state shelf.new))
+        × WasRun (with_asked asked []) replies (S.state shelf.old) (S.state shelf.new)
         × IfOk result (λ outcome. (output.new.waiting.items ≡ output.old.waiting.items ++ answered asked replies (answers [])) × (is_complete outcome ≡ is_done asked replies (all_done []))) }
     ensures kept { OnErr result (output.new.waiting.items ≡ output.old.waiting.items) }
 {
@@ -176,9 +170,9 @@ fn answer_lines<R: Read + Drop, W: Write, S: Shelf>(
 /// of its answer; a reader that fails, or that hasn't ended after 1,000,000,000 reads; a writer that fails or takes no byte,
 /// which is told also where another fault came before. A delivery that was taken and not answered stands.
 ///
-/// From the tables of any history, the deliveries of the first lines, of all where no fault came, were a run: each acted
-/// once. The bytes that were written are the answers to these lines, in order, each delivery's with its reply, whatever the
-/// tables: all of them where no fault came or the input failed, all but at most the last where there was no memory, and some
+/// The deliveries of the first lines, of all where no fault came, were a run: from the tables of any history each acted
+/// once, and on any tables whatever each was a step of a run. The bytes that were written are the answers to these lines, in
+/// order, each delivery's with its reply: all of them where no fault came or the input failed, all but at most the last where there was no memory, and some
 /// first part of them where the writer failed. This is said of readers and writers whose bytes are known; of standard input and
 /// output `std` knows none.
 pub fn apply_lines<R: Read, W: Write, S: Shelf>(

@@ -11,7 +11,7 @@ use Rattle.review_desk.proofs.Left.{all_left, any_left, if_err, memory_left, out
 use Rattle.review_desk.proofs.apply.answer_lines.Goals as goal
 
 pub returns-in_err-lines-clause-ran : goal.returns-in_err-lines-clause-ran
-returns-in_err-lines-clause-ran g c = ([], [], nothing_first _, refl, (λ honest h hist v. run_none h _ hist v), [], Appends-nil _, search rules, any_left _ [] [] _ c.requires)
+returns-in_err-lines-clause-ran g c = ([], [], nothing_first _, refl, (λ honest. ((λ h hist v. run_none h _ hist v), refl)), [], Appends-nil _, search rules, any_left _ [] [] _ c.requires)
 
 pub loop-init : goal.loop-init
 loop-init g c = record {
