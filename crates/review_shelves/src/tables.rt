@@ -269,7 +269,8 @@ impl MemoryTables {
         Ok(None)
     }
 
-    /// Applies a delta and stores its request, or changes no row. Places that were made for rows that didn't come are given back.
+    /// Applies a delta and stores its request, or changes no row. Places of accounts, members, the file and the request that got no
+    /// row are given back; a branch may keep one where there was no memory for its base.
     pub fn commit(&mut self, alloc: Global, delta: &Delta, kept: &Kept) -> Result<(), AllocError>
         requires sound { IsSound self.old }
         requires room { self.old.requests < 2 ^ 64 - 1 }
