@@ -8,9 +8,8 @@ use Rattle.review_words.specs.declared.reply.Reply.{Reply}
 use Rattle.review_words.specs.declared.reply.Reply.TheVariants.{NotTaken}
 use Rattle.review_words.specs.declared.reply.NotTaken.TheVariants.{Memory}
 use Rattle.review_words.specs.History.{Entry}
-use Rattle.review_rows.specs.Answer.{IsHistory}
 use Rattle.review_rows.specs.Rows.{Tables}
-use Rattle.review_rows.specs.Shelf.{Shown, Views}
+use Rattle.review_rows.specs.Shelf.{Shown}
 use Rattle.review_machine.specs.Replies.{IsRun, AreSteps, history_after}
 use Rattle.review_machine.proofs.Going.{run_none, run_one, run-append}
 use Rattle.review_desk.specs.declared.apply.Asked.{Asked}
