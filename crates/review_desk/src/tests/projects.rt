@@ -143,7 +143,8 @@ fn a_branch_is_there_from_its_first_base(rt: HostRuntime) -> Result<(), Fail> {
 #[test]
 fn a_pattern_that_is_too_large_stores_nothing(rt: HostRuntime) -> Result<(), Fail> {
     let mut shelf = desk(rt.alloc())?;
-    let lines = r#"{"caller":1,"id":"r7","do":"PutProject","project":"large","body":{"file":"submit-requirement.R.submittableIf = 'path:\"^(a{1000}){1000}\"'"}}
+    let lines =
+        r#"{"caller":1,"id":"r7","do":"PutProject","project":"large","body":{"file":"submit-requirement.R.submittableIf = 'path:\"^(a{1000}){1000}\"'"}}
 {"caller":1,"id":"r7","do":"RecordBase","project":"large","branch":"main","body":{"commit":"0000000000000000000000000000000000000000"}}
 "#;
     let text = answers(rt.alloc(), &mut shelf, lines)?;
