@@ -5,13 +5,7 @@
 //! standard error names; and with 2 where its words ask for something else.
 #![tactic(auto)]
 
-mod apply;
-mod fault;
-mod lines;
-mod output;
-
-use crate::apply::apply_lines;
-use crate::fault::{Fault, Outcome};
+use review_apply::{Fault, Outcome, apply_lines};
 use review_shelves::MemoryShelf;
 use std::process::ExitCode;
 use std::{env, io};
@@ -53,6 +47,3 @@ fn main(rt: HostRuntime) -> ExitCode {
         }
     }
 }
-
-#[cfg(test)]
-mod tests;

@@ -32,10 +32,3 @@ pub use laws::{
 };
 pub use review_words::{ExprCode, ExprFault};
 pub use spelled::{Respelled, Spelled};
-
-#[cfg(test)]
-mod judged;
-#[cfg(test)]
-mod page;
-#[cfg(test)]
-mod tests;

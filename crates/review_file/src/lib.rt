@@ -33,10 +33,3 @@ pub use read::read_file;
 pub use review_document::limits::{MOST_BYTES, MOST_DESCRIPTION, MOST_PARTS, MOST_TEXT};
 pub use review_words::FileFault;
 pub use rights::{Right, covers, may, range_of};
-
-#[cfg(test)]
-mod fault_tests;
-#[cfg(test)]
-mod limit_tests;
-#[cfg(test)]
-mod tests;

@@ -12,6 +12,3 @@ pub use parser::{ShapeFault, one_tree, parse};
 pub use token::Token;
 pub use tree::Node;
 pub use word::WordFault;
-
-#[cfg(test)]
-mod tests;

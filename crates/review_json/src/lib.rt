@@ -17,8 +17,3 @@ pub mod queries;
 pub use answer::answer_text;
 pub use fault::BadBody;
 pub use line::delivery_of_line;
-
-#[cfg(test)]
-mod project_tests;
-#[cfg(test)]
-mod tests;

@@ -10,14 +10,3 @@ pub mod history;
 
 pub use desk::PlainDesk;
 pub use history::Entry;
-
-#[cfg(test)]
-mod limit_tests;
-#[cfg(test)]
-mod page_tests;
-#[cfg(test)]
-mod script_tests;
-#[cfg(test)]
-mod support;
-#[cfg(test)]
-mod tests;

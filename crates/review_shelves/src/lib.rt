@@ -14,6 +14,3 @@ pub use faulty::FaultyShelf;
 pub use laws::{only_that_fails, shut_from_then};
 pub use memory::MemoryShelf;
 pub use shutting::ShuttingShelf;
-
-#[cfg(test)]
-mod tests;

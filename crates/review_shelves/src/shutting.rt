@@ -29,6 +29,13 @@ impl<T: Shelf> ShuttingShelf<T> {
         }
     }
 
+    /// The shelf below, as it is.
+    pub fn into_inner(self) -> T
+        ensures inner { result ≡ self.inner }
+    {
+        self.inner
+    }
+
     // Is shut from now on, and counts a refused call.
     fn refuse(&mut self)
         ensures inner { self.new.inner ≡ self.old.inner }

@@ -18,6 +18,3 @@ pub use laws::{
 };
 pub use print::{push_copy, push_requirement};
 pub use requirement::read_requirement;
-
-#[cfg(test)]
-mod tests;

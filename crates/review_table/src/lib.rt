@@ -4,6 +4,3 @@
 pub mod table;
 
 pub use table::{BadRows, Change, Key, Table};
-
-#[cfg(test)]
-mod tests;

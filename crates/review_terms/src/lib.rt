@@ -17,6 +17,3 @@ pub use requirement::each_account_once;
 pub use terms::{
     ChangeKind, Comparison, CopyTerm, Count, LabelTerm, RequirementTerm, VoteValue, Voters,
 };
-
-#[cfg(test)]
-mod tests;

@@ -31,10 +31,3 @@ pub use names::{
 pub use places::{BranchName, CommitName, LabelName, Path, ProjectName};
 pub use reply::{Answer, NotTaken, Refusal, Reply};
 pub use text::{BadReply, content_text, read_reply, reply_text};
-
-#[cfg(test)]
-mod form_tests;
-#[cfg(test)]
-mod project_tests;
-#[cfg(test)]
-mod tests;

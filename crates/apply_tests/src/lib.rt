@@ -1,0 +1,13 @@
+//! What no clause says: whole runs of `apply_lines`, and each of its faults.
+#![tactic(auto)]
+
+#[cfg(test)]
+mod faults;
+#[cfg(test)]
+mod lines;
+#[cfg(test)]
+mod projects;
+#[cfg(test)]
+mod rows;
+#[cfg(test)]
+mod support;
