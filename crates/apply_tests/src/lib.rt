@@ -6,8 +6,6 @@ mod faults;
 #[cfg(test)]
 mod lines;
 #[cfg(test)]
-mod projects;
-#[cfg(test)]
 mod rows;
 #[cfg(test)]
 mod support;

@@ -1,6 +1,6 @@
-//! Project files and bases of branches, with answers written by hand.
+//! Project files and bases of branches.
 
-use crate::support::run_on;
+use review_apply::apply_lines;
 use review_shelves::MemoryShelf;
 use std::alloc::Global;
 use std::test::Fail;
@@ -41,7 +41,10 @@ fn desk(alloc: Global) -> Result<MemoryShelf, Fail> {
 }
 
 fn answers(alloc: Global, shelf: &mut MemoryShelf, lines: &str) -> Result<String, Fail> {
-    Ok(run_on(alloc, shelf, lines.as_bytes())?.text)
+    let mut reader = lines.as_bytes();
+    let mut written = Vec::new(alloc);
+    let _ = apply_lines(alloc, &mut reader, &mut written, shelf);
+    Ok(String::from_str(alloc, str::from_utf8(&written)?)?)
 }
 
 /// The line that puts the file with another expression, as JSON spells that in TOML.
