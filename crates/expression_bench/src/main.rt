@@ -7,7 +7,8 @@
 #![tactic(auto)]
 
 use review_expr::{Expr, Facts, eval, parse_requirement};
-use review_terms::{ChangeFacts, Pattern, ValueRange};
+use review_judging::{ChangeFacts, ValueRange};
+use review_terms::Pattern;
 use review_words::{AccountNo, BranchName, Groups, LabelName, Path, Paths};
 use std::alloc::Global;
 use std::collections::BTreeMap;

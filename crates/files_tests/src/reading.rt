@@ -2,7 +2,7 @@ use review_expr::{Facts, eval, print};
 use review_file::{
     FileFault, Label, ProjectFile, ReadFault, Right, covers, may, range_of, read_file,
 };
-use review_terms::{ChangeFacts, ValueRange};
+use review_judging::{ChangeFacts, ValueRange};
 use review_words::{AccountNo, BranchName, GroupName, Groups, LabelName, Members, Path, Paths};
 use std::alloc::Global;
 use std::collections::BTreeMap;

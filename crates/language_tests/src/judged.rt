@@ -1,7 +1,8 @@
 //! Each term of a requirement held and not held, and each of a copy condition.
 
 use review_expr::{Facts, eval, parse_copy, parse_requirement};
-use review_terms::{ChangeFacts, ChangeKind, ValueRange, VoteFacts};
+use review_judging::{ChangeFacts, ValueRange, VoteFacts};
+use review_terms::ChangeKind;
 use review_words::{AccountNo, BranchName, GroupName, Groups, LabelName, Members, Path, Paths};
 use std::alloc::Global;
 use std::collections::BTreeMap;

@@ -1,5 +1,6 @@
 use review_expr::{Expr, Facts, ParseFault, eval, labels_of, parse_copy, parse_requirement, print};
-use review_terms::{ChangeFacts, ChangeKind, ValueRange, VoteFacts};
+use review_judging::{ChangeFacts, ValueRange, VoteFacts};
+use review_terms::ChangeKind;
 use review_words::{AccountNo, BranchName, Groups, Path, Paths};
 use std::alloc::Global;
 use std::collections::BTreeMap;

@@ -1,7 +1,8 @@
 use review_grammar::Node;
+use review_judging::{ChangeFacts, ValueRange, VoteFacts, eval, labels_of};
 use review_terms::{
-    ChangeFacts, ChangeKind, Comparison, CopyTerm, Count, LabelTerm, Pattern, PatternFault,
-    RequirementTerm, ValueRange, VoteFacts, VoteValue, Voters, eval, labels_of,
+    ChangeKind, Comparison, CopyTerm, Count, LabelTerm, Pattern, PatternFault, RequirementTerm,
+    VoteValue, Voters,
 };
 use review_words::{AccountNo, BranchName, GroupName, Groups, LabelName, Members, Path, Paths};
 use std::alloc::Global;

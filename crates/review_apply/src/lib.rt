@@ -1,13 +1,41 @@
-//! Deliveries by the line: what `review_desk apply` does, over any reader, writer and shelf.
-//!
-//! `apply_lines` reads lines, takes the delivery of each, and writes a line with the answer; its contract says what was taken and
-//! written, also where a fault ended it.
+//! Deliveries by the line on a desk: what `review_desk apply` does, over any reader, writer and shelf.
 #![tactic(auto)]
 
-mod apply;
-mod fault;
-mod lines;
-mod output;
+ghost use Rattle.std.specs.Prelude.{◌≡◌, ℕ, List, length, IfOk, IfErr};
+ghost use Rattle.std.specs.Io.KnownBytes.{Appends};
+ghost use Rattle.review_words.specs.declared.reply.Reply.{Reply};
+ghost use Rattle.review_lines.specs.Answers.{answers, deliveries, HasLines, HasFirst, all_done, is_complete, IsRunOf, IsLeftBy};
 
-pub use apply::apply_lines;
-pub use fault::{Fault, Outcome};
+pub use review_lines::{Fault, Outcome};
+use review_machine::DeskRules;
+use review_rows::Shelf;
+use std::alloc::Global;
+use std::io::{Read, Write};
+
+/// Reads deliveries, each a line of JSON, takes one after the other on the shelf, and writes a line for each: the text of
+/// its reply, or `{"fault":"BAD_LINE"}` for a line that is no delivery or has more than 400,000 bytes. Blank lines are
+/// skipped. Each answer is written and flushed before more input is waited for.
+///
+/// Complete exactly where each line was blank, or a delivery that was taken. A fault ends it early: want of memory for a line or the text
+/// of its answer; a reader that fails, or that hasn't ended after 1,000,000,000 reads; a writer that fails or takes no byte,
+/// which is told also where another fault came before. A delivery that was taken and not answered stands.
+///
+/// The deliveries of the first lines, of all where no fault came, were a run: from the tables of any history each acted
+/// once, and on any tables whatever each was a step of a run. The bytes that were written are the answers to these lines, in
+/// order, each delivery's with its reply: all of them where no fault came or the input failed, all but at most the last where there was no memory, and some
+/// first part of them where the writer failed. This is said of readers and writers whose bytes are known; of standard input and
+/// output `std` knows none.
+pub fn apply_lines<R: Read, W: Write, S: Shelf>(
+    alloc: Global,
+    reader: &mut R,
+    writer: &mut W,
+    shelf: &mut S,
+) -> Result<Outcome, Fault>
+    ensures honest { (S.state shelf.new).is_honest → (S.state shelf.old).is_honest }
+    ensures ran { (lines : List (List ℕ)) × (replies : List Reply) × HasFirst (R.remaining reader.old) lines × (length replies ≡ length (deliveries lines)) × IsRunOf lines replies (S.state shelf.old) (S.state shelf.new)
+        × (text : List ℕ) × Appends (W.contents writer.old) (W.contents writer.new) text
+        × IfOk result (λ outcome. HasLines (R.remaining reader.old) lines × (text ≡ answers lines replies) × (is_complete outcome ≡ all_done lines replies))
+        × IfErr result (λ fault. IsLeftBy fault lines replies text) }
+{
+    review_lines::apply_lines(alloc, reader, writer, shelf, &mut DeskRules)
+}

@@ -2,8 +2,8 @@
 use Rattle.std.specs.Prelude.{ℕ, List, codes, Bool, not, ◌||◌}
 use Rattle.std.specs.List.{list_any}
 use Rattle.toml.specs.Data.{Data}
-use Rattle.review_words.specs.Forms.{is_label}
-use Rattle.review_words.specs.Names.{is_word}
+use Rattle.review_names.specs.Forms.{is_label}
+use Rattle.review_names.specs.Names.{is_word}
 use Rattle.review_document.specs.Document.{members_at, values_of, text_of}
 
 -- some key is no name of a label or a requirement

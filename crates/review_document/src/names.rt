@@ -2,13 +2,13 @@
 ghost use Rattle.std.specs.Prelude.{◌≡◌, IfOk, Some, None, if◌then◌else◌, not, codes};
 ghost use Rattle.std.specs.List.{list_any};
 ghost use Rattle.toml.specs.View.{array_view, table_view, view};
-ghost use Rattle.review_words.specs.Forms.{is_label};
-ghost use Rattle.review_words.specs.Names.{is_word};
+ghost use Rattle.review_names.specs.Forms.{is_label};
+ghost use Rattle.review_names.specs.Names.{is_word};
 ghost use Rattle.review_document.specs.Document.{members, members_at, text_of, values, values_of};
 ghost use Rattle.review_document.specs.Names.{has_bad_group, has_bad_label, has_bad_name, lists_bad_group};
 
 use crate::document::{table_at, text_of};
-use review_words::{BadName, GroupName, LabelName};
+use review_names::{BadName, GroupName, LabelName};
 use std::alloc::{AllocError, Global};
 use toml::value::Array;
 use toml::{Table, Value};

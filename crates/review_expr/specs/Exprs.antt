@@ -1,8 +1,8 @@
 -- Expressions by their kinds.
 use Rattle.std.specs.Prelude.{ℕ, Bool, false, List, []}
 use Rattle.review_grammar.specs.Views.{view}
-use Rattle.review_terms.specs.Holds.{holds, requirement_holds, copy_holds}
-use Rattle.review_terms.specs.Labels.{labels}
+use Rattle.review_judging.specs.Holds.{holds, requirement_holds, copy_holds}
+use Rattle.review_judging.specs.Labels.{labels}
 use Rattle.review_spelling.specs.Printed.{requirement_word, copy_word}
 use Rattle.review_spelling.specs.Words.{requirement_reading, copy_reading}
 use Rattle.review_expr.specs.Expressions.{HasExpr}

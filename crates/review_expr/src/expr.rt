@@ -1,6 +1,6 @@
 //! Expressions of submit requirements and of copy conditions.
 ghost use Rattle.std.specs.Prelude.{◌≡◌, ◌≤◌, IfOk, IfErr, length, string_bytes};
-ghost use Rattle.review_words.specs.Forms.{text_set};
+ghost use Rattle.review_names.specs.Forms.{text_set};
 ghost use Rattle.review_terms.specs.declared.terms.CopyTerm.{CopyTerm};
 ghost use Rattle.review_terms.specs.declared.terms.RequirementTerm.{RequirementTerm};
 ghost use Rattle.review_spelling.specs.Words.{copy_reading, requirement_reading, IsDeep, IsPattern};
@@ -9,7 +9,8 @@ ghost use Rattle.review_expr.specs.Exprs.{expr_text, holds_for, labels_in, IsCop
 
 use crate::expression::Expression;
 use crate::fault::ParseFault;
-use review_terms::{ChangeFacts, CopyTerm, RequirementTerm, VoteFacts};
+use review_judging::{ChangeFacts, VoteFacts};
+use review_terms::{CopyTerm, RequirementTerm};
 use review_words::LabelName;
 use std::alloc::{AllocError, Global};
 use std::collections::BTreeSet;
@@ -87,7 +88,7 @@ pub fn labels_of(alloc: Global, expr: &Expr) -> Result<BTreeSet<LabelName>, Allo
     ensures { IfOk result (λ s. s.keys ≡ text_set (labels_in expr.now)) }
 {
     match expr {
-        Expr::Requirement(expression) => review_terms::labels_of(alloc, expression.node()),
+        Expr::Requirement(expression) => review_judging::labels_of(alloc, expression.node()),
         Expr::Copy(_) => Ok(BTreeSet::new(alloc)),
     }
 }
@@ -102,10 +103,10 @@ pub fn eval(alloc: Global, expr: &Expr, facts: &Facts) -> Result<bool, EvalFault
 {
     let held = match (expr, facts) {
         (Expr::Requirement(expression), Facts::Change(change)) => {
-            review_terms::eval(alloc, expression.node(), change)
+            review_judging::eval(alloc, expression.node(), change)
         }
         (Expr::Copy(expression), Facts::Vote(vote)) => {
-            review_terms::eval(alloc, expression.node(), vote)
+            review_judging::eval(alloc, expression.node(), vote)
         }
         _ => Ok(false),
     };

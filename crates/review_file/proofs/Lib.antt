@@ -1,13 +1,7 @@
 pub mod InTurn
-pub mod Verdicts
-pub mod Spells
-pub mod DeepWords
-pub mod Together
 pub mod SoundLabels
 pub mod Ranges
 pub mod Ends
-pub mod OneFile
-pub mod Placed
 pub mod KeysInOrder
 pub mod TablesInOrder
 pub mod NamesInOrder

@@ -3,15 +3,15 @@ use Rattle.std.proofs.Common.{◌≡◌, ℕ, List, [], ◌∷◌, map, filter, 
 use Rattle.std.specs.List.{All, AllByRecursion}
 use Rattle.std.proofs.lemmas.List.Elements.{All-from_recursion}
 use Rattle.toml.specs.Data.{Data, table}
-use Rattle.review_words.specs.Forms.{is_label}
-use Rattle.review_words.specs.Names.{is_word}
+use Rattle.review_names.specs.Forms.{is_label}
+use Rattle.review_names.specs.Names.{is_word}
 use Rattle.review_document.specs.Document.{members_at}
 use Rattle.review_expr.specs.declared.expr.Expr.{Expr}
-use Rattle.review_file.specs.declared.file.Grant.{Grant}
-use Rattle.review_file.specs.View.{LabelView, RequirementView, FileView}
-use Rattle.review_file.specs.Expressions.{EachTo, IsLabel, IsRequirement}
-use Rattle.review_file.specs.Spelled.{grant_in, label_in, requirement_in, named}
-use Rattle.review_file.specs.Reading.{IsProjectFile}
+use Rattle.review_project.specs.declared.parts.Grant.{Grant}
+use Rattle.review_project.specs.View.{LabelView, RequirementView, FileView}
+use Rattle.review_project.specs.Expressions.{EachTo, IsLabel, IsRequirement}
+use Rattle.review_project.specs.Spelled.{grant_in, label_in, requirement_in, named}
+use Rattle.review_project.specs.Reading.{IsProjectFile}
 use Rattle.review_file.proofs.KeysInOrder.{InOrder}
 use Rattle.review_file.proofs.TablesInOrder.{EachInOrder, Sorted, keys, inner_sorted, kept_sorted, kept_within, table_sorted, table_within}
 

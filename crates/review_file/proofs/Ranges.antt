@@ -5,10 +5,10 @@ use Rattle.std.specs.Int.{int_min, int_max}
 use Rattle.std.specs.List.{list_all}
 use Rattle.std.specs.Option.{option_map_or}
 use Rattle.review_expr.specs.declared.expr.Expr.{Expr}
-use Rattle.review_file.specs.declared.file.Grant.{Grant}
-use Rattle.review_file.specs.Rights.{least_of, greatest_of}
-use Rattle.review_file.specs.Sound.{is_value, is_run, is_range, is_sound_label}
-use Rattle.review_file.specs.View.{LabelView}
+use Rattle.review_project.specs.declared.parts.Grant.{Grant}
+use Rattle.review_project.specs.Rights.{least_of, greatest_of}
+use Rattle.review_project.specs.Sound.{is_value, is_run, is_range, is_sound_label}
+use Rattle.review_project.specs.View.{LabelView}
 
 and_left : (a b : Bool) → (a && b) ≡ true → a ≡ true
 and_left true b h = refl

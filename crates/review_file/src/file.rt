@@ -2,12 +2,13 @@
 ghost use Rattle.std.specs.Prelude.{◌≡◌, ◌≤ℤ◌, true, false, find, option_copied, option_map, string_bytes};
 ghost use Rattle.std.specs.List.{All};
 ghost use Rattle.std.specs.Str.{bytes_eq};
-ghost use Rattle.review_file.specs.Expressions.{has_unknown_label};
-ghost use Rattle.review_file.specs.Reading.{IsProjectFile};
-ghost use Rattle.review_file.specs.Sound.{HasGroupsInOrder, HasNamesInOrder, has_sound_labels, is_sound_label, is_value};
-ghost use Rattle.review_file.specs.Rights.{greatest_value, least_value};
+ghost use Rattle.review_project.specs.Expressions.{has_unknown_label};
+ghost use Rattle.review_project.specs.Reading.{IsProjectFile};
+ghost use Rattle.review_project.specs.Sound.{HasGroupsInOrder, HasNamesInOrder, has_sound_labels, is_sound_label, is_value};
+ghost use Rattle.review_project.specs.Rights.{greatest_value, least_value};
 
 use review_expr::Expr;
+use review_project::Grant;
 use review_words::{GroupName, LabelName};
 use std::marker::Model;
 
@@ -21,7 +22,7 @@ pub struct Access {
 }
 
 impl Model for Access {
-    ghost use Rattle.review_file.specs.View.{AccessView};
+    ghost use Rattle.review_project.specs.View.{AccessView};
 
     ghost Value = { AccessView };
 
@@ -59,17 +60,6 @@ impl LabelValue {
     }
 }
 
-/// A range of a label's values that a group is granted.
-#[derive(Debug, Drop)]
-pub struct Grant {
-    /// The group.
-    pub group: GroupName,
-    /// The least value of the range.
-    pub least: i8,
-    /// The greatest value of the range.
-    pub greatest: i8,
-}
-
 /// A label.
 #[derive(Drop)]
 pub struct Label {
@@ -83,7 +73,7 @@ impl Model for Label {
     ghost use Rattle.std.specs.Coded.{codes};
     ghost use Rattle.review_expr.specs.contracts.expr.Expr as expr;
     ghost use Rattle.review_expr.specs.declared.expr.Expr.{Expr};
-    ghost use Rattle.review_file.specs.View.{LabelView};
+    ghost use Rattle.review_project.specs.View.{LabelView};
 
     ghost Value = { LabelView Expr };
 
@@ -175,7 +165,7 @@ impl Model for Requirement {
     ghost use Rattle.std.specs.Coded.{codes};
     ghost use Rattle.review_expr.specs.contracts.expr.Expr as expr;
     ghost use Rattle.review_expr.specs.declared.expr.Expr.{Expr};
-    ghost use Rattle.review_file.specs.View.{RequirementView};
+    ghost use Rattle.review_project.specs.View.{RequirementView};
 
     ghost Value = { RequirementView Expr };
 
@@ -249,7 +239,7 @@ impl Model for Content {
     ghost use Rattle.std.specs.Coded.{codes};
     ghost use Rattle.review_expr.specs.contracts.expr.Expr as expr;
     ghost use Rattle.review_expr.specs.declared.expr.Expr.{Expr};
-    ghost use Rattle.review_file.specs.View.{FileView};
+    ghost use Rattle.review_project.specs.View.{FileView};
 
     ghost Value = { FileView Expr };
 
@@ -273,8 +263,8 @@ impl Model for ProjectFile {
     ghost use Rattle.std.specs.Coded.{codes};
     ghost use Rattle.review_expr.specs.contracts.expr.Expr as expr;
     ghost use Rattle.review_expr.specs.declared.expr.Expr.{Expr};
-    ghost use Rattle.review_file.specs.View.{FileView};
-    ghost use Rattle.review_file.specs.Reading.{IsProjectFile};
+    ghost use Rattle.review_project.specs.View.{FileView};
+    ghost use Rattle.review_project.specs.Reading.{IsProjectFile};
 
     ghost Value = { FileView Expr };
 

@@ -1,17 +1,18 @@
 //! Reading labels.
 ghost use Rattle.std.specs.Prelude.{◌≡◌, ◌≢◌, [], IfOk, IfErr, codes, filter, map};
 ghost use Rattle.toml.specs.View.{table_view, view};
-ghost use Rattle.review_words.specs.Names.{is_word};
+ghost use Rattle.review_names.specs.Names.{is_word};
 ghost use Rattle.review_document.specs.Document.{members, members_at, text_at};
 ghost use Rattle.review_expr.specs.Exprs.{IsCopyOf};
-ghost use Rattle.review_file.specs.Expressions.{EachTo, FirstFault, IfThere, IsLabel, IsNoCopy, copy_texts, with_text};
-ghost use Rattle.review_file.specs.Spelled.{grant_in, label_in, named, narrowed, value_in};
+ghost use Rattle.review_project.specs.Expressions.{EachTo, FirstFault, IfThere, IsLabel, IsNoCopy, copy_texts, with_text};
+ghost use Rattle.review_project.specs.Spelled.{grant_in, label_in, named, narrowed, value_in};
 
-use crate::file::{Grant, Label, LabelValue};
+use crate::file::{Label, LabelValue};
 use review_document::document::{table_at, text_at, text_of};
 use review_document::names::{group_name, label_name};
 use review_document::values::{end_at, value_of};
 use review_expr::{Expr, ParseFault, parse_copy};
+use review_project::Grant;
 use review_words::{GroupName, LabelName};
 use std::alloc::{AllocError, Global};
 use toml::{Table, Value};

@@ -17,19 +17,16 @@
 #![tactic(auto)]
 
 mod access;
-pub mod fault;
 pub mod file;
 mod labels;
-pub mod laws;
 pub mod read;
 mod requirements;
 pub mod rights;
 mod unknown;
 
-pub use fault::ReadFault;
-pub use file::{Access, Grant, Label, LabelValue, ProjectFile, Requirement};
-pub use laws::{one_fault, one_file, place_within, read_or_fault, refused_has_pattern};
+pub use file::{Access, Label, LabelValue, ProjectFile, Requirement};
 pub use read::read_file;
 pub use review_document::limits::{MOST_BYTES, MOST_DESCRIPTION, MOST_PARTS, MOST_TEXT};
+pub use review_project::{Grant, ReadFault, Right};
 pub use review_words::FileFault;
-pub use rights::{Right, covers, may, range_of};
+pub use rights::{covers, may, range_of};

@@ -2,13 +2,12 @@
 ghost use Rattle.std.specs.Prelude.{◌≡◌, ◌≢◌, IfOk, IfErr};
 ghost use Rattle.toml.specs.View.{table_view, view};
 ghost use Rattle.toml.specs.Data.{table};
-ghost use Rattle.review_file.specs.Expressions.{IsFile, IsStoppedBy};
-ghost use Rattle.review_file.specs.Patterns.{HasPattern};
-ghost use Rattle.review_file.specs.Reading.{IsFaultless, IsRead, IsReadFault, IsDocumentFault, first_fault};
-ghost use Rattle.review_file.specs.Spelled.{spelled};
+ghost use Rattle.review_project.specs.Expressions.{IsFile, IsStoppedBy};
+ghost use Rattle.review_project.specs.Patterns.{HasPattern};
+ghost use Rattle.review_project.specs.Reading.{IsFaultless, IsRead, IsReadFault, IsDocumentFault, first_fault};
+ghost use Rattle.review_project.specs.Spelled.{spelled};
 
 use crate::access::read_access;
-use crate::fault::ReadFault;
 use crate::file::{Content, ProjectFile};
 use crate::labels::labels_in;
 use crate::requirements::requirements_in;
@@ -19,6 +18,7 @@ use review_document::limits::{MOST_BYTES, is_past_limits};
 use review_document::names::has_bad_name;
 use review_document::values::{has_bad_values, has_value_twice};
 use review_expr::ParseFault;
+use review_project::ReadFault;
 use review_words::FileFault;
 use std::alloc::{AllocError, Global};
 use toml::Value;
@@ -62,7 +62,7 @@ fn content_in(alloc: Global, file: &Value) -> Result<Content, ParseFault>
     })
 }
 
-#[tactic(auto, using(crate::proofs::Verdicts::least_first))]
+#[tactic(auto, using(review_project::proofs::Verdicts::least_first))]
 fn read_document(alloc: Global, file: &Value) -> Result<Content, ReadFault>
     ensures read { IfOk result (IsFaultless (view file.now)) }
     ensures fault { IfErr result (IsDocumentFault (view file.now)) }

@@ -3,8 +3,8 @@ ghost use Rattle.std.specs.Prelude.{◌≡◌, ◌≢◌, [], IfOk, IfErr, codes
 ghost use Rattle.toml.specs.View.{table_view, view};
 ghost use Rattle.review_document.specs.Document.{members, members_at, text_at};
 ghost use Rattle.review_expr.specs.Exprs.{IsRequirementOf};
-ghost use Rattle.review_file.specs.Expressions.{EachTo, FirstFault, IfThere, IsNoRequirement, IsRequirement, requirement_texts, with_text, with_texts};
-ghost use Rattle.review_file.specs.Spelled.{is_flag, named, requirement_in};
+ghost use Rattle.review_project.specs.Expressions.{EachTo, FirstFault, IfThere, IsNoRequirement, IsRequirement, requirement_texts, with_text, with_texts};
+ghost use Rattle.review_project.specs.Spelled.{is_flag, named, requirement_in};
 
 use crate::file::Requirement;
 use review_document::document::{copied_text, table_at, text_at};

@@ -4,25 +4,13 @@ ghost use Rattle.std.specs.Int.{int_min, int_max};
 ghost use Rattle.std.specs.List.{list_all, list_any};
 ghost use Rattle.std.specs.Ordering.{int_eq};
 ghost use Rattle.std.specs.Str.{bytes_eq};
-ghost use Rattle.review_words.specs.Groups.{has_account};
-ghost use Rattle.review_file.specs.Rights.{covers, granted, grants_of, greatest_of, groups_of, has_values, is_covered, least_of, may};
-ghost use Rattle.review_file.specs.Sound.{is_value};
+ghost use Rattle.review_names.specs.Groups.{has_account};
+ghost use Rattle.review_project.specs.Rights.{covers, granted, grants_of, greatest_of, groups_of, has_values, is_covered, least_of, may};
+ghost use Rattle.review_project.specs.Sound.{is_value};
 
-use crate::file::{Access, Grant, Label, LabelValue, ProjectFile};
+use crate::file::{Access, Label, LabelValue, ProjectFile};
+use review_project::{Grant, Right};
 use review_words::{AccountNo, GroupName, Groups, LabelName};
-
-/// What the groups of a project's file may do.
-#[derive(Clone, Copy, Debug, PartialEq, Eq)]
-pub enum Right {
-    /// Make a change.
-    Create,
-    /// Send a patch set of another's change.
-    Upload,
-    /// Submit a change.
-    Submit,
-    /// Abandon another's change, and restore it.
-    Abandon,
-}
 
 fn has_value(values: &[LabelValue], value: i8) -> bool
     ensures { result ≡ list_any (λ w. int_eq w.0 value) values.now }

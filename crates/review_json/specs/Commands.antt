@@ -2,8 +2,8 @@
 use Rattle.std.specs.Prelude.{ℕ, List, if◌then◌else◌, Option, None, option_map, option_and_then, codes}
 use Rattle.std.specs.Str.{bytes_eq}
 use Rattle.serde_json.specs.Data.{Data}
-use Rattle.review_words.specs.Names.{is_word}
-use Rattle.review_words.specs.Forms.{is_slashed_name, is_commit}
+use Rattle.review_names.specs.Names.{is_word}
+use Rattle.review_names.specs.Forms.{is_slashed_name, is_commit}
 use Rattle.review_words.specs.declared.command.Command.{Command}
 use Rattle.review_words.specs.declared.command.Command.TheVariants.{CreateAccount, PutGroup, PutProject, RecordBase}
 use Rattle.review_json.specs.Parts.{text_at, name_at, members_at}

@@ -1,6 +1,6 @@
 -- The fault of a body in which a name is bad.
-use Rattle.review_words.specs.declared.names.BadName.{BadName}
-use Rattle.review_words.specs.declared.names.BadName.TheVariants as names
+use Rattle.review_names.specs.declared.names.BadName.{BadName}
+use Rattle.review_names.specs.declared.names.BadName.TheVariants as names
 use Rattle.review_json.specs.declared.fault.BadBody.{BadBody}
 use Rattle.review_json.specs.declared.fault.BadBody.TheVariants.{Form, Memory}
 

@@ -2,7 +2,7 @@
 use Rattle.std.specs.Prelude.{◌≡◌, ℕ, Bool, List, [], ◌∷◌, length, nat_le, if◌then◌else◌, Option, Some, None, option_map, option_and_then, Result, Ok, Err}
 use Rattle.serde_json.specs.Data.{Data, Items, no_items, item}
 use Rattle.serde_json.specs.Find.{get, as_u64, as_number, as_str, as_array}
-use Rattle.review_words.specs.Names.{is_account_number, set_of, most_members}
+use Rattle.review_names.specs.Names.{is_account_number, set_of, most_members}
 use Rattle.review_json.specs.declared.fault.BadBody.{BadBody}
 use Rattle.review_json.specs.declared.fault.BadBody.TheVariants.{Form, Memory}
 

@@ -2,7 +2,7 @@
 use Rattle.std.specs.Prelude.{ℕ, List, Bool, if◌then◌else◌, Option, None, option_map, option_and_then, codes}
 use Rattle.std.specs.Str.{bytes_eq}
 use Rattle.serde_json.specs.Data.{Data}
-use Rattle.review_words.specs.Forms.{is_slashed_name}
+use Rattle.review_names.specs.Forms.{is_slashed_name}
 use Rattle.review_words.specs.declared.command.Query.{Query}
 use Rattle.review_words.specs.declared.command.Query.TheVariants.{Branch}
 use Rattle.review_json.specs.Parts.{name_at}

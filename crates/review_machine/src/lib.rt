@@ -1,30 +1,19 @@
-//! Decisions over stored rows, and deliveries that each act once.
+//! The desk: deliveries that each act once, decided by its rules.
 //!
 //! [`run`] is the call that a program makes: whatever deliveries come, repeated, lost or reordered, and whichever of them a
 //! fault leaves out, its contract says that tables and replies are those of the run in which each request stands once, at its first
 //! arrival. [`deliver`] is one step of it, with what it does to any tables whatever, and what a stop of the machine may
-//! leave. [`decide`] gives a command's reply and changes from the rows that decide it.
+//! leave. Both are those of `review_deliveries`, with the decisions of `review_decisions`.
 #![tactic(auto)]
 
-mod accounts;
-mod callers;
-pub mod decisions;
-pub mod deliveries;
-mod deltas;
-pub mod laws;
+pub mod desk;
 pub mod memory;
-pub mod needs;
-mod projects;
-pub mod questions;
-pub mod runs;
+pub mod rules;
 
-pub use decisions::decide;
-pub use deliveries::deliver;
-pub use laws::{one_answer, restart_completes, runs_compose};
+pub use desk::{deliver, run};
 pub use memory::run_in_memory;
-pub use needs::{need_of, need_of_query};
-pub use projects::unread_cause;
-pub use questions::show;
+pub use review_decisions::{decide, need_of, need_of_query, show, unread_cause};
+pub use review_deliveries::{Stopped, one_answer, restart_completes, runs_compose};
 pub use review_rows::{Delta, Kept, Need, Rows, Shelf, ShelfFault};
 pub use review_shelves::{FaultyShelf, MemoryShelf, ShuttingShelf};
-pub use runs::{Stopped, run};
+pub use rules::DeskRules;

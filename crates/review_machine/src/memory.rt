@@ -1,12 +1,13 @@
 //! Runs over a desk in memory.
-ghost use Rattle.std.specs.Prelude.{◌≡◌, List, MatchResult, take, length};
+ghost use Rattle.std.specs.Prelude.{◌≡◌, ◌<◌, [], List, MatchResult, IfErr, take, length};
 ghost use Rattle.review_words.specs.History.{Entry};
 ghost use Rattle.review_rows.specs.Answer.{IsHistory};
 ghost use Rattle.review_rows.specs.View.{IsView};
 ghost use Rattle.review_rows.specs.Shelf.{Shows};
-ghost use Rattle.review_machine.specs.Replies.{IsRun, history_after};
+ghost use Rattle.review_deliveries.specs.Replies.{IsRun, history_after};
 
-use crate::runs::{Stopped, run};
+use crate::desk::run;
+use review_deliveries::Stopped;
 use review_rows::Shelf;
 use review_shelves::MemoryShelf;
 use review_words::{Delivery, Reply};
@@ -25,6 +26,7 @@ pub fn run_in_memory(
     ensures view { (h : List Entry) → IsHistory h → Shows (⟦<MemoryShelf as Shelf>⟧.state shelf.old).tables (IsView h) → MatchResult result
         (λ replies. Shows (⟦<MemoryShelf as Shelf>⟧.state shelf.new).tables (IsView (history_after h deliveries.now replies.items)))
         (λ stopped. Shows (⟦<MemoryShelf as Shelf>⟧.state shelf.new).tables (IsView (history_after h (take (length stopped.replies.items) deliveries.now) stopped.replies.items))) }
+    ensures stopped { IfErr result (λ stopped. (stopped.replies.items ≡ []) × (0 < length deliveries.now)) }
 {
     run(alloc, shelf, deliveries)
 }

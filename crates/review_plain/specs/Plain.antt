@@ -9,11 +9,11 @@ use Rattle.review_words.specs.declared.reply.Answer.TheVariants.{Nothing}
 use Rattle.review_words.specs.declared.reply.NotTaken.{NotTaken as Cause}
 use Rattle.review_words.specs.declared.reply.NotTaken.TheVariants.{Memory, Pattern}
 use Rattle.review_words.specs.History as words
-use Rattle.review_file.specs.Reading.{IsReadFault}
-use Rattle.review_file.specs.declared.fault.ReadFault.{ReadFault}
-use Rattle.review_file.specs.declared.fault.ReadFault.TheVariants as read
+use Rattle.review_project.specs.Reading.{IsReadFault}
+use Rattle.review_project.specs.declared.fault.ReadFault.{ReadFault}
+use Rattle.review_project.specs.declared.fault.ReadFault.TheVariants as read
 use Rattle.review_rows.specs.Files.{File}
-use Rattle.review_machine.specs.Files.{unread_cause}
+use Rattle.review_decisions.specs.Files.{unread_cause}
 use Rattle.review_rows.specs.Answer.{HasFile, file_checks, first_refusal, refused_or}
 use Rattle.review_plain.specs.declared.history.Entry.{Entry}
 

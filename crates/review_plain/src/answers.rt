@@ -13,8 +13,8 @@ use crate::history::{
     Entry, account_count, are_accounts, base_count, bases, file_text, is_account, is_base,
     is_listed, is_project, name_taken, project_count,
 };
+use review_decisions::unread_cause;
 use review_file::{ProjectFile, ReadFault, covers, read_file};
-use review_machine::unread_cause;
 use review_words::{
     AccountName, AccountNo, Answer, BranchName, Command, CommitName, FileFault, FileText,
     GroupName, Members, NotTaken, ProjectName, Query, Refusal, Reply,

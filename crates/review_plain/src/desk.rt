@@ -1,7 +1,7 @@
 //! A desk that keeps its history and nothing else.
 ghost use Rattle.std.specs.Prelude.{◌≡◌, [], ◌∷◌, IfOk, IfErr, OnOk, OnErr, MatchOption, None, option_copied, option_map, true, false};
 ghost use Rattle.review_words.specs.History as words;
-ghost use Rattle.review_machine.specs.Replies.{IsTold, IsToldOfStored, entry_of, history_after};
+ghost use Rattle.review_deliveries.specs.Replies.{IsTold, IsToldOfStored, entry_of, history_after};
 ghost use Rattle.review_words.specs.declared.command.Delivery.TheVariants.{Write};
 ghost use Rattle.std.specs.Str.{bytes_eq};
 ghost use Rattle.review_plain.specs.Plain.{history, shown, IsUntaken};

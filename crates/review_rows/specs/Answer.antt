@@ -15,7 +15,7 @@ use Rattle.review_words.specs.declared.reply.Refusal.{Refusal}
 use Rattle.review_words.specs.declared.reply.Refusal.TheVariants.{UnknownCaller, NotAdmin, NoProject, NoBranch, NoAccount, CommitKnown, NameTaken, BadFile, LabelNarrowed, Limit}
 use Rattle.review_words.specs.declared.faults.FileFault.{FileFault}
 use Rattle.review_words.specs.History.{Entry, stored, account_count, name_taken, is_account, is_admin, file_text, is_project, project_count, bases, base_count, is_branch, is_base}
-use Rattle.review_words.specs.Names.{registered_users}
+use Rattle.review_names.specs.Names.{registered_users}
 use Rattle.review_rows.specs.Files.{File, IsRead, IsFileFault, covers}
 
 -- the most accounts of a desk

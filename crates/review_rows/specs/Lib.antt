@@ -4,3 +4,4 @@ pub mod Answer
 pub mod View
 pub mod Count
 pub mod Shelf
+pub mod Decisions

@@ -41,9 +41,14 @@ abbrev pub Views : List Entry → Option Tables → Type 0
 Views h None = Unit {0}
 Views h (Some t) = IsView h t
 
--- a fault leaves the tables, or shuts the store
+-- the tables stay, or the store is shut
 abbrev pub StaysOrShuts : Option Tables → Option Tables → Type 0
 StaysOrShuts old new = (new ≡ old) ⊎ (new ≡ None)
+
+-- What is left where something was not taken for a cause: the tables; only a store fault may shut the store.
+abbrev pub LeavesBy : NotTaken → Option Tables → Option Tables → Type 0
+LeavesBy Store old new = StaysOrShuts old new
+LeavesBy cause old new = new ≡ old
 
 -- the tables are those of no history
 abbrev pub IsDamaged : Tables → Type 0
@@ -85,7 +90,12 @@ CountsFaults (Err e) before after = IsCounted e before after
 -- a call that only reads
 abbrev pub KeepsTables : {X : Type 0} → Result X ShelfFault → Option Tables → Option Tables → Type 0
 KeepsTables (Ok x) old new = new ≡ old
-KeepsTables (Err e) old new = StaysOrShuts old new
+KeepsTables (Err e) old new = LeavesBy (cause_of e) old new
+
+-- a call that failed
+abbrev pub LeavesUndone : {X : Type 0} → Result X ShelfFault → Option Tables → Option Tables → Type 0
+LeavesUndone (Ok x) old new = Unit {0}
+LeavesUndone (Err e) old new = LeavesBy (cause_of e) old new
 
 -- Damaged is answered only where the tables are those of no history
 abbrev pub Blames : ShelfFault → Option Tables → Type 0

@@ -2,7 +2,7 @@
 use Rattle.std.specs.Prelude.{ℕ, ◌+◌, ◌≡◌, List, [], ◌∷◌, Option, Some, None, Bool, ◌&&◌, ◌||◌, ◌==◌, length, option_map, if◌then◌else◌, true, false}
 use Rattle.std.specs.Str.{bytes_eq}
 use Rattle.std.specs.List.{list_any}
-use Rattle.review_words.specs.Names.{administrators}
+use Rattle.review_names.specs.Names.{administrators}
 use Rattle.review_words.specs.Texts.{content_text, reply_text}
 use Rattle.review_words.specs.History.{Entry, Identity, is_same, name_of, is_listed, file_text, project_count, bases, base_count}
 use Rattle.review_words.specs.declared.command.Command.{Command}

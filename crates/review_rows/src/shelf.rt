@@ -1,4 +1,4 @@
-ghost use Rattle.std.specs.Prelude.{◌≡◌, ◌≤◌, ◌⊎◌, ℕ, Some, IfOk, OnOk, OnErr};
+ghost use Rattle.std.specs.Prelude.{◌≡◌, ◌≤◌, ◌⊎◌, ℕ, Some, IfOk, OnOk};
 
 use crate::rows::{Delta, Kept, Need, Rows};
 use review_words::{AccountNo, NotTaken, RequestId};
@@ -37,7 +37,7 @@ impl From<ShelfFault> for NotTaken {
 /// leave before the call, or what the call's success leaves.
 pub trait Shelf {
     ghost use Rattle.review_rows.specs.Rows.{Tables, kept_row};
-    ghost use Rattle.review_rows.specs.Shelf.{Shown, Shows, StaysOrShuts, IsRecalled, AreSelected, IsCommitted, CountsFaults, KeepsTables, BlamesTables, AddsNoStop, StopLeavesOwnTables, greatest_count};
+    ghost use Rattle.review_rows.specs.Shelf.{Shown, Shows, LeavesUndone, IsRecalled, AreSelected, IsCommitted, CountsFaults, KeepsTables, BlamesTables, AddsNoStop, StopLeavesOwnTables, greatest_count};
 
     /// The tables, whether the store was honest, its count of faults, and what a stop may leave.
     ghost state: { Self → Shown };
@@ -70,7 +70,7 @@ pub trait Shelf {
         ensures honest { (state self.new).is_honest → (state self.old).is_honest }
         ensures done { (state self.new).is_honest → OnOk result (Shows (state self.old).tables (λ t. Shows (state self.new).tables (IsCommitted t delta.now (kept_row kept.now)))) }
         ensures alone { (state self.new).is_honest → OnOk result (StopLeavesOwnTables (state self.new)) }
-        ensures undone { (state self.new).is_honest → OnErr result (StaysOrShuts (state self.old).tables (state self.new).tables) }
+        ensures undone { (state self.new).is_honest → LeavesUndone result (state self.old).tables (state self.new).tables }
         ensures damaged { (state self.new).is_honest → BlamesTables result (state self.old).tables }
         ensures stops { (state self.new).is_honest → (t : Tables) → (state self.new).stops t →
             (state self.old).stops t ⊎ Shows (state self.old).tables (λ was. IsCommitted was delta.now (kept_row kept.now) t) }

@@ -10,7 +10,7 @@ use Rattle.std.proofs.lemmas.Cmp.{nat_eq_equiv}
 use Rattle.std.proofs.lemmas.Map.Lookups.{exact_unsigned}
 use Rattle.std.proofs.lemmas.Map.Views.{tells_apart}
 use Rattle.review_table.specs.Rows.{row_in}
-use Rattle.review_words.specs.Names.{administrators, admin_name}
+use Rattle.review_names.specs.Names.{administrators, admin_name}
 use Rattle.review_rows.specs.declared.rows.MemberKey.{MemberKey as Member}
 use Rattle.review_rows.specs.Rows.{Key, AccountKey, MemberKey, FileKey, BranchKey, OddKey, AccountRow, MemberRow, Count, Projects, BasesOf, member_cmp, member_row}
 use Rattle.review_rows.specs.View.{IsView, fact, counted}

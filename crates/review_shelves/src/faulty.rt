@@ -1,4 +1,4 @@
-ghost use Rattle.std.specs.Prelude.{◌≡◌, ◌⊎◌, IfOk, OnOk, OnErr};
+ghost use Rattle.std.specs.Prelude.{◌≡◌, ◌⊎◌, IfOk, OnOk};
 ghost use Rattle.review_rows.specs.Shelf.{ShowsAs};
 
 use review_rows::{Delta, Kept, Need, Rows, Shelf, ShelfFault};
@@ -60,7 +60,7 @@ impl<T: Shelf> FaultyShelf<T> {
 
 impl<T: Shelf> Shelf for FaultyShelf<T> {
     ghost use Rattle.review_rows.specs.Rows.{Tables, kept_row};
-    ghost use Rattle.review_rows.specs.Shelf.{Shows, StaysOrShuts, IsRecalled, AreSelected, IsCommitted, CountsFaults, KeepsTables, BlamesTables, AddsNoStop, StopLeavesOwnTables};
+    ghost use Rattle.review_rows.specs.Shelf.{Shows, LeavesUndone, IsRecalled, AreSelected, IsCommitted, CountsFaults, KeepsTables, BlamesTables, AddsNoStop, StopLeavesOwnTables};
     ghost use Rattle.review_shelves.specs.Faults.{faulty, is_past, FailsInTurn};
     ghost use Rattle.review_shelves.specs.Fits.{one_more_fits};
 
@@ -105,7 +105,7 @@ impl<T: Shelf> Shelf for FaultyShelf<T> {
         ensures honest { (faulty T.state self.new).is_honest → (faulty T.state self.old).is_honest }
         ensures done { (faulty T.state self.new).is_honest → OnOk result (Shows (faulty T.state self.old).tables (λ t. Shows (faulty T.state self.new).tables (IsCommitted t delta.now (kept_row kept.now)))) }
         ensures alone { (faulty T.state self.new).is_honest → OnOk result (StopLeavesOwnTables (faulty T.state self.new)) }
-        ensures undone { (faulty T.state self.new).is_honest → OnErr result (StaysOrShuts (faulty T.state self.old).tables (faulty T.state self.new).tables) }
+        ensures undone { (faulty T.state self.new).is_honest → LeavesUndone result (faulty T.state self.old).tables (faulty T.state self.new).tables }
         ensures damaged { (faulty T.state self.new).is_honest → BlamesTables result (faulty T.state self.old).tables }
         ensures stops { (faulty T.state self.new).is_honest → (t : Tables) → (faulty T.state self.new).stops t →
             (faulty T.state self.old).stops t ⊎ Shows (faulty T.state self.old).tables (λ was. IsCommitted was delta.now (kept_row kept.now) t) }

@@ -1,4 +1,4 @@
-ghost use Rattle.std.specs.Prelude.{◌≡◌, true, false, ℕ, ◌+◌, ◌≤◌, ◌<◌, ◌⊎◌, IfOk, OnOk, OnErr};
+ghost use Rattle.std.specs.Prelude.{◌≡◌, true, false, ℕ, ◌+◌, ◌≤◌, ◌<◌, ◌⊎◌, IfOk, OnOk};
 ghost use Rattle.review_rows.specs.Shelf.{ShowsAs, greatest_count};
 
 use crate::faulty::Turn;
@@ -49,7 +49,7 @@ impl<T: Shelf> ShuttingShelf<T> {
 
 impl<T: Shelf> Shelf for ShuttingShelf<T> {
     ghost use Rattle.review_rows.specs.Rows.{Tables, kept_row};
-    ghost use Rattle.review_rows.specs.Shelf.{Shows, StaysOrShuts, IsRecalled, AreSelected, IsCommitted, CountsFaults, KeepsTables, BlamesTables, AddsNoStop, StopLeavesOwnTables};
+    ghost use Rattle.review_rows.specs.Shelf.{Shows, LeavesUndone, IsRecalled, AreSelected, IsCommitted, CountsFaults, KeepsTables, BlamesTables, AddsNoStop, StopLeavesOwnTables};
     ghost use Rattle.review_shelves.specs.Faults.{shutting, after_call, ShutsInTurn};
     ghost use Rattle.review_shelves.specs.Fits.{sum_fits};
 
@@ -100,7 +100,7 @@ impl<T: Shelf> Shelf for ShuttingShelf<T> {
         ensures honest { (shutting T.state self.new).is_honest → (shutting T.state self.old).is_honest }
         ensures done { (shutting T.state self.new).is_honest → OnOk result (Shows (shutting T.state self.old).tables (λ t. Shows (shutting T.state self.new).tables (IsCommitted t delta.now (kept_row kept.now)))) }
         ensures alone { (shutting T.state self.new).is_honest → OnOk result (StopLeavesOwnTables (shutting T.state self.new)) }
-        ensures undone { (shutting T.state self.new).is_honest → OnErr result (StaysOrShuts (shutting T.state self.old).tables (shutting T.state self.new).tables) }
+        ensures undone { (shutting T.state self.new).is_honest → LeavesUndone result (shutting T.state self.old).tables (shutting T.state self.new).tables }
         ensures damaged { (shutting T.state self.new).is_honest → BlamesTables result (shutting T.state self.old).tables }
         ensures stops { (shutting T.state self.new).is_honest → (t : Tables) → (shutting T.state self.new).stops t →
             (shutting T.state self.old).stops t ⊎ Shows (shutting T.state self.old).tables (λ was. IsCommitted was delta.now (kept_row kept.now) t) }

@@ -4,8 +4,8 @@ use Rattle.std.specs.Prelude.{◌&&◌, ◌||◌, nat_le}
 use Rattle.std.specs.Char.{is_ascii_alphabetic, is_ascii_alphanumeric}
 use Rattle.std.proofs.Math.Seq.{take-append_seam, drop-append_seam, take-append-add}
 use Rattle.std.proofs.lemmas.Bool.Decides.{nat_tests}
-use Rattle.review_words.specs.Forms.{is_label, goes_on}
-use Rattle.review_words.specs.Reading.{◌>>=◌}
+use Rattle.review_names.specs.Forms.{is_label, goes_on}
+use Rattle.review_names.specs.Numerals.{◌>>=◌}
 use Rattle.review_terms.specs.declared.terms.Voters.{Voters}
 use Rattle.review_terms.specs.declared.terms.Count.{Count}
 use Rattle.review_terms.specs.declared.terms.Comparison.{Comparison}

@@ -3,7 +3,7 @@ use Rattle.std.proofs.Common.{◌≡◌, ℕ, ◌==◌, List, [], ◌∷◌, ◌
 use Rattle.std.specs.Prelude.{◌&&◌, codes}
 use Rattle.std.specs.List.{list_all, list_any}
 use Rattle.std.proofs.lemmas.List.Folds.{list_all-append}
-use Rattle.review_words.specs.Reading.{◌>>=◌}
+use Rattle.review_names.specs.Numerals.{◌>>=◌}
 use Rattle.review_grammar.specs.Lexemes.{is_end}
 use Rattle.review_spelling.specs.Cuts.{cut_at, with_first, closed, unquoted_by, unquoted, key_and_value}
 use Rattle.review_spelling.specs.Printed.{quoted, word_of}

@@ -3,9 +3,9 @@ use Rattle.std.proofs.Common.{◌≡◌, ℕ, ◌≤◌, ◌==◌, List, [], ◌
 use Rattle.std.specs.Prelude.{◌&&◌, nat_le, codes}
 use Rattle.std.specs.List.{list_all}
 use Rattle.std.proofs.lemmas.Bool.Decides.{nat_tests}
-use Rattle.review_words.specs.Names.{is_account_number, is_plain, is_word}
-use Rattle.review_words.specs.Texts.{numeral}
-use Rattle.review_words.specs.Reading.{account_of, number_of, ◌>>=◌}
+use Rattle.review_names.specs.Names.{is_account_number, is_plain, is_word}
+use Rattle.review_names.specs.Numerals.{numeral}
+use Rattle.review_names.specs.Numerals.{account_of, number_of, ◌>>=◌}
 use Rattle.review_terms.specs.declared.terms.Voters.{Voters}
 use Rattle.review_terms.specs.declared.terms.Voters.TheVariants as voters
 use Rattle.review_terms.specs.declared.terms.Count.{Count}

@@ -7,8 +7,8 @@ use Rattle.std.specs.Str.{bytes_eq}
 use Rattle.std.proofs.lemmas.Slice.Eq.{bytes_eq-Decides}
 use Rattle.std.proofs.lemmas.Int.Digits.{all_below_base_digits_of}
 use Rattle.std.proofs.lemmas.Bool.Decides.{nat_tests}
-use Rattle.review_words.specs.Texts.{shown_digits, numeral}
-use Rattle.review_words.proofs.Numerals.{number_back}
+use Rattle.review_names.specs.Numerals.{shown_digits, numeral}
+use Rattle.review_names.proofs.Numerals.{number_back}
 use Rattle.review_terms.specs.declared.terms.VoteValue.{VoteValue}
 use Rattle.review_terms.specs.declared.terms.VoteValue.TheVariants as value
 use Rattle.review_terms.specs.declared.terms.Comparison.{Comparison}

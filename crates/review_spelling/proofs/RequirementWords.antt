@@ -2,9 +2,9 @@
 use Rattle.std.proofs.Common.{◌≡◌, List, ◌∷◌, ◌++◌, ℕ, Option, None, Some, Bool, true, false, cond, option_map, refl, sym, ap, subst, ◌∙◌}
 use Rattle.std.specs.Prelude.{codes}
 use Rattle.std.specs.Str.{bytes_eq}
-use Rattle.review_words.specs.Names.{is_word}
-use Rattle.review_words.specs.Reading as Steps
-use Rattle.review_words.specs.Forms.{is_slashed_name, is_path}
+use Rattle.review_names.specs.Names.{is_word}
+use Rattle.review_names.specs.Numerals as Steps
+use Rattle.review_names.specs.Forms.{is_slashed_name, is_path}
 use Rattle.review_grammar.specs.Words.{NoTerm, Reading, Good, Bad}
 use Rattle.review_terms.specs.Patterns.{is_pattern}
 use Rattle.review_terms.specs.declared.terms.LabelTerm.{LabelTerm}

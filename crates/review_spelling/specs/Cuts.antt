@@ -1,7 +1,7 @@
 -- Parts of a word.
 use Rattle.std.specs.Prelude.{ℕ, List, [], ◌∷◌, ◌==◌, if◌then◌else◌, Option, Some, None, option_map}
 use denote.Ref.{Bor}
-use Rattle.review_words.specs.Reading.{◌>>=◌}
+use Rattle.review_names.specs.Numerals.{◌>>=◌}
 
 -- what follows a front, where the text begins with it
 unfoldable pub behind : List ℕ → List ℕ → Option (List ℕ)

@@ -1,9 +1,9 @@
 -- The value of a `label:` word.
 use Rattle.std.specs.Prelude.{ℕ, zero, suc, List, ◌&&◌, nat_le, if◌then◌else◌, codes, length, take, drop, Option, Some, None, option_map}
 use Rattle.std.specs.Str.{bytes_eq}
-use Rattle.review_words.specs.Forms.{is_label}
-use Rattle.review_words.specs.Names.{is_word}
-use Rattle.review_words.specs.Reading.{◌>>=◌, account_of}
+use Rattle.review_names.specs.Forms.{is_label}
+use Rattle.review_names.specs.Names.{is_word}
+use Rattle.review_names.specs.Numerals.{◌>>=◌, account_of}
 use Rattle.review_terms.specs.declared.terms.Voters.{Voters}
 use Rattle.review_terms.specs.declared.terms.Voters.TheVariants as voters
 use Rattle.review_terms.specs.declared.terms.Count.{Count}

@@ -2,7 +2,7 @@
 use Rattle.std.specs.Prelude.{◌≡◌, IsTrue, ℕ, suc, ℤ, pos, negsuc, List, [], ◌∷◌, ◌++◌, Bool, true, false, if◌then◌else◌, codes, Option, Some, None}
 use Rattle.std.specs.List.{list_any}
 use Rattle.std.specs.Char.{is_ascii_lowercase}
-use Rattle.review_words.specs.Texts.{numeral}
+use Rattle.review_names.specs.Numerals.{numeral}
 use Rattle.review_grammar.specs.Lexemes.{is_end, runs}
 use Rattle.review_terms.specs.declared.terms.VoteValue.{VoteValue}
 use Rattle.review_terms.specs.declared.terms.VoteValue.TheVariants as value

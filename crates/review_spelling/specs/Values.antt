@@ -2,7 +2,7 @@
 use Rattle.std.specs.Prelude.{ℕ, ℤ, pos, neg_ℤ, List, nat_le, if◌then◌else◌, Bool, false, int_lt, int_le, codes, Option, Some, None, option_map}
 use Rattle.std.specs.Ordering.{int_eq}
 use Rattle.std.specs.Str.{bytes_eq}
-use Rattle.review_words.specs.Reading.{◌>>=◌, number_of}
+use Rattle.review_names.specs.Numerals.{◌>>=◌, number_of}
 use Rattle.review_terms.specs.declared.terms.VoteValue.{VoteValue}
 use Rattle.review_terms.specs.declared.terms.VoteValue.TheVariants as value
 use Rattle.review_terms.specs.declared.terms.Comparison.{Comparison}

@@ -1,8 +1,8 @@
 -- What a word is read as.
 use Rattle.std.specs.Prelude.{ℕ, List, ◌&&◌, Bool, true, false, if◌then◌else◌, codes, Option, Some, None, option_map, IsSomeAnd}
 use Rattle.std.specs.Str.{bytes_eq}
-use Rattle.review_words.specs.Forms.{is_slashed_name, is_path}
-use Rattle.review_words.specs.Names.{is_word}
+use Rattle.review_names.specs.Forms.{is_slashed_name, is_path}
+use Rattle.review_names.specs.Names.{is_word}
 use Rattle.review_grammar.specs.Words.{Reading, Good, Bad}
 use Rattle.review_terms.specs.Patterns.{is_pattern, IsDeepPattern, IsEnginePattern}
 use Rattle.review_terms.specs.declared.terms.Comparison.TheVariants as comparison

@@ -9,8 +9,8 @@ use crate::keys::CopyKey;
 use crate::names::read_name;
 use crate::values::{is_met_by_zero, read_kind, read_vote};
 use review_grammar::WordFault;
+use review_names::names::OfGroup;
 use review_terms::{Comparison, CopyTerm};
-use review_words::names::OfGroup;
 use std::alloc::Global;
 
 #[tactic(auto, unfolding(crate::specs::Words::copy_value))]

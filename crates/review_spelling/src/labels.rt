@@ -1,7 +1,7 @@
 //! The values of `label:` words.
 ghost use Rattle.std.specs.Prelude.{◌≡◌, ◌<◌, ◌-◌, true, IfOk, IfErr, IfNone, IfSome, Some, option_map};
-ghost use Rattle.review_words.specs.Forms.{is_label};
-ghost use Rattle.review_words.specs.Reading.{account_of};
+ghost use Rattle.review_names.specs.Forms.{is_label};
+ghost use Rattle.review_names.specs.Numerals.{account_of};
 ghost use Rattle.review_spelling.specs.Cuts.{text_behind};
 ghost use Rattle.review_spelling.specs.Labels.{accounts_in, count_in, label_in, longest_label, one_part, parts_in, two_parts, user_in, voters_in};
 ghost use Rattle.review_spelling.specs.Readings.{IsUnread};
@@ -10,10 +10,10 @@ use crate::cuts::{behind, cut_at};
 use crate::names::read_name;
 use crate::values::{read_comparison, read_digits};
 use review_grammar::WordFault;
+use review_names::names::OfGroup;
+use review_names::places::OfLabel;
+use review_names::{AccountNo, Form};
 use review_terms::{Count, LabelTerm, Voters};
-use review_words::names::OfGroup;
-use review_words::places::OfLabel;
-use review_words::{AccountNo, Form};
 use std::alloc::Global;
 
 /// The most bytes of a label's name.

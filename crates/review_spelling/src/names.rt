@@ -6,8 +6,8 @@ ghost use Rattle.review_spelling.specs.Readings.{in_value, IsUnread};
 ghost use Rattle.review_spelling.specs.Words.{formed};
 
 use review_grammar::WordFault;
+use review_names::{BadName, Form, Name};
 use review_terms::{Pattern, PatternFault};
-use review_words::{BadName, Form, Name};
 use std::alloc::Global;
 
 /// A name of a form.

@@ -1,7 +1,7 @@
 //! Terms written as words.
 ghost use Rattle.std.specs.Prelude.{◌≡◌, ◌++◌, ℕ, List, codes, OnErr, OnOk, string_bytes};
 ghost use Rattle.std.specs.List.{list_any};
-ghost use Rattle.review_words.specs.Texts.{numeral};
+ghost use Rattle.review_names.specs.Numerals.{numeral};
 ghost use Rattle.review_grammar.specs.Lexemes.{is_end};
 ghost use Rattle.review_spelling.specs.Values.{kind_name};
 ghost use Rattle.review_spelling.specs.Printed.{comparison_text, copy_word, count_text, label_text, number_text, quoted, requirement_word, truth_text, vote_text, voters_text, word_of};
@@ -48,7 +48,7 @@ fn push_word(text: &mut String, key: &str, value: &str) -> Result<(), AllocError
     Ok(())
 }
 
-#[tactic(auto, using(review_words::proofs::Numerals::decimal_numeral))]
+#[tactic(auto, using(review_names::proofs::Numerals::decimal_numeral))]
 fn push_decimal(text: &mut String, number: u32) -> Result<(), AllocError>
     ensures { OnOk result (string_bytes text.new ≡ string_bytes text.old ++ numeral number) }
 {

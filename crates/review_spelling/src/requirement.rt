@@ -11,9 +11,9 @@ use crate::labels::read_label;
 use crate::names::{read_name, read_pattern};
 use crate::values::is_met_by_zero;
 use review_grammar::WordFault;
+use review_names::names::OfGroup;
+use review_names::places::{OfBranch, OfPath};
 use review_terms::RequirementTerm;
-use review_words::names::OfGroup;
-use review_words::places::{OfBranch, OfPath};
 use std::alloc::Global;
 
 #[tactic(auto, unfolding(crate::specs::Words::truth_in))]

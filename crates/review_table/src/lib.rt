@@ -3,4 +3,5 @@
 
 pub mod table;
 
-pub use table::{BadRows, Change, Key, Table};
+pub use review_key::Key;
+pub use table::{BadRows, Change, Table};

@@ -11,16 +11,11 @@ ghost use Rattle.std.specs.declared.cmp.Ordering.TheVariants.{Less};
 ghost use Rattle.review_table.specs.Rows.{row_at, row_in, rows_of, HasPlace, HavePlaces, IsEmptyPlace, changed, has_place, placed};
 ghost use Rattle.review_table.specs.declared.table.BadRows.TheVariants.{Double};
 
+use review_key::Key;
 use std::alloc::{AllocError, AllocFailed, Global};
 use std::cmp::Ordering;
 use std::collections::BTreeMap;
 use std::marker::Model;
-
-/// A key that can be copied exactly.
-pub trait Key: Ord + Drop + Sized {
-    fn copy(&self, alloc: Global) -> Result<Self, AllocError>
-        ensures { IfOk result (λ k. k ≡ self.now) };
-}
 
 /// A row for a key, or that the key has none.
 #[derive(Drop)]
@@ -353,11 +348,5 @@ impl<K: Key, V: Drop> Table<K, V> {
             }
         }
         None
-    }
-}
-
-impl Key for u32 {
-    fn copy(&self, _alloc: Global) -> Result<u32, AllocError> {
-        Ok(*self)
     }
 }

@@ -1,3 +1,1 @@
 pub mod Patterns
-pub mod Holds
-pub mod Labels

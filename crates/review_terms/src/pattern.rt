@@ -6,7 +6,7 @@ ghost use Rattle.regex.specs.Strings.{matcher_pattern};
 ghost use Rattle.review_terms.specs.Patterns.{is_pattern, is_read, matches_whole, IsLawful, IsReadFrom, IsRefusedBy};
 
 use regex::{Error, Matcher, Regex};
-use review_words::Path;
+use review_names::Path;
 use std::alloc::{AllocError, AllocFailed, Global};
 use std::marker::Model;
 

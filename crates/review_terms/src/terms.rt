@@ -1,7 +1,7 @@
 //! The terms of submit requirements and of copy conditions.
 
 use crate::pattern::Pattern;
-use review_words::{AccountNo, BranchName, GroupName, LabelName, Path};
+use review_names::{AccountNo, BranchName, GroupName, LabelName, Path};
 
 /// The value that a vote is compared with.
 #[derive(Clone, Copy, Debug, PartialEq, Eq)]

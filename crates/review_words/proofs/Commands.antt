@@ -4,9 +4,10 @@ use Rattle.std.specs.Prelude.{codes, if◌then◌else◌}
 use Rattle.std.specs.Str.{bytes_eq}
 use Rattle.review_words.specs.declared.command.Command.{Command}
 use Rattle.review_words.specs.declared.command.Command.TheVariants.{CreateAccount, PutGroup, PutProject, RecordBase}
-use Rattle.review_words.specs.Texts.{numeral, command_fields}
+use Rattle.review_names.specs.Numerals.{numeral}
+use Rattle.review_words.specs.Texts.{command_fields}
 use Rattle.review_words.specs.Reading.{at}
-use Rattle.review_words.proofs.Numerals.{value, value_numeral}
+use Rattle.review_names.proofs.Numerals.{value, value_numeral}
 
 -- the command of fields; whatever one where they are no command's
 abbrev pub command_of : List (List ℕ) → Command

@@ -6,7 +6,8 @@ use Rattle.std.specs.Int.Digits.{digits_of, number_from_digits, number_from_digi
 use Rattle.std.proofs.lemmas.Int.Digits.{all_below_base_digits_of, number_digits_of, number_after_ge}
 use Rattle.std.proofs.lemmas.Bool.Decides.{nat_tests}
 use Rattle.std.proofs.lemmas.List.{take_at}
-use Rattle.review_words.specs.Texts.{shown_digits, numeral, field, text_of}
+use Rattle.review_names.specs.Numerals.{shown_digits, numeral}
+use Rattle.review_words.specs.Texts.{field, text_of}
 use Rattle.review_words.specs.Cutting.{taken, split_after, AreShort}
 use Rattle.review_words.proofs.Cutting.{field_shape, field_not_empty}
 

@@ -1,10 +1,6 @@
-pub mod Names
-pub mod Forms
-pub mod Groups
 pub mod Faults
 pub mod Texts
 pub mod Shown
 pub mod Cutting
 pub mod Reading
 pub mod History
-pub mod Laws

@@ -1,7 +1,7 @@
 -- Numbers and replies read from their fields.
 use Rattle.std.specs.Prelude.{ℕ, ◌+◌, ◌-◌, ◌*◌, List, [], ◌∷◌, length, codes, slice_index, slice_index_or, option_map, Option, Some, None, Bool, ◌&&◌, ◌||◌, ◌==◌, nat_le, nat_lt, if◌then◌else◌}
 use Rattle.std.specs.Str.{bytes_eq}
-use Rattle.review_words.specs.Names.{is_account_number}
+use Rattle.review_names.specs.Numerals.{◌>>=◌, number_of, account_of}
 use Rattle.review_words.specs.declared.reply.Reply.{Reply}
 use Rattle.review_words.specs.declared.reply.Reply.TheVariants.{Done, Refused}
 use Rattle.review_words.specs.declared.reply.Answer.TheVariants.{Account, Nothing}
@@ -13,35 +13,9 @@ use Rattle.review_words.specs.declared.faults.ExprFault.{ExprFault}
 use Rattle.review_words.specs.declared.faults.FileFault.{FileFault}
 use Rattle.review_words.specs.declared.faults.FileFault.TheVariants as file
 
--- a reading, and a second one of what the first gave; nothing where either gives nothing
-infixl 10 ◌>>=◌
--- what is read further, where something was read
-abbrev pub ◌>>=◌ : {A B : Type 0} → Option A → (A → Option B) → Option B
-(Some x) >>= f = f x
-None >>= f = None
-
 -- the field at a place, or the empty one where there are not so many
 abbrev pub at : List (List ℕ) → ℕ → List ℕ
 at fields i = slice_index_or fields i []
-
--- the number below 2^64 whose digits are those of n and then those of the text
-abbrev pub number_after : ℕ → List ℕ → Option ℕ
-number_after n [] = Some n
-number_after n (c ∷ cs) = if nat_le 48 c && nat_le c 57 && nat_lt (n * 10 + (c - 48)) 18446744073709551616 then number_after (n * 10 + (c - 48)) cs else None
-
--- whether a text has a character, and no zero in front of others
-abbrev pub begins_well : List ℕ → Bool
-begins_well cs = nat_le 1 (length cs) && (nat_le (length cs) 1 || nat_lt 48 (slice_index cs 0))
-
--- the number below 2^64 that a text shows in decimal without leading zeros
-unfoldable pub number_of : List ℕ → Option ℕ
-number_of cs = if begins_well cs then number_after 0 cs else None
-
--- the account whose number a text is
-unfoldable pub account_of : List ℕ → Option ℕ
-account_of cs = do
-  number ← number_of cs
-  if is_account_number number then Some number else None
 
 -- the code of a number
 abbrev pub code_of_number : ℕ → Option ExprCode

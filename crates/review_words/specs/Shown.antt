@@ -1,6 +1,6 @@
 -- What the pieces of a text stand for.
 use Rattle.std.specs.Prelude.{ℕ, List}
-use Rattle.review_words.specs.Texts.{numeral}
+use Rattle.review_names.specs.Numerals.{numeral}
 use Rattle.review_words.specs.declared.pieces.Piece.{Piece}
 use Rattle.review_words.specs.declared.pieces.Piece.TheVariants.{Text, Number}
 

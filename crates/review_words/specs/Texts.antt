@@ -1,6 +1,5 @@
 -- The text of a command and of a reply: fields, each its length, a colon, its bytes and a comma.
 use Rattle.std.specs.Prelude.{ℕ, List, [], ◌∷◌, ◌++◌, length, map, ◌+◌, ◌≤◌, ◌<◌, codes, flat_map}
-use Rattle.std.specs.Int.Digits.{digits_of}
 use Rattle.review_words.specs.declared.command.Command.{Command}
 use Rattle.review_words.specs.declared.command.Command.TheVariants.{CreateAccount, PutGroup, PutProject, RecordBase}
 use Rattle.review_words.specs.declared.reply.Reply.{Reply}
@@ -12,15 +11,7 @@ use Rattle.review_words.specs.declared.reply.Refusal.TheVariants.{UnknownCaller,
 use Rattle.review_words.specs.declared.faults.FileFault.{FileFault}
 use Rattle.review_words.specs.declared.faults.FileFault.TheVariants.{Expr}
 use Rattle.review_words.specs.Faults.{code_number, file_fault_number}
-
--- the characters of digits; a number has at least one
-abbrev pub shown_digits : List ℕ → List ℕ
-shown_digits [] = 48 ∷ []
-shown_digits (d ∷ ds) = map (λ x. 48 + x) (d ∷ ds)
-
--- a number in decimal, without leading zeros
-unfoldable pub numeral : ℕ → List ℕ
-numeral n = shown_digits (digits_of 10 n)
+use Rattle.review_names.specs.Numerals.{numeral}
 
 -- a field: its length in bytes, a colon, the bytes, a comma
 unfoldable pub field : List ℕ → List ℕ

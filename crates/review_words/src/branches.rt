@@ -3,7 +3,7 @@ ghost use Rattle.std.specs.Prelude.{◌≡◌, ◌==◌, ◌++◌, ◌∷◌, []
 ghost use Rattle.std.specs.Cmp.Lexicographic.{pointwise, lists_equiv, nat_list_eq_equiv};
 ghost use Rattle.std.specs.Cmp as Cmp;
 
-use crate::places::CommitName;
+use review_names::CommitName;
 use std::alloc::{AllocError, Global};
 use std::marker::Model;
 

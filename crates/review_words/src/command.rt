@@ -1,8 +1,9 @@
 //! What may be asked of the desk.
 
 use crate::files::FileText;
-use crate::names::{AccountName, AccountNo, GroupName, Members, RequestId};
-use crate::places::{BranchName, CommitName, ProjectName};
+use review_names::{
+    AccountName, AccountNo, BranchName, CommitName, GroupName, Members, ProjectName, RequestId,
+};
 
 /// A change that a caller asks for.
 #[derive(Debug, Drop)]

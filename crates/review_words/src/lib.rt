@@ -1,33 +1,24 @@
-//! The words of a review desk: names and numbers of fixed forms, commands, replies, and their texts.
+//! The words of a review desk: commands, questions and replies, and their texts. Names and numbers are those of `review_names`.
 #![tactic(auto)]
 
 pub mod branches;
-pub mod changes;
 pub mod command;
 pub mod faults;
 pub mod files;
-pub mod forms;
-pub mod groups;
-pub mod keys;
 pub mod laws;
-pub mod names;
-mod numbers;
 mod pieces;
-pub mod places;
 pub mod reply;
 pub mod text;
 
 pub use branches::Bases;
-pub use changes::{ChangeNo, PatchNo};
 pub use command::{Command, Delivery, Query};
 pub use faults::{ExprCode, ExprFault, FileFault};
 pub use files::FileText;
-pub use forms::{Form, Name};
-pub use groups::{Groups, Paths};
-pub use laws::{content_tells, label_form, number_tells, reply_tells};
-pub use names::{
-    AccountName, AccountNo, BadName, GroupName, Members, RequestId, admin_name, administrators,
-};
-pub use places::{BranchName, CommitName, LabelName, Path, ProjectName};
+pub use laws::{content_tells, reply_tells};
 pub use reply::{Answer, NotTaken, Refusal, Reply};
+pub use review_names::{
+    AccountName, AccountNo, BadName, BranchName, ChangeNo, CommitName, Form, GroupName, Groups,
+    LabelName, Members, Name, PatchNo, Path, Paths, ProjectName, RequestId, admin_name,
+    administrators, label_form, number_tells,
+};
 pub use text::{BadReply, content_text, read_reply, reply_text};

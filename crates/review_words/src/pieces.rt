@@ -1,6 +1,7 @@
 //! The fields of a text, each its length in bytes, a colon, its bytes and a comma.
 ghost use Rattle.std.specs.Prelude.{◌≡◌, ◌<◌, ◌++◌, ℕ, List, map, length, option_map, IfOk, OnOk, Some, IfSome, string_bytes};
-ghost use Rattle.review_words.specs.Texts.{field, numeral, text_of};
+ghost use Rattle.review_names.specs.Numerals.{numeral};
+ghost use Rattle.review_words.specs.Texts.{field, text_of};
 ghost use Rattle.review_words.specs.Shown.{shown};
 ghost use Rattle.review_words.specs.Cutting.{split_after, taken, AreShort};
 ghost use Rattle.review_words.specs.Reading.{at};
@@ -14,14 +15,14 @@ pub enum Piece<'a> {
     Number(u64),
 }
 
-#[tactic(auto, unfolding(crate::specs::Texts::field), using(crate::proofs::Numerals::decimal_numeral))]
+#[tactic(auto, unfolding(crate::specs::Texts::field), using(review_names::proofs::Numerals::decimal_numeral))]
 fn put_text(out: &mut String, text: &str) -> Result<(), AllocError>
     ensures { OnOk result (string_bytes out.new ≡ string_bytes out.old ++ field text.now) }
 {
     write!(out, "{}:{},", text.len(), text)
 }
 
-#[tactic(auto, using(crate::proofs::Numerals::decimal_numeral))]
+#[tactic(auto, using(review_names::proofs::Numerals::decimal_numeral))]
 fn decimal(alloc: Global, number: u64) -> Result<String, AllocError>
     ensures { IfOk result (λ t. string_bytes t ≡ numeral number) }
 {

@@ -5,7 +5,7 @@ ghost use Rattle.review_words.specs.Reading.{refusal_of_number};
 
 use crate::branches::Bases;
 use crate::faults::FileFault;
-use crate::names::AccountNo;
+use review_names::AccountNo;
 use std::alloc::{AllocError, AllocFailed};
 
 /// What a command that was done gave, or what a query found.

@@ -1,7 +1,8 @@
 //! The texts of commands and replies.
 ghost use Rattle.std.specs.Prelude.{◌≡◌, ◌++◌, ℕ, List, map, IfOk, IfErr, OnOk, IfSome, string_bytes};
 ghost use Rattle.std.specs.Str.{bytes_eq};
-ghost use Rattle.review_words.specs.Texts.{numeral, command_fields, content_text, fault_fields, reply_fields, reply_text, IsStored};
+ghost use Rattle.review_names.specs.Numerals.{numeral};
+ghost use Rattle.review_words.specs.Texts.{command_fields, content_text, fault_fields, reply_fields, reply_text, IsStored};
 ghost use Rattle.review_words.specs.Shown.{shown};
 ghost use Rattle.review_words.specs.Reading.{expr_fault_of, file_fault_of, refusal_of, reply_of};
 ghost use Rattle.review_words.specs.declared.reply.Reply.{Reply};
@@ -10,10 +11,9 @@ ghost use Rattle.review_words.specs.declared.text.BadReply.TheVariants.{Form};
 
 use crate::command::Command;
 use crate::faults::{ExprCode, ExprFault, FileFault};
-use crate::names::{AccountNo, read_account};
-use crate::numbers::read_number;
 use crate::pieces::{Piece, cut, field_at, joined};
 use crate::reply::{Answer, Refusal, Reply};
+use review_names::{AccountNo, read_account, read_number};
 use std::alloc::{AllocError, AllocFailed, Global};
 
 /// Why a text was not read as a reply.

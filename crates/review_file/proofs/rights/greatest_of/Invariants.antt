@@ -1,8 +1,8 @@
 use Rattle.std.proofs.Common.{◌≡◌, map, drop}
 use Rattle.std.specs.Prelude.{filter, fold}
 use Rattle.std.specs.Int.{int_max}
-use Rattle.review_words.specs.Groups.{has_account}
-use Rattle.review_file.specs.Rights.{greatest_of}
+use Rattle.review_names.specs.Groups.{has_account}
+use Rattle.review_project.specs.Rights.{greatest_of}
 use Rattle.review_file.proofs.rights.greatest_of.Given as goal
 
 abbrev pub invariant-loop-grant : goal.invariant-loop-grant

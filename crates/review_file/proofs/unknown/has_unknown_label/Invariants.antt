@@ -1,6 +1,6 @@
 use Rattle.std.proofs.Common.{◌≡◌, drop}
 use Rattle.std.specs.List.{list_any}
-use Rattle.review_file.specs.Expressions.{requires_other}
+use Rattle.review_project.specs.Expressions.{requires_other}
 use Rattle.review_file.proofs.unknown.has_unknown_label.Given as goal
 
 abbrev pub invariant-loop-requirement : goal.invariant-loop-requirement

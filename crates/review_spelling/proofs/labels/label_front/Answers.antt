@@ -1,5 +1,5 @@
 use Rattle.std.proofs.Common.{◌≡◌, true, false, Some, is_some, sym, ap, ◌∙◌, arith}
-use Rattle.review_words.specs.Forms.{is_label}
+use Rattle.review_names.specs.Forms.{is_label}
 use Rattle.review_spelling.proofs.Fronts.{passed_over, uncut_over, taken_front}
 use Rattle.review_spelling.proofs.labels.label_front.Goals as goal
 

@@ -1,5 +1,5 @@
 use Rattle.std.proofs.Common.{◌≡◌, ◌++◌, drop, map}
-use Rattle.review_words.specs.Texts.{numeral}
+use Rattle.review_names.specs.Numerals.{numeral}
 use Rattle.review_words.specs.Shown.{shown}
 use Rattle.review_words.proofs.text.add_accounts.Given as goal
 

@@ -1,7 +1,7 @@
 use Rattle.std.proofs.Common.{◌≡◌, ◌∙◌, Some, ap, sym, inl, subst, arith}
 use Rattle.std.specs.Prelude.{OnOk, OnErr}
 use Rattle.review_rows.specs.Rows.{kept_row}
-use Rattle.review_rows.specs.Shelf.{IsCommitted, StaysOrShuts}
+use Rattle.review_rows.specs.Shelf.{IsCommitted, LeavesUndone}
 use Rattle.review_shelves.specs.Desk.{Desk, tables_of, desk_of}
 use Rattle.review_shelves.proofs.Lengths.{history_length}
 use Rattle.review_shelves.proofs.Applied.{made_stops}
@@ -26,7 +26,7 @@ returns-clause-stops c = λ _ t is.
 
 pub returns-clause-undone : goal.returns-clause-undone
 returns-clause-undone c = λ _. elim c.match-commit.branch [
-  | in-Ok w ↦ subst (λ r. OnErr r (StaysOrShuts (Some (tables_of c.args.self.now)) (Some (tables_of (desk_of c.commit.new.self))))) (sym w.result-is) tt
-  | in-Err w ↦ subst (λ r. OnErr r (StaysOrShuts (Some (tables_of c.args.self.now)) (Some (tables_of (desk_of c.commit.new.self))))) (sym w.result-is)
-      (inl (ap Some (subst (λ r. OnErr r (tables_of (desk_of c.commit.new.self) ≡ tables_of (desk_of c.self.inside.tables))) w.in-Err.is c.commit.ensures.same ∙ ap tables_of c.self.view_is)))
+  | in-Ok w ↦ subst (λ r. LeavesUndone r (Some (tables_of c.args.self.now)) (Some (tables_of (desk_of c.commit.new.self)))) (sym w.result-is) tt
+  | in-Err w ↦ subst (λ r. LeavesUndone r (Some (tables_of c.args.self.now)) (Some (tables_of (desk_of c.commit.new.self)))) (sym w.result-is)
+      (ap Some (subst (λ r. OnErr r (tables_of (desk_of c.commit.new.self) ≡ tables_of (desk_of c.self.inside.tables))) w.in-Err.is c.commit.ensures.same ∙ ap tables_of c.self.view_is))
 ]

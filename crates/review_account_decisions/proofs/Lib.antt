@@ -1,0 +1,3 @@
+pub mod Members
+pub mod Settings
+pub mod Decided

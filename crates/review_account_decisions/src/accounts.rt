@@ -1,0 +1,179 @@
+//! Decisions on accounts and groups.
+ghost use Rattle.std.specs.Prelude.{◌≡◌, ◌++◌, ◌∷◌, ℕ, List, [], IfOk, IfErr, OnOk, is_some, map, true};
+ghost use Rattle.std.specs.Map.Iter.{deref_pair};
+ghost use Rattle.std.specs.List.{list_all};
+ghost use Rattle.std.specs.List.Sorted.{IsStrictlySortedBy};
+ghost use Rattle.std.specs.Ordering.{nat_cmp};
+ghost use Rattle.review_table.specs.Rows.{row_in, rows_of};
+ghost use Rattle.review_words.specs.Texts.{IsStored};
+ghost use Rattle.review_words.specs.History.{Entry, is_account};
+ghost use Rattle.review_words.specs.declared.command.Command.TheVariants.{CreateAccount, PutGroup};
+ghost use Rattle.review_words.specs.declared.reply.NotTaken.TheVariants.{Memory};
+ghost use Rattle.review_rows.specs.Rows.{HasNoEffect, member_cmp};
+ghost use Rattle.review_rows.specs.View.{needed, IsLoaded, IsDecided};
+ghost use Rattle.review_rows.specs.Decisions.{NamesOnce, NamesEachOnce};
+ghost use Rattle.review_account_decisions.specs.Decisions.{added, dropped};
+
+use crate::callers::{has_account, is_admin};
+use crate::deltas::{nothing, refused};
+use review_rows::{Delta, MemberKey, Rows};
+use review_table::{Change, Key};
+use review_words::{AccountName, AccountNo, Answer, GroupName, Members, NotTaken, Refusal, Reply};
+use std::alloc::{AllocError, Global};
+
+/// The next account gets a name that none has: the answer is its number. Refused for an administrator missing, a name in use, or the
+/// last account given, in this order; an error is want of memory.
+pub fn create_account(
+    alloc: Global,
+    rows: &Rows,
+    caller: AccountNo,
+    name: &AccountName,
+) -> Result<(Delta, Reply), NotTaken>
+    ensures decided { IfOk result (λ r. (h : List Entry) → is_account h caller ≡ true → IsLoaded h (needed caller (CreateAccount name.now)) rows.now → IsDecided h caller (CreateAccount name.now) r.0 r.1) }
+    ensures cause { IfErr result (λ e. e ≡ Memory) }
+    ensures stored { IfOk result (λ r. IsStored r.1) }
+    ensures refused { IfOk result (λ r. HasNoEffect r.1 r.0) }
+    ensures once { IfOk result (λ r. NamesEachOnce r.0) }
+{
+    let admin = is_admin(alloc, rows, caller)?;
+    if !admin {
+        return Ok(refused(alloc, Refusal::NotAdmin));
+    }
+    if rows.named.is_some() {
+        return Ok(refused(alloc, Refusal::NameTaken));
+    }
+    let Some(number) = AccountNo::after(rows.last_account) else {
+        return Ok(refused(alloc, Refusal::Limit));
+    };
+    let mut delta = nothing(alloc);
+    delta.accounts.push(Change {
+        key: number,
+        row: Some(name.copy(alloc)?),
+    })?;
+    Ok((delta, Reply::Done(Answer::Account(number))))
+}
+
+/// A group gets these members, in place of those it had. Refused for an administrator missing, the name of the group of everyone, or a member
+/// that is no account, in this order; an error is want of memory.
+pub fn put_group(
+    alloc: Global,
+    rows: &Rows,
+    caller: AccountNo,
+    group: &GroupName,
+    members: &Members,
+) -> Result<(Delta, Reply), NotTaken>
+    ensures decided { IfOk result (λ r. (h : List Entry) → is_account h caller ≡ true → IsLoaded h (needed caller (PutGroup group.now members.now)) rows.now → IsDecided h caller (PutGroup group.now members.now) r.0 r.1) }
+    ensures cause { IfErr result (λ e. e ≡ Memory) }
+    ensures stored { IfOk result (λ r. IsStored r.1) }
+    ensures refused { IfOk result (λ r. HasNoEffect r.1 r.0) }
+    ensures once { IfOk result (λ r. NamesEachOnce r.0) }
+{
+    let admin = is_admin(alloc, rows, caller)?;
+    if !admin {
+        return Ok(refused(alloc, Refusal::NotAdmin));
+    }
+    if group.as_str() == "Registered-Users" {
+        return Ok(refused(alloc, Refusal::NameTaken));
+    }
+    if !have_accounts(rows, members) {
+        return Ok(refused(alloc, Refusal::NoAccount));
+    }
+    let mut delta = nothing(alloc);
+    delta.members = member_changes(alloc, rows, group, members)?;
+    Ok((delta, Reply::Done(Answer::Nothing)))
+}
+
+fn have_accounts(rows: &Rows, members: &Members) -> bool
+    ensures { result ≡ list_all (λ n. is_some (row_in nat_cmp (rows_of rows.now.accounts) n)) members.now }
+{
+    members
+        .as_slice()
+        .iter()
+        .all(|number| has_account(rows, *number))
+}
+
+// The rows that make these the members of a group: those that aren't there yet are put, those that are to leave taken away.
+fn member_changes(
+    alloc: Global,
+    rows: &Rows,
+    group: &GroupName,
+    members: &Members,
+) -> Result<Vec<Change<MemberKey, ()>>, AllocError>
+    ensures changes { IfOk result (λ v. v.items ≡ added group.now (rows_of rows.now.members) members.now ++ dropped group.now members.now (rows_of rows.now.members)) }
+    ensures once { IfOk result (λ v. NamesOnce member_cmp v.items) }
+{
+    let mut changes = add_members(alloc, rows, group, members)?;
+    let held = rows.members.rows(alloc)?;
+    drop_members(alloc, &mut changes, &held, group, members)?;
+    Ok(changes)
+}
+
+#[tactic(auto, using(crate::proofs::Members::added_more))]
+fn add_members(
+    alloc: Global,
+    rows: &Rows,
+    group: &GroupName,
+    members: &Members,
+) -> Result<Vec<Change<MemberKey, ()>>, AllocError>
+    ensures changes { IfOk result (λ v. v.items ≡ added group.now (rows_of rows.now.members) members.now) }
+    ensures ordered { IfOk result (λ v. IsStrictlySortedBy nat_cmp members.now) }
+{
+    let mut changes = Vec::new(alloc);
+    for account in members.as_slice() {
+        add_member(alloc, &mut changes, rows, group, *account)?;
+    }
+    Ok(changes)
+}
+
+fn add_member(
+    alloc: Global,
+    changes: &mut Vec<Change<MemberKey, ()>>,
+    rows: &Rows,
+    group: &GroupName,
+    account: AccountNo,
+) -> Result<(), AllocError>
+    ensures { OnOk result (changes.new.items ≡ changes.old.items ++ added group.now (rows_of rows.now.members) (account ∷ [])) }
+{
+    let key = MemberKey {
+        group: group.copy(alloc)?,
+        account,
+    };
+    if rows.members.get(&key).is_none() {
+        changes.push(Change { key, row: Some(()) })?;
+    }
+    Ok(())
+}
+
+#[tactic(auto, using(crate::proofs::Members::dropped_more))]
+fn drop_members(
+    alloc: Global,
+    changes: &mut Vec<Change<MemberKey, ()>>,
+    held: &[(&MemberKey, &())],
+    group: &GroupName,
+    members: &Members,
+) -> Result<(), AllocError>
+    ensures { OnOk result (changes.new.items ≡ changes.old.items ++ dropped group.now members.now (map deref_pair held.now)) }
+{
+    for (key, _) in held {
+        drop_member(alloc, changes, key, group, members)?;
+    }
+    Ok(())
+}
+
+fn drop_member(
+    alloc: Global,
+    changes: &mut Vec<Change<MemberKey, ()>>,
+    key: &MemberKey,
+    group: &GroupName,
+    members: &Members,
+) -> Result<(), AllocError>
+    ensures { OnOk result (changes.new.items ≡ changes.old.items ++ dropped group.now members.now ((key.now, tt) ∷ [])) }
+{
+    if group.as_str() == key.group.as_str() && !members.has(key.account) {
+        changes.push(Change {
+            key: key.copy(alloc)?,
+            row: None,
+        })?;
+    }
+    Ok(())
+}

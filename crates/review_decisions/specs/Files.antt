@@ -1,0 +1,78 @@
+-- What is done with the files of projects.
+use Rattle.std.specs.Prelude.{ℕ, ◌≡◌, List, [], Option, Some, None, is_some}
+use Rattle.std.specs.Ordering.{nat_cmp}
+use Rattle.std.specs.Cmp.Lexicographic.{slice_cmp}
+use Rattle.review_table.specs.Rows.{row_in, rows_of}
+use Rattle.review_words.specs.declared.faults.ExprCode.{ExprCode}
+use Rattle.review_words.specs.declared.faults.ExprCode.TheVariants.{BadValue}
+use Rattle.review_words.specs.declared.faults.FileFault.TheVariants.{Expr}
+use Rattle.review_words.specs.declared.reply.Reply.{Reply}
+use Rattle.review_words.specs.declared.reply.Reply.TheVariants.{Done, Refused}
+use Rattle.review_words.specs.declared.reply.Answer.TheVariants.{Nothing}
+use Rattle.review_words.specs.declared.reply.Refusal.{Refusal}
+use Rattle.review_words.specs.declared.reply.NotTaken.{NotTaken as Cause}
+use Rattle.review_words.specs.declared.reply.NotTaken.TheVariants.{Memory, Pattern, Damaged}
+use Rattle.review_words.specs.History.{Entry, is_project, project_count}
+use Rattle.review_project.specs.declared.fault.ReadFault.{ReadFault}
+use Rattle.review_project.specs.declared.fault.ReadFault.TheVariants as read
+use Rattle.review_rows.specs.Files.{File, IsRead, HasPattern}
+use Rattle.review_rows.specs.Answer.{HasFile, file_checks, first_refusal}
+use Rattle.review_rows.specs.declared.rows.Rows.{Rows}
+use Rattle.review_rows.specs.declared.rows.Delta.{Delta}
+use Rattle.review_account_decisions.specs.Decisions.{IsEmpty}
+
+-- the text of a project's file, among loaded rows
+abbrev pub file_in : Rows → List ℕ → Option (List ℕ)
+file_in rows project = row_in (slice_cmp nat_cmp) (rows_of rows.files) project
+
+-- what a fault of an expression in a stored file shows
+abbrev pub bad_value_cause : ExprCode → Cause
+bad_value_cause BadValue = Pattern
+bad_value_cause code = Damaged
+
+-- Why a stored file is not read. The file of a history was read when it was put: a bad value shows a pattern that the engine refuses now, any
+-- other fault damage. In tables of no history it may be another bad value.
+abbrev pub unread_cause : ReadFault → Cause
+unread_cause read.Memory = Memory
+unread_cause read.Pattern = Pattern
+unread_cause (read.File (Expr fault)) = bad_value_cause fault.code
+unread_cause (read.File fault) = Damaged
+
+-- why a file that is put is not read
+abbrev pub IsReadCause : ReadFault → Cause → Type 0
+IsReadCause fault Memory = fault ≡ read.Memory
+IsReadCause fault Pattern = fault ≡ read.Pattern
+IsReadCause fault _ = ⊥
+
+-- why a text that should spell a file is not read
+abbrev pub IsUnreadText : List ℕ → Cause → Type 0
+IsUnreadText text Memory = Unit {0}
+IsUnreadText text Pattern = (f : File) → IsRead text f → HasPattern text
+IsUnreadText text Damaged = (f : File) → IsRead text f → ⊥
+IsUnreadText text _ = ⊥
+
+-- why the file of a project is not read
+abbrev pub IsUnread : Option (List ℕ) → Cause → Type 0
+IsUnread None cause = cause ≡ Memory
+IsUnread (Some text) cause = IsUnreadText text cause
+
+-- the file of this project is put, and nothing else is done
+pub record PutsFile (project text : List ℕ) (delta : Delta) : Type 0 where
+  pub accounts : delta.accounts.items ≡ []
+  pub members : delta.members.items ≡ []
+  pub file : delta.file ≡ Some (record { project = project; file = text })
+  pub base : delta.base ≡ None
+
+-- What refuses a file where the project had this text: by the checks of a history that has the project where a text is there, and as many projects as are counted.
+abbrev pub IsFileRefusal : Option (List ℕ) → ℕ → List ℕ → File → Option Refusal → Type 0
+IsFileRefusal had count project new refusal = (old : Option File) × HasFile had old × ((h : List Entry) → is_project h project ≡ is_some had → count ≡ project_count h →
+    first_refusal (file_checks h project old new) ≡ refusal)
+
+-- the file is put, or refused
+abbrev pub IsPutBy : List ℕ → List ℕ → Option Refusal → Delta → Reply → Type 0
+IsPutBy project text None delta reply = (reply ≡ Done Nothing) × PutsFile project text delta
+IsPutBy project text (Some refusal) delta reply = (reply ≡ Refused refusal) × IsEmpty delta
+
+-- a file is put where the project had this text, unless it is refused
+abbrev pub IsFilePut : Option (List ℕ) → ℕ → List ℕ → List ℕ → File → Delta → Reply → Type 0
+IsFilePut had count project text new delta reply = (refusal : Option Refusal) × IsFileRefusal had count project new refusal × IsPutBy project text refusal delta reply

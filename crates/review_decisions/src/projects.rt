@@ -1,0 +1,211 @@
+//! Decisions on projects and their branches.
+ghost use Rattle.std.specs.Prelude.{◌≡◌, List, IfOk, IfErr, IfSome, true};
+ghost use Rattle.std.specs.Option.{option_map_or};
+ghost use Rattle.review_words.specs.Texts.{IsStored};
+ghost use Rattle.review_words.specs.History.{Entry, is_account};
+ghost use Rattle.review_words.specs.declared.command.Command.TheVariants.{PutProject, RecordBase};
+ghost use Rattle.review_words.specs.declared.reply.NotTaken.TheVariants.{Memory};
+ghost use Rattle.review_rows.specs.Rows.{HasNoEffect};
+ghost use Rattle.review_rows.specs.View.{needed, IsLoaded, IsDecided};
+ghost use Rattle.review_words.specs.declared.reply.Reply.TheVariants.{Done, Refused};
+ghost use Rattle.review_words.specs.declared.reply.Answer.TheVariants.{Nothing};
+ghost use Rattle.review_words.specs.declared.reply.Refusal.TheVariants.{BadFile};
+ghost use Rattle.review_project.specs.declared.fault.ReadFault.TheVariants.{File};
+ghost use Rattle.review_project.specs.Rights.{covers};
+ghost use Rattle.review_rows.specs.Answer.{HasFile};
+ghost use Rattle.review_rows.specs.Decisions.{IsUndecided, NamesEachOnce};
+ghost use Rattle.review_account_decisions.specs.Decisions.{IsEmpty};
+ghost use Rattle.review_decisions.specs.Files.{file_in, unread_cause, IsReadCause, IsUnread, PutsFile, IsFileRefusal, IsFilePut};
+
+use review_account_decisions::{is_admin, nothing, refused};
+use review_file::{ProjectFile, ReadFault, covers, read_file};
+use review_rows::{Base, Delta, ProjectRow, Rows};
+use review_words::{
+    AccountNo, Answer, BranchName, CommitName, ExprCode, FileFault, FileText, NotTaken,
+    ProjectName, Refusal, Reply,
+};
+use std::alloc::{AllocError, Global};
+
+/// The most bases of a project, over all its branches.
+const MOST_BASES: u64 = 100_000;
+
+/// The most projects of a desk.
+const MOST_PROJECTS: u64 = 1_000;
+
+/// Records a commit as the next base of a branch.
+pub fn record_base(
+    alloc: Global,
+    rows: &Rows,
+    caller: AccountNo,
+    project: &ProjectName,
+    branch: &BranchName,
+    commit: &CommitName,
+) -> Result<(Delta, Reply), NotTaken>
+    ensures decided { IfOk result (λ r. (h : List Entry) → is_account h caller ≡ true → IsLoaded h (needed caller (RecordBase project.now branch.now commit.now)) rows.now → IsDecided h caller (RecordBase project.now branch.now commit.now) r.0 r.1) }
+    ensures cause { IfErr result (λ e. e ≡ Memory) }
+    ensures stored { IfOk result (λ r. IsStored r.1) }
+    ensures refused { IfOk result (λ r. HasNoEffect r.1 r.0) }
+    ensures once { IfOk result (λ r. NamesEachOnce r.0) }
+{
+    let admin = is_admin(alloc, rows, caller)?;
+    if !admin {
+        return Ok(refused(alloc, Refusal::NotAdmin));
+    }
+    if !rows.has_project {
+        return Ok(refused(alloc, Refusal::NoProject));
+    }
+    if rows.has_base {
+        return Ok(refused(alloc, Refusal::CommitKnown));
+    }
+    if rows.base_count >= MOST_BASES {
+        return Ok(refused(alloc, Refusal::Limit));
+    }
+    let mut delta = nothing(alloc);
+    delta.base = Some(Base {
+        project: project.copy(alloc)?,
+        branch: branch.copy(alloc)?,
+        commit: commit.copy(alloc)?,
+    });
+    Ok((delta, Reply::Done(Answer::Nothing)))
+}
+
+/// Puts the file of a project.
+pub fn put_project(
+    alloc: Global,
+    rows: &Rows,
+    caller: AccountNo,
+    project: &ProjectName,
+    file: &FileText,
+) -> Result<(Delta, Reply), NotTaken>
+    ensures decided { IfOk result (λ r. (h : List Entry) → is_account h caller ≡ true → IsLoaded h (needed caller (PutProject project.now file.now)) rows.now → IsDecided h caller (PutProject project.now file.now) r.0 r.1) }
+    ensures cause { IfErr result (IsUndecided caller (PutProject project.now file.now) rows.now) }
+    ensures stored { IfOk result (λ r. IsStored r.1) }
+    ensures refused { IfOk result (λ r. HasNoEffect r.1 r.0) }
+    ensures once { IfOk result (λ r. NamesEachOnce r.0) }
+{
+    let admin = is_admin(alloc, rows, caller)?;
+    if !admin {
+        return Ok(refused(alloc, Refusal::NotAdmin));
+    }
+    match read_file(alloc, file.as_str()) {
+        Ok(new) => put_file(alloc, rows, project, file, &new),
+        Err(fault) => refuse_file(alloc, fault),
+    }
+}
+
+// Refuses a text that is no project file.
+fn refuse_file(alloc: Global, fault: ReadFault) -> Result<(Delta, Reply), NotTaken>
+    ensures file { IfOk result (λ r. IsEmpty r.0 × ((f : FileFault) × (fault ≡ File f) × (r.1 ≡ Refused (BadFile f)))) }
+    ensures cause { IfErr result (IsReadCause fault) }
+    ensures stored { IfOk result (λ r. IsStored r.1) }
+{
+    match fault {
+        ReadFault::File(fault) => Ok(refused(alloc, Refusal::BadFile(fault))),
+        ReadFault::Memory => Err(NotTaken::Memory),
+        ReadFault::Pattern => Err(NotTaken::Pattern),
+    }
+}
+
+// Puts a file in place of the one that the project has, which is read again.
+fn put_file(
+    alloc: Global,
+    rows: &Rows,
+    project: &ProjectName,
+    file: &FileText,
+    new: &ProjectFile,
+) -> Result<(Delta, Reply), NotTaken>
+    ensures put { IfOk result (λ r. IsFilePut (file_in rows.now project.now) rows.now.project_count project.now file.now new.now r.0 r.1) }
+    ensures cause { IfErr result (IsUnread (file_in rows.now project.now)) }
+    ensures stored { IfOk result (λ r. IsStored r.1) }
+    ensures refused { IfOk result (λ r. HasNoEffect r.1 r.0) }
+    ensures once { IfOk result (λ r. NamesEachOnce r.0) }
+{
+    let refusal = file_refusal(alloc, rows, project, new)?;
+    match refusal {
+        Some(refusal) => Ok(refused(alloc, refusal)),
+        None => Ok(put_text(alloc, project, file)?),
+    }
+}
+
+// What refuses a file: that it narrows a label of the one that the project has, or that there are too many projects.
+fn file_refusal(
+    alloc: Global,
+    rows: &Rows,
+    project: &ProjectName,
+    new: &ProjectFile,
+) -> Result<Option<Refusal>, NotTaken>
+    ensures refusal { IfOk result (IsFileRefusal (file_in rows.now project.now) rows.now.project_count project.now new.now) }
+    ensures cause { IfErr result (IsUnread (file_in rows.now project.now)) }
+    ensures stored { IfOk result (λ o. IfSome o (λ r. IsStored (Refused r))) }
+{
+    let old = stored_file(alloc, rows, project)?;
+    if !keeps_labels(&old, new) {
+        return Ok(Some(Refusal::LabelNarrowed));
+    }
+    if old.is_none() && rows.project_count >= MOST_PROJECTS {
+        return Ok(Some(Refusal::Limit));
+    }
+    Ok(None)
+}
+
+// The change that puts the file of a project.
+fn put_text(
+    alloc: Global,
+    project: &ProjectName,
+    file: &FileText,
+) -> Result<(Delta, Reply), AllocError>
+    ensures reply { IfOk result (λ r. r.1 ≡ Done Nothing) }
+    ensures delta { IfOk result (λ r. PutsFile project.now file.now r.0) }
+    ensures once { IfOk result (λ r. NamesEachOnce r.0) }
+{
+    let mut delta = nothing(alloc);
+    delta.file = Some(ProjectRow {
+        project: project.copy(alloc)?,
+        file: file.copy(alloc)?,
+    });
+    Ok((delta, Reply::Done(Answer::Nothing)))
+}
+
+// Whether each label of the old file, where there is one, keeps its values.
+fn keeps_labels(old: &Option<ProjectFile>, new: &ProjectFile) -> bool
+    ensures { result ≡ option_map_or (λ f. covers f new.now) old.now true }
+{
+    match old {
+        Some(old) => covers(old, new),
+        None => true,
+    }
+}
+
+// The file that a project has, or none where it was never put.
+fn stored_file(
+    alloc: Global,
+    rows: &Rows,
+    project: &ProjectName,
+) -> Result<Option<ProjectFile>, NotTaken>
+    ensures read { IfOk result (HasFile (file_in rows.now project.now)) }
+    ensures cause { IfErr result (IsUnread (file_in rows.now project.now)) }
+{
+    let Some(text) = rows.files.get(project) else {
+        return Ok(None);
+    };
+    match read_file(alloc, text.as_str()) {
+        Ok(file) => Ok(Some(file)),
+        Err(fault) => Err(unread_cause(fault)),
+    }
+}
+
+/// Why a stored file is not read. The file of a history was read when it was put: a bad value shows a pattern that the engine
+/// refuses now, any other fault damage.
+pub fn unread_cause(fault: ReadFault) -> NotTaken
+    ensures { result ≡ unread_cause fault }
+{
+    match fault {
+        ReadFault::Memory => NotTaken::Memory,
+        ReadFault::Pattern => NotTaken::Pattern,
+        ReadFault::File(FileFault::Expr(fault)) => match fault.code {
+            ExprCode::BadValue => NotTaken::Pattern,
+            _ => NotTaken::Damaged,
+        },
+        ReadFault::File(_) => NotTaken::Damaged,
+    }
+}

@@ -1,0 +1,60 @@
+//! The answers to questions.
+ghost use Rattle.std.specs.Prelude.{◌≡◌, List, IfOk, IfErr, true};
+ghost use Rattle.review_words.specs.History.{Entry, is_account};
+ghost use Rattle.review_words.specs.declared.command.Query.TheVariants.{Branch};
+ghost use Rattle.review_words.specs.declared.reply.NotTaken.TheVariants.{Memory};
+ghost use Rattle.review_rows.specs.Answer.{query_answer};
+ghost use Rattle.review_rows.specs.View.{wanted_for, IsLoaded};
+ghost use Rattle.review_rows.specs.Decisions.{IsDoneOrRefused};
+
+use review_account_decisions::has_account;
+use review_rows::{BranchKey, Rows};
+use review_words::{AccountNo, Answer, BranchName, NotTaken, ProjectName, Query, Refusal, Reply};
+use std::alloc::{AllocError, Global};
+
+/// The answer to a question: the first check that fails refuses, in the order of the question's checks. It changes
+/// nothing. The only error is want of memory.
+pub fn show(alloc: Global, rows: &Rows, caller: AccountNo, query: &Query) -> Result<Reply, NotTaken>
+    ensures shown { IfOk result (λ r. (h : List Entry) → IsLoaded h (wanted_for caller query.now) rows.now → r ≡ query_answer h caller query.now) }
+    ensures answered { IfOk result IsDoneOrRefused }
+    ensures cause { IfErr result (λ e. e ≡ Memory) }
+{
+    let known = has_account(rows, caller);
+    if !known {
+        return Ok(Reply::Refused(Refusal::UnknownCaller));
+    }
+    Ok(answer(alloc, rows, caller, query)?)
+}
+
+// The answer to a question of an account.
+fn answer(alloc: Global, rows: &Rows, caller: AccountNo, query: &Query) -> Result<Reply, AllocError>
+    ensures answered { IfOk result IsDoneOrRefused }
+    ensures shown { IfOk result (λ r. (h : List Entry) → is_account h caller ≡ true → IsLoaded h (wanted_for caller query.now) rows.now → r ≡ query_answer h caller query.now) }
+{
+    match query {
+        Query::Branch { project, branch } => show_branch(alloc, rows, caller, project, branch),
+    }
+}
+
+fn show_branch(
+    alloc: Global,
+    rows: &Rows,
+    caller: AccountNo,
+    project: &ProjectName,
+    branch: &BranchName,
+) -> Result<Reply, AllocError>
+    ensures answered { IfOk result IsDoneOrRefused }
+    ensures shown { IfOk result (λ r. (h : List Entry) → is_account h caller ≡ true → IsLoaded h (wanted_for caller (Branch project.now branch.now)) rows.now → r ≡ query_answer h caller (Branch project.now branch.now)) }
+{
+    if !rows.has_project {
+        return Ok(Reply::Refused(Refusal::NoProject));
+    }
+    let key = BranchKey {
+        project: project.copy(alloc)?,
+        branch: branch.copy(alloc)?,
+    };
+    match rows.branches.get(&key) {
+        Some(bases) => Ok(Reply::Done(Answer::Branch(bases.copy(alloc)?))),
+        None => Ok(Reply::Refused(Refusal::NoBranch)),
+    }
+}

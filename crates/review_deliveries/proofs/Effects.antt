@@ -1,0 +1,141 @@
+-- What a delivery does to any tables whatever.
+use Rattle.std.proofs.Common.{◌≡◌, ℕ, ◌+◌, ◌≤◌, List, [], ◌∷◌, ◌++◌, Option, Some, None, Result, Ok, Err, cond, refl, sym, ◌∙◌, subst, inl, inr}
+use Rattle.review_words.specs.declared.command.Command.{Command}
+use Rattle.review_words.specs.declared.command.Delivery.TheVariants.{Write}
+use Rattle.review_words.specs.declared.reply.Reply.{Reply}
+use Rattle.review_words.specs.declared.reply.Reply.TheVariants.{Done, Refused, IdentityReused, NotTaken}
+use Rattle.review_words.specs.History.{Identity, is_same}
+use Rattle.review_rows.specs.declared.rows.Delta.{Delta}
+use Rattle.review_rows.specs.declared.rows.Need.{Need}
+use Rattle.review_rows.specs.declared.rows.Rows.{Rows}
+use Rattle.review_rows.specs.Rows.{Key, Count, AnswerRow, Tables, HasNoEffect, after, count_after}
+use Rattle.review_rows.specs.Shelf.{AreSelected, IsCommitted, Shows, LeavesBy, IsCounted, cause_of}
+use Rattle.review_rows.specs.declared.shelf.ShelfFault.{ShelfFault}
+use Rattle.review_rows.specs.declared.shelf.ShelfFault.TheVariants as fault
+use Rattle.review_words.specs.Texts.{IsStored, content_text}
+use Rattle.review_rows.specs.View.{answer_row}
+use Rattle.review_rows.specs.Answer.{most_requests}
+use Rattle.review_words.specs.declared.command.Delivery.{Delivery}
+use Rattle.review_words.specs.declared.reply.NotTaken.{NotTaken as Cause}
+use Rattle.review_words.specs.declared.reply.NotTaken.TheVariants.{Memory, Store, Damaged, Pattern, Full}
+use Rattle.review_deliveries.specs.Replies.{StoresOnce, IsFoundOrStored, StoresRequest, KeepsRows, KeepsUntaken, AreSteps, CountsReply, IsToldAgain, reply_of, HasStored, HasTexts, HasOtherContent}
+
+kept : (reply : Reply) (delta : Delta) (t u : Tables) → HasNoEffect reply delta → ((k : Key) → u.row k ≡ after delta k (t.row k)) → ((c : Count) → u.count c ≡ count_after delta t.row c (t.count c)) → KeepsRows reply t u
+kept (Refused r) delta t u none rows counts = (λ k. rows k ∙ none.rows k (t.row k), λ c. counts c ∙ none.counts t.row c (t.count c))
+kept (Done a) delta t u none rows counts = tt
+kept IdentityReused delta t u none rows counts = tt
+kept (NotTaken cause) delta t u none rows counts = tt
+
+-- a first arrival whose request was stored
+stored_request : (i : Identity) (command : Command) (reply : Reply) (delta : Delta) (need : Need) (rows : Rows) (row : AnswerRow) (t u : Tables) →
+    t.answer i ≡ None → AreSelected t need rows → HasNoEffect reply delta → IsCommitted t delta row u →
+    ((n : ℕ) → rows.requests ≡ n → row ≡ answer_row (record { identity = i; command = command; reply = reply }) (n + 1)) → StoresRequest i command reply t u
+stored_request i command reply delta need rows row t u none selected quiet c is =
+    let same : row ≡ answer_row (record { identity = i; command = command; reply = reply }) (t.requests + 1) = is t.requests selected.requests in
+    record {
+      new = none;
+      answer_is = λ j. c.answer_is j ∙ (λ k. cond (is_same (same k).identity j) (Some (same k)) (t.answer j));
+      version = c.version;
+      requests = c.requests;
+      rows = kept reply delta t u quiet c.row_is c.count_is;
+    }
+
+pub stored_shown : (i : Identity) (command : Command) (reply : Reply) (delta : Delta) (need : Need) (rows : Rows) (row : AnswerRow) (old mid new : Option Tables) →
+    mid ≡ old → Shows old (λ t. t.answer i ≡ None) → Shows old (λ t. AreSelected t need rows) → HasNoEffect reply delta → Shows mid (λ t. Shows new (IsCommitted t delta row)) →
+    ((n : ℕ) → rows.requests ≡ n → row ≡ answer_row (record { identity = i; command = command; reply = reply }) (n + 1)) →
+    IsFoundOrStored i command reply old new
+stored_shown i command reply delta need rows row old mid new stays none selected quiet c is =
+    inr (both old new none selected (subst (λ (m : Option Tables). Shows m (λ t. Shows new (IsCommitted t delta row))) stays c))
+  where
+    both : (old new : Option Tables) → Shows old (λ t. t.answer i ≡ None) → Shows old (λ t. AreSelected t need rows) → Shows old (λ t. Shows new (IsCommitted t delta row)) →
+        Shows old (λ t. Shows new (StoresRequest i command reply t))
+    both None new none selected c = absurd c
+    both (Some t) None none selected c = absurd c
+    both (Some t) (Some u) none selected c = stored_request i command reply delta need rows row t u none selected quiet c is
+
+pub stores_once : (caller : ℕ) (id : List ℕ) (command : Command) (reply : Reply) (old new : Option Tables) →
+    IsFoundOrStored (record { caller = caller; id = id }) command reply old new → StoresOnce (Write caller id command) reply old new
+stores_once caller id command (Done a) old new x = x
+stores_once caller id command (Refused r) old new x = x
+stores_once caller id command IdentityReused old new x = tt
+stores_once caller id command (NotTaken c) old new x = tt
+
+-- the row that an identity has
+has_stored : (i : Identity) (row : AnswerRow) (IsSo : AnswerRow → Type 0) (tables : Option Tables) → Shows tables (λ t. t.answer i ≡ Some row) → IsSo row → HasStored i tables IsSo
+has_stored i row IsSo None there so = absurd there
+has_stored i row IsSo (Some t) there so = (row, there, so)
+
+-- a request whose identity is stored
+pub repeated : (caller : ℕ) (id : List ℕ) (command : Command) (result : Result Reply Cause) (row : AnswerRow) (old new : Option Tables) →
+    Shows old (λ t. t.answer (record { caller = caller; id = id }) ≡ Some row) → IsToldAgain row (content_text command) result → new ≡ old →
+    StoresOnce (Write caller id command) (reply_of result) old new
+repeated caller id command (Ok reply) row old new there (inl told) stays =
+    stores_once caller id command reply old new (inl (has_stored (record { caller = caller; id = id }) row (HasTexts command reply) old there (told.0, sym told.2), stays))
+repeated caller id command (Ok reply) row old new there (inr told) stays = subst (λ r. StoresOnce (Write caller id command) r old new) (sym told.1) tt
+repeated caller id command (Err cause) row old new there told stays = tt
+
+-- a reply that is stored is no clash
+pub decided_keeps : (caller : ℕ) (id : List ℕ) (command : Command) (reply : Reply) (old new : Option Tables) → IsStored reply → KeepsUntaken (Write caller id command) reply old new
+decided_keeps caller id command (Done a) old new s = tt
+decided_keeps caller id command (Refused r) old new s = tt
+decided_keeps caller id command IdentityReused old new s = absurd s
+decided_keeps caller id command (NotTaken c) old new s = absurd s
+
+pub repeat_keeps : (caller : ℕ) (id : List ℕ) (command : Command) (result : Result Reply Cause) (row : AnswerRow) (old new : Option Tables) →
+    Shows old (λ t. t.answer (record { caller = caller; id = id }) ≡ Some row) → IsToldAgain row (content_text command) result → new ≡ old →
+    KeepsUntaken (Write caller id command) (reply_of result) old new
+repeat_keeps caller id command (Ok reply) row old new there (inl told) stays = decided_keeps caller id command reply old new told.1
+repeat_keeps caller id command (Ok reply) row old new there (inr told) stays =
+    subst (λ r. KeepsUntaken (Write caller id command) r old new) (sym told.1)
+    (has_stored (record { caller = caller; id = id }) row (HasOtherContent command) old there told.0, stays)
+repeat_keeps caller id command (Err Memory) row old new there told stays = (tt, stays)
+repeat_keeps caller id command (Err Damaged) row old new there told stays = (tt, stays)
+repeat_keeps caller id command (Err Store) row old new there told stays = absurd told
+repeat_keeps caller id command (Err Pattern) row old new there told stays = absurd told
+repeat_keeps caller id command (Err Full) row old new there told stays = absurd told
+
+-- what a fault of the shelf leaves
+pub fault_keeps : (caller : ℕ) (id : List ℕ) (command : Command) (f : ShelfFault) (old new : Option Tables) → LeavesBy (cause_of f) old new →
+    KeepsUntaken (Write caller id command) (NotTaken (cause_of f)) old new
+fault_keeps caller id command fault.Memory old new stays = (tt, stays)
+fault_keeps caller id command fault.Store old new stays = (tt, stays)
+fault_keeps caller id command fault.Damaged old new stays = (tt, stays)
+
+-- a new identity after the last number
+pub full_keeps : (caller : ℕ) (id : List ℕ) (command : Command) (need : Need) (rows : Rows) (old new : Option Tables) →
+    Shows old (λ t. t.answer (record { caller = caller; id = id }) ≡ None) → Shows old (λ t. AreSelected t need rows) → most_requests ≤ rows.requests → new ≡ old →
+    KeepsUntaken (Write caller id command) (NotTaken Full) old new
+full_keeps caller id command need rows None new none selected most stays = absurd none
+full_keeps caller id command need rows (Some t) new none selected most stays = ((none, subst (λ n. most_requests ≤ n) selected.requests most), stays)
+
+-- an answer that is stored says nothing of faults
+pub stored_counts : (reply : Reply) (before after : ℕ) → IsStored reply → after ≡ before → CountsReply reply before after
+stored_counts (Done a) before after s same = same
+stored_counts (Refused r) before after s same = same
+stored_counts IdentityReused before after s same = absurd s
+stored_counts (NotTaken c) before after s same = absurd s
+
+-- one step more
+pub steps-push : (ds : List Delivery) (rs : List Reply) (d : Delivery) (r : Reply) (old mid new : Option Tables) →
+    AreSteps ds rs old mid → KeepsUntaken d r mid new → StoresOnce d r mid new → AreSteps (ds ++ d ∷ []) (rs ++ r ∷ []) old new
+steps-push [] [] d r old mid new steps left once =
+    (new, subst (λ m. KeepsUntaken d r m new) steps left, subst (λ m. StoresOnce d r m new) steps once, refl)
+steps-push [] (s ∷ rs) d r old mid new steps left once = absurd steps
+steps-push (c ∷ ds) [] d r old mid new steps left once = absurd steps
+steps-push (c ∷ ds) (s ∷ rs) d r old mid new steps left once = (steps.0, steps.1, steps.2, steps-push ds rs d r steps.0 mid new steps.3 left once)
+
+-- a fault that a call of the shelf counted
+pub fault_counts : (f : ShelfFault) (before after : ℕ) → IsCounted f before after → CountsReply (NotTaken (cause_of f)) before after
+fault_counts fault.Memory before after c = c
+fault_counts fault.Store before after c = c
+fault_counts fault.Damaged before after c = c
+
+-- a reply for which the count stayed
+pub told_counts : (row : AnswerRow) (content : List ℕ) (result : Result Reply Cause) (before after : ℕ) → IsToldAgain row content result → after ≡ before → CountsReply (reply_of result) before after
+told_counts row content (Ok reply) before after (inl told) same = stored_counts reply before after told.1 same
+told_counts row content (Ok reply) before after (inr told) same = subst (λ r. CountsReply r before after) (sym told.1) same
+told_counts row content (Err Memory) before after told same = same
+told_counts row content (Err Damaged) before after told same = same
+told_counts row content (Err Store) before after told same = absurd told
+told_counts row content (Err Pattern) before after told same = absurd told
+told_counts row content (Err Full) before after told same = absurd told

@@ -1,0 +1,6 @@
+pub mod Histories
+pub mod Served
+pub mod Effects
+pub mod Going
+pub mod Outcomes
+pub mod Restarting

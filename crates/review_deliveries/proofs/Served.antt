@@ -1,0 +1,356 @@
+-- What one delivery does.
+use Rattle.std.proofs.Common.{◌≡◌, ℕ, ◌+◌, ◌<◌, List, [], ◌∷◌, ◌++◌, length, Option, Some, None, true, false, cond, ◌||◌, refl, sym, ap, ◌∙◌, subst, inl, inr, ⊎_elim, ◌⊎◌, Result, Ok, Err}
+use Rattle.std.specs.Prelude.{is_some, MatchOption, IfOk, IfErr}
+use Rattle.std.specs.Result.{IsErr, IsErrAnd}
+use Rattle.std.specs.Str.{bytes_eq}
+use Rattle.std.proofs.lemmas.Bool.{cases_Bool}
+use Rattle.std.proofs.lemmas.Slice.Eq.{bytes_eq-Decides}
+use Rattle.review_words.specs.Texts.{content_text, reply_text, IsStored}
+use Rattle.review_words.proofs.Fields.{content_text-injective, reply_text-injective}
+use Rattle.review_words.specs.declared.command.Command.{Command}
+use Rattle.review_words.specs.declared.command.Delivery.{Delivery}
+use Rattle.review_words.specs.declared.command.Delivery.TheVariants.{Write, Read}
+use Rattle.review_words.specs.declared.command.Query.{Query}
+use Rattle.review_words.specs.declared.reply.Refusal.{Refusal}
+use Rattle.review_words.specs.declared.reply.Refusal.TheVariants.{UnknownCaller}
+use Rattle.review_words.specs.declared.reply.Answer.{Answer}
+use Rattle.review_words.specs.declared.reply.Reply.{Reply}
+use Rattle.review_words.specs.declared.reply.Reply.TheVariants.{Done, Refused, IdentityReused, NotTaken}
+use Rattle.review_words.specs.declared.reply.NotTaken.{NotTaken as Cause}
+use Rattle.review_words.specs.declared.reply.NotTaken.TheVariants.{Memory, Store, Damaged, Pattern, Full}
+use Rattle.review_words.specs.History.{Entry, Identity, stored, is_account}
+use Rattle.review_rows.specs.declared.shelf.ShelfFault.{ShelfFault}
+use Rattle.review_rows.specs.declared.shelf.ShelfFault.TheVariants as fault
+use Rattle.review_rows.specs.declared.rows.Delta.{Delta}
+use Rattle.review_rows.specs.declared.rows.Need.{Need}
+use Rattle.review_rows.specs.declared.rows.Rows.{Rows}
+use Rattle.review_rows.specs.Rows.{AnswerRow, Tables, Wanted, wanted_by}
+use Rattle.review_rows.specs.Answer.{IsHistory, IsAnswer, query_answer, query_checks, first_refusal, refused_or, told as told_of_query, most_requests}
+use Rattle.review_rows.specs.View.{IsLoaded, IsView, IsDecided, answer_row, needed, wanted_for}
+use Rattle.review_rows.specs.Shelf.{IsCommitted, AreSelected, Shown, Shows, Views, LeavesBy, StopLeavesOwnTables, AddsNoStop, IsCounted, Blames, cause_of}
+use Rattle.review_rows.specs.Decisions.{WantsAs, IsUndecided}
+use Rattle.review_rows.specs.Decisions.{IsDoneOrRefused}
+use Rattle.review_deliveries.specs.Replies.{history_after, with_entries as hist, entry_of, IsRight, IsTold, IsToldOfStored, IsServed, IsToldAgain, IsLawful, reply_of, IsNew, HasEffect, StopGoesOnFrom, StopHasEntry, IsEntered, GoesOn, KeepsUntaken, CountsReply}
+use Rattle.review_deliveries.proofs.Histories.{loaded, recalled, not_recalled, view_grows, answer_stored, stored_stays, stored_here, same_to, stored_identity}
+
+-- a new identity adds its entry, and an old one nothing
+pub new_history : (h : List Entry) (caller : ℕ) (id : List ℕ) (command : Command) (reply : Reply) → IsStored reply → stored h (record { caller = caller; id = id }) ≡ None →
+    history_after h (Write caller id command ∷ []) (reply ∷ []) ≡ entry_of caller id command reply ∷ h
+new_history h caller id command (Done a) s none =
+    let e : Entry = entry_of caller id command (Done a) in
+    ap (λ o. hist h (cond (is_some o || false) [] (e ∷ []))) none
+new_history h caller id command (Refused a) s none =
+    let e : Entry = entry_of caller id command (Refused a) in
+    ap (λ o. hist h (cond (is_some o || false) [] (e ∷ []))) none
+new_history h caller id command IdentityReused s none = absurd s
+new_history h caller id command (NotTaken c) s none = absurd s
+
+pub same_history : (h : List Entry) (caller : ℕ) (id : List ℕ) (command : Command) (reply : Reply) (old : Entry) → stored h (record { caller = caller; id = id }) ≡ Some old →
+    history_after h (Write caller id command ∷ []) (reply ∷ []) ≡ h
+same_history h caller id command (Done a) old some =
+    let e : Entry = entry_of caller id command (Done a) in
+    ap (λ o. hist h (cond (is_some o || false) [] (e ∷ []))) some
+same_history h caller id command (Refused a) old some =
+    let e : Entry = entry_of caller id command (Refused a) in
+    ap (λ o. hist h (cond (is_some o || false) [] (e ∷ []))) some
+same_history h caller id command IdentityReused old some =
+    let e : Entry = entry_of caller id command IdentityReused in
+    ap (λ o. hist h (cond (is_some o || false) [] (e ∷ []))) some
+same_history h caller id command (NotTaken c) old some = refl
+
+right_from_told : (h : List Entry) (d : Delivery) (reply : Reply) (before after : ℕ) → IsStored reply ⊎ (reply ≡ IdentityReused) → IsTold h d reply → after ≡ before → IsRight h d reply before after
+right_from_told h d (Done a) before after s told same = (told, same)
+right_from_told h d (Refused a) before after s told same = (told, same)
+right_from_told h d IdentityReused before after s told same = (told, same)
+right_from_told h d (NotTaken c) before after s told same =
+    ⊎_elim (λ (x : IsStored (NotTaken c)). absurd x) (λ (x : NotTaken c ≡ IdentityReused). absurd (cc)) s
+
+-- what only reads leaves the history's tables
+pub views_stay : (h : List Entry) (old new : Option Tables) → new ≡ old → Views h old → Views h new
+views_stay h old new e v = subst (Views h) (sym e) v
+
+-- what a fault of the shelf leaves views the history as before
+views_left : (h : List Entry) (f : ShelfFault) (old new : Option Tables) → LeavesBy (cause_of f) old new → Views h old → Views h new
+views_left h fault.Memory old new e v = subst (Views h) (sym e) v
+views_left h fault.Damaged old new e v = subst (Views h) (sym e) v
+views_left h fault.Store old new (inl e) v = subst (Views h) (sym e) v
+views_left h fault.Store old new (inr e) v = subst (Views h) (sym e) tt
+
+-- a call that only read, before the rest
+pub after_read : (h : List Entry) (d : Delivery) (reply : Reply) (old mid new : Shown) → mid.faults ≡ old.faults → AddsNoStop old mid → IsServed h d reply mid new → IsServed h d reply old new
+after_read h d reply old mid new same adds s = record {
+  right = subst (λ n. IsRight h d reply n new.faults) same s.right;
+  history = s.history;
+  view = s.view;
+  stops = λ t x. ⊎_elim (λ (y : mid.stops t). inl (adds t y)) (λ (e : HasEffect h d t). inr e) (s.stops t x);
+  alone = s.alone;
+}
+
+-- a delivery that was not taken for a lawful cause
+pub not_taken_served : (h : List Entry) (d : Delivery) (cause : Cause) (old new : Shown) →
+    IsHistory h → Views h new.tables → IsLawful h d cause old.faults new.faults → ((t : Tables) → new.stops t → old.stops t ⊎ HasEffect h d t) → IsServed h d (NotTaken cause) old new
+not_taken_served h (Write caller id command) cause old new hist v lawful stops = record { right = lawful; history = hist; view = v; stops = stops; alone = λ n s. absurd s }
+not_taken_served h (Read caller query) cause old new hist v lawful stops = record { right = lawful; history = hist; view = v; stops = stops; alone = λ n s. absurd n }
+
+-- a question that was answered
+right_read : (h : List Entry) (caller : ℕ) (query : Query) (reply : Reply) (o : Option Refusal) (a : Answer) (before after : ℕ) → reply ≡ query_answer h caller query → reply ≡ refused_or o a → after ≡ before → IsRight h (Read caller query) reply before after
+right_read h caller query reply None a before after told is same = subst (λ r. IsRight h (Read caller query) r before after) (sym is) (sym is ∙ told, same)
+right_read h caller query reply (Some r) a before after told is same = subst (λ r. IsRight h (Read caller query) r before after) (sym is) (sym is ∙ told, same)
+
+pub read_served : (h : List Entry) (caller : ℕ) (query : Query) (reply : Reply) (old new : Shown) → IsHistory h → Views h old.tables → reply ≡ query_answer h caller query →
+    new.tables ≡ old.tables → new.faults ≡ old.faults → AddsNoStop old new → IsServed h (Read caller query) reply old new
+read_served h caller query reply old new hist v told stays quiet adds = record {
+  right = right_read h caller query reply (first_refusal ((is_account h caller, UnknownCaller) ∷ query_checks h query)) (told_of_query h query) old.faults new.faults told told quiet;
+  history = hist;
+  view = views_stay h old.tables new.tables stays v;
+  stops = λ t x. inl (adds t x);
+  alone = λ n s. absurd n;
+}
+
+-- a fault of the shelf is a lawful cause
+lawful_fault : (h : List Entry) (d : Delivery) (f : ShelfFault) (tables : Option Tables) (before after : ℕ) → IsHistory h → Views h tables →
+    Blames f tables → IsCounted f before after → IsLawful h d (cause_of f) before after
+lawful_fault h d fault.Memory tables before after hist v blame counted = counted
+lawful_fault h d fault.Store tables before after hist v blame counted = counted
+lawful_fault h d fault.Damaged None before after hist v blame counted = absurd blame
+lawful_fault h d fault.Damaged (Some t) before after hist v blame counted = absurd (blame h hist v)
+
+-- a call of the shelf that failed
+pub fault_served : (h : List Entry) (d : Delivery) (f : ShelfFault) (old new : Shown) → IsHistory h → Views h old.tables →
+    LeavesBy (cause_of f) old.tables new.tables → Blames f old.tables → IsCounted f old.faults new.faults → ((t : Tables) → new.stops t → old.stops t ⊎ HasEffect h d t) →
+    IsServed h d (NotTaken (cause_of f)) old new
+fault_served h d f old new hist v stays blame counted stops =
+    not_taken_served h d (cause_of f) old new hist (views_left h f old.tables new.tables stays v) (lawful_fault h d f old.tables old.faults new.faults hist v blame counted) stops
+
+-- what a commit of what was decided leaves has the whole effect
+pub effect : (h : List Entry) (tables : Option Tables) (new : Tables) (delta : Delta) (row : AnswerRow) (caller : ℕ) (id : List ℕ) (command : Command) (reply : Reply) →
+    IsHistory h → Views h tables → stored h (record { caller = caller; id = id }) ≡ None → length h < most_requests → IsDecided h caller command delta reply →
+    row ≡ answer_row (entry_of caller id command reply) (length h + 1) → Shows tables (λ was. IsCommitted was delta row new) → HasEffect h (Write caller id command) new
+effect h None new delta row caller id command reply hist v none room d is c = absurd c
+effect h (Some t) new delta row caller id command reply hist v none room d is c =
+    (reply, (none, d.reply_is, room, hist), view_grows h t new delta row caller id command reply v d c is)
+
+-- a first arrival that was committed
+pub first_served : (h : List Entry) (delta : Delta) (row : AnswerRow) (caller : ℕ) (id : List ℕ) (command : Command) (reply : Reply) (old new : Shown) →
+    IsHistory h → Views h old.tables → stored h (record { caller = caller; id = id }) ≡ None → length h < most_requests → IsDecided h caller command delta reply →
+    row ≡ answer_row (entry_of caller id command reply) (length h + 1) → Shows old.tables (λ t. Shows new.tables (IsCommitted t delta row)) →
+    StopLeavesOwnTables new → new.faults ≡ old.faults → ((t : Tables) → new.stops t → old.stops t ⊎ HasEffect h (Write caller id command) t) →
+    IsServed h (Write caller id command) reply old new
+first_served h delta row caller id command reply old new hist v none room d is c alone same stops =
+    let s : IsStored reply = answer_stored h caller command reply d.reply_is in
+    let grown = new_history h caller id command reply s none in
+    record {
+      right = right_from_told h (Write caller id command) reply old.faults new.faults (inl s)
+          (subst (λ o. MatchOption o (IsAnswer h caller command reply) (λ e. IsToldOfStored e command reply)) (sym none) d.reply_is) same;
+      history = subst IsHistory (sym grown) (none, d.reply_is, room, hist);
+      view = subst (λ x. Views x new.tables) (sym grown) (shown old.tables new.tables v c);
+      stops = stops;
+      alone = λ n r. alone;
+    }
+  where
+    shown : (was now : Option Tables) → Views h was → Shows was (λ t. Shows now (IsCommitted t delta row)) → Views (entry_of caller id command reply ∷ h) now
+    shown None now v c = absurd c
+    shown (Some t) None v c = absurd c
+    shown (Some t) (Some u) v c = view_grows h t u delta row caller id command reply v d c is
+
+old_served : (h : List Entry) (caller : ℕ) (id : List ℕ) (command : Command) (reply : Reply) (e : Entry) (old new : Shown) →
+    IsHistory h → Views h new.tables → stored h (record { caller = caller; id = id }) ≡ Some e → IsStored reply ⊎ (reply ≡ IdentityReused) → IsToldOfStored e command reply →
+    new.faults ≡ old.faults → AddsNoStop old new → IsServed h (Write caller id command) reply old new
+old_served h caller id command reply e old new hist v some kind told same adds =
+    let stays = same_history h caller id command reply e some in
+    record {
+      right = right_from_told h (Write caller id command) reply old.faults new.faults kind
+          (subst (λ o. MatchOption o (IsAnswer h caller command reply) (λ e. IsToldOfStored e command reply)) (sym some) told) same;
+      history = subst IsHistory (sym stays) hist;
+      view = subst (λ x. Views x new.tables) (sym stays) v;
+      stops = λ t x. inl (adds t x);
+      alone = λ (n : stored h (record { caller = caller; id = id }) ≡ None) s. absurd (cc);
+    }
+
+-- a request whose identity is stored
+pub repeat_served : (h : List Entry) (row : AnswerRow) (caller : ℕ) (id : List ℕ) (command : Command) (result : Result Reply Cause) (old new : Shown) →
+    IsHistory h → Views h old.tables → Shows old.tables (λ t. t.answer (record { caller = caller; id = id }) ≡ Some row) → IsToldAgain row (content_text command) result →
+    new.tables ≡ old.tables → new.faults ≡ old.faults → AddsNoStop old new → IsServed h (Write caller id command) (reply_of result) old new
+repeat_served h row caller id command result old new hist v there told stays quiet adds =
+    let r = found old.tables v there in
+    again result r told (views_stay h old.tables new.tables stays v)
+  where
+    i : Identity
+    i = record { caller = caller; id = id }
+
+    found : (tables : Option Tables) → Views h tables → Shows tables (λ t. t.answer (record { caller = caller; id = id }) ≡ Some row) →
+        (e : Entry) × (stored h (record { caller = caller; id = id }) ≡ Some e) × (row.content ≡ content_text e.command) × (row.reply ≡ reply_text e.reply) × IsStored e.reply
+    found None v there = absurd there
+    found (Some t) v there = recalled h row (record { caller = caller; id = id }) hist (sym (v.answer_is (record { caller = caller; id = id })) ∙ there)
+
+    again : (result : Result Reply Cause) → (r : (e : Entry) × (stored h (record { caller = caller; id = id }) ≡ Some e) × (row.content ≡ content_text e.command) × (row.reply ≡ reply_text e.reply) × IsStored e.reply) →
+        IsToldAgain row (content_text command) result → Views h new.tables → IsServed h (Write caller id command) (reply_of result) old new
+    again (Ok reply) r (inl told) v =
+        let command_is : command ≡ r.0.command = content_text-injective command r.0.command (sym told.0 ∙ r.2) in
+        let reply_is : reply ≡ r.0.reply = reply_text-injective reply r.0.reply told.1 r.4 (told.2 ∙ r.3) in
+        old_served h caller id command reply r.0 old new hist v r.1 (inl told.1) (record { equal = λ _. reply_is; other = λ no. absurd (no command_is) }) quiet adds
+    again (Ok reply) r (inr told) v =
+        old_served h caller id command reply r.0 old new hist v r.1 (inr told.1) (record { equal = λ e. absurd (told.0 (r.2 ∙ ap content_text (sym e))); other = λ _. told.1 }) quiet adds
+    again (Err Memory) r told v = not_taken_served h (Write caller id command) Memory old new hist v quiet (λ t x. inl (adds t x))
+    again (Err Damaged) r told v = absurd (told r.0.reply r.4 (sym r.3))
+    again (Err Store) r told v = absurd told
+    again (Err Pattern) r told v = absurd told
+    again (Err Full) r told v = absurd told
+
+-- Stops. A delivery either grows the history by a first arrival, or leaves it.
+grows_or_stays : (h : List Entry) (d : Delivery) (reply : Reply) (before after : ℕ) → IsRight h d reply before after →
+    (IsNew h d × IsStored reply) ⊎ (history_after h (d ∷ []) (reply ∷ []) ≡ h)
+grows_or_stays h (Read caller query) reply before after right = inr refl
+grows_or_stays h (Write caller id command) reply before after right = at (stored h (record { caller = caller; id = id })) refl reply right
+  where
+    kept : stored h (record { caller = caller; id = id }) ≡ None → (reply : Reply) → IsTold h (Write caller id command) reply → IsStored reply
+    kept none reply told =
+        answer_stored h caller command reply (subst (λ o. MatchOption o (IsAnswer h caller command reply) (λ e. IsToldOfStored e command reply)) none told)
+
+    at : (o : Option Entry) → stored h (record { caller = caller; id = id }) ≡ o → (reply : Reply) → IsRight h (Write caller id command) reply before after →
+        ((stored h (record { caller = caller; id = id }) ≡ None) × IsStored reply) ⊎ (history_after h (Write caller id command ∷ []) (reply ∷ []) ≡ h)
+    at (Some e) some reply right = inr (same_history h caller id command reply e some)
+    at None none (Done a) right = inl (none, kept none (Done a) right.0)
+    at None none (Refused r) right = inl (none, kept none (Refused r) right.0)
+    at None none (NotTaken c) right = inr refl
+    at None none IdentityReused right = absurd (kept none IdentityReused right.0)
+
+effect_goes_on : (h : List Entry) (d : Delivery) (t : Tables) → HasEffect h d t → GoesOn h t
+effect_goes_on h (Read caller query) t e = absurd e
+effect_goes_on h (Write caller id command) t e = (entry_of caller id command e.0 ∷ [], e.1, e.2)
+
+-- what a stop leaves goes on from the history after the delivery
+pub leaves_since : (h : List Entry) (d : Delivery) (reply : Reply) (old new : Shown) → IsServed h d reply old new → StopGoesOnFrom h old →
+    StopGoesOnFrom (history_after h (d ∷ []) (reply ∷ [])) new
+leaves_since h d reply old new s since t x =
+    ⊎_elim
+    (λ (grew : IsNew h d × IsStored reply). ([], s.history, alone_is (s.alone grew.0 grew.1 t x)))
+    (λ (stays : history_after h (d ∷ []) (reply ∷ []) ≡ h).
+    subst (λ g. GoesOn g t) (sym stays) (⊎_elim (λ (y : old.stops t). since t y) (λ (e : HasEffect h d t). effect_goes_on h d t e) (s.stops t x)))
+    (grows_or_stays h d reply old.faults new.faults s.right)
+  where
+    alone_is : new.tables ≡ Some t → IsView (history_after h (d ∷ []) (reply ∷ [])) t
+    alone_is e = subst (Views (history_after h (d ∷ []) (reply ∷ []))) e s.view
+
+-- two commands are the same or not, as their texts are
+pub same_command : (a b : Command) → (a ≡ b) ⊎ (a ≡ b → ⊥)
+same_command a b =
+    ⊎_elim
+    (λ (t : bytes_eq (content_text a) (content_text b) ≡ true). inl (content_text-injective a b ((bytes_eq-Decides (content_text a) (content_text b)).0 t)))
+    (λ (f : bytes_eq (content_text a) (content_text b) ≡ false).
+    inr (λ e. let t = (bytes_eq-Decides (content_text a) (content_text b)).1 (ap content_text e) in absurd (cc)))
+    (cases_Bool (bytes_eq (content_text a) (content_text b)))
+
+told_of : (h : List Entry) (d : Delivery) (reply : Reply) (before after : ℕ) → IsStored reply → IsRight h d reply before after → IsTold h d reply
+told_of h d (Done a) before after s right = right.0
+told_of h d (Refused r) before after s right = right.0
+told_of h d IdentityReused before after s right = absurd s
+told_of h d (NotTaken c) before after s right = absurd s
+
+-- what is stored under the identity of a command that was told a stored reply is that command, with that reply
+repeat_is : (i : Identity) (e : Entry) (command : Command) (reply : Reply) → IsStored reply → e.identity ≡ i → IsToldOfStored e command reply → e ≡ record { identity = i; command = command; reply = reply }
+repeat_is i e command reply s same told =
+    ⊎_elim
+    (λ (c : command ≡ e.command). let r = told.equal c in λ k. record { identity = same k; command = sym c k; reply = sym r k })
+    (λ (n : command ≡ e.command → ⊥). absurd (subst IsStored (told.other n) s))
+    (same_command command e.command)
+
+-- after Done or Refused the write is an entry
+entered : (h : List Entry) (d : Delivery) (reply : Reply) (old new : Shown) → IsServed h d reply old new → IsStored reply → IsEntered d reply (history_after h (d ∷ []) (reply ∷ []))
+entered h (Read caller query) reply old new s r = tt
+entered h (Write caller id command) reply old new s r = at (stored h (record { caller = caller; id = id })) refl
+  where
+    at : (o : Option Entry) → stored h (record { caller = caller; id = id }) ≡ o → IsEntered (Write caller id command) reply (history_after h (Write caller id command ∷ []) (reply ∷ []))
+    at None none =
+        subst (IsEntered (Write caller id command) reply) (sym (new_history h caller id command reply r none))
+        (stored_here (entry_of caller id command reply) h (record { caller = caller; id = id }) (same_to (record { caller = caller; id = id }) (record { caller = caller; id = id }) refl))
+    at (Some e) some =
+        let told = subst (λ o. MatchOption o (IsAnswer h caller command reply) (λ e. IsToldOfStored e command reply)) some (told_of h (Write caller id command) reply old.faults new.faults r s.right) in
+        subst (IsEntered (Write caller id command) reply) (sym (same_history h caller id command reply e some))
+        (some ∙ ap Some (repeat_is (record { caller = caller; id = id }) e command reply r (stored_identity h (record { caller = caller; id = id }) e some) told))
+
+entered_stays : (more h : List Entry) (d : Delivery) (reply : Reply) → IsHistory (more ++ h) → IsEntered d reply h → IsEntered d reply (more ++ h)
+entered_stays more h (Read caller query) reply hist e = tt
+entered_stays more h (Write caller id command) reply hist e = stored_stays more h (record { caller = caller; id = id }) (entry_of caller id command reply) hist e
+
+pub leaves_entered : (h : List Entry) (d : Delivery) (reply : Reply) (old new : Shown) → IsServed h d reply old new → StopGoesOnFrom h old → StopHasEntry d reply new
+leaves_entered h d reply old new s since r t x =
+    let g = leaves_since h d reply old new s since t x in
+    (g.0 ++ history_after h (d ∷ []) (reply ∷ []), g.1, g.2, entered_stays g.0 (history_after h (d ∷ []) (reply ∷ [])) d reply g.1 (entered h d reply old new s r))
+
+-- an identity with no stored row is new
+pub unrecalled : (h : List Entry) (tables : Option Tables) (i : Identity) → IsHistory h → Views h tables →
+    Shows tables (λ t. t.answer i ≡ None) → stored h i ≡ None
+unrecalled h None i hist v none = absurd none
+unrecalled h (Some t) i hist v none = not_recalled h i (sym (v.answer_is i) ∙ none)
+
+-- what was selected of tables in use is what is wanted of the history
+pub loaded_shown : (h : List Entry) (tables : Option Tables) (wanted : Wanted) (need : Need) (rows : Rows) → Views h tables →
+    WantsAs (wanted_by need) wanted → Shows tables (λ t. AreSelected t need rows) → IsLoaded h wanted rows
+loaded_shown h None wanted need rows v needs s = absurd s
+loaded_shown h (Some t) wanted need rows v needs s = loaded h t wanted need rows v needs s
+
+-- a cause that a `?` passed on
+pub err_reply : (r : Result Reply Cause) (c : Cause) → IsErr r × IsErrAnd r (λ d. d ≡ c) → NotTaken c ≡ reply_of r
+err_reply (Ok x) c e = let f = e.0 in absurd (cc)
+err_reply (Err d) c e = ap NotTaken (sym e.1)
+
+-- both that are said of stops
+pub stopped : (h : List Entry) (d : Delivery) (reply : Reply) (old new : Shown) → IsServed h d reply old new → StopGoesOnFrom h old →
+    StopGoesOnFrom (history_after h (d ∷ []) (reply ∷ [])) new × StopHasEntry d reply new
+stopped h d reply old new s since = (leaves_since h d reply old new s since, leaves_entered h d reply old new s since)
+
+-- a shelf that shows the tables of a history, and leaves them alone at a stop, leaves only those
+pub alone_since : (h : List Entry) (s : Shown) → IsHistory h → Views h s.tables → StopLeavesOwnTables s → StopGoesOnFrom h s
+alone_since h s hist v alone t x = ([], hist, subst (Views h) (alone t x) v)
+
+-- a command that was not decided
+pub undecided_lawful : (h : List Entry) (caller : ℕ) (id : List ℕ) (command : Command) (rows : Rows) (cause : Cause) (before after : ℕ) → IsHistory h → IsLoaded h (needed caller command) rows →
+    stored h (record { caller = caller; id = id }) ≡ None → IsUndecided caller command rows cause → after ≡ before → IsLawful h (Write caller id command) cause before after
+undecided_lawful h caller id command rows Memory before after hist l none u same = same
+undecided_lawful h caller id command rows Pattern before after hist l none u same = (none, u h hist l, same)
+undecided_lawful h caller id command rows Damaged before after hist l none u same = absurd (u h hist l)
+undecided_lawful h caller id command rows Store before after hist l none u same = absurd u
+undecided_lawful h caller id command rows Full before after hist l none u same = absurd u
+
+pub undecided_keeps : (caller : ℕ) (id : List ℕ) (command : Command) (rows : Rows) (cause : Cause) (old new : Option Tables) → IsUndecided caller command rows cause → new ≡ old →
+    KeepsUntaken (Write caller id command) (NotTaken cause) old new
+undecided_keeps caller id command rows Memory old new u same = (tt, same)
+undecided_keeps caller id command rows Pattern old new u same = (tt, same)
+undecided_keeps caller id command rows Damaged old new u same = (tt, same)
+undecided_keeps caller id command rows Store old new u same = absurd u
+undecided_keeps caller id command rows Full old new u same = absurd u
+
+pub undecided_counts : (caller : ℕ) (command : Command) (rows : Rows) (cause : Cause) (before after : ℕ) → IsUndecided caller command rows cause → after ≡ before → CountsReply (NotTaken cause) before after
+undecided_counts caller command rows Memory before after u same = same
+undecided_counts caller command rows Pattern before after u same = same
+undecided_counts caller command rows Damaged before after u same = same
+undecided_counts caller command rows Store before after u same = absurd u
+undecided_counts caller command rows Full before after u same = absurd u
+
+-- a question, answered or not for want of memory
+pub shown_served : (h : List Entry) (caller : ℕ) (query : Query) (r : Result Reply Cause) (rows : Rows) (old new : Shown) → IsHistory h → Views h old.tables → IsLoaded h (wanted_for caller query) rows →
+    IfOk r (λ reply. (h : List Entry) → IsLoaded h (wanted_for caller query) rows → reply ≡ query_answer h caller query) → IfErr r (λ e. e ≡ Memory) →
+    new.tables ≡ old.tables → new.faults ≡ old.faults → AddsNoStop old new → IsServed h (Read caller query) (reply_of r) old new
+shown_served h caller query (Ok reply) rows old new hist v l shown cause stays quiet adds = read_served h caller query reply old new hist v (shown h l) stays quiet adds
+shown_served h caller query (Err e) rows old new hist v l shown cause stays quiet adds =
+    subst (λ c. IsServed h (Read caller query) (NotTaken c) old new) (sym cause)
+    (not_taken_served h (Read caller query) Memory old new hist (views_stay h old.tables new.tables stays v) quiet (λ t x. inl (adds t x)))
+
+pub shown_counts : (r : Result Reply Cause) (before after : ℕ) → IfOk r IsDoneOrRefused → IfErr r (λ e. e ≡ Memory) → after ≡ before → CountsReply (reply_of r) before after
+shown_counts (Ok (Done a)) before after answered cause same = same
+shown_counts (Ok (Refused x)) before after answered cause same = same
+shown_counts (Ok IdentityReused) before after answered cause same = absurd answered
+shown_counts (Ok (NotTaken c)) before after answered cause same = absurd answered
+shown_counts (Err e) before after answered cause same = subst (λ c. CountsReply (NotTaken c) before after) (sym cause) same
+
+pub shown_keeps : (caller : ℕ) (query : Query) (r : Result Reply Cause) (old new : Option Tables) → IfOk r IsDoneOrRefused → new ≡ old → KeepsUntaken (Read caller query) (reply_of r) old new
+shown_keeps caller query (Ok (Done a)) old new answered same = same
+shown_keeps caller query (Ok (Refused x)) old new answered same = same
+shown_keeps caller query (Ok IdentityReused) old new answered same = same
+shown_keeps caller query (Ok (NotTaken c)) old new answered same = absurd answered
+shown_keeps caller query (Err Store) old new answered same = inl same
+shown_keeps caller query (Err Memory) old new answered same = same
+shown_keeps caller query (Err Damaged) old new answered same = same
+shown_keeps caller query (Err Pattern) old new answered same = same
+shown_keeps caller query (Err Full) old new answered same = same

@@ -1,0 +1,229 @@
+-- Deliveries that each act once: which are first arrivals, what history they leave, and which replies are right.
+use Rattle.std.specs.Prelude.{ℕ, ◌<◌, ◌≤◌, ◌≡◌, List, [], ◌∷◌, ◌++◌, Option, Some, None, Bool, ◌||◌, is_some, length, take, slice_index_or, Result, Ok, Err, ◌+◌, if◌then◌else◌, ◌⊎◌, MatchOption}
+use Rattle.review_words.specs.declared.command.Command.{Command}
+use Rattle.review_words.specs.declared.command.Delivery.{Delivery}
+use Rattle.review_words.specs.declared.command.Delivery.TheVariants.{Write, Read}
+use Rattle.review_words.specs.declared.reply.Reply.{Reply}
+use Rattle.review_words.specs.declared.reply.Reply.TheVariants.{Done, Refused, IdentityReused, NotTaken}
+use Rattle.review_words.specs.declared.reply.NotTaken.{NotTaken as Cause}
+use Rattle.review_words.specs.declared.reply.NotTaken.TheVariants.{Memory, Store, Damaged, Pattern, Full}
+use Rattle.review_words.specs.History.{Entry, Identity, stored, is_same}
+use Rattle.review_words.specs.Texts.{content_text, reply_text, IsStored}
+use Rattle.review_rows.specs.Answer.{IsHistory, IsAnswer, query_answer, most_requests}
+use Rattle.review_rows.specs.Rows.{Key, Count, Tables, AnswerRow}
+use Rattle.review_rows.specs.View.{IsView, answer_row}
+use Rattle.review_rows.specs.Decisions.{ReadsPattern}
+use Rattle.review_rows.specs.Shelf.{greatest_count, Shown, Shows, Views, LeavesBy, StopLeavesOwnTables}
+
+-- a delivery that was taken, as an entry
+abbrev pub entry_of : ℕ → List ℕ → Command → Reply → Entry
+entry_of caller id command reply = record { identity = record { caller = caller; id = id }; command = command; reply = reply }
+
+-- these entries with that of a write in front, where it was taken
+abbrev pub with_write : Reply → Entry → List Entry → List Entry
+with_write (NotTaken cause) e es = es
+with_write (Done a) e es = e ∷ es
+with_write (Refused r) e es = e ∷ es
+with_write IdentityReused e es = e ∷ es
+
+-- the same of any delivery; a question stores nothing
+abbrev pub with_taken : Delivery → Reply → List Entry → List Entry
+with_taken (Write caller id command) reply es = with_write reply (entry_of caller id command reply) es
+with_taken (Read caller query) reply es = es
+
+-- the writes that were taken, as entries with their replies: those whose reply isn't NotTaken
+abbrev pub taken : List Delivery → List Reply → List Entry
+taken [] rs = []
+taken (d ∷ ds) [] = []
+taken (d ∷ ds) (r ∷ rs) = with_taken d r (taken ds rs)
+
+-- whether the identity of an entry stands among others
+abbrev pub has_identity : List Entry → Entry → Bool
+has_identity h e = is_some (stored h e.identity)
+
+-- Those of a list in the order of arrival whose identity stands neither in the history nor among the earlier ones.
+abbrev pub arrivals_after : List Entry → List Entry → List Entry → List Entry
+arrivals_after h0 earlier [] = []
+arrivals_after h0 earlier (e ∷ es) =
+    if has_identity h0 e || has_identity earlier e then arrivals_after h0 (e ∷ earlier) es else e ∷ arrivals_after h0 (e ∷ earlier) es
+
+-- the first arrivals of a list: repeats, and what the history has already, are deleted
+abbrev pub first_arrivals : List Entry → List Entry → List Entry
+first_arrivals h0 es = arrivals_after h0 [] es
+
+-- the history with these entries, one after the other
+abbrev pub with_entries : List Entry → List Entry → List Entry
+with_entries h0 [] = h0
+with_entries h0 (e ∷ es) = with_entries (e ∷ h0) es
+
+-- the history after deliveries that got these replies: each taken request stands once, at its first arrival
+abbrev pub history_after : List Entry → List Delivery → List Reply → List Entry
+history_after h0 ds rs = with_entries h0 (first_arrivals h0 (taken ds rs))
+
+-- the lawful reasons for which a delivery is not taken, where the count of faults went from before to after
+abbrev pub IsLawful : List Entry → Delivery → Cause → ℕ → ℕ → Type 0
+IsLawful h d Memory before after = after ≡ before
+IsLawful h d Store before after = (before < after) ⊎ ((before ≡ greatest_count) × (after ≡ before))
+IsLawful h d Damaged before after = ⊥
+IsLawful h (Write caller id command) Pattern before after = (stored h (record { caller = caller; id = id }) ≡ None) × ReadsPattern h command × (after ≡ before)
+IsLawful h (Write caller id command) Full before after = (stored h (record { caller = caller; id = id }) ≡ None) × (length h ≡ most_requests) × (after ≡ before)
+IsLawful h (Read caller query) Pattern before after = ⊥
+IsLawful h (Read caller query) Full before after = ⊥
+
+-- what a write is told whose identity is stored: the stored reply where the command is the same, otherwise that the identity is used
+pub record IsToldOfStored (e : Entry) (command : Command) (reply : Reply) : Type 0 where
+  pub equal : command ≡ e.command → reply ≡ e.reply
+  pub other : (command ≡ e.command → ⊥) → reply ≡ IdentityReused
+
+-- what a delivery is told after the history
+abbrev pub IsTold : List Entry → Delivery → Reply → Type 0
+IsTold h (Write caller id command) reply = MatchOption (stored h (record { caller = caller; id = id })) (IsAnswer h caller command reply) (λ e. IsToldOfStored e command reply)
+IsTold h (Read caller query) reply = reply ≡ query_answer h caller query
+
+-- the right reply after the history
+abbrev pub IsRight : List Entry → Delivery → Reply → ℕ → ℕ → Type 0
+IsRight h d (NotTaken cause) before after = IsLawful h d cause before after
+IsRight h d (Done a) before after = IsTold h d (Done a) × (after ≡ before)
+IsRight h d (Refused r) before after = IsTold h d (Refused r) × (after ≡ before)
+IsRight h d IdentityReused before after = IsTold h d IdentityReused × (after ≡ before)
+
+-- Each reply is right after the history that the deliveries before it left, where the count of faults went from one number to another
+-- meanwhile; d, r and c are what an index past the end would give.
+pub record AreRight (h0 : List Entry) (ds : List Delivery) (rs : List Reply) (counts : List (ℕ × ℕ)) : Type 0 where
+  pub replies : length rs ≡ length ds
+  pub counted : length counts ≡ length ds
+  pub each : (i : ℕ) (d : Delivery) (r : Reply) (c : ℕ × ℕ) → i < length ds →
+      IsRight (history_after h0 (take i ds) (take i rs)) (slice_index_or ds i d) (slice_index_or rs i r) (slice_index_or counts i c).0 (slice_index_or counts i c).1
+
+-- the count of faults went from one number to another in these steps
+abbrev pub CountsFollow : ℕ → List (ℕ × ℕ) → ℕ → Type 0
+CountsFollow from [] to = to ≡ from
+CountsFollow from (c ∷ cs) to = (c.0 ≡ from) × CountsFollow c.1 cs to
+
+-- a first arrival
+abbrev pub IsNew : List Entry → Delivery → Type 0
+IsNew h (Write caller id command) = stored h (record { caller = caller; id = id }) ≡ None
+IsNew h (Read caller query) = ⊥
+
+-- the tables have the whole effect of a first arrival, and its answer
+abbrev pub HasEffect : List Entry → Delivery → Tables → Type 0
+HasEffect h (Write caller id command) t = (reply : Reply) × IsHistory (entry_of caller id command reply ∷ h) × IsView (entry_of caller id command reply ∷ h) t
+HasEffect h (Read caller query) t = ⊥
+
+-- what one delivery does: the right reply, the tables of the history after it, and what a stop then may leave
+pub record IsServed (h : List Entry) (d : Delivery) (reply : Reply) (old new : Shown) : Type 0 where
+  pub right : IsRight h d reply old.faults new.faults
+  pub history : IsHistory (history_after h (d ∷ []) (reply ∷ []))
+  pub view : Views (history_after h (d ∷ []) (reply ∷ [])) new.tables
+  pub stops : (t : Tables) → new.stops t → old.stops t ⊎ HasEffect h d t
+  pub alone : IsNew h d → IsStored reply → StopLeavesOwnTables new
+
+-- the tables of a history that goes on from this one
+abbrev pub GoesOn : List Entry → Tables → Type 0
+GoesOn h t = (more : List Entry) × IsHistory (more ++ h) × IsView (more ++ h) t
+
+-- a stop leaves only such tables
+abbrev pub StopGoesOnFrom : List Entry → Shown → Type 0
+StopGoesOnFrom h s = (t : Tables) → s.stops t → GoesOn h t
+
+-- the write is an entry, with this reply
+abbrev pub IsEntered : Delivery → Reply → List Entry → Type 0
+IsEntered (Write caller id command) reply h = stored h (record { caller = caller; id = id }) ≡ Some (entry_of caller id command reply)
+IsEntered (Read caller query) reply h = Unit {0}
+
+-- once it was answered, a stop leaves only tables of histories that have the write
+abbrev pub StopHasEntry : Delivery → Reply → Shown → Type 0
+StopHasEntry d reply s = IsStored reply → (t : Tables) → s.stops t → (h : List Entry) × IsHistory h × IsView h t × IsEntered d reply h
+
+-- the tables after some first part of the deliveries and the whole effect of the next
+abbrev pub StopsWithin : List Entry → List Delivery → List Reply → Tables → Type 0
+StopsWithin h0 ds rs t = (i : ℕ) × (d : Delivery) × (i < length ds) × HasEffect (history_after h0 (take i ds) (take i rs)) (slice_index_or ds i d) t
+
+-- what a whole run does: right replies, the tables of the history after all of it, and what a stop then may leave
+pub record IsRun (h0 : List Entry) (ds : List Delivery) (rs : List Reply) (old new : Shown) : Type 0 where
+  pub history : IsHistory (history_after h0 ds rs)
+  pub view : Views (history_after h0 ds rs) new.tables
+  pub counts : List (ℕ × ℕ)
+  pub right : AreRight h0 ds rs counts
+  pub follow : CountsFollow old.faults counts new.faults
+  -- a stop leaves what it could leave at the start, or the tables with the whole effect of a first arrival among these
+  pub stops : (t : Tables) → new.stops t → old.stops t ⊎ StopsWithin h0 ds rs t
+  pub since : StopGoesOnFrom h0 old → StopGoesOnFrom (history_after h0 ds rs) new
+
+-- what is told of what was taken, or why it wasn't
+abbrev pub reply_of : Result Reply Cause → Reply
+reply_of (Ok reply) = reply
+reply_of (Err cause) = NotTaken cause
+
+-- what is told of a stored request, from the content that came
+abbrev pub IsToldAgain : AnswerRow → List ℕ → Result Reply Cause → Type 0
+IsToldAgain row content (Ok reply) =
+    ((row.content ≡ content) × IsStored reply × (reply_text reply ≡ row.reply)) ⊎ ((row.content ≡ content → ⊥) × (reply ≡ IdentityReused))
+IsToldAgain row content (Err Memory) = Unit {0}
+IsToldAgain row content (Err Damaged) = (reply : Reply) → IsStored reply → reply_text reply ≡ row.reply → ⊥
+IsToldAgain row content (Err _) = ⊥
+
+-- the identity is stored, with a request of which this is true
+abbrev pub HasStored : Identity → Option Tables → (AnswerRow → Type 0) → Type 0
+HasStored i tables IsSo = Shows tables (λ t. (row : AnswerRow) × (t.answer i ≡ Some row) × IsSo row)
+
+-- the stored request has this command and this reply
+abbrev pub HasTexts : Command → Reply → AnswerRow → Type 0
+HasTexts command reply row = (row.content ≡ content_text command) × (row.reply ≡ reply_text reply)
+
+-- the stored request has another command
+abbrev pub HasOtherContent : Command → AnswerRow → Type 0
+HasOtherContent command row = row.content ≡ content_text command → ⊥
+
+-- On any tables whatever: a delivery is not taken for a full history only where its identity is new and the last number is given.
+abbrev pub IsFullWhereSaid : Identity → Cause → Option Tables → Type 0
+IsFullWhereSaid i Full tables = Shows tables (λ t. (t.answer i ≡ None) × (most_requests ≤ t.requests))
+IsFullWhereSaid i _ tables = Unit {0}
+
+-- On any tables whatever: what is not taken leaves them, though a store fault may shut the store; so does a clash, where the identity is stored with another command, and each question.
+abbrev pub KeepsUntaken : Delivery → Reply → Option Tables → Option Tables → Type 0
+KeepsUntaken (Write caller id command) IdentityReused old new = HasStored (record { caller = caller; id = id }) old (HasOtherContent command) × (new ≡ old)
+KeepsUntaken (Write caller id command) (NotTaken cause) old new = IsFullWhereSaid (record { caller = caller; id = id }) cause old × LeavesBy cause old new
+KeepsUntaken (Write caller id command) _ old new = Unit {0}
+KeepsUntaken (Read caller query) (NotTaken cause) old new = LeavesBy cause old new
+KeepsUntaken (Read caller query) _ old new = new ≡ old
+
+-- no row and no count is changed
+abbrev pub SameRows : Tables → Tables → Type 0
+SameRows t u = ((k : Key) → u.row k ≡ t.row k) × ((c : Count) → u.count c ≡ t.count c)
+
+-- a refusal changes no row
+abbrev pub KeepsRows : Reply → Tables → Tables → Type 0
+KeepsRows (Refused r) t u = SameRows t u
+KeepsRows _ t u = Unit {0}
+
+-- the request is stored beside the others under the next number, and a refusal does nothing else
+pub record StoresRequest (i : Identity) (command : Command) (reply : Reply) (t u : Tables) : Type 0 where
+  pub new : t.answer i ≡ None
+  pub answer_is : (j : Identity) → u.answer j ≡ (if is_same i j then Some (answer_row (record { identity = i; command = command; reply = reply }) (t.requests + 1)) else t.answer j)
+  pub version : u.version ≡ t.version
+  pub requests : u.requests ≡ t.requests + 1
+  pub rows : KeepsRows reply t u
+
+-- the identity was stored with this command and this reply, and nothing is changed; or the request is stored
+abbrev pub IsFoundOrStored : Identity → Command → Reply → Option Tables → Option Tables → Type 0
+IsFoundOrStored i command reply old new =
+    (HasStored i old (HasTexts command reply) × (new ≡ old)) ⊎ Shows old (λ t. Shows new (StoresRequest i command reply t))
+
+-- On any tables whatever: after Done and Refused the request stands in them once, with this reply.
+abbrev pub StoresOnce : Delivery → Reply → Option Tables → Option Tables → Type 0
+StoresOnce (Write caller id command) (Done a) old new = IsFoundOrStored (record { caller = caller; id = id }) command (Done a) old new
+StoresOnce (Write caller id command) (Refused r) old new = IsFoundOrStored (record { caller = caller; id = id }) command (Refused r) old new
+StoresOnce d _ old new = Unit {0}
+
+-- On any tables whatever: a run is made of such steps, one a delivery.
+abbrev pub AreSteps : List Delivery → List Reply → Option Tables → Option Tables → Type 0
+AreSteps [] [] old new = new ≡ old
+AreSteps [] (r ∷ rs) old new = ⊥
+AreSteps (d ∷ ds) [] old new = ⊥
+AreSteps (d ∷ ds) (r ∷ rs) old new = (between : Option Tables) × KeepsUntaken d r old between × StoresOnce d r old between × AreSteps ds rs between new
+
+-- On any shelf whatever: a store fault is answered only where the count rose or stood at its greatest value, and with any other reply the count stays.
+abbrev pub CountsReply : Reply → ℕ → ℕ → Type 0
+CountsReply (NotTaken Store) before after = (before < after) ⊎ ((before ≡ greatest_count) × (after ≡ before))
+CountsReply _ before after = after ≡ before

@@ -1,0 +1,109 @@
+-- Runs one after the other, and a run that begins again after a stop.
+use Rattle.std.specs.Prelude.{ℕ, ◌≡◌, ◌⊎◌, List, [], ◌∷◌, ◌++◌, length}
+use Rattle.review_words.specs.declared.command.Command.{Command}
+use Rattle.review_words.specs.declared.command.Command.TheVariants.{PutProject}
+use Rattle.review_words.specs.declared.command.Delivery.{Delivery}
+use Rattle.review_words.specs.declared.command.Delivery.TheVariants.{Write, Read}
+use Rattle.review_words.specs.declared.reply.Reply.{Reply}
+use Rattle.review_words.specs.declared.reply.Reply.TheVariants.{Refused, NotTaken}
+use Rattle.review_words.specs.declared.reply.Refusal.TheVariants.{BadFile}
+use Rattle.review_words.specs.History.{Entry}
+use Rattle.review_project.specs.Reading.{IsBadValue}
+use Rattle.review_rows.specs.Answer.{IsAnswer, IsHistory}
+use Rattle.review_rows.specs.Files.{HasDeepPattern}
+use Rattle.review_rows.specs.Rows.{Tables}
+use Rattle.review_rows.specs.View.{IsView}
+use Rattle.review_deliveries.specs.Replies.{AreRight, StopsWithin, history_after, with_entries, first_arrivals}
+
+-- it was taken
+abbrev pub WasTaken : Reply → Type 0
+WasTaken (NotTaken cause) = ⊥
+WasTaken _ = Unit {0}
+
+-- all were taken
+abbrev pub WereTaken : List Reply → Type 0
+WereTaken [] = Unit {0}
+WereTaken (r ∷ rs) = WasTaken r × WereTaken rs
+
+-- a write was told the same
+abbrev pub AgreeFor : Delivery → Reply → Reply → Type 0
+AgreeFor (Write caller id command) r s = r ≡ s
+AgreeFor (Read caller query) r s = Unit {0}
+
+-- the two lists of replies are equal at each write
+abbrev pub AgreeOnWrites : List Delivery → List Reply → List Reply → Type 0
+AgreeOnWrites [] rs ss = Unit {0}
+AgreeOnWrites (d ∷ ds) [] ss = Unit {0}
+AgreeOnWrites (d ∷ ds) (r ∷ rs) [] = Unit {0}
+AgreeOnWrites (d ∷ ds) (r ∷ rs) (s ∷ ss) = AgreeFor d r s × AgreeOnWrites ds rs ss
+
+-- A run of one list followed by a run of another is the run of both, also on another shelf with the same tables: the same history, and
+-- replies that are right for both.
+abbrev pub RunsCompose : Type 0
+RunsCompose = (h0 : List Entry) (ds es : List Delivery) (rs ss : List Reply) (counts others : List (ℕ × ℕ)) →
+    AreRight h0 ds rs counts → AreRight (history_after h0 ds rs) es ss others →
+    (history_after h0 (ds ++ es) (rs ++ ss) ≡ history_after (history_after h0 ds rs) es ss) × AreRight h0 (ds ++ es) (rs ++ ss) (counts ++ others)
+
+-- Requests that come again, after some first part of them stood, give the history of the whole. An entry carries the reply that was
+-- given, so a choice that was made stays.
+abbrev pub RestartKeepsHistory : Type 0
+RestartKeepsHistory = (h0 es1 es2 : List Entry) →
+    with_entries (with_entries h0 (first_arrivals h0 es1)) (first_arrivals (with_entries h0 (first_arrivals h0 es1)) (es1 ++ es2)) ≡ with_entries h0 (first_arrivals h0 (es1 ++ es2))
+
+-- Two runs of the same deliveries, all of them taken, that leave the same history gave the same replies to writes.
+abbrev pub RepliesFollowHistory : Type 0
+RepliesFollowHistory = (h0 h last : List Entry) (ds : List Delivery) (rs ss : List Reply) (counts others : List (ℕ × ℕ)) → IsHistory last →
+    AreRight h0 ds rs counts → WereTaken rs → AreRight h ds ss others → WereTaken ss →
+    last ≡ history_after h0 ds rs → last ≡ history_after h ds ss → AgreeOnWrites ds rs ss
+
+-- a command whose answer is free: it puts a project file with a pattern that nests deeper than the pattern engine reads
+abbrev pub IsFree : Command → Type 0
+IsFree (PutProject project text) = HasDeepPattern text
+IsFree _ = ⊥
+
+-- it refuses a file for a bad value in an expression
+abbrev pub RefusesBadValue : Reply → Type 0
+RefusesBadValue (Refused (BadFile fault)) = IsBadValue fault
+RefusesBadValue _ = ⊥
+
+-- A command has one answer, unless its answer is free: then of two different ones, one refuses the file for a bad value in an expression.
+abbrev pub OneAnswer : Type 0
+OneAnswer = (h : List Entry) (caller : ℕ) (command : Command) (r s : Reply) → IsAnswer h caller command r → IsAnswer h caller command s →
+    (r ≡ s) ⊎ (IsFree command × (RefusesBadValue r ⊎ RefusesBadValue s))
+
+-- a delivery whose answer leaves no choice
+abbrev pub IsSettled : Delivery → Type 0
+IsSettled (Write caller id command) = IsFree command → ⊥
+IsSettled (Read caller query) = Unit {0}
+
+-- all are such deliveries
+abbrev pub AreSettled : List Delivery → Type 0
+AreSettled [] = Unit {0}
+AreSettled (d ∷ ds) = IsSettled d × AreSettled ds
+
+-- Where the rest of a run leaves no choice: where some first part of a run stood when it stopped, the whole run from there gives the same
+-- history and the same replies to writes.
+abbrev pub RestartCompletes : Type 0
+RestartCompletes = (h0 h : List Entry) (ds1 ds2 : List Delivery) (rs1 rs2 ss : List Reply) (counts others : List (ℕ × ℕ)) →
+    IsHistory h → h ≡ history_after h0 ds1 rs1 → length rs1 ≡ length ds1 → AreSettled ds2 →
+    AreRight h0 (ds1 ++ ds2) (rs1 ++ rs2) counts → WereTaken (rs1 ++ rs2) → AreRight h (ds1 ++ ds2) ss others → WereTaken ss →
+    AgreeOnWrites (ds1 ++ ds2) (rs1 ++ rs2) ss × (history_after h (ds1 ++ ds2) ss ≡ history_after h0 (ds1 ++ ds2) (rs1 ++ rs2))
+
+-- Deliveries that are all taken from the history h give the replies to writes, and leave the history, of some run of them from h0.
+abbrev pub RunsAsFrom : List Entry → List Entry → List Delivery → Type 0
+RunsAsFrom h0 h ds = (ss : List Reply) (others : List (ℕ × ℕ)) → AreRight h ds ss others → WereTaken ss →
+    (rs : List Reply) × (counts : List (ℕ × ℕ)) × AreRight h0 ds rs counts × WereTaken rs × AgreeOnWrites ds rs ss
+    × (history_after h ds ss ≡ history_after h0 ds rs)
+
+-- Where some first part of a run stood, all of it taken, the whole run from there is as one from the start: what was answered stays, choices
+-- included.
+abbrev pub RestartIsRun : Type 0
+RestartIsRun = (h0 h : List Entry) (ds1 ds2 : List Delivery) (rs1 : List Reply) (counts : List (ℕ × ℕ)) →
+    IsHistory h → h ≡ history_after h0 ds1 rs1 → AreRight h0 ds1 rs1 counts → WereTaken rs1 → RunsAsFrom h0 h (ds1 ++ ds2)
+
+-- What a stop left within deliveries that were all taken (the whole effect of one of them, after those before it) are the tables of a history
+-- from which these deliveries and any more, sent again, are as a run from the start.
+abbrev pub RestartAfterStop : Type 0
+RestartAfterStop = (h0 : List Entry) (ds more : List Delivery) (rs : List Reply) (counts : List (ℕ × ℕ)) (left : Tables) →
+    AreRight h0 ds rs counts → WereTaken rs → StopsWithin h0 ds rs left →
+    (h : List Entry) × IsHistory h × IsView h left × RunsAsFrom h0 h (ds ++ more)

@@ -1,0 +1,191 @@
+//! One delivery.
+ghost use Rattle.std.specs.Prelude.{◌≡◌, ℕ, List, [], ◌∷◌, None, IfOk, string_bytes};
+ghost use Rattle.review_words.specs.Texts.{content_text};
+ghost use Rattle.review_words.specs.History.{Entry, stored};
+ghost use Rattle.review_words.specs.declared.command.Delivery.TheVariants.{Write, Read};
+ghost use Rattle.review_rows.specs.Answer.{IsHistory};
+ghost use Rattle.review_rows.specs.Rows.{kept_row};
+ghost use Rattle.review_rows.specs.Shelf.{Shows, Views, AreSelected, KeepsTables, BlamesTables, AddsNoStop, CountsFaults};
+ghost use Rattle.review_deliveries.specs.Replies.{IsServed, IsToldAgain, KeepsUntaken, StoresOnce, CountsReply, StopGoesOnFrom, StopHasEntry, history_after, reply_of};
+
+use crate::rules::Rules;
+use review_rows::{Kept, Need, Rows, Shelf, ShelfFault};
+use review_words::{
+    AccountNo, BadReply, Command, Delivery, NotTaken, Query, Reply, RequestId, content_text,
+    read_reply, reply_text,
+};
+use std::alloc::Global;
+
+/// The last number of a request.
+const MOST_REQUESTS: u64 = 9_007_199_254_740_991;
+
+/// Takes one delivery.
+///
+/// From the tables of a history its reply is the right one: what is stored for a repeat, that the identity is used for
+/// another command under it, the answer of the command for a first arrival, or that it wasn't taken, for a lawful cause.
+/// The tables are then those of the history after it, and a stop leaves what it could leave before, or the whole effect with
+/// the answer; after an answer it leaves only tables that have the request.
+///
+/// On any tables whatever, what isn't taken and a used identity leave them as they are, and Done and Refused either found
+/// the identity stored with this command and this reply, and left them, or stored the request beside the others; a refusal
+/// changes no row. An identity is used only where it is stored with another command, a history full only where the identity
+/// is new and the last number given. A question changes nothing. A store fault is answered only where the shelf counted one.
+///
+/// Premises: the clauses on tables hold where the store returned what was written to it, and once a fault has shut it nothing is
+/// said of tables; the clause on counts holds always.
+pub fn deliver<S: Shelf, R: Rules>(
+    alloc: Global,
+    shelf: &mut S,
+    rules: &mut R,
+    delivery: &Delivery,
+) -> Reply
+    ensures honest { (S.state shelf.new).is_honest → (S.state shelf.old).is_honest }
+    ensures served { (S.state shelf.new).is_honest → (h : List Entry) → IsHistory h → Views h (S.state shelf.old).tables →
+        IsServed h delivery.now result (S.state shelf.old) (S.state shelf.new) }
+    ensures unchanged { (S.state shelf.new).is_honest → KeepsUntaken delivery.now result (S.state shelf.old).tables (S.state shelf.new).tables }
+    ensures once { (S.state shelf.new).is_honest → StoresOnce delivery.now result (S.state shelf.old).tables (S.state shelf.new).tables }
+    ensures counted { CountsReply result (S.state shelf.old).faults (S.state shelf.new).faults }
+    ensures stopped { (S.state shelf.new).is_honest → (h : List Entry) → IsHistory h → Views h (S.state shelf.old).tables → StopGoesOnFrom h (S.state shelf.old) →
+        StopGoesOnFrom (history_after h (delivery.now ∷ []) (result ∷ [])) (S.state shelf.new) × StopHasEntry delivery.now result (S.state shelf.new) }
+{
+    serve(alloc, shelf, rules, delivery)
+}
+
+fn serve<S: Shelf, R: Rules>(
+    alloc: Global,
+    shelf: &mut S,
+    rules: &mut R,
+    delivery: &Delivery,
+) -> Reply
+    ensures honest { (S.state shelf.new).is_honest → (S.state shelf.old).is_honest }
+    ensures served { (S.state shelf.new).is_honest → (h : List Entry) → IsHistory h → Views h (S.state shelf.old).tables →
+        IsServed h delivery.now result (S.state shelf.old) (S.state shelf.new) }
+    ensures unchanged { (S.state shelf.new).is_honest → KeepsUntaken delivery.now result (S.state shelf.old).tables (S.state shelf.new).tables }
+    ensures once { (S.state shelf.new).is_honest → StoresOnce delivery.now result (S.state shelf.old).tables (S.state shelf.new).tables }
+    ensures counted { CountsReply result (S.state shelf.old).faults (S.state shelf.new).faults }
+{
+    match delivery {
+        Delivery::Write {
+            caller,
+            id,
+            command,
+        } => told(write(alloc, shelf, rules, *caller, id, command)),
+        Delivery::Read { caller, query } => told(read(alloc, shelf, rules, *caller, query)),
+    }
+}
+
+fn told(taken: Result<Reply, NotTaken>) -> Reply
+    ensures { result ≡ reply_of taken }
+{
+    match taken {
+        Ok(reply) => reply,
+        Err(cause) => Reply::NotTaken(cause),
+    }
+}
+
+fn write<S: Shelf, R: Rules>(
+    alloc: Global,
+    shelf: &mut S,
+    rules: &mut R,
+    caller: AccountNo,
+    id: &RequestId,
+    command: &Command,
+) -> Result<Reply, NotTaken>
+    ensures honest { (S.state shelf.new).is_honest → (S.state shelf.old).is_honest }
+    ensures served { (S.state shelf.new).is_honest → (h : List Entry) → IsHistory h → Views h (S.state shelf.old).tables →
+        IsServed h (Write caller id.now command.now) (reply_of result) (S.state shelf.old) (S.state shelf.new) }
+    ensures unchanged { (S.state shelf.new).is_honest → KeepsUntaken (Write caller id.now command.now) (reply_of result) (S.state shelf.old).tables (S.state shelf.new).tables }
+    ensures once { (S.state shelf.new).is_honest → StoresOnce (Write caller id.now command.now) (reply_of result) (S.state shelf.old).tables (S.state shelf.new).tables }
+    ensures counted { CountsReply (reply_of result) (S.state shelf.old).faults (S.state shelf.new).faults }
+{
+    let content = content_text(alloc, command)?;
+    match shelf.recall(alloc, caller, id)? {
+        Some(kept) => repeated(alloc, &kept, content.as_str()),
+        None => first_arrival(alloc, shelf, rules, caller, id, command, content),
+    }
+}
+
+// Answers a question, and stores nothing.
+fn read<S: Shelf, R: Rules>(
+    alloc: Global,
+    shelf: &mut S,
+    rules: &mut R,
+    caller: AccountNo,
+    query: &Query,
+) -> Result<Reply, NotTaken>
+    ensures honest { (S.state shelf.new).is_honest → (S.state shelf.old).is_honest }
+    ensures served { (S.state shelf.new).is_honest → (h : List Entry) → IsHistory h → Views h (S.state shelf.old).tables →
+        IsServed h (Read caller query.now) (reply_of result) (S.state shelf.old) (S.state shelf.new) }
+    ensures unchanged { (S.state shelf.new).is_honest → KeepsUntaken (Read caller query.now) (reply_of result) (S.state shelf.old).tables (S.state shelf.new).tables }
+    ensures counted { CountsReply (reply_of result) (S.state shelf.old).faults (S.state shelf.new).faults }
+{
+    let need = rules.need_of_query(alloc, caller, query)?;
+    let rows = load(alloc, shelf, need)?;
+    rules.show(alloc, &rows, caller, query)
+}
+
+// The rows that the need selects.
+fn load<S: Shelf>(alloc: Global, shelf: &mut S, need: Need) -> Result<Rows, ShelfFault>
+    ensures honest { (S.state shelf.new).is_honest → (S.state shelf.old).is_honest }
+    ensures found { (S.state shelf.new).is_honest → IfOk result (λ rows. Shows (S.state shelf.old).tables (λ t. AreSelected t need rows)) }
+    ensures tables { (S.state shelf.new).is_honest → KeepsTables result (S.state shelf.old).tables (S.state shelf.new).tables }
+    ensures damaged { (S.state shelf.new).is_honest → BlamesTables result (S.state shelf.old).tables }
+    ensures stops { (S.state shelf.new).is_honest → AddsNoStop (S.state shelf.old) (S.state shelf.new) }
+    ensures counted { CountsFaults result (S.state shelf.old).faults (S.state shelf.new).faults }
+{
+    shelf.load(alloc, &need)
+}
+
+// What a request is told whose identity is stored.
+fn repeated(alloc: Global, kept: &Kept, content: &str) -> Result<Reply, NotTaken>
+    ensures { IsToldAgain (kept_row kept.now) content.now result }
+{
+    if kept.content.as_str() != content {
+        return Ok(Reply::IdentityReused);
+    }
+    match read_reply(alloc, kept.reply.as_str()) {
+        Ok(reply) => Ok(reply),
+        Err(BadReply::Memory) => Err(NotTaken::Memory),
+        Err(BadReply::Form) => Err(NotTaken::Damaged),
+    }
+}
+
+// Decides a request whose identity is new, and stores it with its answer in the same commit.
+fn first_arrival<S: Shelf, R: Rules>(
+    alloc: Global,
+    shelf: &mut S,
+    rules: &mut R,
+    caller: AccountNo,
+    id: &RequestId,
+    command: &Command,
+    content: String,
+) -> Result<Reply, NotTaken>
+    requires { string_bytes content ≡ content_text command.now }
+    ensures honest { (S.state shelf.new).is_honest → (S.state shelf.old).is_honest }
+    ensures served { (S.state shelf.new).is_honest → (h : List Entry) → IsHistory h → Views h (S.state shelf.old).tables →
+        stored h (record { caller = caller; id = id.now }) ≡ None →
+        IsServed h (Write caller id.now command.now) (reply_of result) (S.state shelf.old) (S.state shelf.new) }
+    ensures unchanged { (S.state shelf.new).is_honest → Shows (S.state shelf.old).tables (λ t. t.answer (record { caller = caller; id = id.now }) ≡ None) →
+        KeepsUntaken (Write caller id.now command.now) (reply_of result) (S.state shelf.old).tables (S.state shelf.new).tables }
+    ensures once { (S.state shelf.new).is_honest → Shows (S.state shelf.old).tables (λ t. t.answer (record { caller = caller; id = id.now }) ≡ None) →
+        StoresOnce (Write caller id.now command.now) (reply_of result) (S.state shelf.old).tables (S.state shelf.new).tables }
+    ensures counted { CountsReply (reply_of result) (S.state shelf.old).faults (S.state shelf.new).faults }
+{
+    let need = rules.need_of(alloc, caller, command)?;
+    let rows = load(alloc, shelf, need)?;
+    if rows.requests >= MOST_REQUESTS {
+        return Err(NotTaken::Full);
+    }
+    let (delta, reply) = rules.decide(alloc, &rows, caller, command)?;
+    let id = id.copy(alloc)?;
+    let text = reply_text(alloc, &reply)?;
+    let kept = Kept {
+        caller,
+        id,
+        request: rows.requests + 1,
+        content,
+        reply: text,
+    };
+    shelf.commit(alloc, &delta, &kept)?;
+    Ok(reply)
+}

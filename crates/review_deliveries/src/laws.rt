@@ -1,0 +1,23 @@
+//! Laws over all runs, as contracts of calls that do nothing.
+ghost use Rattle.review_deliveries.specs.Restart.{OneAnswer, RunsCompose, RestartAfterStop, RestartCompletes, RestartIsRun, RestartKeepsHistory, RepliesFollowHistory};
+
+/// A command has one answer, unless a pattern in the file that it puts nests deeper than the engine reads: of two different
+/// answers one then refuses the file for a bad value in an expression.
+pub fn one_answer()
+    ensures { OneAnswer }
+{}
+
+/// A run of one list followed by a run of another is the run of both.
+pub fn runs_compose()
+    ensures { RunsCompose }
+{}
+
+/// A run that is begun again after a stop, all of it taken, completes what the first one began: it gives the replies to
+/// requests, and leaves the history, of a run that wasn't stopped.
+pub fn restart_completes()
+    ensures history { RestartKeepsHistory }
+    ensures replies { RepliesFollowHistory }
+    ensures run { RestartCompletes }
+    ensures whole { RestartIsRun }
+    ensures stop { RestartAfterStop }
+{}

@@ -1,9 +1,0 @@
-use Rattle.review_file.proofs.OneFile.{one_file}
-use Rattle.review_file.proofs.Together.{same_covers}
-use Rattle.review_file.proofs.laws.one_file.Goals as goal
-
-pub returns-clause-trees : goal.returns-clause-trees
-returns-clause-trees c = one_file c.one_expression.ensures c.one_expression-2.ensures
-
-pub returns-clause-covers : goal.returns-clause-covers
-returns-clause-covers c = same_covers

@@ -1,7 +1,0 @@
-use Rattle.std.proofs.Common.{refl}
-use Rattle.review_file.proofs.Spells.{pattern_spelled}
-use Rattle.review_file.specs.declared.fault.ReadFault.TheVariants.{Pattern}
-use Rattle.review_file.proofs.laws.refused_has_pattern.Goals as goal
-
-pub returns : goal.returns
-returns c text refused = pattern_spelled text Pattern refused refl

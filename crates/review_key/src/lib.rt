@@ -1,0 +1,12 @@
+//! Keys of tables.
+#![tactic(auto)]
+
+ghost use Rattle.std.specs.Prelude.{◌≡◌, IfOk};
+
+use std::alloc::{AllocError, Global};
+
+/// A key that can be copied exactly.
+pub trait Key: Ord + Drop + Sized {
+    fn copy(&self, alloc: Global) -> Result<Self, AllocError>
+        ensures { IfOk result (λ k. k ≡ self.now) };
+}

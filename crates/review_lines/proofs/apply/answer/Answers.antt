@@ -1,0 +1,34 @@
+use Rattle.std.proofs.Common.{rules, [], refl, sym, ap, ◌++◌, ◌∙◌}
+use Rattle.review_lines.proofs.Answering.{did_nothing, did_one, told_bad, told_reply, done_reply}
+use Rattle.review_lines.specs.Answers.{bad_line, is_done, all_done}
+use Rattle.review_lines.proofs.apply.answer.Goals as goal
+
+pub returns-in_err-add-in-Unreadable-clause-answered :
+    goal.returns-in_err-add-in-Unreadable-clause-answered
+returns-in_err-add-in-Unreadable-clause-answered g c = did_nothing _ _ _ _ (sym c.in-Unreadable.is) refl (search rules)
+
+pub returns-in_err-line-in-Asks-clause-answered : goal.returns-in_err-line-in-Asks-clause-answered
+returns-in_err-line-in-Asks-clause-answered g c = did_one _ _ _ _ _ _ (sym c.in-Asks.is) c.reply_to-reply.ensures.ran (search rules)
+
+pub returns-in_err-add-in-Asks-clause-answered : goal.returns-in_err-add-in-Asks-clause-answered
+returns-in_err-add-in-Asks-clause-answered g c = did_one _ _ _ _ _ _ (sym c.in-Asks.is) c.reply_to-reply.ensures.ran (search rules)
+
+pub returns-in-Nothing-clause-answered : goal.returns-in-Nothing-clause-answered
+returns-in-Nothing-clause-answered g c = did_nothing _ _ _ _ (sym c.in-Nothing.is) refl (search rules)
+
+pub returns-in_ok-add-in-Unreadable-clause-answered :
+    goal.returns-in_ok-add-in-Unreadable-clause-answered
+unfolding bad_line
+returns-in_ok-add-in-Unreadable-clause-answered g c =
+    did_nothing _ _ _ _ (sym c.in-Unreadable.is) refl (
+      c.in_ok-add-in-Unreadable.ensures.added ∙ ap (λ l. c.args.output.now.waiting.items ++ l) (sym (told_bad c.args.asked _ c.in-Unreadable.is refl)),
+      ap (λ x. is_done x [] (all_done [])) (sym c.in-Unreadable.is),
+    )
+
+pub returns-in_ok-add-in-Asks-clause-answered : goal.returns-in_ok-add-in-Asks-clause-answered
+returns-in_ok-add-in-Asks-clause-answered g c =
+    let line = c.as_str.ensures.value ∙ c.in_ok-line-in-Asks.ensures in
+    did_one _ _ _ _ _ _ (sym c.in-Asks.is) c.reply_to-reply.ensures.ran (
+      c.in_ok-add-in-Asks.ensures.added ∙ ap (λ l. c.args.output.now.waiting.items ++ l) (sym (told_reply c.args.asked c.in-Asks.delivery c.reply_to-reply.result _ c.in-Asks.is line)),
+      c.outcome_of.ensures ∙ sym (done_reply c.args.asked c.in-Asks.delivery c.reply_to-reply.result c.in-Asks.is),
+    )

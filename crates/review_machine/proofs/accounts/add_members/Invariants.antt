@@ -1,7 +1,0 @@
-use Rattle.std.proofs.Common.{◌≡◌, take}
-use Rattle.review_table.specs.Rows.{rows_of}
-use Rattle.review_machine.specs.Decisions.{added}
-use Rattle.review_machine.proofs.accounts.add_members.Given as goal
-
-abbrev pub invariant-loop-account : goal.invariant-loop-account
-invariant-loop-account l = l.changes.items ≡ added l.group (rows_of l.rows.members) (take l.account-index l.account-items)

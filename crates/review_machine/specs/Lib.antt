@@ -1,4 +1,0 @@
-pub mod Decisions
-pub mod Files
-pub mod Replies
-pub mod Restart

@@ -1,0 +1,64 @@
+//! Deliveries, over any shelf.
+ghost use Rattle.std.specs.Prelude.{◌≡◌, ◌<◌, List, [], ◌∷◌, MatchResult, IfErr, take, length};
+ghost use Rattle.review_words.specs.History.{Entry};
+ghost use Rattle.review_rows.specs.Answer.{IsHistory};
+ghost use Rattle.review_rows.specs.Shelf.{Views};
+ghost use Rattle.review_deliveries.specs.Replies.{IsServed, IsRun, AreSteps, KeepsUntaken, StoresOnce, CountsReply, StopGoesOnFrom, StopHasEntry, history_after};
+
+use crate::rules::DeskRules;
+use review_deliveries::Stopped;
+use review_rows::Shelf;
+use review_words::{Delivery, Reply};
+use std::alloc::Global;
+
+/// Takes one delivery.
+///
+/// From the tables of a history its reply is the right one: what is stored for a repeat, that the identity is used for
+/// another command under it, the answer of the command for a first arrival, or that it wasn't taken, for a lawful cause.
+/// The tables are then those of the history after it, and a stop leaves what it could leave before, or the whole effect with
+/// the answer; after an answer it leaves only tables that have the request.
+///
+/// On any tables whatever, what isn't taken and a used identity leave them as they are, and Done and Refused either found
+/// the identity stored with this command and this reply, and left them, or stored the request beside the others; a refusal
+/// changes no row. An identity is used only where it is stored with another command, a history full only where the identity
+/// is new and the last number given. A question changes nothing. A store fault is answered only where the shelf counted one.
+///
+/// Premises: the clauses on tables hold where the store returned what was written to it, and once a fault has shut it nothing is
+/// said of tables; the clause on counts holds always.
+pub fn deliver<S: Shelf>(alloc: Global, shelf: &mut S, delivery: &Delivery) -> Reply
+    ensures honest { (S.state shelf.new).is_honest → (S.state shelf.old).is_honest }
+    ensures served { (S.state shelf.new).is_honest → (h : List Entry) → IsHistory h → Views h (S.state shelf.old).tables →
+        IsServed h delivery.now result (S.state shelf.old) (S.state shelf.new) }
+    ensures unchanged { (S.state shelf.new).is_honest → KeepsUntaken delivery.now result (S.state shelf.old).tables (S.state shelf.new).tables }
+    ensures once { (S.state shelf.new).is_honest → StoresOnce delivery.now result (S.state shelf.old).tables (S.state shelf.new).tables }
+    ensures counted { CountsReply result (S.state shelf.old).faults (S.state shelf.new).faults }
+    ensures stopped { (S.state shelf.new).is_honest → (h : List Entry) → IsHistory h → Views h (S.state shelf.old).tables → StopGoesOnFrom h (S.state shelf.old) →
+        StopGoesOnFrom (history_after h (delivery.now ∷ []) (result ∷ [])) (S.state shelf.new) × StopHasEntry delivery.now result (S.state shelf.new) }
+{
+    review_deliveries::deliver(alloc, shelf, &mut DeskRules, delivery)
+}
+
+/// Takes deliveries in order. Whatever comes, repeated, lost or reordered, tables and replies are those of the run in which
+/// each request stands once, at its first arrival: from the tables of any history, each reply is the right one after the
+/// deliveries before it, and the tables at the end are those of the history with each taken first arrival added, its repeats
+/// deleted. Where there is no memory for the list of replies it stops before the first
+/// delivery, and only there.
+///
+/// Premises: the store returned what was written to it; once a fault has shut it, nothing is said of tables. On any tables
+/// whatever each step leaves them, or stores its request beside the others.
+pub fn run<S: Shelf>(
+    alloc: Global,
+    shelf: &mut S,
+    deliveries: &[Delivery],
+) -> Result<Vec<Reply>, Stopped>
+    ensures honest { (S.state shelf.new).is_honest → (S.state shelf.old).is_honest }
+    ensures acts_once { (S.state shelf.new).is_honest → (h : List Entry) → IsHistory h → Views h (S.state shelf.old).tables → MatchResult result
+        (λ replies. IsRun h deliveries.now replies.items (S.state shelf.old) (S.state shelf.new))
+        (λ stopped. IsRun h (take (length stopped.replies.items) deliveries.now) stopped.replies.items (S.state shelf.old) (S.state shelf.new)) }
+    ensures step_by_step { (S.state shelf.new).is_honest → MatchResult result
+        (λ replies. AreSteps deliveries.now replies.items (S.state shelf.old).tables (S.state shelf.new).tables)
+        (λ stopped. AreSteps (take (length stopped.replies.items) deliveries.now) stopped.replies.items (S.state shelf.old).tables (S.state shelf.new).tables) }
+    ensures stopped { IfErr result (λ stopped. (stopped.replies.items ≡ []) × (0 < length deliveries.now)) }
+{
+    review_deliveries::run(alloc, shelf, &mut DeskRules, deliveries)
+}

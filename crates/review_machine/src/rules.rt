@@ -1,0 +1,50 @@
+//! The decisions as rules.
+use review_decisions::{decide, need_of, need_of_query, show};
+use review_deliveries::Rules;
+use review_rows::{Delta, Need, Rows};
+use review_words::{AccountNo, Command, NotTaken, Query, Reply};
+use std::alloc::{AllocError, Global};
+
+/// The desk's own rules.
+#[derive(Drop)]
+pub struct DeskRules;
+
+impl Rules for DeskRules {
+    fn need_of(
+        &mut self,
+        alloc: Global,
+        caller: AccountNo,
+        command: &Command,
+    ) -> Result<Need, AllocError> {
+        need_of(alloc, caller, command)
+    }
+
+    fn need_of_query(
+        &mut self,
+        alloc: Global,
+        caller: AccountNo,
+        query: &Query,
+    ) -> Result<Need, AllocError> {
+        need_of_query(alloc, caller, query)
+    }
+
+    fn decide(
+        &mut self,
+        alloc: Global,
+        rows: &Rows,
+        caller: AccountNo,
+        command: &Command,
+    ) -> Result<(Delta, Reply), NotTaken> {
+        decide(alloc, rows, caller, command)
+    }
+
+    fn show(
+        &mut self,
+        alloc: Global,
+        rows: &Rows,
+        caller: AccountNo,
+        query: &Query,
+    ) -> Result<Reply, NotTaken> {
+        show(alloc, rows, caller, query)
+    }
+}

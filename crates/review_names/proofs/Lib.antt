@@ -1,0 +1,6 @@
+pub mod Numerals
+mod Searches
+pub mod Accounts
+pub mod Components
+mod Bounds
+mod LabelForms

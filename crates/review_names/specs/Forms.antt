@@ -1,0 +1,74 @@
+-- The forms of the names of labels, projects, branches, commits and paths, and of the numbers of changes and patch sets.
+use Rattle.std.specs.Prelude.{ℕ, List, [], ◌∷◌, Bool, true, false, not, ◌&&◌, ◌||◌, ◌==◌, nat_le, if◌then◌else◌, length, codes}
+use Rattle.std.specs.List.{list_all}
+use Rattle.std.specs.Char.{is_ascii_alphabetic, is_ascii_alphanumeric, is_ascii_control}
+use Rattle.std.specs.Int.{is_in_range}
+use Rattle.std.specs.Cmp.Lexicographic.{slice_cmp}
+use Rattle.std.specs.Ordering.{nat_cmp}
+use Rattle.std.specs.Str.{bytes_eq}
+use Rattle.std.specs.BTreeSet.{insert_key}
+use Rattle.review_names.specs.Names.{is_plain}
+
+-- letters, digits and hyphens to the end, each hyphen before a letter; the flag: a letter has to come first
+abbrev pub goes_on : Bool → List ℕ → Bool
+goes_on letter [] = not letter
+goes_on letter (c ∷ cs) = if letter then is_ascii_alphabetic c && goes_on false cs else ((is_ascii_alphanumeric c || c == 45) && goes_on (c == 45) cs)
+
+-- the name of a label: 1 to 40 letters, digits and hyphens, a letter first, and each hyphen before a letter
+unfoldable pub is_label : List ℕ → Bool
+is_label s = nat_le (length s) 40 && goes_on true s
+
+-- a byte in front of the first of the parts
+abbrev pub with_front : ℕ → List (List ℕ) → List (List ℕ)
+with_front c [] = (c ∷ []) ∷ []
+with_front c (part ∷ parts) = (c ∷ part) ∷ parts
+
+-- the components of a text: what stands between its slashes
+abbrev pub components : List ℕ → List (List ℕ)
+components [] = [] ∷ []
+components (c ∷ cs) = if c == 47 then [] ∷ components cs else with_front c (components cs)
+
+-- plain characters, at least one, and neither `.` nor `..`
+unfoldable pub is_step : List ℕ → Bool
+is_step s = nat_le 1 (length s) && list_all is_plain s && not (bytes_eq s (codes ".")) && not (bytes_eq s (codes ".."))
+
+-- the name of a project or a branch: steps joined by slashes, at most 128 bytes
+unfoldable pub is_slashed_name : List ℕ → Bool
+is_slashed_name s = nat_le (length s) 128 && list_all is_step (components s)
+
+-- a digit, or a small letter from a to f
+abbrev pub is_hexadecimal : ℕ → Bool
+is_hexadecimal c = is_in_range 48 57 c || is_in_range 97 102 c
+
+-- the name of a commit: 40 hexadecimal digits
+unfoldable pub is_commit : List ℕ → Bool
+is_commit s = length s == 40 && list_all is_hexadecimal s
+
+-- the name of a file or folder: at least one byte, and no control character of ASCII
+unfoldable pub is_path_step : List ℕ → Bool
+is_path_step s = nat_le 1 (length s) && list_all (λ c. not (is_ascii_control c)) s
+
+-- a path: files joined by slashes, at most 512 bytes
+unfoldable pub is_path : List ℕ → Bool
+is_path s = nat_le (length s) 512 && list_all is_path_step (components s)
+
+-- a number from 1 to the greatest one
+unfoldable pub is_within : ℕ → ℕ → Bool
+is_within most n = nat_le 1 n && nat_le n most
+
+-- the set of the texts in a list: in the order of their bytes, each once
+abbrev pub text_set : List (List ℕ) → List (List ℕ)
+text_set [] = []
+text_set (s ∷ ss) = insert_key (slice_cmp nat_cmp) (text_set ss) s
+
+-- the most paths of a patch set
+abbrev pub most_paths : ℕ
+most_paths = 500
+
+-- the greatest number of a change
+abbrev pub most_changes : ℕ
+most_changes = 1000000000
+
+-- the greatest number of a patch set
+abbrev pub most_patches : ℕ
+most_patches = 1000

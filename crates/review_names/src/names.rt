@@ -1,0 +1,299 @@
+//! Names and numbers of fixed forms. Contracts see a name's bytes, and a number itself.
+ghost use Rattle.std.specs.Prelude.{◌≡◌, ◌+◌, ◌≤◌, ◌<◌, ◌==◌, ℕ, List, Bool, Option, Some, None, Err, true, false, IfOk, IfErr, IfSome, length, IsTrue, if◌then◌else◌, refl, string_bytes};
+ghost use Rattle.std.specs.List.{list_all, list_any};
+ghost use Rattle.std.specs.Cmp.Lexicographic.{pointwise, slice_cmp, nat_list_eq_equiv, nat_list_cmp_total, texts_ties, texts_po};
+ghost use Rattle.std.specs.Ordering.{nat_cmp};
+ghost use Rattle.std.specs.Cmp as Cmp;
+ghost use Rattle.std.specs.List.Sorted.{IsStrictlySortedBy};
+ghost use Rattle.review_names.specs.Names.{administrators, admin_name, is_word, is_plain, is_account_number, set_of, most_members};
+ghost use Rattle.review_names.specs.Numerals.{numeral};
+ghost use Rattle.review_names.specs.Numerals.{account_of};
+
+use crate::forms::{Form, Name};
+use crate::numbers::read_number;
+use std::alloc::{AllocError, AllocFailed, Global};
+use std::cmp::Ordering;
+use std::collections::BTreeSet;
+use std::marker::{Model, PhantomData};
+
+/// Why a name, a number or a set was not made.
+#[derive(Clone, Copy, Debug, PartialEq, Eq)]
+pub enum BadName {
+    /// What was given isn't of the form. It will not be, however often it is tried.
+    Form,
+    /// There was no memory for it. It may be tried again.
+    Memory,
+}
+
+impl From<AllocError> for BadName {
+    ghost use Rattle.std.specs.Prelude.{◌≡◌};
+    ghost use Rattle.review_names.specs.declared.names.BadName.TheVariants.{Memory};
+
+    ghost from_gives = { λ _ e. e ≡ Memory };
+
+    fn from(_error: AllocError) -> BadName {
+        BadName::Memory
+    }
+}
+
+impl<T: Drop> From<AllocFailed<T>> for BadName {
+    ghost use Rattle.std.specs.Prelude.{◌≡◌};
+    ghost use Rattle.review_names.specs.declared.names.BadName.TheVariants.{Memory};
+
+    ghost from_gives = { λ _ e. e ≡ Memory };
+
+    fn from(_error: AllocFailed<T>) -> BadName {
+        BadName::Memory
+    }
+}
+
+/// The number of an account, from 1 to 1,000,000. Contracts see the number.
+#[derive(Clone, Copy, Debug, PartialEq, Eq, PartialOrd, Ord)]
+pub struct AccountNo {
+    number: u32,
+}
+
+impl Model for AccountNo {
+    ghost use Rattle.std.specs.Prelude.{ℕ, IsTrue};
+    ghost use Rattle.review_names.specs.Names.{is_account_number};
+
+    ghost Value = { ℕ };
+
+    ghost view = { λ a. a.number };
+
+    ghost invariant = { λ a. IsTrue (is_account_number a.number) };
+
+    ghost inverse = { λ n. record { number = n } };
+}
+
+impl AccountNo {
+    /// The account of a number, or none where the number is 0 or above 1,000,000.
+    #[tactic(auto, unfolding(crate::specs::Names::is_account_number))]
+    pub fn from_number(number: u64) -> Option<AccountNo>
+        ensures { result ≡ (if is_account_number number then Some number else None) }
+    {
+        if number >= 1 && number <= 1_000_000 {
+            Some(AccountNo {
+                number: number as u32,
+            })
+        } else {
+            None
+        }
+    }
+
+    /// The account whose number a text is, in decimal without leading zeros, from 1 to 1,000,000.
+    /// Any other text is answered by Form. This takes no memory, so Memory is never answered.
+    pub fn read(text: &str) -> Result<AccountNo, BadName>
+        ensures ok { IfOk result (λ n. (numeral n ≡ text.now) × (is_account_number n ≡ true)) }
+        ensures form { IfErr result (λ e. (e ≡ BadName.Form) × ((n : ℕ) → is_account_number n ≡ true → numeral n ≡ text.now → ⊥)) }
+    {
+        read_account(text.as_bytes()).ok_or(BadName::Form)
+    }
+
+    /// The account after one of a number, or none where that is the last.
+    #[tactic(auto, unfolding(crate::specs::Names::is_account_number))]
+    pub fn after(last: u32) -> Option<AccountNo>
+        ensures some { IfSome result (λ n. (n ≡ last + 1) × (last < 1000000)) }
+        ensures none { result ≡ None → 1000000 ≤ last }
+    {
+        if last >= 1_000_000 {
+            return None;
+        }
+        Some(AccountNo { number: last + 1 })
+    }
+
+    /// The first account, whose number is 1.
+    #[tactic(auto, unfolding(crate::specs::Names::is_account_number))]
+    pub fn first() -> AccountNo
+        ensures { result ≡ 1 }
+    {
+        AccountNo { number: 1 }
+    }
+
+    /// The last account that there can be, whose number is 1,000,000.
+    #[tactic(auto, unfolding(crate::specs::Names::is_account_number))]
+    pub fn last() -> AccountNo
+        ensures { result ≡ 1000000 }
+    {
+        AccountNo { number: 1_000_000 }
+    }
+
+    /// The number, from 1 to 1,000,000.
+    #[tactic(auto, unfolding(crate::specs::Names::is_account_number))]
+    pub fn get(self) -> u32
+        ensures value { result ≡ self }
+        ensures least { 1 ≤ self }
+        ensures most { self ≤ 1000000 }
+    {
+        self.number
+    }
+}
+
+/// The form of an account's name: 1 to 64 of `A-Z a-z 0-9 . _ -`.
+#[derive(Debug, Drop)]
+pub struct OfAccount;
+
+/// The form of a group's name, which is that of an account's.
+#[derive(Debug, Drop)]
+pub struct OfGroup;
+
+/// The form of a request's id, which is that of an account's name.
+#[derive(Debug, Drop)]
+pub struct OfRequest;
+
+/// The name of an account.
+pub type AccountName = Name<OfAccount>;
+
+/// The name of a group.
+pub type GroupName = Name<OfGroup>;
+
+/// The id that a caller gives a request.
+pub type RequestId = Name<OfRequest>;
+
+fn is_plain(byte: u8) -> bool
+    ensures { result ≡ is_plain byte }
+{
+    byte.is_ascii_alphanumeric() || byte == b'.' || byte == b'_' || byte == b'-'
+}
+
+pub(crate) fn is_all_plain(text: &str) -> bool
+    ensures { result ≡ list_all is_plain text.now }
+{
+    text.as_bytes().iter().all(|byte| is_plain(*byte))
+}
+
+#[tactic(auto, unfolding(crate::specs::Names::is_word))]
+fn is_word(text: &str) -> bool
+    ensures { result ≡ is_word text.now }
+{
+    let plain = is_all_plain(text);
+    let length = text.len();
+    1 <= length && length <= 64 && plain
+}
+
+impl Form for OfAccount {
+    ghost is_form = { is_word };
+
+    fn is_met(text: &str) -> bool {
+        is_word(text)
+    }
+}
+
+impl Form for OfGroup {
+    ghost is_form = { is_word };
+
+    fn is_met(text: &str) -> bool {
+        is_word(text)
+    }
+}
+
+impl Form for OfRequest {
+    ghost is_form = { is_word };
+
+    fn is_met(text: &str) -> bool {
+        is_word(text)
+    }
+}
+
+/// The name of the group whose members run the desk, `Administrators`.
+/// An error where there was no memory for it.
+#[tactic(auto, unfolding(crate::specs::Names::is_word))]
+pub fn administrators(alloc: Global) -> Result<GroupName, AllocError>
+    ensures { IfOk result (λ w. w ≡ administrators) }
+{
+    let text = String::from_str(alloc, "Administrators")?;
+    Ok(Name::of_form(text))
+}
+
+/// The name of account 1, `admin`. An error where there was no memory for it.
+#[tactic(auto, unfolding(crate::specs::Names::is_word))]
+pub fn admin_name(alloc: Global) -> Result<AccountName, AllocError>
+    ensures { IfOk result (λ w. w ≡ admin_name) }
+{
+    let text = String::from_str(alloc, "admin")?;
+    Ok(Name::of_form(text))
+}
+
+/// The account whose number the bytes are, if they are one.
+#[tactic(auto, unfolding(crate::specs::Numerals::account_of, crate::specs::Names::is_account_number))]
+pub fn read_account(bytes: &[u8]) -> Option<AccountNo>
+    ensures account { result ≡ account_of bytes.now }
+    ensures range { IfSome result (λ n. (1 ≤ n) × (n ≤ 1000000)) }
+{
+    AccountNo::from_number(read_number(bytes)?)
+}
+
+/// A set of accounts, at most 1,024. Contracts see its numbers in order, each once.
+#[derive(Debug, Drop)]
+pub struct Members {
+    accounts: Vec<AccountNo>,
+}
+
+impl Model for Members {
+    ghost use Rattle.std.specs.Prelude.{ℕ, List, length, ◌≤◌};
+    ghost use Rattle.std.specs.List.Sorted.{IsStrictlySortedBy};
+    ghost use Rattle.std.specs.Ordering.{nat_cmp};
+    ghost use Rattle.review_names.specs.Names.{most_members};
+
+    ghost Value = { List ℕ };
+
+    ghost view = { λ m. m.accounts.items };
+
+    ghost invariant = { λ m. IsStrictlySortedBy nat_cmp m.accounts.items × (length m.accounts.items ≤ most_members) };
+}
+
+/// The set of the accounts in a list.
+fn collected(alloc: Global, accounts: Vec<AccountNo>) -> Result<BTreeSet<AccountNo>, BadName>
+    ensures ok { IfOk result (λ s. s.keys ≡ set_of accounts.items) }
+    ensures form { result ≡ Err BadName.Form → ⊥ }
+{
+    let mut set = BTreeSet::new(alloc);
+    let mut rest = accounts;
+    while let Some(account) = rest.pop() {
+        set.insert(account)?;
+    }
+    Ok(set)
+}
+
+impl Members {
+    /// The set of the accounts in a list of any length, whatever their order and with doubles
+    /// counted once. Form exactly where the set has more than 1,024 members; Memory where there
+    /// was no memory to sort them.
+    pub fn from_vec(alloc: Global, accounts: Vec<AccountNo>) -> Result<Members, BadName>
+        ensures ok { IfOk result (λ m. (m ≡ set_of accounts.items) × (length m ≤ most_members)) }
+        ensures form { result ≡ Err BadName.Form → most_members < length (set_of accounts.items) }
+    {
+        let set = collected(alloc, accounts)?;
+        if set.len() > 1024 {
+            return Err(BadName::Form);
+        }
+        let mut sorted = Vec::new(alloc);
+        for account in set {
+            sorted.push(account)?;
+        }
+        Ok(Members { accounts: sorted })
+    }
+
+    /// The accounts in the order of their numbers, each once.
+    pub fn as_slice(&self) -> &[AccountNo]
+        ensures accounts { result.now ≡ self.now }
+        ensures ordered { IsStrictlySortedBy nat_cmp self.now }
+        ensures most { length self.now ≤ most_members }
+    {
+        self.accounts.as_slice()
+    }
+
+    /// How many accounts, from 0 to 1,024.
+    pub fn len(&self) -> usize
+        ensures { result ≡ length self.now }
+    {
+        self.accounts.len()
+    }
+
+    /// Whether an account is in the set, by a binary search.
+    pub fn has(&self, account: AccountNo) -> bool
+        ensures { result ≡ list_any (λ n. n == account) self.now }
+    {
+        self.as_slice().binary_search(&account).is_ok()
+    }
+}

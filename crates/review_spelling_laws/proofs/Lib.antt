@@ -1,0 +1,3 @@
+mod Bare
+mod LongestNames
+pub mod LabelValues

@@ -1,5 +1,0 @@
-use Rattle.review_words.proofs.LabelForms.{label_is}
-use Rattle.review_words.proofs.laws.label_form.Goals as goal
-
-pub returns : goal.returns
-returns c = label_is

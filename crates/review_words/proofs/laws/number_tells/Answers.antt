@@ -1,5 +1,0 @@
-use Rattle.review_words.proofs.Numerals.{number_told}
-use Rattle.review_words.proofs.laws.number_tells.Goals as goal
-
-pub returns : goal.returns
-returns c = number_told

@@ -1,5 +1,0 @@
-use Rattle.std.proofs.Common.{◌≡◌}
-use Rattle.review_words.proofs.names.Members.from_vec.Given as goal
-
-abbrev pub invariant-loop-account : goal.invariant-loop-account
-invariant-loop-account l = l.sorted.items ≡ l.yielded

@@ -1,6 +1,0 @@
-use Rattle.std.proofs.Common.{◌≡◌, drop, true}
-use Rattle.review_words.specs.Forms.{goes_on}
-use Rattle.review_words.proofs.places.is_label_to_end.Given as goal
-
-abbrev pub invariant-loop-byte : goal.invariant-loop-byte
-invariant-loop-byte l = goes_on l.letter (drop l.byte-index l.bytes) ≡ goes_on true l.bytes
