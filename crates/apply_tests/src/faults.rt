@@ -1,7 +1,7 @@
 //! Readers and writers that fail, at each of their calls.
 
 use crate::support::{ANN, PoorReader, PoorWriter, stored};
-use review_apply::{Fault, Outcome, apply_lines};
+use review_machine::{Fault, Outcome, apply_lines};
 use review_shelves::MemoryShelf;
 use std::alloc::{AllocError, Global};
 use std::test::Fail;

@@ -1,7 +1,7 @@
 //! Lines at their limits.
 
 use crate::support::{ANN, run_on};
-use review_apply::Outcome;
+use review_machine::Outcome;
 use review_shelves::MemoryShelf;
 use std::alloc::{AllocError, Global};
 use std::test::Fail;

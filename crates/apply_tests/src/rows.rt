@@ -1,7 +1,7 @@
 //! Runs whose answers were written by hand.
 
 use crate::support::{ANN, rows_of, run_on, stored};
-use review_apply::Outcome;
+use review_machine::Outcome;
 use review_shelves::{FaultyShelf, MemoryShelf};
 use review_words::AccountNo;
 use std::test::Fail;

@@ -1,6 +1,6 @@
 //! Runs of `apply_lines` in memory, and readers and writers that fail.
 
-use review_apply::{Fault, Outcome, apply_lines};
+use review_machine::{Fault, Outcome, apply_lines};
 use review_rows::{Need, Rows, Shelf};
 use review_words::AccountNo;
 use std::alloc::Global;

@@ -1,6 +1,6 @@
 //! Project files and bases of branches.
 
-use review_apply::apply_lines;
+use review_machine::apply_lines;
 use review_shelves::MemoryShelf;
 use std::alloc::Global;
 use std::test::Fail;

@@ -5,7 +5,7 @@
 //! standard error names; and with 2 where its words ask for something else.
 #![tactic(auto)]
 
-use review_apply::{Fault, Outcome, apply_lines};
+use review_machine::{Fault, Outcome, apply_lines};
 use review_shelves::MemoryShelf;
 use std::process::ExitCode;
 use std::{env, io};

@@ -3,17 +3,21 @@
 //! [`run`] is the call that a program makes: whatever deliveries come, repeated, lost or reordered, and whichever of them a
 //! fault leaves out, its contract says that tables and replies are those of the run in which each request stands once, at its first
 //! arrival. [`deliver`] is one step of it, with what it does to any tables whatever, and what a stop of the machine may
-//! leave. Both are those of `review_deliveries`, with the decisions of `review_decisions`.
+//! leave. Both are those of `review_deliveries`, with the decisions of `review_decisions`. [`apply_lines`] is what the program makes of its input: deliveries
+//! by the line, over any reader, writer and shelf.
 #![tactic(auto)]
 
+pub mod apply;
 pub mod desk;
 pub mod memory;
 pub mod rules;
 
+pub use apply::apply_lines;
 pub use desk::{deliver, run};
 pub use memory::run_in_memory;
 pub use review_decisions::{decide, need_of, need_of_query, show, unread_cause};
 pub use review_deliveries::{Stopped, one_answer, restart_completes, runs_compose};
+pub use review_lines::{Fault, Outcome};
 pub use review_rows::{Delta, Kept, Need, Rows, Shelf, ShelfFault};
 pub use review_shelves::{FaultyShelf, MemoryShelf, ShuttingShelf};
 pub use rules::DeskRules;

@@ -1,13 +1,11 @@
-//! Deliveries by the line on a desk: what `review_desk apply` does, over any reader, writer and shelf.
-#![tactic(auto)]
-
+//! Deliveries by the line.
 ghost use Rattle.std.specs.Prelude.{◌≡◌, ℕ, List, length, IfOk, IfErr};
 ghost use Rattle.std.specs.Io.KnownBytes.{Appends};
 ghost use Rattle.review_words.specs.declared.reply.Reply.{Reply};
 ghost use Rattle.review_lines.specs.Answers.{answers, deliveries, HasLines, HasFirst, all_done, is_complete, IsRunOf, IsLeftBy};
 
-pub use review_lines::{Fault, Outcome};
-use review_machine::DeskRules;
+use crate::rules::DeskRules;
+use review_lines::{Fault, Outcome};
 use review_rows::Shelf;
 use std::alloc::Global;
 use std::io::{Read, Write};
