@@ -2,13 +2,3 @@ pub mod Signs
 pub mod Places
 pub mod Reached
 pub mod Verdicts
-pub mod Written
-pub mod Levels
-pub mod Leveled
-pub mod Depths
-pub mod Carried
-pub mod Leaves
-pub mod Again
-pub mod Excluded
-pub mod OneFault
-pub mod Within

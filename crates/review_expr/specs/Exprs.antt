@@ -3,10 +3,8 @@ use Rattle.std.specs.Prelude.{ℕ, Bool, false, List, []}
 use Rattle.review_grammar.specs.Views.{view}
 use Rattle.review_judging.specs.Holds.{holds, requirement_holds, copy_holds}
 use Rattle.review_judging.specs.Labels.{labels}
-use Rattle.review_spelling.specs.Printed.{requirement_word, copy_word}
 use Rattle.review_spelling.specs.Words.{requirement_reading, copy_reading}
 use Rattle.review_expr.specs.Expressions.{HasExpr}
-use Rattle.review_expr.specs.Printed.{printed}
 use Rattle.review_expr.specs.declared.expr.Expr.{Expr}
 use Rattle.review_expr.specs.declared.expr.Expr.TheVariants as expr
 use Rattle.review_expr.specs.declared.expr.Facts.{Facts}
@@ -30,11 +28,6 @@ IsTextOf text (expr.Copy e) = HasExpr copy_reading text (view e.node)
 -- no word of a copy condition has a pattern, be it deep or refused
 abbrev pub NoWord : List ℕ → Type 0
 NoWord w = ⊥
-
--- the text of an expression
-abbrev pub expr_text : Expr → List ℕ
-expr_text (expr.Requirement e) = printed requirement_word (view e.node)
-expr_text (expr.Copy e) = printed copy_word (view e.node)
 
 -- the labels that an expression names
 abbrev pub labels_in : Expr → List (List ℕ)

@@ -1,11 +1,11 @@
 //! Expressions of submit requirements and of copy conditions.
-ghost use Rattle.std.specs.Prelude.{◌≡◌, ◌≤◌, IfOk, IfErr, length, string_bytes};
+ghost use Rattle.std.specs.Prelude.{◌≡◌, IfOk, IfErr};
 ghost use Rattle.review_names.specs.Forms.{text_set};
 ghost use Rattle.review_terms.specs.declared.terms.CopyTerm.{CopyTerm};
 ghost use Rattle.review_terms.specs.declared.terms.RequirementTerm.{RequirementTerm};
 ghost use Rattle.review_spelling.specs.Words.{copy_reading, requirement_reading, IsDeep, IsPattern};
 ghost use Rattle.review_expr.specs.Faults.{IsParseFault};
-ghost use Rattle.review_expr.specs.Exprs.{expr_text, holds_for, labels_in, IsCopyOf, IsRequirementOf, IsTextOf, NoWord};
+ghost use Rattle.review_expr.specs.Exprs.{holds_for, labels_in, IsCopyOf, IsRequirementOf, NoWord};
 
 use crate::expression::Expression;
 use crate::fault::ParseFault;
@@ -66,19 +66,6 @@ pub fn parse_copy(alloc: Global, text: &str) -> Result<Expr, ParseFault>
     match Expression::<CopyTerm>::parse(alloc, text) {
         Ok(expression) => Ok(Expr::Copy(expression)),
         Err(fault) => Err(fault),
-    }
-}
-
-/// The text of an expression: members joined by ` AND ` or ` OR `, Not as `NOT ` and
-/// its member, parentheses only round a list that is a member. Where it has at most 4,096 bytes it
-/// is this expression again. An error where there was no memory for it.
-pub fn print(alloc: Global, expr: &Expr) -> Result<String, AllocError>
-    ensures text { IfOk result (λ s. string_bytes s ≡ expr_text expr.now) }
-    ensures again { IfOk result (λ s. length (string_bytes s) ≤ 4096 → ∥ IsTextOf (string_bytes s) expr.now ∥₁) }
-{
-    match expr {
-        Expr::Requirement(expression) => expression.print(alloc),
-        Expr::Copy(expression) => expression.print(alloc),
     }
 }
 

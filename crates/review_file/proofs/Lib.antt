@@ -1,6 +1,5 @@
 pub mod InTurn
 pub mod SoundLabels
-pub mod Ranges
 pub mod Ends
 pub mod KeysInOrder
 pub mod TablesInOrder

@@ -12,21 +12,22 @@
 //! ```
 //!
 //! [`read_file`] gives the file that a text spells, or the first of its faults in the order of
-//! [`FileFault`]; its contract says which. [`covers`], [`range_of`] and [`may`] ask a file and take no
-//! memory. What an expression is, and when it holds, `review_expr` says.
+//! [`FileFault`]; its contract says which. [`covers`] holds one file against another and takes no
+//! memory. What a file gives an account `review_ranges` says; what an expression is, and when it holds, `review_expr`.
 #![tactic(auto)]
 
 mod access;
+pub mod covering;
 pub mod file;
 mod labels;
 pub mod read;
 mod requirements;
-pub mod rights;
+mod rights;
 mod unknown;
 
+pub use covering::covers;
 pub use file::{Access, Label, LabelValue, ProjectFile, Requirement};
 pub use read::read_file;
 pub use review_document::limits::{MOST_BYTES, MOST_DESCRIPTION, MOST_PARTS, MOST_TEXT};
 pub use review_project::{Grant, ReadFault, Right};
 pub use review_words::FileFault;
-pub use rights::{covers, may, range_of};

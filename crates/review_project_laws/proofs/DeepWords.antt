@@ -17,7 +17,7 @@ use Rattle.review_spelling.specs.declared.keys.RequirementKey.TheVariants as key
 use Rattle.review_expr.specs.Tokens.{operator_by, operator_or, term_token, meaning, is_signed, unsigned, alone, behind_minus, after_minus, opens_at, lexeme_tokens}
 use Rattle.review_expr.specs.Expressions.{HasExpr}
 use Rattle.review_expr.specs.Faults.{HasWord}
-use Rattle.review_expr.proofs.Excluded.{no_flaw}
+use Rattle.review_expr_laws.proofs.Excluded.{no_flaw}
 
 by_form : (b : Bool) (re : List ℕ) (term : List ℕ → RequirementTerm) (a : RequirementTerm) → in_value (option_map term (cond b (Some re) None)) ≡ Good a → b ≡ true
 by_form true re term a good = refl

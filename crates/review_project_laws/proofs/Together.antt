@@ -23,8 +23,8 @@ use Rattle.review_expr.specs.declared.expr.Expr.TheVariants as expr
 use Rattle.review_expr.specs.declared.fault.ParseFault.TheVariants as parse
 use Rattle.review_expr.specs.Exprs.{IsCopyOf, IsRequirementOf, NoWord, labels_in}
 use Rattle.review_expr.specs.Faults.{IsFault, HasWord}
-use Rattle.review_expr.proofs.Excluded.{bad_value, one_tree}
-use Rattle.review_expr.proofs.OneFault.{one_fault}
+use Rattle.review_expr_laws.proofs.Excluded.{bad_value, one_tree}
+use Rattle.review_expr_laws.proofs.OneFault.{one_fault}
 use Rattle.review_project.specs.declared.fault.ReadFault.TheVariants.{File}
 use Rattle.review_project.specs.View.{LabelView, RequirementView, FileView}
 use Rattle.review_project.specs.Rights.{covers, is_covered, has_values}

@@ -11,7 +11,7 @@ ghost use Rattle.review_project.specs.Rights.{covers};
 ghost use Rattle.review_project.specs.Trees.{file_trees};
 ghost use Rattle.review_project.specs.View.{FileView};
 
-use review_expr::one_expression;
+use review_expr_laws::one_expression;
 use review_terms::{CopyTerm, RequirementTerm};
 
 /// A text that is refused because the engine refuses a pattern has one.

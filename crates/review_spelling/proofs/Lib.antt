@@ -2,10 +2,3 @@ pub mod Cutting
 pub mod Digits
 pub mod Accounts
 pub mod Fronts
-pub mod Lacking
-pub mod Printing
-pub mod Standing
-pub mod CopyWords
-pub mod Parts
-pub mod LabelWords
-pub mod RequirementWords

@@ -3,4 +3,3 @@ pub mod Values
 pub mod Labels
 pub mod Readings
 pub mod Words
-pub mod Printed

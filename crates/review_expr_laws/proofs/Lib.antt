@@ -1,0 +1,3 @@
+pub mod Excluded
+pub mod OneFault
+pub mod Within

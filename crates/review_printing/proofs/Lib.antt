@@ -1,0 +1,7 @@
+pub mod Written
+pub mod Levels
+pub mod Leveled
+pub mod Depths
+pub mod Carried
+pub mod Leaves
+pub mod Again

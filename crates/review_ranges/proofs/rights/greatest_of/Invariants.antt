@@ -1,0 +1,11 @@
+use Rattle.std.proofs.Common.{◌≡◌, map, drop}
+use Rattle.std.specs.Prelude.{filter, fold}
+use Rattle.std.specs.Int.{int_max}
+use Rattle.review_names.specs.Groups.{has_account}
+use Rattle.review_project.specs.Rights.{greatest_of}
+use Rattle.review_ranges.proofs.rights.greatest_of.Given as goal
+
+abbrev pub invariant-loop-grant : goal.invariant-loop-grant
+invariant-loop-grant l =
+    fold int_max l.greatest (map (λ g. g.greatest) (filter (λ g. has_account l.groups.0 g.group l.account) (drop l.grant-index l.grants)))
+    ≡ greatest_of (filter (λ g. has_account l.groups.0 g.group l.account) l.grants)

@@ -1,0 +1,11 @@
+use Rattle.std.proofs.Common.{◌≡◌, map, drop}
+use Rattle.std.specs.Prelude.{filter, fold}
+use Rattle.std.specs.Int.{int_min}
+use Rattle.review_names.specs.Groups.{has_account}
+use Rattle.review_project.specs.Rights.{least_of}
+use Rattle.review_ranges.proofs.rights.least_of.Given as goal
+
+abbrev pub invariant-loop-grant : goal.invariant-loop-grant
+invariant-loop-grant l =
+    fold int_min l.least (map (λ g. g.least) (filter (λ g. has_account l.groups.0 g.group l.account) (drop l.grant-index l.grants)))
+    ≡ least_of (filter (λ g. has_account l.groups.0 g.group l.account) l.grants)
