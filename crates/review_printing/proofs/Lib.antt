@@ -1,4 +1,4 @@
-pub mod Written
+pub mod Behind
 pub mod Levels
 pub mod Leveled
 pub mod Depths

@@ -5,11 +5,11 @@
 #![tactic(auto)]
 
 pub mod laws;
-pub mod print;
 pub mod printer;
+pub mod printing;
 mod terms;
 pub mod written;
 
 pub use laws::{copy_print_tells, print_tells, requirement_print_tells};
-pub use print::print;
+pub use printing::print;
 pub use written::{Respelled, Written};

@@ -86,7 +86,7 @@ two_told a b (Some n) None who asked first second e =
 two_told a b None None who asked first second e = absurd (cc)
 
 -- a text is what stands before a byte, the byte, and what stands behind
-abbrev IsCut : ℕ → List ℕ → Option (List ℕ × List ℕ) → Type 0
+abbrev pub IsCut : ℕ → List ℕ → Option (List ℕ × List ℕ) → Type 0
 IsCut b s None = Unit {0}
 IsCut b s (Some halves) = halves.0 ++ b ∷ halves.1 ≡ s
 
@@ -98,7 +98,7 @@ cut_by : (t : Bool) (b c : ℕ) (s : List ℕ) → (c == b) ≡ t → IsCut b s 
 cut_by true b c s e h = let same : c ≡ b = grind (arith, nat_tests, e) in ap (λ x. x ∷ s) (sym same)
 cut_by false b c s e h = cut_further b c s (cut_at b s) h
 
-cut_is : (b : ℕ) (s : List ℕ) → IsCut b s (cut_at b s)
+pub cut_is : (b : ℕ) (s : List ℕ) → IsCut b s (cut_at b s)
 unfolding cut_at
 cut_is b [] = tt
 cut_is b (c ∷ s) = cut_by (c == b) b c s refl (cut_is b s)

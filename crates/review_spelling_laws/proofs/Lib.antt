@@ -1,3 +1,4 @@
 mod Bare
 mod LongestNames
 pub mod LabelValues
+pub mod WholeWords

@@ -1,1 +1,2 @@
 pub mod LabelValues
+pub mod LabelWords

@@ -1,7 +1,7 @@
 use Rattle.std.proofs.Common.{◌++◌, ap, sym, ◌∙◌, arith, string_bytes}
 use Rattle.review_grammar.specs.Views.{view}
 use Rattle.review_printing.specs.Printed.{member_text}
-use Rattle.review_printing.proofs.Written.{first_written, next_written}
+use Rattle.review_printing.proofs.Behind.{first_written, next_written}
 use Rattle.review_printing.proofs.printer.+print.Goals as goal
 use Rattle.review_printing.proofs.printer.+print.Goals.{push_members-then-index-gt0+in_ok-push_str, push_members-else-index-gt0}
 

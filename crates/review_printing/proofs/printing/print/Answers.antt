@@ -4,7 +4,7 @@ use Rattle.review_spelling.specs.Words.{copy_reading, requirement_reading}
 use Rattle.review_writing.proofs.CopyWords.{copy_again, copy_stands}
 use Rattle.review_writing.proofs.RequirementWords.{requirement_again, requirement_stands}
 use Rattle.review_printing.proofs.Again.{printed_again}
-use Rattle.review_printing.proofs.print.print.Goals as goal
+use Rattle.review_printing.proofs.printing.print.Goals as goal
 
 pub returns-in-Requirement-clause-again : goal.returns-in-Requirement-clause-again
 returns-in-Requirement-clause-again c =
