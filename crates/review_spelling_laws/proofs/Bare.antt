@@ -1,5 +1,5 @@
 -- What is read of a text tells that the text has no comma; and a part that says whose votes count is no count.
-use Rattle.std.proofs.Common.{◌≡◌, ℕ, ℤ, pos, List, [], ◌∷◌, ◌++◌, Bool, true, false, cond, Option, None, Some, option_map, refl, sym, ap, subst, ◌∙◌}
+use Rattle.std.proofs.Common.{◌≡◌, ℕ, ℤ, pos, List, ◌++◌, Bool, true, false, cond, Option, None, Some, option_map, refl, sym, subst}
 use Rattle.std.specs.Prelude.{nat_le, codes}
 use Rattle.std.specs.Str.{bytes_eq}
 use Rattle.std.proofs.lemmas.Slice.Eq.{bytes_eq-Decides}

@@ -1,5 +1,5 @@
 -- The value of a `label:` word is the name, the comparison and the parts of a label term.
-use Rattle.std.proofs.Common.{◌≡◌, ℕ, List, [], ◌∷◌, ◌++◌, append-nil, Bool, true, false, cond, Option, None, Some, option_map, MatchOption, refl, sym, ap, subst, ◌∙◌, inl, inr, ⊎_elim, ◌==◌, arith}
+use Rattle.std.proofs.Common.{◌≡◌, ℕ, List, [], ◌∷◌, ◌++◌, append-nil, Bool, true, false, cond, Option, None, Some, option_map, refl, sym, ap, subst, ◌∙◌, inl, inr, ◌==◌, arith}
 use Rattle.std.proofs.lemmas.Bool.Decides.{nat_tests}
 use Rattle.review_names.specs.Numerals.{◌>>=◌}
 use Rattle.review_terms.specs.declared.terms.Voters.{Voters}
@@ -12,7 +12,7 @@ use Rattle.review_spelling.specs.Values.{comparison_in}
 use Rattle.review_spelling.specs.Labels.{longest_label, count_in, voters_in, one_part, two_parts, parts_by, parts_in, comparison_part, behind_comma, label_in}
 use Rattle.review_writing.proofs.Lacking.{bare_comma, cut_lacking, whole_lacking}
 use Rattle.review_writing.proofs.Parts.{tail, cut_tail}
-use Rattle.review_spelling_laws.specs.LabelValues.{AreParts, IsCount, IsLabelValue, LabelValuesAreSo}
+use Rattle.review_spelling_laws.specs.LabelValues.{AreParts, IsLabelValue, LabelValuesAreSo}
 use Rattle.review_spelling_laws.proofs.Bare.{bind_gives, comparison_bare, count_bare, voters_bare, no_count}
 use Rattle.review_spelling_laws.proofs.LongestNames.{longest_found, longest_is}
 

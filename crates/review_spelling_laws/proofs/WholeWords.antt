@@ -1,13 +1,12 @@
 -- A word is a label term exactly where it is `label:` and a text that stands for the value of that term.
-use Rattle.std.proofs.Common.{◌≡◌, ℕ, List, [], ◌∷◌, ◌++◌, Bool, true, false, not, cond, Option, None, Some, option_map, refl, sym, ap, subst, ◌∙◌, inl, inr, ◌==◌, arith}
+use Rattle.std.proofs.Common.{◌≡◌, ℕ, List, [], ◌∷◌, ◌++◌, Bool, true, false, not, cond, Option, None, Some, option_map, refl, sym, ap, ◌∙◌, inl, inr, ◌==◌, arith}
 use Rattle.std.specs.Prelude.{◌&&◌, ◌≢◌, codes}
-use Rattle.std.specs.List.{list_all}
 use Rattle.std.specs.Str.{bytes_eq}
 use Rattle.std.proofs.lemmas.Bool.Decides.{nat_tests}
 use Rattle.std.proofs.lemmas.List.Folds.{list_all-append}
 use Rattle.std.proofs.lemmas.Slice.Eq.{bytes_eq-Decides}
 use Rattle.review_names.specs.Numerals as Steps
-use Rattle.review_grammar.specs.Words.{NoTerm, NoValue, Zero, Reading, Good, Bad}
+use Rattle.review_grammar.specs.Words.{Reading, Good}
 use Rattle.review_terms.specs.Patterns.{is_pattern}
 use Rattle.review_names.specs.Names.{is_word}
 use Rattle.review_names.specs.Forms.{is_slashed_name, is_path}
@@ -22,7 +21,6 @@ use Rattle.review_spelling.specs.Words.{formed, is_component, keyed, pattern_or,
 use Rattle.review_spelling.specs.declared.keys.RequirementKey.{RequirementKey}
 use Rattle.review_spelling.specs.declared.keys.RequirementKey.TheVariants as key
 use Rattle.review_writing.proofs.Lacking.{lacks, cut_lacking, whole_lacking, value_lacks, keep, keep_both}
-use Rattle.review_spelling_laws.specs.LabelValues.{IsLabelValue}
 use Rattle.review_spelling_laws.specs.LabelWords.{StandsFor, IsLabelWord, LabelWordsAreSo}
 use Rattle.review_spelling_laws.proofs.LabelValues.{IsCut, cut_is, label_values}
 
@@ -33,17 +31,17 @@ quote_within before after = list_all-append (λ c. not (c == 34)) before (34 ∷
   and_false true = refl
   and_false false = refl
 
-quote_free : (value : List ℕ) → lacks 34 value ≡ true → (before after : List ℕ) → before ++ codes "\"" ++ after ≢ value
+quote_free : (value : List ℕ) → lacks 34 value ≡ true → (before after : List ℕ) → before ++ (codes "\"" ++ after) ≢ value
 quote_free value h before after e =
     let some : lacks 34 value ≡ false = ap (lacks 34) (sym e) ∙ quote_within before after in
     let never : false ≡ true = sym some ∙ h in
     absurd (cc)
 
-lacks_by : (b : Bool) (c : ℕ) (s : List ℕ) → (c == 34) ≡ b → ((before after : List ℕ) → before ++ codes "\"" ++ after ≢ c ∷ s) → lacks 34 s ≡ true → (not b && lacks 34 s) ≡ true
+lacks_by : (b : Bool) (c : ℕ) (s : List ℕ) → (c == 34) ≡ b → ((before after : List ℕ) → before ++ (codes "\"" ++ after) ≢ c ∷ s) → lacks 34 s ≡ true → (not b && lacks 34 s) ≡ true
 lacks_by true c s is free rest = let same : 34 ≡ c = grind (arith, nat_tests, is) in absurd (free [] s (ap (λ x. x ∷ s) same))
 lacks_by false c s is free rest = rest
 
-free_lacks : (value : List ℕ) → ((before after : List ℕ) → before ++ codes "\"" ++ after ≢ value) → lacks 34 value ≡ true
+free_lacks : (value : List ℕ) → ((before after : List ℕ) → before ++ (codes "\"" ++ after) ≢ value) → lacks 34 value ≡ true
 free_lacks [] free = refl
 free_lacks (c ∷ s) free =
     let rest = free_lacks s (λ before after e. free (c ∷ before) after (ap (λ x. c ∷ x) e)) in
@@ -148,33 +146,33 @@ unfolding requirement_key
 label_key name e =
     let first = passed (bytes_eq name (codes "is")) key.Is _ (λ same. cc) e in
     (bytes_eq-Decides name (codes "label")).0
-        (taken (bytes_eq name (codes "label")) _
-        (λ e1.
-        let e2 = passed (bytes_eq name (codes "uploaderin")) key.UploaderIn _ (λ same. cc) e1 in
-        let e3 = passed (bytes_eq name (codes "ownerin")) key.OwnerIn _ (λ same. cc) e2 in
-        let e4 = passed (bytes_eq name (codes "branch")) key.Branch _ (λ same. cc) e3 in
-        let e5 = passed (bytes_eq name (codes "path")) key.Path _ (λ same. cc) e4 in
-        let e6 = passed (bytes_eq name (codes "file")) key.File _ (λ same. cc) e5 in
-        let e7 = passed (bytes_eq name (codes "has")) key.Has _ (λ same. cc) e6 in
-        cc)
-        first)
+    (taken (bytes_eq name (codes "label")) _
+    (λ e1.
+    let e2 = passed (bytes_eq name (codes "uploaderin")) key.UploaderIn _ (λ same. cc) e1 in
+    let e3 = passed (bytes_eq name (codes "ownerin")) key.OwnerIn _ (λ same. cc) e2 in
+    let e4 = passed (bytes_eq name (codes "branch")) key.Branch _ (λ same. cc) e3 in
+    let e5 = passed (bytes_eq name (codes "path")) key.Path _ (λ same. cc) e4 in
+    let e6 = passed (bytes_eq name (codes "file")) key.File _ (λ same. cc) e5 in
+    let e7 = passed (bytes_eq name (codes "has")) key.Has _ (λ same. cc) e6 in
+    cc)
+    first)
 
 told_by_key : (word name value : List ℕ) (o : Option RequirementKey) (t : LabelTerm) → key_and_value word ≡ Some (name, value) → requirement_key name ≡ o
     → ((in_term o >>= (λ k. Good (k, value))) >>= valued) ≡ Good (requirement.Label t) → IsLabelWord word t
+unfolding key_and_value
 told_by_key word name value None t is named e = absurd (cc)
 told_by_key word name value (Some k) t is named e =
     let v = value_told k value t e in
     let label = label_key name (named ∙ ap Some v.0) in
-    of_halves (cut_at 58 word) (cut_is 58 word) label v.1 (whole refl is)
+    of_halves (cut_at 58 word) (cut_is 58 word) label (v.1, v.2) is
   where
-    whole : {o : Option (List ℕ × List ℕ)} → cut_at 58 word ≡ o → key_and_value word ≡ Some (name, value) → Steps.◌>>=◌ o keep_both ≡ Some (name, value)
-    unfolding key_and_value
-    whole at h = ap (λ o. Steps.◌>>=◌ o keep_both) (sym at) ∙ h
     by_value : (before text : List ℕ) (o : Option (List ℕ)) → before ++ 58 ∷ text ≡ word → name ≡ codes "label" → (label_in value ≡ Some t) × (is_met_by_zero t.comparison ≡ false) → unquoted text ≡ o
         → Steps.◌>>=◌ o (keep before) ≡ Some (name, value) → IsLabelWord word t
     by_value before text None cut label v at h = absurd (cc)
     by_value before text (Some x) cut label v at h =
+        let fronts : Some before ≡ Some name = ap (option_map (λ p. p.0)) h in
         let front : before ≡ name = cc in
+        let values : Some x ≡ Some value = ap (option_map (λ p. p.1)) h in
         let same : x ≡ value = cc in
         record {
           text = text;
@@ -185,6 +183,7 @@ told_by_key word name value (Some k) t is named e =
           value_is = (label_values value t).0 v.0;
           zero_fails = v.1;
         }
+
     of_halves : (o : Option (List ℕ × List ℕ)) → IsCut 58 word o → name ≡ codes "label" → (label_in value ≡ Some t) × (is_met_by_zero t.comparison ≡ false) → Steps.◌>>=◌ o keep_both ≡ Some (name, value) → IsLabelWord word t
     of_halves None cut label v h = absurd (cc)
     of_halves (Some halves) cut label v h = by_value halves.0 halves.1 (unquoted halves.1) cut label v refl h

@@ -1,6 +1,5 @@
 -- A whole `label:` word, in other words than those by which it is read.
-use Rattle.std.specs.Prelude.{ℕ, ◌≡◌, ◌≢◌, ◌×◌, ◌⊎◌, ◌↔◌, ◌++◌, List, [], ◌∷◌, codes, true, false}
-use Rattle.std.specs.List.{All}
+use Rattle.std.specs.Prelude.{ℕ, ◌≡◌, ◌≢◌, ◌⊎◌, ◌↔◌, ◌++◌, List, codes, false}
 use Rattle.review_grammar.specs.Words.{Good}
 use Rattle.review_terms.specs.declared.terms.LabelTerm.{LabelTerm}
 use Rattle.review_terms.specs.declared.terms.RequirementTerm.TheVariants as requirement
@@ -18,7 +17,7 @@ pub record IsLabelWord (word : List ℕ) (t : LabelTerm) : Type 0 where
   pub value : List ℕ
   pub word_is : codes "label:" ++ text ≡ word
   pub stands : StandsFor text value
-  pub has_no_quote : (before after : List ℕ) → before ++ codes "\"" ++ after ≢ value
+  pub has_no_quote : (before after : List ℕ) → before ++ (codes "\"" ++ after) ≢ value
   pub value_is : IsLabelValue value t
   pub zero_fails : is_met_by_zero t.comparison ≡ false
 
