@@ -6,8 +6,9 @@ ghost use Rattle.review_rows.specs.Rows.{HasNoEffect};
 ghost use Rattle.review_rows.specs.View.{needed, IsLoaded, IsDecided};
 ghost use Rattle.review_rows.specs.Decisions.{IsUndecided, NamesEachOnce};
 
-use crate::projects::{put_project, record_base};
+use crate::projects::put_project;
 use review_account_decisions::{create_account, has_account, put_group, refused};
+use review_branch_decisions::record_base;
 use review_rows::{Delta, Rows};
 use review_words::{AccountNo, Command, NotTaken, Refusal, Reply};
 use std::alloc::Global;

@@ -1,15 +1,10 @@
-//! The answer to a command or a question, from the rows that decide it.
+//! The answer to any command, from the rows that decide it; and to commands on project files, which read these.
 //!
-//! [`decide`] gives a command's reply and what it changes, [`show`] the answer to a question; [`need_of`] and [`need_of_query`] say which
-//! rows each needs. Nothing here knows where rows come from, or that a request may come twice.
+//! [`decide`] gives a command's reply and what it changes. Nothing here knows where rows come from, or that a request may come twice.
 #![tactic(auto)]
 
 pub mod decisions;
-pub mod needs;
 pub mod projects;
-pub mod questions;
 
 pub use decisions::decide;
-pub use needs::{need_of, need_of_query};
 pub use projects::unread_cause;
-pub use questions::show;

@@ -1,10 +1,9 @@
-//! Decisions on projects and their branches.
+//! Decisions on the files of projects.
 ghost use Rattle.std.specs.Prelude.{◌≡◌, List, IfOk, IfErr, IfSome, true};
 ghost use Rattle.std.specs.Option.{option_map_or};
 ghost use Rattle.review_words.specs.Texts.{IsStored};
 ghost use Rattle.review_words.specs.History.{Entry, is_account};
-ghost use Rattle.review_words.specs.declared.command.Command.TheVariants.{PutProject, RecordBase};
-ghost use Rattle.review_words.specs.declared.reply.NotTaken.TheVariants.{Memory};
+ghost use Rattle.review_words.specs.declared.command.Command.TheVariants.{PutProject};
 ghost use Rattle.review_rows.specs.Rows.{HasNoEffect};
 ghost use Rattle.review_rows.specs.View.{needed, IsLoaded, IsDecided};
 ghost use Rattle.review_words.specs.declared.reply.Reply.TheVariants.{Done, Refused};
@@ -19,55 +18,14 @@ ghost use Rattle.review_decisions.specs.Files.{file_in, unread_cause, IsReadCaus
 
 use review_account_decisions::{is_admin, nothing, refused};
 use review_file::{ProjectFile, ReadFault, covers, read_file};
-use review_rows::{Base, Delta, ProjectRow, Rows};
+use review_rows::{Delta, ProjectRow, Rows};
 use review_words::{
-    AccountNo, Answer, BranchName, CommitName, ExprCode, FileFault, FileText, NotTaken,
-    ProjectName, Refusal, Reply,
+    AccountNo, Answer, ExprCode, FileFault, FileText, NotTaken, ProjectName, Refusal, Reply,
 };
 use std::alloc::{AllocError, Global};
 
-/// The most bases of a project, over all its branches.
-const MOST_BASES: u64 = 100_000;
-
 /// The most projects of a desk.
 const MOST_PROJECTS: u64 = 1_000;
-
-/// Records a commit as the next base of a branch.
-pub fn record_base(
-    alloc: Global,
-    rows: &Rows,
-    caller: AccountNo,
-    project: &ProjectName,
-    branch: &BranchName,
-    commit: &CommitName,
-) -> Result<(Delta, Reply), NotTaken>
-    ensures decided { IfOk result (λ r. (h : List Entry) → is_account h caller ≡ true → IsLoaded h (needed caller (RecordBase project.now branch.now commit.now)) rows.now → IsDecided h caller (RecordBase project.now branch.now commit.now) r.0 r.1) }
-    ensures cause { IfErr result (λ e. e ≡ Memory) }
-    ensures stored { IfOk result (λ r. IsStored r.1) }
-    ensures refused { IfOk result (λ r. HasNoEffect r.1 r.0) }
-    ensures once { IfOk result (λ r. NamesEachOnce r.0) }
-{
-    let admin = is_admin(alloc, rows, caller)?;
-    if !admin {
-        return Ok(refused(alloc, Refusal::NotAdmin));
-    }
-    if !rows.has_project {
-        return Ok(refused(alloc, Refusal::NoProject));
-    }
-    if rows.has_base {
-        return Ok(refused(alloc, Refusal::CommitKnown));
-    }
-    if rows.base_count >= MOST_BASES {
-        return Ok(refused(alloc, Refusal::Limit));
-    }
-    let mut delta = nothing(alloc);
-    delta.base = Some(Base {
-        project: project.copy(alloc)?,
-        branch: branch.copy(alloc)?,
-        commit: commit.copy(alloc)?,
-    });
-    Ok((delta, Reply::Done(Answer::Nothing)))
-}
 
 /// Puts the file of a project.
 pub fn put_project(

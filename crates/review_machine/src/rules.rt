@@ -1,5 +1,6 @@
 //! The decisions as rules.
-use review_decisions::{decide, need_of, need_of_query, show};
+use review_branch_decisions::{need_of, need_of_query, show};
+use review_decisions::decide;
 use review_deliveries::Rules;
 use review_rows::{Delta, Need, Rows};
 use review_words::{AccountNo, Command, NotTaken, Query, Reply};

@@ -6,8 +6,8 @@ use Rattle.review_words.specs.History.{bases, is_branch}
 use Rattle.review_table.specs.Rows.{row_in, rows_of}
 use Rattle.review_rows.specs.Rows.{BranchRow, branch_cmp}
 use Rattle.review_account_decisions.proofs.Decided.{project_is}
-use Rattle.review_decisions.proofs.Asked.{branch_loaded, found_bases, no_bases, branch_answer}
-use Rattle.review_decisions.proofs.questions.show_branch.Goals as goal
+use Rattle.review_branch_decisions.proofs.Asked.{branch_loaded, found_bases, no_bases, branch_answer}
+use Rattle.review_branch_decisions.proofs.questions.show_branch.Goals as goal
 
 pub returns-then-not-rows-clause-shown : goal.returns-then-not-rows-clause-shown
 returns-then-not-rows-clause-shown c = λ h known l.

@@ -5,7 +5,7 @@ use Rattle.review_words.specs.declared.command.Command.TheVariants.{RecordBase}
 use Rattle.review_words.specs.declared.reply.Refusal.TheVariants.{NotAdmin, NoProject, CommitKnown, Limit}
 use Rattle.review_words.specs.History.{is_project, is_base, base_count}
 use Rattle.review_account_decisions.proofs.Decided.{admin_is, project_is, base_is, refused_pair, base_decided, base_refused}
-use Rattle.review_decisions.proofs.projects.record_base.Goals as goal
+use Rattle.review_branch_decisions.proofs.branches.record_base.Goals as goal
 
 pub returns-then-not-admin-clause-decided : goal.returns-then-not-admin-clause-decided
 returns-then-not-admin-clause-decided c = λ h known l.

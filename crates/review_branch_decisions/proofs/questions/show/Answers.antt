@@ -1,6 +1,6 @@
 use Rattle.std.proofs.Common.{◌∙◌, sym}
-use Rattle.review_decisions.proofs.Asked.{asker_is, unknown_asker}
-use Rattle.review_decisions.proofs.questions.show.Goals as goal
+use Rattle.review_branch_decisions.proofs.Asked.{asker_is, unknown_asker}
+use Rattle.review_branch_decisions.proofs.questions.show.Goals as goal
 
 pub returns-then-not-known-clause-shown : goal.returns-then-not-known-clause-shown
 returns-then-not-known-clause-shown c = λ h l.
