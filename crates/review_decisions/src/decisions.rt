@@ -9,15 +9,18 @@ ghost use Rattle.review_rows.specs.Decisions.{IsUndecided, NamesEachOnce};
 use crate::projects::put_project;
 use review_account_decisions::{create_account, has_account, put_group, refused};
 use review_branch_decisions::record_base;
+use review_memo::FileMemo;
 use review_rows::{Delta, Rows};
 use review_words::{AccountNo, Command, NotTaken, Refusal, Reply};
 use std::alloc::Global;
 
 /// The reply to a command and what it changes: the first check that fails refuses, in the order of the command's checks; a
 /// refusal changes nothing, and each key is named once. An error is want of memory; Pattern, where the engine refuses a pattern
-/// in the file that is put or in the project's; or Damaged, where the rows are those of no history.
+/// in the file that is put or in the project's; or Damaged, where the rows are those of no history. Files that were read before are
+/// remembered; no answer depends on which.
 pub fn decide(
     alloc: Global,
+    memo: &mut FileMemo,
     rows: &Rows,
     caller: AccountNo,
     command: &Command,
@@ -35,7 +38,9 @@ pub fn decide(
     match command {
         Command::CreateAccount { name } => create_account(alloc, rows, caller, name),
         Command::PutGroup { group, members } => put_group(alloc, rows, caller, group, members),
-        Command::PutProject { project, file } => put_project(alloc, rows, caller, project, file),
+        Command::PutProject { project, file } => put_project(
+            alloc, memo, rows, caller, project, file,
+        ),
         Command::RecordBase {
             project,
             branch,

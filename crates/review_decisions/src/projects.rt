@@ -1,6 +1,6 @@
 //! Decisions on the files of projects.
 ghost use Rattle.std.specs.Prelude.{◌≡◌, List, IfOk, IfErr, IfSome, true};
-ghost use Rattle.std.specs.Option.{option_map_or};
+ghost use Rattle.std.specs.Option.{option_copied, option_map_or};
 ghost use Rattle.review_words.specs.Texts.{IsStored};
 ghost use Rattle.review_words.specs.History.{Entry, is_account};
 ghost use Rattle.review_words.specs.declared.command.Command.TheVariants.{PutProject};
@@ -17,7 +17,8 @@ ghost use Rattle.review_account_decisions.specs.Decisions.{IsEmpty};
 ghost use Rattle.review_decisions.specs.Files.{file_in, unread_cause, IsReadCause, IsUnread, PutsFile, IsFileRefusal, IsFilePut};
 
 use review_account_decisions::{is_admin, nothing, refused};
-use review_file::{ProjectFile, ReadFault, covers, read_file};
+use review_file::{ProjectFile, ReadFault, covers};
+use review_memo::{FileMemo, ReadText};
 use review_rows::{Delta, ProjectRow, Rows};
 use review_words::{
     AccountNo, Answer, ExprCode, FileFault, FileText, NotTaken, ProjectName, Refusal, Reply,
@@ -27,9 +28,10 @@ use std::alloc::{AllocError, Global};
 /// The most projects of a desk.
 const MOST_PROJECTS: u64 = 1_000;
 
-/// Puts the file of a project.
+/// Puts the file of a project. What is remembered spares reading the one that it has; the one that is put is remembered, where there is memory for it.
 pub fn put_project(
     alloc: Global,
+    memo: &mut FileMemo,
     rows: &Rows,
     caller: AccountNo,
     project: &ProjectName,
@@ -45,8 +47,8 @@ pub fn put_project(
     if !admin {
         return Ok(refused(alloc, Refusal::NotAdmin));
     }
-    match read_file(alloc, file.as_str()) {
-        Ok(new) => put_file(alloc, rows, project, file, &new),
+    match ReadText::read(alloc, file) {
+        Ok(new) => put_file(alloc, memo, rows, project, file, new),
         Err(fault) => refuse_file(alloc, fault),
     }
 }
@@ -64,30 +66,34 @@ fn refuse_file(alloc: Global, fault: ReadFault) -> Result<(Delta, Reply), NotTak
     }
 }
 
-// Puts a file in place of the one that the project has, which is read again.
+// Puts a file in place of the one that the project has.
 fn put_file(
     alloc: Global,
+    memo: &mut FileMemo,
     rows: &Rows,
     project: &ProjectName,
     file: &FileText,
-    new: &ProjectFile,
+    new: ReadText,
 ) -> Result<(Delta, Reply), NotTaken>
-    ensures put { IfOk result (λ r. IsFilePut (file_in rows.now project.now) rows.now.project_count project.now file.now new.now r.0 r.1) }
+    ensures put { IfOk result (λ r. IsFilePut (file_in rows.now project.now) rows.now.project_count project.now file.now new.file r.0 r.1) }
     ensures cause { IfErr result (IsUnread (file_in rows.now project.now)) }
     ensures stored { IfOk result (λ r. IsStored r.1) }
     ensures refused { IfOk result (λ r. HasNoEffect r.1 r.0) }
     ensures once { IfOk result (λ r. NamesEachOnce r.0) }
 {
-    let refusal = file_refusal(alloc, rows, project, new)?;
-    match refusal {
-        Some(refusal) => Ok(refused(alloc, refusal)),
-        None => Ok(put_text(alloc, project, file)?),
+    let refusal = file_refusal(alloc, memo, rows, project, new.file())?;
+    if let Some(refusal) = refusal {
+        return Ok(refused(alloc, refusal));
     }
+    let put = put_text(alloc, project, file)?;
+    let _ = memo.keep(alloc, project, new);
+    Ok(put)
 }
 
 // What refuses a file: that it narrows a label of the one that the project has, or that there are too many projects.
 fn file_refusal(
     alloc: Global,
+    memo: &mut FileMemo,
     rows: &Rows,
     project: &ProjectName,
     new: &ProjectFile,
@@ -96,8 +102,8 @@ fn file_refusal(
     ensures cause { IfErr result (IsUnread (file_in rows.now project.now)) }
     ensures stored { IfOk result (λ o. IfSome o (λ r. IsStored (Refused r))) }
 {
-    let old = stored_file(alloc, rows, project)?;
-    if !keeps_labels(&old, new) {
+    let old = stored_file(alloc, memo, rows, project)?;
+    if !keeps_labels(old, new) {
         return Ok(Some(Refusal::LabelNarrowed));
     }
     if old.is_none() && rows.project_count >= MOST_PROJECTS {
@@ -125,8 +131,8 @@ fn put_text(
 }
 
 // Whether each label of the old file, where there is one, keeps its values.
-fn keeps_labels(old: &Option<ProjectFile>, new: &ProjectFile) -> bool
-    ensures { result ≡ option_map_or (λ f. covers f new.now) old.now true }
+fn keeps_labels(old: Option<&ProjectFile>, new: &ProjectFile) -> bool
+    ensures { result ≡ option_map_or (λ f. covers f new.now) (option_copied old.entry) true }
 {
     match old {
         Some(old) => covers(old, new),
@@ -135,18 +141,19 @@ fn keeps_labels(old: &Option<ProjectFile>, new: &ProjectFile) -> bool
 }
 
 // The file that a project has, or none where it was never put.
-fn stored_file(
+fn stored_file<'m>(
     alloc: Global,
+    memo: &'m mut FileMemo,
     rows: &Rows,
     project: &ProjectName,
-) -> Result<Option<ProjectFile>, NotTaken>
-    ensures read { IfOk result (HasFile (file_in rows.now project.now)) }
+) -> Result<Option<&'m ProjectFile>, NotTaken>
+    ensures read { IfOk result (λ o. HasFile (file_in rows.now project.now) (option_copied o)) }
     ensures cause { IfErr result (IsUnread (file_in rows.now project.now)) }
 {
     let Some(text) = rows.files.get(project) else {
         return Ok(None);
     };
-    match read_file(alloc, text.as_str()) {
+    match memo.read(alloc, project, text) {
         Ok(file) => Ok(Some(file)),
         Err(fault) => Err(unread_cause(fault)),
     }

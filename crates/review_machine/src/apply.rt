@@ -35,5 +35,5 @@ pub fn apply_lines<R: Read, W: Write, S: Shelf>(
         × IfOk result (λ outcome. HasLines (R.remaining reader.old) lines × (text ≡ answers lines replies) × (is_complete outcome ≡ all_done lines replies))
         × IfErr result (λ fault. IsLeftBy fault lines replies text) }
 {
-    review_lines::apply_lines(alloc, reader, writer, shelf, &mut DeskRules)
+    review_lines::apply_lines(alloc, reader, writer, shelf, &mut DeskRules::new(alloc))
 }

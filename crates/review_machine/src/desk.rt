@@ -35,7 +35,7 @@ pub fn deliver<S: Shelf>(alloc: Global, shelf: &mut S, delivery: &Delivery) -> R
     ensures stopped { (S.state shelf.new).is_honest → (h : List Entry) → IsHistory h → Views h (S.state shelf.old).tables → StopGoesOnFrom h (S.state shelf.old) →
         StopGoesOnFrom (history_after h (delivery.now ∷ []) (result ∷ [])) (S.state shelf.new) × StopHasEntry delivery.now result (S.state shelf.new) }
 {
-    review_deliveries::deliver(alloc, shelf, &mut DeskRules, delivery)
+    review_deliveries::deliver(alloc, shelf, &mut DeskRules::new(alloc), delivery)
 }
 
 /// Takes deliveries in order. Whatever comes, repeated, lost or reordered, tables and replies are those of the run in which
@@ -60,5 +60,5 @@ pub fn run<S: Shelf>(
         (λ stopped. AreSteps (take (length stopped.replies.items) deliveries.now) stopped.replies.items (S.state shelf.old).tables (S.state shelf.new).tables) }
     ensures stopped { IfErr result (λ stopped. (stopped.replies.items ≡ []) × (0 < length deliveries.now)) }
 {
-    review_deliveries::run(alloc, shelf, &mut DeskRules, deliveries)
+    review_deliveries::run(alloc, shelf, &mut DeskRules::new(alloc), deliveries)
 }

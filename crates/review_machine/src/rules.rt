@@ -2,13 +2,25 @@
 use review_branch_decisions::{need_of, need_of_query, show};
 use review_decisions::decide;
 use review_deliveries::Rules;
+use review_memo::FileMemo;
 use review_rows::{Delta, Need, Rows};
 use review_words::{AccountNo, Command, NotTaken, Query, Reply};
 use std::alloc::{AllocError, Global};
 
-/// The desk's own rules.
+/// The desk's own rules, with the project files that were read for earlier deliveries.
 #[derive(Drop)]
-pub struct DeskRules;
+pub struct DeskRules {
+    memo: FileMemo,
+}
+
+impl DeskRules {
+    /// The rules, with no file read yet.
+    pub fn new(alloc: Global) -> DeskRules {
+        DeskRules {
+            memo: FileMemo::new(alloc),
+        }
+    }
+}
 
 impl Rules for DeskRules {
     fn need_of(
@@ -36,7 +48,7 @@ impl Rules for DeskRules {
         caller: AccountNo,
         command: &Command,
     ) -> Result<(Delta, Reply), NotTaken> {
-        decide(alloc, rows, caller, command)
+        decide(alloc, &mut self.memo, rows, caller, command)
     }
 
     fn show(
