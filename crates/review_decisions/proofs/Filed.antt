@@ -1,10 +1,9 @@
 -- What is read of project files, and what a PutProject does by them.
-use Rattle.std.proofs.Common.{◌≡◌, ℕ, List, [], ◌∷◌, Option, Some, None, Result, Ok, Err, Bool, true, false, cond, ◌||◌, ◌∙◌, ◌⊎◌, ◌<◌, refl, sym, ap, subst, ⊎_elim, inl, inr, arith}
+use Rattle.std.proofs.Common.{◌≡◌, ℕ, List, [], ◌∷◌, Option, Some, None, Result, Ok, Err, Bool, true, false, cond, ◌||◌, ◌∙◌, ◌⊎◌, refl, sym, ap, subst, ⊎_elim, inl, inr}
 use Rattle.std.specs.Prelude.{is_some, nat_lt, IfErr, IfOk, IsSomeAnd, MatchOption, option_map}
 use Rattle.std.specs.Result.{IsErr, IsErrAnd}
 use Rattle.std.specs.Option.{option_map_or}
 use Rattle.std.specs.Str.{bytes_eq}
-use Rattle.std.proofs.lemmas.Bool.{lt-ltb}
 use Rattle.review_words.specs.declared.command.Command.{Command}
 use Rattle.review_words.specs.declared.command.Command.TheVariants.{CreateAccount, PutGroup, PutProject, RecordBase}
 use Rattle.review_words.specs.declared.faults.ExprCode.{ExprCode}
@@ -32,7 +31,7 @@ use Rattle.review_rows.specs.Answer.{IsHistory, IsAnswer, IsOutcome, HasFile, fi
 use Rattle.review_rows.specs.View.{fact, needed, IsLoaded, IsDecided}
 use Rattle.review_rows.specs.Decisions.{IsUndecided, ReadsPattern}
 use Rattle.review_account_decisions.specs.Decisions.{IsEmpty}
-use Rattle.review_decisions.specs.Files.{file_in, bad_value_cause, unread_cause, IsReadCause, IsUnreadText, IsUnread, IsFileRefusal, IsPutBy, IsFilePut}
+use Rattle.review_decisions.specs.Files.{file_in, bad_value_cause, unread_cause, IsCovered, IsReadCause, IsUnreadText, IsUnread, IsFileRefusal, IsPutBy, IsFilePut, file_refused}
 use Rattle.review_account_decisions.proofs.Decided.{text_same, empty_changes, outcome_answer, project_refused, refused_decided, file_decided}
 
 -- a refusal changes nothing
@@ -210,26 +209,28 @@ fault_by caller project text rows fault (Ok r) admin faulty x = λ h known l.
     fault_decided h caller project text r x.1.0 known (admin h l) x.0 (subst (IsReadFault text) x.1.1 faulty) x.1.2
 fault_by caller project text rows fault (Err e) admin faulty x = tt
 
-or_true : (b : Bool) → (b || true) ≡ true
-or_true true = refl
-or_true false = refl
-
 has_same : (had : Option (List ℕ)) (old : Option File) → HasFile had old → is_some had ≡ is_some old
 has_same None old is = sym (ap is_some is)
 has_same (Some t) old is = sym (ap is_some is.2)
 
--- a file that keeps the labels of the old one, where there is one or there are few projects
-pub file_passes : (had : Option (List ℕ)) (count : ℕ) (project : List ℕ) (old : Option File) (new : File) → HasFile had old → option_map_or (λ f. covers f new) old true ≡ true → (is_some old ≡ true) ⊎ (count < 1000) →
-    IsFileRefusal had count project new None
-file_passes had count project old new is keeps few = (
-  old,
-  is,
-  λ h same counted. checks_by h project old new true true keeps
-      (⊎_elim
-      (λ (some : is_some old ≡ true). ap (λ b. b || nat_lt (project_count h) 1000) (same ∙ (has_same had old is ∙ some)))
-      (λ (less : count < 1000). ap (λ b. is_project h project || b) (lt-ltb (project_count h) 1000 (omega arith)) ∙ or_true (is_project h project))
-      few),
-)
+refused_new : (h : List Entry) (count : ℕ) (project : List ℕ) (new : File) (b : Bool) → is_project h project ≡ false → count ≡ project_count h → nat_lt count 1000 ≡ b →
+    first_refusal (file_checks h project None new) ≡ cond b None (Some Limit)
+refused_new h count project new b none counted is =
+    checks_by h project None new true b refl (ap (λ x. x || nat_lt (project_count h) 1000) none ∙ (ap (λ n. nat_lt n 1000) (sym counted) ∙ is))
+
+refused_old : (h : List Entry) (count : ℕ) (project : List ℕ) (f new : File) (b : Bool) → is_project h project ≡ true → covers f new ≡ b → first_refusal (file_checks h project (Some f) new) ≡ file_refused (Some b) count
+refused_old h count project f new true there is = checks_by h project (Some f) new true true is (ap (λ x. x || nat_lt (project_count h) 1000) there)
+refused_old h count project f new false there is = checks_by h project (Some f) new false true is (ap (λ x. x || nat_lt (project_count h) 1000) there)
+
+refused_at : (had : Option (List ℕ)) (count : ℕ) (project : List ℕ) (old : Option File) (new : File) (h : List Entry) → HasFile had old → is_project h project ≡ is_some had → count ≡ project_count h →
+    first_refusal (file_checks h project old new) ≡ file_refused (option_map (λ f. covers f new) old) count
+refused_at had count project None new h has same counted = refused_new h count project new (nat_lt count 1000) (same ∙ has_same had None has) counted refl
+refused_at had count project (Some f) new h has same counted = refused_old h count project f new (covers f new) (same ∙ has_same had (Some f) has) refl
+
+-- what refuses a file, where it is known whether it covers the old one
+pub refused_by_cover : (had : Option (List ℕ)) (count : ℕ) (project : List ℕ) (new : File) (found : Option Bool) → IsCovered had new found → IsFileRefusal had count project new (file_refused found count)
+refused_by_cover had count project new found is =
+    (is.0, is.1, λ h same counted. refused_at had count project is.0 new h is.1 same counted ∙ ap (λ o. file_refused o count) (sym is.2))
 
 pub unreadable_by : (caller : ℕ) (project text : List ℕ) (rows : Rows) (fault : ReadFault) (result : Result (Delta × Reply) Cause) →
     IsReadFault text fault → IfErr result (IsReadCause fault) → IfErr result (IsUndecided caller (PutProject project text) rows)

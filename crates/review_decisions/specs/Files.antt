@@ -1,5 +1,5 @@
 -- What is done with the files of projects.
-use Rattle.std.specs.Prelude.{ℕ, ◌≡◌, List, [], Option, Some, None, is_some}
+use Rattle.std.specs.Prelude.{ℕ, ◌≡◌, List, [], Option, Some, None, Bool, true, false, is_some, nat_lt, option_map, if◌then◌else◌}
 use Rattle.std.specs.Ordering.{nat_cmp}
 use Rattle.std.specs.Cmp.Lexicographic.{slice_cmp}
 use Rattle.review_table.specs.Rows.{row_in, rows_of}
@@ -10,13 +10,14 @@ use Rattle.review_words.specs.declared.reply.Reply.{Reply}
 use Rattle.review_words.specs.declared.reply.Reply.TheVariants.{Done, Refused}
 use Rattle.review_words.specs.declared.reply.Answer.TheVariants.{Nothing}
 use Rattle.review_words.specs.declared.reply.Refusal.{Refusal}
+use Rattle.review_words.specs.declared.reply.Refusal.TheVariants.{LabelNarrowed, Limit}
 use Rattle.review_words.specs.declared.reply.NotTaken.{NotTaken as Cause}
 use Rattle.review_words.specs.declared.reply.NotTaken.TheVariants.{Memory, Pattern, Damaged}
 use Rattle.review_words.specs.History.{Entry, is_project, project_count}
 use Rattle.review_project.specs.declared.fault.ReadFault.{ReadFault}
 use Rattle.review_project.specs.declared.fault.ReadFault.TheVariants as read
-use Rattle.review_rows.specs.Files.{File, IsRead, HasPattern}
-use Rattle.review_rows.specs.Answer.{HasFile, file_checks, first_refusal}
+use Rattle.review_rows.specs.Files.{File, IsRead, HasPattern, covers}
+use Rattle.review_rows.specs.Answer.{HasFile, file_checks, first_refusal, most_projects}
 use Rattle.review_rows.specs.declared.rows.Rows.{Rows}
 use Rattle.review_rows.specs.declared.rows.Delta.{Delta}
 use Rattle.review_account_decisions.specs.Decisions.{IsEmpty}
@@ -62,6 +63,16 @@ pub record PutsFile (project text : List ℕ) (delta : Delta) : Type 0 where
   pub members : delta.members.items ≡ []
   pub file : delta.file ≡ Some (record { project = project; file = text })
   pub base : delta.base ≡ None
+
+-- whether the file that a project has, where it has one, is covered by a new one
+abbrev pub IsCovered : Option (List ℕ) → File → Option Bool → Type 0
+IsCovered had new found = (old : Option File) × HasFile had old × (found ≡ option_map (λ f. covers f new) old)
+
+-- what refuses a file, by whether it covers the one that the project has, and how many projects there are
+abbrev pub file_refused : Option Bool → ℕ → Option Refusal
+file_refused (Some true) projects = None
+file_refused (Some false) projects = Some LabelNarrowed
+file_refused None projects = if nat_lt projects most_projects then None else Some Limit
 
 -- What refuses a file where the project had this text: by the checks of a history that has the project where a text is there, and as many projects as are counted.
 abbrev pub IsFileRefusal : Option (List ℕ) → ℕ → List ℕ → File → Option Refusal → Type 0

@@ -1,6 +1,5 @@
 //! Decisions on the files of projects.
 ghost use Rattle.std.specs.Prelude.{◌≡◌, List, IfOk, IfErr, IfSome, true};
-ghost use Rattle.std.specs.Option.{option_copied, option_map_or};
 ghost use Rattle.review_words.specs.Texts.{IsStored};
 ghost use Rattle.review_words.specs.History.{Entry, is_account};
 ghost use Rattle.review_words.specs.declared.command.Command.TheVariants.{PutProject};
@@ -10,11 +9,9 @@ ghost use Rattle.review_words.specs.declared.reply.Reply.TheVariants.{Done, Refu
 ghost use Rattle.review_words.specs.declared.reply.Answer.TheVariants.{Nothing};
 ghost use Rattle.review_words.specs.declared.reply.Refusal.TheVariants.{BadFile};
 ghost use Rattle.review_project.specs.declared.fault.ReadFault.TheVariants.{File};
-ghost use Rattle.review_project.specs.Rights.{covers};
-ghost use Rattle.review_rows.specs.Answer.{HasFile};
 ghost use Rattle.review_rows.specs.Decisions.{IsUndecided, NamesEachOnce};
 ghost use Rattle.review_account_decisions.specs.Decisions.{IsEmpty};
-ghost use Rattle.review_decisions.specs.Files.{file_in, unread_cause, IsReadCause, IsUnread, PutsFile, IsFileRefusal, IsFilePut};
+ghost use Rattle.review_decisions.specs.Files.{file_in, file_refused, unread_cause, IsCovered, IsReadCause, IsUnread, PutsFile, IsFileRefusal, IsFilePut};
 
 use review_account_decisions::{is_admin, nothing, refused};
 use review_file::{ProjectFile, ReadFault, covers};
@@ -102,14 +99,26 @@ fn file_refusal(
     ensures cause { IfErr result (IsUnread (file_in rows.now project.now)) }
     ensures stored { IfOk result (λ o. IfSome o (λ r. IsStored (Refused r))) }
 {
-    let old = stored_file(alloc, memo, rows, project)?;
-    if !keeps_labels(old, new) {
-        return Ok(Some(Refusal::LabelNarrowed));
+    let covered = covers_old(alloc, memo, rows, project, new)?;
+    Ok(refusal_by(covered, rows.project_count))
+}
+
+// What refuses a file, by whether it covers the one that the project has, where it has one, and how many projects there are.
+fn refusal_by(covered: Option<bool>, projects: u64) -> Option<Refusal>
+    ensures refusal { result ≡ file_refused covered projects }
+    ensures stored { IfSome result (λ r. IsStored (Refused r)) }
+{
+    match covered {
+        Some(true) => None,
+        Some(false) => Some(Refusal::LabelNarrowed),
+        None => {
+            if projects < MOST_PROJECTS {
+                None
+            } else {
+                Some(Refusal::Limit)
+            }
+        }
     }
-    if old.is_none() && rows.project_count >= MOST_PROJECTS {
-        return Ok(Some(Refusal::Limit));
-    }
-    Ok(None)
 }
 
 // The change that puts the file of a project.
@@ -130,31 +139,22 @@ fn put_text(
     Ok((delta, Reply::Done(Answer::Nothing)))
 }
 
-// Whether each label of the old file, where there is one, keeps its values.
-fn keeps_labels(old: Option<&ProjectFile>, new: &ProjectFile) -> bool
-    ensures { result ≡ option_map_or (λ f. covers f new.now) (option_copied old.entry) true }
-{
-    match old {
-        Some(old) => covers(old, new),
-        None => true,
-    }
-}
-
-// The file that a project has, or none where it was never put.
-fn stored_file<'m>(
+// Whether the file that a project has, where it has one, is covered by a new one.
+fn covers_old(
     alloc: Global,
-    memo: &'m mut FileMemo,
+    memo: &mut FileMemo,
     rows: &Rows,
     project: &ProjectName,
-) -> Result<Option<&'m ProjectFile>, NotTaken>
-    ensures read { IfOk result (λ o. HasFile (file_in rows.now project.now) (option_copied o)) }
+    new: &ProjectFile,
+) -> Result<Option<bool>, NotTaken>
+    ensures covered { IfOk result (IsCovered (file_in rows.now project.now) new.now) }
     ensures cause { IfErr result (IsUnread (file_in rows.now project.now)) }
 {
     let Some(text) = rows.files.get(project) else {
         return Ok(None);
     };
     match memo.read(alloc, project, text) {
-        Ok(file) => Ok(Some(file)),
+        Ok(old) => Ok(Some(covers(old, new))),
         Err(fault) => Err(unread_cause(fault)),
     }
 }

@@ -1,8 +1,6 @@
-use Rattle.std.proofs.Common.{◌∙◌, true, false, sym, subst}
+use Rattle.std.proofs.Common.{◌∙◌, true, false, sym}
 use Rattle.review_words.specs.declared.command.Command.TheVariants.{PutProject}
 use Rattle.review_words.specs.declared.reply.Refusal.TheVariants.{NotAdmin}
-use Rattle.review_project.specs.Reading.{IsReadFault}
-use Rattle.review_rows.specs.Files.{IsRead}
 use Rattle.review_account_decisions.proofs.Decided.{admin_is, refused_pair, project_refused}
 use Rattle.review_decisions.proofs.Filed.{put_project_by, unread_by, fault_by, unreadable_by}
 use Rattle.review_decisions.proofs.projects.put_project.Goals as goal
@@ -17,9 +15,9 @@ returns-then-not-admin-clause-decided c = λ h known l.
 pub returns-in-Ok-clause-decided : goal.returns-in-Ok-clause-decided
 returns-in-Ok-clause-decided c =
     let a = c.args in
-    put_project_by a.caller a.project.now a.file.now a.rows.now c.in-Ok.new c.put_file.result
+    put_project_by a.caller a.project.now a.file.now a.rows.now c.in-Ok.new.file c.put_file.result
     (λ h l. sym (admin_is h a.caller (PutProject a.project.now a.file.now) a.rows.now l) ∙ (sym c.in_ok-admin.ensures ∙ c.if-not-admin.false))
-    (subst (λ t. IsRead t c.in-Ok.new) c.as_str.ensures c.in-Ok.ensures.read) c.put_file.ensures.put
+    c.in-Ok.ensures.read c.put_file.ensures.put
 
 pub returns-in-Ok-clause-cause : goal.returns-in-Ok-clause-cause
 returns-in-Ok-clause-cause c = unread_by c.args.caller c.args.project.now c.args.file.now c.args.rows.now c.put_file.result c.put_file.ensures.cause
@@ -29,10 +27,10 @@ returns-in-Err-clause-decided c =
     let a = c.args in
     fault_by a.caller a.project.now a.file.now a.rows.now c.in-Err.fault c.refuse_file.result
     (λ h l. sym (admin_is h a.caller (PutProject a.project.now a.file.now) a.rows.now l) ∙ (sym c.in_ok-admin.ensures ∙ c.if-not-admin.false))
-    (subst (λ t. IsReadFault t c.in-Err.fault) c.as_str.ensures c.in-Err.ensures.fault) c.refuse_file.ensures.file
+    c.in-Err.ensures.fault c.refuse_file.ensures.file
 
 pub returns-in-Err-clause-cause : goal.returns-in-Err-clause-cause
 returns-in-Err-clause-cause c =
     let a = c.args in
     unreadable_by a.caller a.project.now a.file.now a.rows.now c.in-Err.fault c.refuse_file.result
-    (subst (λ t. IsReadFault t c.in-Err.fault) c.as_str.ensures c.in-Err.ensures.fault) c.refuse_file.ensures.cause
+    c.in-Err.ensures.fault c.refuse_file.ensures.cause
