@@ -9,7 +9,7 @@ ghost use Rattle.review_rows.specs.Decisions.{IsUndecided, NamesEachOnce};
 use crate::projects::put_project;
 use review_account_decisions::{create_account, has_account, put_group, refused};
 use review_branch_decisions::record_base;
-use review_memo::FileMemo;
+use review_file::FileMemo;
 use review_rows::{Delta, Rows};
 use review_words::{AccountNo, Command, NotTaken, Refusal, Reply};
 use std::alloc::Global;

@@ -14,8 +14,7 @@ ghost use Rattle.review_account_decisions.specs.Decisions.{IsEmpty};
 ghost use Rattle.review_decisions.specs.Files.{file_in, file_refused, unread_cause, IsCovered, IsReadCause, IsUnread, PutsFile, IsFileRefusal, IsFilePut};
 
 use review_account_decisions::{is_admin, nothing, refused};
-use review_file::{ProjectFile, ReadFault, covers};
-use review_memo::{FileMemo, ReadText};
+use review_file::{FileMemo, ProjectFile, ReadFault, ReadText, covers};
 use review_rows::{Delta, ProjectRow, Rows};
 use review_words::{
     AccountNo, Answer, ExprCode, FileFault, FileText, NotTaken, ProjectName, Refusal, Reply,

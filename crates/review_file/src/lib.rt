@@ -13,21 +13,25 @@
 //!
 //! [`read_file`] gives the file that a text spells, or the first of its faults in the order of
 //! [`FileFault`]; its contract says which. [`covers`] holds one file against another and takes no
-//! memory. What a file gives an account `review_ranges` says; what an expression is, and when it holds, `review_expr`.
+//! memory. A [`FileMemo`] remembers the files that were read, by project, each held to its text. What a file gives an account `review_ranges` says; what an expression is, and when it holds, `review_expr`.
 #![tactic(auto)]
 
 mod access;
 pub mod covering;
 pub mod file;
 mod labels;
+pub mod memo;
 pub mod read;
 mod requirements;
 mod rights;
+pub mod texts;
 mod unknown;
 
 pub use covering::covers;
 pub use file::{Access, Label, LabelValue, ProjectFile, Requirement};
+pub use memo::FileMemo;
 pub use read::read_file;
 pub use review_document::limits::{MOST_BYTES, MOST_DESCRIPTION, MOST_PARTS, MOST_TEXT};
 pub use review_project::{Grant, ReadFault, Right};
 pub use review_words::FileFault;
+pub use texts::ReadText;

@@ -2,7 +2,7 @@
 use review_branch_decisions::{need_of, need_of_query, show};
 use review_decisions::decide;
 use review_deliveries::Rules;
-use review_memo::FileMemo;
+use review_file::FileMemo;
 use review_rows::{Delta, Need, Rows};
 use review_words::{AccountNo, Command, NotTaken, Query, Reply};
 use std::alloc::{AllocError, Global};

@@ -1,4 +1,5 @@
-//! Files by project.
+//! Project files that were read before, so that a file is read once as long as its text stays. What is remembered is held to the text byte for
+//! byte, so it is right whatever text a project has by now.
 ghost use Rattle.std.specs.Prelude.{◌≡◌, IfOk, IfErr, OnOk, OnErr, Some, [], if◌then◌else◌};
 ghost use Rattle.std.specs.BTreeMap.{is_at};
 ghost use Rattle.std.specs.Ordering.{nat_cmp};
@@ -7,8 +8,9 @@ ghost use Rattle.review_table.specs.Rows.{row_in, rows_of};
 ghost use Rattle.review_project.specs.Reading.{IsRead, IsReadFault};
 ghost use Rattle.review_project.specs.Patterns.{HasPattern};
 
+use crate::file::ProjectFile;
 use crate::texts::ReadText;
-use review_file::{ProjectFile, ReadFault};
+use review_project::ReadFault;
 use review_table::{Key, Table};
 use review_words::{FileText, ProjectName};
 use std::alloc::{AllocError, Global};
