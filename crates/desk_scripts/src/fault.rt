@@ -1,9 +1,8 @@
 //! What ends a transcript early.
 
 use std::alloc::AllocError;
-use std::fmt;
 use std::fmt::{Display, Formatter};
-use std::io;
+use std::{fmt, io};
 
 /// What ends a transcript early.
 #[derive(Clone, Copy, Debug, PartialEq, Eq)]

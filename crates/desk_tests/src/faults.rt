@@ -48,7 +48,10 @@ fn a_reader_fails_at_each_call(rt: HostRuntime) -> Result<(), Fail> {
             Ok(Outcome::Complete)
         };
         let wanted = (end, whole as usize, whole.min(1));
-        assert!(rt; read_until(rt.alloc(), failing)? == wanted, "call {failing}");
+        assert!(rt;
+            read_until(rt.alloc(), failing)? == wanted,
+            "call {failing}"
+        );
     }
     Ok(())
 }
@@ -81,7 +84,10 @@ fn write_until(alloc: Global, failing: u64, is_stuck: bool) -> Result<bool, Fail
 fn a_writer_fails_at_each_call(rt: HostRuntime) -> Result<(), Fail> {
     for failing in 1..30u64 {
         assert!(rt; write_until(rt.alloc(), failing, false)?, "call {failing}");
-        assert!(rt; write_until(rt.alloc(), failing, true)?, "stuck at call {failing}");
+        assert!(rt;
+            write_until(rt.alloc(), failing, true)?,
+            "stuck at call {failing}"
+        );
     }
     Ok(())
 }
@@ -101,7 +107,11 @@ fn a_shelf_fails_at_each_call(rt: HostRuntime) -> Result<(), Fail> {
     // The calls for a new request are recall, load and commit.
     for failing in 1..=3u64 {
         let (first, after_first, again, after_both) = ask_twice(rt.alloc(), failing)?;
-        assert_eq!(rt; first.as_str(), "{\"not_taken\":\"STORE\"}\n", "call {failing}");
+        assert_eq!(rt;
+            first.as_str(),
+            "{\"not_taken\":\"STORE\"}\n",
+            "call {failing}"
+        );
         assert_eq!(rt; again.as_str(), ANSWER, "call {failing}");
         assert_eq!(rt; (after_first, after_both), (0, 1), "call {failing}");
     }
@@ -116,7 +126,8 @@ fn stored_after(alloc: Global, input: &str) -> Result<u64, Fail> {
 }
 
 /// A refusal, what it asked for, the refused request again, and under another id.
-const REFUSED: &str = r#"{"caller":1,"id":"g1","do":"PutGroup","group":"Core","body":{"members":[2]}}
+const REFUSED: &str =
+    r#"{"caller":1,"id":"g1","do":"PutGroup","group":"Core","body":{"members":[2]}}
 {"caller":1,"id":"a1","do":"CreateAccount","body":{"name":"ann"}}
 {"caller":1,"id":"g1","do":"PutGroup","group":"Core","body":{"members":[2]}}
 {"caller":1,"id":"g2","do":"PutGroup","group":"Core","body":{"members":[2]}}

@@ -79,7 +79,9 @@ fn base_line(alloc: Global, branch: &str, number: u32) -> Result<String, AllocEr
     // With these zeros it has forty digits.
     let digits = u64::from(number).saturating_add(10_000_000_000);
     let commit = format!(in alloc; "00000000000000000000000000000{digits}")?;
-    format!(in alloc; "{{\"caller\":1,\"id\":\"{branch}-{number}\",\"do\":\"RecordBase\",\"project\":\"p\",\"branch\":\"{branch}\",\"body\":{{\"commit\":\"{commit}\"}}}}")
+    format!(in alloc;
+        "{{\"caller\":1,\"id\":\"{branch}-{number}\",\"do\":\"RecordBase\",\"project\":\"p\",\"branch\":\"{branch}\",\"body\":{{\"commit\":\"{commit}\"}}}}"
+    )
 }
 
 /// The answer to that line.
@@ -106,8 +108,7 @@ fn record_all(alloc: Global, shelf: &mut MemoryShelf) -> Result<u32, Fail> {
     Ok(done)
 }
 
-const PUT: &str =
-    r#"{"caller":1,"id":"p","do":"PutProject","project":"p","body":{"file":""}}"#;
+const PUT: &str = r#"{"caller":1,"id":"p","do":"PutProject","project":"p","body":{"file":""}}"#;
 
 #[test]
 fn the_last_base(rt: HostRuntime) -> Result<(), Fail> {
@@ -116,7 +117,11 @@ fn the_last_base(rt: HostRuntime) -> Result<(), Fail> {
     assert_eq!(rt; record_all(rt.alloc(), &mut shelf)?, 100_000);
     for branch in ["main", "next", "other"] {
         let text = record(rt.alloc(), &mut shelf, branch, 50_000)?;
-        assert_eq!(rt; text.as_str(), "{\"number\":28,\"refused\":\"LIMIT\"}\n", "{branch}");
+        assert_eq!(rt;
+            text.as_str(),
+            "{\"number\":28,\"refused\":\"LIMIT\"}\n",
+            "{branch}"
+        );
     }
     Ok(())
 }

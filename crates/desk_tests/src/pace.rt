@@ -118,7 +118,11 @@ fn are_in_time(alloc: Global, most: usize) -> Result<(bool, bool), Fail> {
 fn answers_are_out_before_the_next_read(rt: HostRuntime) -> Result<(), Fail> {
     // A byte, less than a line, a line, a line and some of the next, two lines, all.
     for most in [1usize, 40, 66, 100, 132, 1_000] {
-        assert_eq!(rt; are_in_time(rt.alloc(), most)?, (true, true), "{most} bytes a read");
+        assert_eq!(rt;
+            are_in_time(rt.alloc(), most)?,
+            (true, true),
+            "{most} bytes a read"
+        );
     }
     Ok(())
 }
@@ -154,6 +158,9 @@ fn a_long_line_comes_byte_by_byte(rt: HostRuntime) -> Result<(), Fail> {
     let wanted = times(rt.alloc(), "{\"account\":2}\n", 2)?;
     assert_eq!(rt; longest.as_str(), wanted.as_str());
     let longer = answers_to_bytes(rt.alloc(), 400_001)?;
-    assert_eq!(rt; longer.as_str(), "{\"fault\":\"BAD_LINE\"}\n{\"account\":2}\n");
+    assert_eq!(rt;
+        longer.as_str(),
+        "{\"fault\":\"BAD_LINE\"}\n{\"account\":2}\n"
+    );
     Ok(())
 }

@@ -45,13 +45,17 @@ fn put_group(alloc: Global, numbers: &mut Numbers) -> Result<String, AllocError>
     let group = numbers.one_of(&["Core", "Readers", "Administrators", "Registered-Users"]);
     let one = numbers.below(40).saturating_add(1);
     let other = numbers.below(40).saturating_add(1);
-    format!(in alloc; "\"do\":\"PutGroup\",\"group\":\"{group}\",\"body\":{{\"members\":[{one},1,{other}]}}")
+    format!(in alloc;
+        "\"do\":\"PutGroup\",\"group\":\"{group}\",\"body\":{{\"members\":[{one},1,{other}]}}"
+    )
 }
 
 fn put_project(alloc: Global, numbers: &mut Numbers) -> Result<String, AllocError> {
     let project = numbers.one_of(&["tools", "docs/site"]);
     let file = numbers.one_of(&FILES);
-    format!(in alloc; "\"do\":\"PutProject\",\"project\":\"{project}\",\"body\":{{\"file\":\"{file}\"}}")
+    format!(in alloc;
+        "\"do\":\"PutProject\",\"project\":\"{project}\",\"body\":{{\"file\":\"{file}\"}}"
+    )
 }
 
 /// A base of one of three projects, the last of which is never put.
@@ -59,7 +63,9 @@ fn record_base(alloc: Global, numbers: &mut Numbers) -> Result<String, AllocErro
     let project = numbers.one_of(&["tools", "docs/site", "nowhere"]);
     let branch = numbers.one_of(&["main", "stable/1.0"]);
     let digit = numbers.below(8);
-    format!(in alloc; "\"do\":\"RecordBase\",\"project\":\"{project}\",\"branch\":\"{branch}\",\"body\":{{\"commit\":\"000000000000000000000000000000000000000{digit}\"}}")
+    format!(in alloc;
+        "\"do\":\"RecordBase\",\"project\":\"{project}\",\"branch\":\"{branch}\",\"body\":{{\"commit\":\"000000000000000000000000000000000000000{digit}\"}}"
+    )
 }
 
 fn question(alloc: Global, numbers: &mut Numbers) -> Result<String, AllocError> {
