@@ -1,68 +1,49 @@
 //! Readers, writers and shelves that fail, at each of their calls.
 
 use crate::streams::{PoorReader, PoorWriter};
-use crate::texts::{ANN, answers, stored, times};
+use crate::texts::{ANN, ANSWERS, End, THRICE, answers, run_on, stored};
 use review_machine::{Fault, Outcome, apply_lines};
 use review_shelves::{FaultyShelf, MemoryShelf};
-use std::alloc::{AllocError, Global};
+use std::alloc::Global;
 use std::test::Fail;
 
-const ANSWER: &str = "{\"account\":2}\n";
-
-/// A request three times.
-fn three_lines(alloc: Global) -> Result<String, AllocError> {
-    format!(in alloc; "{ANN}\n{ANN}\n{ANN}\n")
-}
-
-/// How a run over three lines ended, how many answers were written, and how many requests stored: the reader gives 20 bytes a
-/// call, and fails at one. All of this is false where something else was written.
-fn read_until(alloc: Global, failing: u64) -> Result<(Result<Outcome, Fault>, usize, u64), Fail> {
-    let input = three_lines(alloc)?;
+/// How a run over three lines ended, the answers, and how many requests were stored: the reader gives 20 bytes a call, and fails at one.
+fn read_until(alloc: Global, failing: u64) -> Result<(End, String, u64), Fail> {
     let mut shelf = MemoryShelf::new(alloc)?;
     let mut reader = PoorReader {
-        left: input.as_bytes(),
+        left: THRICE.as_bytes(),
         most: 20,
         calls: 0,
         failing,
     };
-    let mut written = Vec::new(alloc);
-    let end = apply_lines(alloc, &mut reader, &mut written, &mut shelf);
-    let count = written.len() / ANSWER.len();
-    if str::from_utf8(&written)? != times(alloc, ANSWER, count)?.as_str() {
-        return Err("something else was written")?;
-    }
-    Ok((end, count, stored(alloc, &mut shelf)?))
+    let (text, end) = run_on(alloc, &mut reader, &mut shelf)?;
+    Ok((end, text, stored(alloc, &mut shelf)?))
+}
+
+/// Whether a run whose reader fails at a call ended as it should, where so many lines came whole.
+fn is_read_until(alloc: Global, failing: u64, whole: usize, wanted: End) -> Result<bool, Fail> {
+    let (end, text, requests) = read_until(alloc, failing)?;
+    let is_answered = text.len() == whole.saturating_mul(14) && ANSWERS.starts_with(text.as_str());
+    Ok(end == wanted && is_answered && requests == whole.min(1) as u64)
 }
 
 #[test]
 fn a_reader_fails_at_each_call(rt: HostRuntime) -> Result<(), Fail> {
-    let length = ANN.len() as u64 + 1;
-    // The end comes at the call after the last of the bytes.
-    let calls = (3 * length).div_ceil(20) + 1;
-    for failing in 1..=calls + 1 {
-        // Each line that came whole is answered, and no other.
-        let whole = ((failing - 1) * 20 / length).min(3);
-        let end = if failing <= calls {
-            Err(Fault::Input)
-        } else {
-            Ok(Outcome::Complete)
-        };
-        let wanted = (end, whole as usize, whole.min(1));
-        assert!(rt;
-            read_until(rt.alloc(), failing)? == wanted,
-            "call {failing}"
-        );
+    // A line has 66 bytes, so the end comes at call 11. Each line that came whole is answered, and no other.
+    for failing in 1..=11u64 {
+        let whole = ((failing - 1) * 20 / 66) as usize;
+        let is_right = is_read_until(rt.alloc(), failing, whole, Err(Fault::Input))?;
+        assert!(rt; is_right, "call {failing}");
     }
+    assert!(rt; is_read_until(rt.alloc(), 12, 3, Ok(Outcome::Complete))?);
     Ok(())
 }
 
-/// A run over three lines whose writer takes 5 bytes a call, and fails at one: whether it ended as it should. What was taken is
-/// the first part of the answers; all of them where no call failed, and otherwise the output's fault is told.
-fn write_until(alloc: Global, failing: u64, is_stuck: bool) -> Result<bool, Fail> {
-    let input = three_lines(alloc)?;
-    let all = times(alloc, ANSWER, 3)?;
+/// Whether a run ended as it should whose writer takes 5 bytes a call, and fails at one. What was taken is the first part of the
+/// answers; all of them where no call failed, and otherwise the output's fault is told.
+fn is_written_until(alloc: Global, failing: u64, is_stuck: bool) -> Result<bool, Fail> {
     let mut shelf = MemoryShelf::new(alloc)?;
-    let mut reader = input.as_bytes();
+    let mut reader = THRICE.as_bytes();
     let mut writer = PoorWriter {
         taken: Vec::new(alloc),
         most: 5,
@@ -73,9 +54,9 @@ fn write_until(alloc: Global, failing: u64, is_stuck: bool) -> Result<bool, Fail
     let end = apply_lines(alloc, &mut reader, &mut writer, &mut shelf);
     let taken = str::from_utf8(&writer.taken)?;
     let is_right = if writer.calls < failing {
-        end == Ok(Outcome::Complete) && taken == all.as_str()
+        end == Ok(Outcome::Complete) && taken == ANSWERS
     } else {
-        end == Err(Fault::Output) && all.as_str().starts_with(taken)
+        end == Err(Fault::Output) && ANSWERS.starts_with(taken)
     };
     Ok(is_right && stored(alloc, &mut shelf)? <= 1)
 }
@@ -83,37 +64,38 @@ fn write_until(alloc: Global, failing: u64, is_stuck: bool) -> Result<bool, Fail
 #[test]
 fn a_writer_fails_at_each_call(rt: HostRuntime) -> Result<(), Fail> {
     for failing in 1..30u64 {
-        assert!(rt; write_until(rt.alloc(), failing, false)?, "call {failing}");
-        assert!(rt;
-            write_until(rt.alloc(), failing, true)?,
-            "stuck at call {failing}"
-        );
+        for is_stuck in [false, true] {
+            let is_right = is_written_until(rt.alloc(), failing, is_stuck)?;
+            assert!(rt; is_right, "call {failing}, {is_stuck}");
+        }
     }
     Ok(())
 }
 
-/// A request on a shelf whose call fails, and again: both answers, and how many requests were stored after each.
-fn ask_twice(alloc: Global, failing: u64) -> Result<(String, u64, String, u64), Fail> {
-    let mut shelf = FaultyShelf::new(MemoryShelf::new(alloc)?, failing);
-    let first = answers(alloc, &mut shelf, ANN.as_bytes())?;
-    let after_first = stored(alloc, &mut shelf)?;
-    let again = answers(alloc, &mut shelf, ANN.as_bytes())?;
-    let after_both = stored(alloc, &mut shelf)?;
-    Ok((first, after_first, again, after_both))
+/// Whether a request is answered as wanted and the run ends so, and how many requests are stored then.
+fn ask(
+    alloc: Global,
+    shelf: &mut FaultyShelf<MemoryShelf>,
+    answer: &str,
+    wanted: Outcome,
+) -> Result<(bool, u64), Fail> {
+    let mut reader = ANN.as_bytes();
+    let (text, end) = run_on(alloc, &mut reader, shelf)?;
+    let is_right = text.as_str() == answer && end == Ok(wanted);
+    Ok((is_right, stored(alloc, shelf)?))
 }
 
 #[test]
 fn a_shelf_fails_at_each_call(rt: HostRuntime) -> Result<(), Fail> {
+    const STORE: &str = "{\"not_taken\":\"STORE\"}\n";
+    const ACCOUNT: &str = "{\"account\":2}\n";
     // The calls for a new request are recall, load and commit.
     for failing in 1..=3u64 {
-        let (first, after_first, again, after_both) = ask_twice(rt.alloc(), failing)?;
-        assert_eq!(rt;
-            first.as_str(),
-            "{\"not_taken\":\"STORE\"}\n",
-            "call {failing}"
-        );
-        assert_eq!(rt; again.as_str(), ANSWER, "call {failing}");
-        assert_eq!(rt; (after_first, after_both), (0, 1), "call {failing}");
+        let mut shelf = FaultyShelf::new(MemoryShelf::new(rt.alloc())?, failing);
+        let first = ask(rt.alloc(), &mut shelf, STORE, Outcome::Incomplete)?;
+        assert_eq!(rt; first, (true, 0), "call {failing}");
+        let again = ask(rt.alloc(), &mut shelf, ACCOUNT, Outcome::Complete)?;
+        assert_eq!(rt; again, (true, 1), "call {failing}");
     }
     Ok(())
 }
@@ -121,7 +103,7 @@ fn a_shelf_fails_at_each_call(rt: HostRuntime) -> Result<(), Fail> {
 /// How many requests are stored after an input.
 fn stored_after(alloc: Global, input: &str) -> Result<u64, Fail> {
     let mut shelf = MemoryShelf::new(alloc)?;
-    let _answers = answers(alloc, &mut shelf, input.as_bytes())?;
+    let _answers = answers(alloc, &mut shelf, input)?;
     stored(alloc, &mut shelf)
 }
 
@@ -140,9 +122,8 @@ const NOTHING: &str = r#"{"caller":1,"do":"Branch","project":"tools","branch":"m
 
 #[test]
 fn each_request_is_stored_once(rt: HostRuntime) -> Result<(), Fail> {
-    let three = three_lines(rt.alloc())?;
-    for (input, wanted) in [(three.as_str(), 1), (REFUSED, 3), (NOTHING, 0)] {
-        assert_eq!(rt; stored_after(rt.alloc(), input)?, wanted, "{input}");
-    }
+    assert_eq!(rt; stored_after(rt.alloc(), THRICE)?, 1);
+    assert_eq!(rt; stored_after(rt.alloc(), REFUSED)?, 3);
+    assert_eq!(rt; stored_after(rt.alloc(), NOTHING)?, 0);
     Ok(())
 }

@@ -1,7 +1,7 @@
 //! Answers that are waited for, and a line that comes slowly.
 
 use crate::streams::PoorReader;
-use crate::texts::{ANN, times};
+use crate::texts::{ANN, run_on};
 use review_machine::apply_lines;
 use review_shelves::MemoryShelf;
 use std::alloc::{AllocError, Global};
@@ -90,7 +90,7 @@ const LINES: &str = r#"{"caller":1,"id":"a1","do":"CreateAccount","body":{"name"
 {"caller":2,"do":"Branch","project":"tools","branch":"main"}
 "#;
 
-const ANSWERS: &str = r#"{"account":2}
+const REPLIES: &str = r#"{"account":2}
 {"account":2}
 {"fault":"BAD_LINE"}
 {"number":3,"refused":"NO_PROJECT"}
@@ -110,7 +110,7 @@ fn are_in_time(alloc: Global, most: usize) -> Result<(bool, bool), Fail> {
     };
     let mut shelf = MemoryShelf::new(alloc)?;
     let _ended = apply_lines(alloc, &mut reader, &mut writer, &mut shelf);
-    let is_right = str::from_utf8(&writer.taken)? == ANSWERS;
+    let is_right = str::from_utf8(&writer.taken)? == REPLIES;
     Ok((is_right, !watch.is_late.get()))
 }
 
@@ -127,19 +127,18 @@ fn answers_are_out_before_the_next_read(rt: HostRuntime) -> Result<(), Fail> {
     Ok(())
 }
 
-/// The line of a request, with spaces up to a length, and the request again.
-fn long_line(alloc: Global, length: usize) -> Result<Vec<u8>, AllocError> {
-    let mut input = Vec::new(alloc);
-    input.extend_from_slice(ANN.as_bytes())?;
-    input.resize(length, b' ')?;
-    input.extend_from_slice(b"\n")?;
-    input.extend_from_slice(ANN.as_bytes())?;
-    Ok(input)
+/// A request with spaces up to a length, and what stands behind that.
+fn long_line(alloc: Global, length: usize, behind: &str) -> Result<Vec<u8>, AllocError> {
+    let mut line = Vec::new(alloc);
+    line.extend_from_slice(ANN.as_bytes())?;
+    line.resize(length, b' ')?;
+    line.extend_from_slice(behind.as_bytes())?;
+    Ok(line)
 }
 
-/// The answers to a long line that comes byte by byte.
-fn answers_to_bytes(alloc: Global, length: usize) -> Result<String, Fail> {
-    let input = long_line(alloc, length)?;
+/// The answers to a long line, and what stands behind it, that come byte by byte.
+fn answers_to_bytes(alloc: Global, length: usize, behind: &str) -> Result<String, Fail> {
+    let input = long_line(alloc, length, behind)?;
     let mut reader = PoorReader {
         left: &input,
         most: 1,
@@ -147,20 +146,33 @@ fn answers_to_bytes(alloc: Global, length: usize) -> Result<String, Fail> {
         failing: 0,
     };
     let mut shelf = MemoryShelf::new(alloc)?;
-    let mut written = Vec::new(alloc);
-    let _ended = apply_lines(alloc, &mut reader, &mut written, &mut shelf);
-    Ok(String::from_str(alloc, str::from_utf8(&written)?)?)
+    let (text, _end) = run_on(alloc, &mut reader, &mut shelf)?;
+    Ok(text)
 }
+
+/// The end of the long line, a request, and a line that is none.
+const BEHIND: &str = r#"
+{"caller":1,"id":"a2","do":"CreateAccount","body":{"name":"bob"}}
+{}"#;
 
 #[test]
 fn a_long_line_comes_byte_by_byte(rt: HostRuntime) -> Result<(), Fail> {
-    let longest = answers_to_bytes(rt.alloc(), 400_000)?;
-    let wanted = times(rt.alloc(), "{\"account\":2}\n", 2)?;
-    assert_eq!(rt; longest.as_str(), wanted.as_str());
-    let longer = answers_to_bytes(rt.alloc(), 400_001)?;
-    assert_eq!(rt;
-        longer.as_str(),
-        "{\"fault\":\"BAD_LINE\"}\n{\"account\":2}\n"
-    );
+    for (length, behind, wanted) in [
+        (400_000, "", "{\"account\":2}\n"),
+        (
+            400_000,
+            BEHIND,
+            "{\"account\":2}\n{\"account\":3}\n{\"fault\":\"BAD_LINE\"}\n",
+        ),
+        (400_001, "", "{\"fault\":\"BAD_LINE\"}\n"),
+        (
+            400_001,
+            BEHIND,
+            "{\"fault\":\"BAD_LINE\"}\n{\"account\":2}\n{\"fault\":\"BAD_LINE\"}\n",
+        ),
+    ] {
+        let text = answers_to_bytes(rt.alloc(), length, behind)?;
+        assert_eq!(rt; text.as_str(), wanted, "{length}");
+    }
     Ok(())
 }

@@ -1,9 +1,10 @@
 //! A desk in memory against the definitions, over a thousand deliveries with repeats, clashes and questions.
 
+use crate::texts::{ANN, digits, joined};
 use review_json::delivery_of_line;
-use review_machine::{MemoryShelf, deliver};
+use review_machine::{MemoryShelf, deliver, run_in_memory};
 use review_plain::PlainDesk;
-use review_words::{Answer, Refusal, Reply};
+use review_words::{AccountNo, Answer, Refusal, Reply};
 use std::alloc::{AllocError, Global};
 use std::test::Fail;
 
@@ -36,44 +37,69 @@ impl Numbers {
 }
 
 fn create_account(alloc: Global, numbers: &mut Numbers) -> Result<String, AllocError> {
-    let number = numbers.below(150);
-    format!(in alloc; "\"do\":\"CreateAccount\",\"body\":{{\"name\":\"name-{number}\"}}")
+    let name = digits(alloc, numbers.below(150))?;
+    let parts = [
+        r#""do":"CreateAccount","body":{"name":"name-"#,
+        name.as_str(),
+        r#""}"#,
+    ];
+    joined(alloc, &parts)
 }
 
 /// Account 1 stays an administrator, so that not all that follows is refused.
 fn put_group(alloc: Global, numbers: &mut Numbers) -> Result<String, AllocError> {
     let group = numbers.one_of(&["Core", "Readers", "Administrators", "Registered-Users"]);
-    let one = numbers.below(40).saturating_add(1);
-    let other = numbers.below(40).saturating_add(1);
-    format!(in alloc;
-        "\"do\":\"PutGroup\",\"group\":\"{group}\",\"body\":{{\"members\":[{one},1,{other}]}}"
-    )
+    let member = digits(alloc, numbers.below(40).saturating_add(1))?;
+    let parts = [
+        r#""do":"PutGroup","group":""#,
+        group,
+        r#"","body":{"members":[1,"#,
+        member.as_str(),
+        r#"]}"#,
+    ];
+    joined(alloc, &parts)
 }
 
 fn put_project(alloc: Global, numbers: &mut Numbers) -> Result<String, AllocError> {
     let project = numbers.one_of(&["tools", "docs/site"]);
     let file = numbers.one_of(&FILES);
-    format!(in alloc;
-        "\"do\":\"PutProject\",\"project\":\"{project}\",\"body\":{{\"file\":\"{file}\"}}"
-    )
+    let parts = [
+        r#""do":"PutProject","project":""#,
+        project,
+        r#"","body":{"file":""#,
+        file,
+        r#""}"#,
+    ];
+    joined(alloc, &parts)
 }
 
-/// A base of one of three projects, the last of which is never put.
-fn record_base(alloc: Global, numbers: &mut Numbers) -> Result<String, AllocError> {
+/// A branch of one of three projects, the last of which is never put.
+fn branch(alloc: Global, numbers: &mut Numbers) -> Result<String, AllocError> {
     let project = numbers.one_of(&["tools", "docs/site", "nowhere"]);
     let branch = numbers.one_of(&["main", "stable/1.0"]);
-    let digit = numbers.below(8);
-    format!(in alloc;
-        "\"do\":\"RecordBase\",\"project\":\"{project}\",\"branch\":\"{branch}\",\"body\":{{\"commit\":\"000000000000000000000000000000000000000{digit}\"}}"
-    )
+    let parts = [r#""project":""#, project, r#"","branch":""#, branch, r#"""#];
+    joined(alloc, &parts)
+}
+
+fn record_base(alloc: Global, numbers: &mut Numbers) -> Result<String, AllocError> {
+    let branch = branch(alloc, numbers)?;
+    let digit = numbers.one_of(&["0", "1", "2", "3", "4", "5", "a", "f"]);
+    let parts = [
+        r#""do":"RecordBase","#,
+        branch.as_str(),
+        r#","body":{"commit":"000000000000000000000000000000000000000"#,
+        digit,
+        r#""}"#,
+    ];
+    joined(alloc, &parts)
 }
 
 fn question(alloc: Global, numbers: &mut Numbers) -> Result<String, AllocError> {
-    let project = numbers.one_of(&["tools", "docs/site", "nowhere"]);
-    let branch = numbers.one_of(&["main", "stable/1.0", "none"]);
-    format!(in alloc; "\"do\":\"Branch\",\"project\":\"{project}\",\"branch\":\"{branch}\"")
+    let branch = branch(alloc, numbers)?;
+    joined(alloc, &[r#""do":"Branch","#, branch.as_str()])
 }
 
+/// What a line asks for.
 fn asked(alloc: Global, numbers: &mut Numbers) -> Result<String, AllocError> {
     match numbers.below(8) {
         0 | 1 => create_account(alloc, numbers),
@@ -84,16 +110,30 @@ fn asked(alloc: Global, numbers: &mut Numbers) -> Result<String, AllocError> {
     }
 }
 
+/// The number of an account, mostly 1.
+fn caller(numbers: &mut Numbers) -> u64 {
+    match numbers.below(4) {
+        0 => numbers.below(60).saturating_add(1),
+        _ => 1,
+    }
+}
+
 /// A line. It has one of 350 ids of its caller, so that a thousand have repeats and clashes.
 fn line(alloc: Global, seed: u64) -> Result<String, AllocError> {
     let mut numbers = Numbers(seed);
-    let id = numbers.below(350);
-    let caller = match numbers.below(4) {
-        0 => numbers.below(60).saturating_add(1),
-        _ => 1,
-    };
-    let rest = asked(alloc, &mut numbers)?;
-    format!(in alloc; "{{\"caller\":{caller},\"id\":\"r{id}\",{rest}}}")
+    let id = digits(alloc, numbers.below(350))?;
+    let caller = digits(alloc, caller(&mut numbers))?;
+    let asked = asked(alloc, &mut numbers)?;
+    let parts = [
+        r#"{"caller":"#,
+        caller.as_str(),
+        r#","id":"r"#,
+        id.as_str(),
+        r#"","#,
+        asked.as_str(),
+        r#"}"#,
+    ];
+    joined(alloc, &parts)
 }
 
 /// The place of a reply's kind among those that are counted.
@@ -148,5 +188,37 @@ fn a_thousand_deliveries(rt: HostRuntime) -> Result<(), Fail> {
     // Each kind came.
     let least = counts.iter().min().copied().unwrap_or(0);
     assert!(rt; least >= 5, "{least} of some kind");
+    Ok(())
+}
+
+/// The replies to a request, to its id with another command, and to it again, in one run.
+fn replies_in_memory(alloc: Global) -> Result<Vec<Reply>, Fail> {
+    let mut shelf = MemoryShelf::new(alloc)?;
+    let deliveries = [
+        delivery_of_line(alloc, ANN.as_bytes())?,
+        delivery_of_line(alloc, BOB.as_bytes())?,
+        delivery_of_line(alloc, ANN.as_bytes())?,
+    ];
+    match run_in_memory(alloc, &mut shelf, &deliveries) {
+        Ok(replies) => Ok(replies),
+        Err(_) => Err("no memory for the replies")?,
+    }
+}
+
+/// The id of that request with another command.
+const BOB: &str = r#"{"caller":1,"id":"a1","do":"CreateAccount","body":{"name":"bob"}}"#;
+
+#[test]
+fn a_run_in_memory_goes_to_its_end(rt: HostRuntime) -> Result<(), Fail> {
+    let second = AccountNo::from_number(2).ok_or("no account")?;
+    let wanted = [
+        Reply::Done(Answer::Account(second)),
+        Reply::IdentityReused,
+        Reply::Done(Answer::Account(second)),
+    ];
+    assert_eq!(rt;
+        replies_in_memory(rt.alloc())?.as_slice(),
+        wanted.as_slice()
+    );
     Ok(())
 }

@@ -1,19 +1,46 @@
 //! Lines, and what a desk answers to them.
 
-use review_machine::apply_lines;
+use review_machine::{Fault, Outcome, apply_lines};
 use review_rows::{Need, Shelf};
 use std::alloc::{AllocError, Global};
+use std::io::Read;
 use std::test::Fail;
 
 /// Account 1 creates `ann` by its request `a1`.
 pub const ANN: &str = r#"{"caller":1,"id":"a1","do":"CreateAccount","body":{"name":"ann"}}"#;
 
-/// The answers to an input.
-pub fn answers<S: Shelf>(alloc: Global, shelf: &mut S, input: &[u8]) -> Result<String, Fail> {
-    let mut reader = input;
+/// That request three times.
+pub const THRICE: &str = r#"{"caller":1,"id":"a1","do":"CreateAccount","body":{"name":"ann"}}
+{"caller":1,"id":"a1","do":"CreateAccount","body":{"name":"ann"}}
+{"caller":1,"id":"a1","do":"CreateAccount","body":{"name":"ann"}}
+"#;
+
+/// The answers to it.
+pub const ANSWERS: &str = r#"{"account":2}
+{"account":2}
+{"account":2}
+"#;
+
+/// How a run over an input ended.
+pub type End = Result<Outcome, Fault>;
+
+/// The answers to what a reader gives, and how the run ended.
+pub fn run_on<R: Read, S: Shelf>(
+    alloc: Global,
+    reader: &mut R,
+    shelf: &mut S,
+) -> Result<(String, End), Fail> {
     let mut written = Vec::new(alloc);
-    let _ended = apply_lines(alloc, &mut reader, &mut written, shelf);
-    Ok(String::from_str(alloc, str::from_utf8(&written)?)?)
+    let end = apply_lines(alloc, reader, &mut written, shelf);
+    let text = String::from_str(alloc, str::from_utf8(&written)?)?;
+    Ok((text, end))
+}
+
+/// The answers to an input.
+pub fn answers<S: Shelf>(alloc: Global, shelf: &mut S, input: &str) -> Result<String, Fail> {
+    let mut reader = input.as_bytes();
+    let (text, _end) = run_on(alloc, &mut reader, shelf)?;
+    Ok(text)
 }
 
 /// A need of nothing.
@@ -40,11 +67,16 @@ pub fn stored<S: Shelf>(alloc: Global, shelf: &mut S) -> Result<u64, Fail> {
     Ok(rows.requests)
 }
 
-/// A text so many times.
-pub fn times(alloc: Global, text: &str, count: usize) -> Result<String, AllocError> {
+/// Texts one after the other.
+pub fn joined(alloc: Global, parts: &[&str]) -> Result<String, AllocError> {
     let mut all = String::new(alloc);
-    for _ in 0..count {
-        all.push_str(text)?;
+    for part in parts {
+        all.push_str(part)?;
     }
     Ok(all)
+}
+
+/// The digits of a number.
+pub fn digits(alloc: Global, number: u64) -> Result<String, AllocError> {
+    format!(in alloc; "{number}")
 }
