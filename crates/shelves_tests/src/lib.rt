@@ -1,5 +1,0 @@
-//! Tests of shelves, over their public calls alone.
-#![tactic(auto)]
-
-#[cfg(test)]
-mod shelves;
