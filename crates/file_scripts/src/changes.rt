@@ -11,9 +11,12 @@ use std::collections::BTreeMap;
 /// The votes that words say: `ACCOUNT:VALUE`, with blanks between.
 fn votes(alloc: Global, words: &str) -> Result<BTreeMap<AccountNo, i8>, Fault> {
     let mut votes = BTreeMap::new(alloc);
-    for word in words.split_whitespace() {
+    if words.is_empty() {
+        return Ok(votes);
+    }
+    for word in words.split(" ") {
         let (number, value) = word.split_once(":").ok_or(Fault::Form)?;
-        let value = value.parse::<i8>().map_err(|_| Fault::Form)?;
+        let value = value.parse::<i8>().ok().ok_or(Fault::Form)?;
         votes.insert(AccountNo::read(number)?, value)?;
     }
     Ok(votes)

@@ -1,7 +1,7 @@
 //! What texts are: files, or why they are none.
 
 use crate::fault::Fault;
-use review_file::{FileFault, ProjectFile, ReadFault, read_file};
+use review_file::{FileFault, ReadFault, read_file};
 use std::alloc::Global;
 
 /// Why a text is no file, by the product's names.
@@ -26,44 +26,44 @@ pub fn reading(alloc: Global, text: &str) -> Result<String, Fault> {
     }
 }
 
-/// The file that a text is.
-pub fn file_of(alloc: Global, text: &str) -> Result<ProjectFile, Fault> {
-    match read_file(alloc, text) {
-        Ok(file) => Ok(file),
-        Err(ReadFault::Memory) => Err(Fault::Memory),
-        Err(_) => Err(Fault::NoFile),
-    }
-}
-
-/// What a text is up to a place.
-fn front(alloc: Global, text: &str, place: usize) -> Result<String, Fault> {
-    reading(alloc, text.get(..place).ok_or(Fault::Form)?)
-}
-
-/// What a text is up to each of these places, if that is always the same.
-fn same_fronts(alloc: Global, text: &str, first: usize, end: usize) -> Result<String, Fault> {
-    let said = front(alloc, text, first)?;
-    for place in first..end {
-        let here = front(alloc, text, place)?;
-        if here.as_str() != said.as_str() {
-            return Ok(format!(in alloc; "{said} and {here}")?);
+/// What a text is with each front of a line behind it, but the whole line, if that is always the same.
+fn within(alloc: Global, text: &str, line: &str) -> Result<String, Fault> {
+    let mut front = String::from_str(alloc, text)?;
+    let mut said = String::new(alloc);
+    for character in line.chars() {
+        if front.len() > text.len() {
+            let here = reading(alloc, front.as_str())?;
+            if !said.is_empty() && here.as_str() != said.as_str() {
+                return Ok(format!(in alloc; "{said} and {here}")?);
+            }
+            said = here;
         }
+        front.push(character)?;
     }
     Ok(said)
+}
+
+/// What a text is, if that is the same with a line feed behind it.
+fn with_and_without_end(alloc: Global, text: &mut String) -> Result<String, Fault> {
+    let without = reading(alloc, text.as_str())?;
+    text.push('\n')?;
+    let with = reading(alloc, text.as_str())?;
+    if with.as_str() != without.as_str() {
+        return Ok(format!(in alloc; "{without} and {with}")?);
+    }
+    Ok(without)
 }
 
 /// What a text is up to the end of each line, with and without its line feed, and up to the places within the line.
 pub fn fronts(alloc: Global, text: &str) -> Result<String, Fault> {
     let nothing = reading(alloc, "")?;
     let mut answer = format!(in alloc; "nothing: {nothing}")?;
-    let mut begin = 0usize;
-    for line in text.lines() {
-        let end = begin.saturating_add(line.len());
-        let next = end.saturating_add(1);
-        let whole = same_fronts(alloc, text, end, next.saturating_add(1))?;
-        let within = same_fronts(alloc, text, begin.saturating_add(1), end)?;
-        answer.push_str(format!(in alloc; "\n   {line}: {whole}; within: {within}")?.as_str())?;
-        begin = next;
+    let mut front = String::new(alloc);
+    for line in text.split("\n") {
+        let inside = within(alloc, front.as_str(), line)?;
+        front.push_str(line)?;
+        let whole = with_and_without_end(alloc, &mut front)?;
+        answer.push_str(format!(in alloc; "\n   {line}: {whole}; within: {inside}")?.as_str())?;
     }
     Ok(answer)
 }

@@ -3,9 +3,9 @@
 use crate::changes::is_satisfied;
 use crate::contents::contents_of;
 use crate::fault::Fault;
-use crate::readings::{file_of, fronts, reading};
+use crate::readings::{fronts, reading};
 use crate::texts::push_lines;
-use review_file::{ProjectFile, Right, covers};
+use review_file::{ProjectFile, Right, covers, read_file};
 use review_ranges::{may, range_of};
 use review_words::{AccountNo, GroupName, Groups, LabelName, Members};
 use std::alloc::{AllocError, Global};
@@ -90,18 +90,25 @@ impl Script {
         Ok(format!(in alloc; "from {least} to {greatest}")?)
     }
 
+    /// Whether a file covers the one before.
+    fn is_covered(&self, alloc: Global, file: &ProjectFile) -> Result<bool, Fault> {
+        match read_file(alloc, text_of(self.before.as_str())) {
+            Ok(old) => Ok(covers(&old, file)),
+            Err(_) => Err(Fault::NoFile),
+        }
+    }
+
     /// The answer to a question about the last file.
     fn about_file(&self, alloc: Global, word: &str, words: &str) -> Result<String, Fault> {
-        let file = file_of(alloc, text_of(self.lines.as_str()))?;
+        let Ok(file) = read_file(alloc, text_of(self.lines.as_str())) else {
+            return Err(Fault::NoFile);
+        };
         match word {
             "show" => contents_of(alloc, &file),
             "may" => yes_or_no(alloc, self.has_right(&file, words)?),
             "range" => self.range(alloc, &file, words),
             "satisfied" => yes_or_no(alloc, is_satisfied(alloc, &file, words)?),
-            "covers" => {
-                let old = file_of(alloc, text_of(self.before.as_str()))?;
-                yes_or_no(alloc, covers(&old, &file))
-            }
+            "covers" => yes_or_no(alloc, self.is_covered(alloc, &file)?),
             _ => Err(Fault::Form),
         }
     }
@@ -117,7 +124,7 @@ impl Script {
         let text = text_of(self.lines.as_str());
         Ok(Some(match word {
             "read" => reading(alloc, text)?,
-            "fronts" => fronts(alloc, self.lines.as_str())?,
+            "fronts" => fronts(alloc, text)?,
             _ => self.about_file(alloc, word, words)?,
         }))
     }

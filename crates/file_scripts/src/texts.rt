@@ -3,11 +3,15 @@
 use crate::fault::Fault;
 use std::alloc::{AllocError, Global};
 
+fn count_of(text: &str) -> Option<u32> {
+    text.parse::<u32>().ok()
+}
+
 /// What `N:PART}` says behind a brace: how often, the part, and what follows.
 fn repetition(text: &str) -> Option<(u32, &str, &str)> {
     let (inner, rest) = text.split_once("}")?;
     let (count, part) = inner.split_once(":")?;
-    Some((count.parse::<u32>().ok()?, part, rest))
+    Some((count_of(count)?, part, rest))
 }
 
 /// Writes what follows a brace.
@@ -49,7 +53,7 @@ fn numbered(alloc: Global, line: &str, number: u32) -> Result<String, AllocError
 /// How often a line is repeated, and the line.
 fn repeated(line: &str) -> Option<(u32, &str)> {
     let (count, rest) = line.strip_prefix("*")?.split_once(" ")?;
-    Some((count.parse::<u32>().ok()?, rest))
+    Some((count_of(count)?, rest))
 }
 
 /// Writes the lines that a line of a script stands for, each with its end.
