@@ -1,11 +1,7 @@
-//! Tests of tables and words, over their public calls alone.
+//! Tests of what no script of words shows: which values are equal, and what tables hold.
 #![tactic(auto)]
 
 #[cfg(test)]
-mod forms;
-#[cfg(test)]
-mod names;
-#[cfg(test)]
-mod projects;
+mod equal;
 #[cfg(test)]
 mod tables;

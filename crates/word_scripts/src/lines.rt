@@ -1,0 +1,58 @@
+//! Lines that spell deliveries.
+
+use crate::fault::{Fault, spelled};
+use crate::texts::{on_a_line, with_byte};
+use review_json::delivery_of_line;
+use review_words::{AccountNo, Command, Delivery, Query, RequestId, content_text};
+use std::alloc::{AllocError, Global};
+
+fn write_text(
+    alloc: Global,
+    caller: AccountNo,
+    id: &RequestId,
+    command: &Command,
+) -> Result<String, Fault> {
+    let number = caller.get();
+    let name = id.as_str();
+    let content = content_text(alloc, command)?;
+    let content = on_a_line(alloc, content.as_str())?;
+    Ok(format!(in alloc; "account {number}, id {name}: {content}")?)
+}
+
+fn read_text(alloc: Global, caller: AccountNo, query: &Query) -> Result<String, AllocError> {
+    let Query::Branch { project, branch } = query;
+    let number = caller.get();
+    let branch = branch.as_str();
+    let project = project.as_str();
+    format!(in alloc; "account {number} asks for branch {branch} of {project}")
+}
+
+fn delivery_text(alloc: Global, delivery: &Delivery) -> Result<String, Fault> {
+    match delivery {
+        Delivery::Write {
+            caller,
+            id,
+            command,
+        } => write_text(alloc, *caller, id, command),
+        Delivery::Read { caller, query } => Ok(read_text(alloc, *caller, query)?),
+    }
+}
+
+fn delivery(alloc: Global, bytes: &[u8]) -> Result<String, Fault> {
+    match spelled(delivery_of_line(alloc, bytes))? {
+        Some(delivery) => delivery_text(alloc, &delivery),
+        None => Ok(String::from_str(alloc, "no delivery")?),
+    }
+}
+
+/// What a line is as a delivery, if a word asks that.
+pub fn line(alloc: Global, word: &str, text: &str) -> Result<Option<String>, Fault> {
+    match word {
+        "line" => Ok(Some(delivery(alloc, text.as_bytes())?)),
+        "line-with-byte" => {
+            let bytes = with_byte(alloc, text)?;
+            Ok(Some(delivery(alloc, &bytes)?))
+        }
+        _ => Ok(None),
+    }
+}

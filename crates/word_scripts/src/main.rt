@@ -1,0 +1,103 @@
+//! Scripts on the words of the desk: names and numbers, lines that ask, replies. A transcript that a person reads from top to bottom.
+//!
+//! Standard input has lines, standard output the same lines, each with its answer beneath it, behind `=> `. A line is
+//!
+//! - `### TEXT`, a heading, `== TEXT`, the name of what follows, `# TEXT`, a remark, or nothing;
+//! - a name or a number: `account-name TEXT`, `request-id TEXT`, `group TEXT`, `project TEXT`, `branch TEXT`, `commit TEXT`, `label TEXT`,
+//!   `path TEXT`, `account-number TEXT`, `change-number TEXT`, `patch-number TEXT`. The answer is the text of a copy of what was read, or
+//!   `no form`;
+//! - `account-of N`, `change-of N`, `patch-of N`, `account-after N`: the number of that count, or `none`;
+//! - `first-account`, `last-account`, `name-of-account-1`, `group-of-administrators`;
+//! - `label-order NAME NAME`, `account-order NAME NAME`: how the first name stands to the second;
+//! - `members N,N,..`, `paths PATH,PATH,..`: the set of a list: how many, and the first 20 paths, or the accounts, if there are
+//!   more than 20 the least and the greatest; or `too many`. `member N N,N,..`: whether an account is in a set;
+//! - `file TEXT`: the text of a copy of a file;
+//! - `line LINE`: who asks for what by a line of JSON, under which id, and the content text of a command; or `no delivery`. In
+//!   `line-with-byte HEX LINE` each star of the line is the byte of two digits;
+//! - `reply TEXT`: the stored reply of a text: its JSON, the status of a refusal, and its text again; or `no stored reply`. Replies that
+//!   have no text are `branch-with COMMIT,COMMIT,..`, `not-taken CAUSE` and `identity-reused`.
+//!
+//! In a line `{N:PART}` is PART N times, `{A..B}` the numbers from A to B with commas between, and `{U+HEX}` a character; any other
+//! brace is itself. In an answer `\n` is a line feed, and a text of more than 300 bytes is told by its length.
+#![tactic(auto)]
+
+mod fault;
+mod lines;
+mod names;
+mod replies;
+mod sets;
+mod texts;
+
+use fault::Fault;
+use std::alloc::Global;
+use std::io::{BufRead, BufReader};
+use std::process::ExitCode;
+use texts::whole_text;
+
+/// What a name, a number or a set is, if a word asks that.
+fn named(alloc: Global, word: &str, text: &str) -> Result<Option<String>, Fault> {
+    if let Some(answer) = names::name(alloc, word, text)? {
+        return Ok(Some(answer));
+    }
+    if let Some(answer) = names::number(alloc, word, text)? {
+        return Ok(Some(answer));
+    }
+    if let Some(answer) = names::counted(alloc, word, text)? {
+        return Ok(Some(answer));
+    }
+    if let Some(answer) = names::compared(alloc, word, text)? {
+        return Ok(Some(answer));
+    }
+    sets::set(alloc, word, text)
+}
+
+/// What a line is answered.
+fn answer(alloc: Global, line: &str) -> Result<String, Fault> {
+    let (word, rest) = line.split_once(" ").unwrap_or((line, ""));
+    let text = whole_text(alloc, rest)?;
+    if let Some(answer) = named(alloc, word, text.as_str())? {
+        return Ok(answer);
+    }
+    if let Some(answer) = names::known(alloc, word)? {
+        return Ok(answer);
+    }
+    if let Some(answer) = lines::line(alloc, word, text.as_str())? {
+        return Ok(answer);
+    }
+    if let Some(answer) = replies::reply(alloc, word, text.as_str())? {
+        return Ok(answer);
+    }
+    if word == "file" {
+        return names::file_text(alloc, text.as_str());
+    }
+    Err(Fault::Form)
+}
+
+/// Prints a line, and its answer.
+fn step(rt: &HostRuntime, line: &str) -> Result<(), Fault> {
+    println!(rt; "{line}").map_err(Fault::of_output)?;
+    if line.is_empty() || line.starts_with("#") || line.starts_with("== ") {
+        return Ok(());
+    }
+    let answer = answer(rt.alloc(), line)?;
+    println!(rt; "=> {answer}").map_err(Fault::of_output)
+}
+
+fn transcribe(rt: &HostRuntime) -> Result<(), Fault> {
+    let reader = BufReader::new(rt.alloc(), rt.reader()).map_err(Fault::of_input)?;
+    for line in reader.lines(rt.alloc()) {
+        let line = line.map_err(Fault::of_input)?;
+        step(rt, line.as_str())?;
+    }
+    Ok(())
+}
+
+fn main(rt: HostRuntime) -> ExitCode {
+    match transcribe(&rt) {
+        Ok(()) => ExitCode::SUCCESS,
+        Err(fault) => {
+            let _ = eprintln!(rt; "word_scripts: {fault}");
+            ExitCode::FAILURE
+        }
+    }
+}

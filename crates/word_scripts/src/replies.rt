@@ -1,0 +1,68 @@
+//! Replies, their stored texts and their JSON.
+
+use crate::fault::{Fault, stored};
+use review_json::answer_text;
+use review_words::{Answer, Bases, CommitName, NotTaken, Reply, read_reply, reply_text};
+use std::alloc::Global;
+
+/// The status of a refusal, and what a reply is stored as.
+fn stored_text(alloc: Global, reply: &Reply) -> Result<String, Fault> {
+    let text = reply_text(alloc, reply)?;
+    if text.is_empty() {
+        return Ok(String::from_str(alloc, "not stored")?);
+    }
+    match reply {
+        Reply::Refused(refusal) => {
+            let status = refusal.status();
+            Ok(format!(in alloc; "status {status}, stored as {text}")?)
+        }
+        _ => Ok(format!(in alloc; "stored as {text}")?),
+    }
+}
+
+fn told(alloc: Global, reply: &Reply) -> Result<String, Fault> {
+    let answer = answer_text(alloc, reply)?;
+    let kept = stored_text(alloc, reply)?;
+    Ok(format!(in alloc; "{answer}\n   {kept}")?)
+}
+
+fn read(alloc: Global, text: &str) -> Result<String, Fault> {
+    match stored(read_reply(alloc, text))? {
+        Some(reply) => told(alloc, &reply),
+        None => Ok(String::from_str(alloc, "no stored reply")?),
+    }
+}
+
+fn bases(alloc: Global, text: &str) -> Result<Bases, Fault> {
+    let mut bases = Bases::new(alloc);
+    if text.is_empty() {
+        return Ok(bases);
+    }
+    for commit in text.split(",") {
+        bases.push(CommitName::read(alloc, commit)?)?;
+    }
+    Ok(bases)
+}
+
+fn not_taken(cause: &str) -> Result<NotTaken, Fault> {
+    match cause {
+        "memory" => Ok(NotTaken::Memory),
+        "store" => Ok(NotTaken::Store),
+        "damaged" => Ok(NotTaken::Damaged),
+        "pattern" => Ok(NotTaken::Pattern),
+        "full" => Ok(NotTaken::Full),
+        _ => Err(Fault::Form),
+    }
+}
+
+/// What a reply is told as, if a word asks that.
+pub fn reply(alloc: Global, word: &str, text: &str) -> Result<Option<String>, Fault> {
+    let answer = match word {
+        "reply" => read(alloc, text),
+        "branch-with" => told(alloc, &Reply::Done(Answer::Branch(bases(alloc, text)?))),
+        "not-taken" => told(alloc, &Reply::NotTaken(not_taken(text)?)),
+        "identity-reused" => told(alloc, &Reply::IdentityReused),
+        _ => return Ok(None),
+    };
+    Ok(Some(answer?))
+}

@@ -1,0 +1,78 @@
+//! Sets of accounts and of paths.
+
+use crate::fault::{Fault, named};
+use review_words::{AccountNo, Members, Path, Paths};
+use std::alloc::{AllocError, Global};
+
+fn accounts(alloc: Global, text: &str) -> Result<Vec<AccountNo>, Fault> {
+    let mut accounts = Vec::new(alloc);
+    if text.is_empty() {
+        return Ok(accounts);
+    }
+    for number in text.split(",") {
+        accounts.push(AccountNo::read(number)?)?;
+    }
+    Ok(accounts)
+}
+
+fn members_text(alloc: Global, members: &Members) -> Result<String, AllocError> {
+    let count = members.len();
+    if count > 20 {
+        let least = members.as_slice().first().map_or(0, |first| first.get());
+        let greatest = members.as_slice().last().map_or(0, |last| last.get());
+        return format!(in alloc; "{count}: from {least} to {greatest}");
+    }
+    let mut list = format!(in alloc; "{count}:")?;
+    for member in members.as_slice() {
+        let number = member.get();
+        list.push_str(format!(in alloc; " {number}")?.as_str())?;
+    }
+    Ok(list)
+}
+
+fn paths_text(alloc: Global, paths: &Paths) -> Result<String, AllocError> {
+    let count = paths.len();
+    let mut list = format!(in alloc; "{count}:")?;
+    for path in paths.as_slice().iter().take(20) {
+        list.push_str(" ")?;
+        list.push_str(path.as_str())?;
+    }
+    Ok(list)
+}
+
+fn members(alloc: Global, text: &str) -> Result<String, Fault> {
+    match named(Members::from_vec(alloc, accounts(alloc, text)?))? {
+        Some(members) => Ok(members_text(alloc, &members)?),
+        None => Ok(String::from_str(alloc, "too many")?),
+    }
+}
+
+fn paths(alloc: Global, text: &str) -> Result<String, Fault> {
+    let mut given = Vec::new(alloc);
+    for path in text.split(",") {
+        given.push(Path::read(alloc, path)?)?;
+    }
+    match named(Paths::from_vec(alloc, given))? {
+        Some(paths) => Ok(paths_text(alloc, &paths)?),
+        None => Ok(String::from_str(alloc, "too many")?),
+    }
+}
+
+fn is_member(alloc: Global, text: &str) -> Result<String, Fault> {
+    let (number, list) = text.split_once(" ").ok_or(Fault::Form)?;
+    let account = AccountNo::read(number)?;
+    let members = Members::from_vec(alloc, accounts(alloc, list)?)?;
+    let answer = if members.has(account) { "yes" } else { "no" };
+    Ok(String::from_str(alloc, answer)?)
+}
+
+/// What a list is as a set, if a word asks that.
+pub fn set(alloc: Global, word: &str, text: &str) -> Result<Option<String>, Fault> {
+    let answer = match word {
+        "members" => members(alloc, text),
+        "member" => is_member(alloc, text),
+        "paths" => paths(alloc, text),
+        _ => return Ok(None),
+    };
+    Ok(Some(answer?))
+}

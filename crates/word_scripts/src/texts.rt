@@ -1,0 +1,108 @@
+//! Texts that a line writes in short, and texts that are shown on a line.
+
+use crate::fault::Fault;
+use std::alloc::{AllocError, Global};
+
+/// The character of `U+HEX`.
+fn character(inner: &str) -> Option<char> {
+    let digits = inner.strip_prefix("U+")?;
+    char::from_u32(u32::from_str_radix(digits, 16).ok()?)
+}
+
+/// How often a part is repeated, of `N:PART`, and the part.
+fn repetition(inner: &str) -> Option<(u32, &str)> {
+    let (count, part) = inner.split_once(":")?;
+    Some((count.parse::<u32>().ok()?, part))
+}
+
+/// The ends of `A..B`.
+fn range(inner: &str) -> Option<(u32, u32)> {
+    let (first, last) = inner.split_once("..")?;
+    Some((first.parse::<u32>().ok()?, last.parse::<u32>().ok()?))
+}
+
+/// Writes the numbers from the first to the last, rising or falling, with commas between.
+fn push_numbers(alloc: Global, whole: &mut String, ends: (u32, u32)) -> Result<(), AllocError> {
+    let (first, last) = ends;
+    whole.push_str(format!(in alloc; "{first}")?.as_str())?;
+    for number in first.saturating_add(1)..last.saturating_add(1) {
+        whole.push_str(format!(in alloc; ",{number}")?.as_str())?;
+    }
+    for step in 1..first.saturating_sub(last).saturating_add(1) {
+        let number = first.saturating_sub(step);
+        whole.push_str(format!(in alloc; ",{number}")?.as_str())?;
+    }
+    Ok(())
+}
+
+/// Writes what stands between two braces, or what it is short for.
+fn push_inner(alloc: Global, whole: &mut String, inner: &str) -> Result<(), AllocError> {
+    if let Some(character) = character(inner) {
+        return whole.push(character);
+    }
+    if let Some((count, part)) = repetition(inner) {
+        for _ in 0..count {
+            whole.push_str(part)?;
+        }
+        return Ok(());
+    }
+    if let Some(ends) = range(inner) {
+        return push_numbers(alloc, whole, ends);
+    }
+    whole.push('{')?;
+    whole.push_str(inner)?;
+    whole.push('}')
+}
+
+/// Writes what follows a brace.
+fn push_braced(alloc: Global, whole: &mut String, text: &str) -> Result<(), AllocError> {
+    let Some((inner, rest)) = text.split_once("}") else {
+        whole.push('{')?;
+        return whole.push_str(text);
+    };
+    push_inner(alloc, whole, inner)?;
+    whole.push_str(rest)
+}
+
+/// The text that one in short stands for.
+pub fn whole_text(alloc: Global, text: &str) -> Result<String, Fault> {
+    let mut whole = String::new(alloc);
+    for (place, part) in text.split("{").enumerate() {
+        if place == 0 {
+            whole.push_str(part)?;
+        } else {
+            push_braced(alloc, &mut whole, part)?;
+        }
+    }
+    Ok(whole)
+}
+
+/// A text as it is shown: line feeds as `\n`, or its length where it has more than 300 bytes.
+pub fn on_a_line(alloc: Global, text: &str) -> Result<String, Fault> {
+    let length = text.len();
+    if length > 300 {
+        return Ok(format!(in alloc; "{length} bytes")?);
+    }
+    let mut line = String::new(alloc);
+    for (place, part) in text.split("\n").enumerate() {
+        if place > 0 {
+            line.push_str("\\n")?;
+        }
+        line.push_str(part)?;
+    }
+    Ok(line)
+}
+
+/// The bytes of a text, behind two hexadecimal digits, with that byte in place of each star.
+pub fn with_byte(alloc: Global, text: &str) -> Result<Vec<u8>, Fault> {
+    let (digits, line) = text.split_once(" ").ok_or(Fault::Form)?;
+    let byte = u8::from_str_radix(digits, 16).map_err(|_| Fault::Form)?;
+    let mut bytes = Vec::new(alloc);
+    for (place, part) in line.split("*").enumerate() {
+        if place > 0 {
+            bytes.push(byte)?;
+        }
+        bytes.extend_from_slice(part.as_bytes())?;
+    }
+    Ok(bytes)
+}
