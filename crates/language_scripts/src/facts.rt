@@ -23,8 +23,8 @@ pub fn first_change(alloc: Global) -> Result<Facts, Fault> {
 }
 
 /// A vote of which nothing was said.
-pub fn first_vote(alloc: Global) -> Result<Facts, Fault> {
-    Ok(Facts::Vote(VoteFacts {
+pub fn first_vote(alloc: Global) -> Facts {
+    Facts::Vote(VoteFacts {
         value: 2,
         voter: AccountNo::first(),
         range: ValueRange {
@@ -35,7 +35,7 @@ pub fn first_vote(alloc: Global) -> Result<Facts, Fault> {
         uploader: AccountNo::first(),
         unchanged_files: false,
         groups: Groups(BTreeMap::new(alloc)),
-    }))
+    })
 }
 
 /// The first word of a text, and what is behind it.
@@ -104,19 +104,14 @@ fn put_label(alloc: Global, facts: &mut ChangeFacts, text: &str) -> Result<(), F
     Ok(())
 }
 
-fn put_vote(alloc: Global, facts: &mut ChangeFacts, text: &str) -> Result<(), Fault> {
+fn put_votes(alloc: Global, facts: &mut ChangeFacts, text: &str) -> Result<(), Fault> {
     let (name, given) = cut(text)?;
-    let (number, given) = cut(given)?;
-    let label = LabelName::read(alloc, name)?;
-    let account = AccountNo::read(number)?;
-    let value = value(given)?;
-    if let Some(votes) = facts.votes.get_mut(&label) {
-        votes.insert(account, value)?;
-        return Ok(());
-    }
     let mut votes = BTreeMap::new(alloc);
-    votes.insert(account, value)?;
-    facts.votes.insert(label, votes)?;
+    for vote in given.split(", ") {
+        let (account, number) = cut(vote)?;
+        votes.insert(AccountNo::read(account)?, value(number)?)?;
+    }
+    facts.votes.insert(LabelName::read(alloc, name)?, votes)?;
     Ok(())
 }
 
@@ -135,7 +130,7 @@ fn tell_change(
         "threads" => facts.unresolved = is_first(text, "unresolved", "resolved")?,
         "group" => put_group(alloc, &mut facts.groups, text)?,
         "label" => put_label(alloc, facts, text)?,
-        "vote" => put_vote(alloc, facts, text)?,
+        "votes" => put_votes(alloc, facts, text)?,
         _ => return Ok(false),
     }
     Ok(true)

@@ -7,7 +7,7 @@ use std::fmt::{Display, Formatter};
 use std::{fmt, io};
 
 /// What ends a transcript early.
-#[derive(Clone, Copy, Debug, PartialEq, Eq)]
+#[derive(Clone, Copy)]
 pub enum Fault {
     /// There was no memory.
     Memory,

@@ -17,7 +17,7 @@
 //!   A change has besides
 //!   - `owner A`, `branch B`, `paths P, P, ..`, `threads resolved`, `threads unresolved`;
 //!   - `label L LEAST GREATEST`: the values of a label;
-//!   - `vote L A VALUE`: what account A voted on it.
+//!   - `votes L A VALUE, A VALUE, ..`: what each account voted on it.
 //!
 //!   A vote on the patch set before a new one has besides
 //!   - `voter A`, `value VALUE`, `range LEAST GREATEST`: the values of its label;

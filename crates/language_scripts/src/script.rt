@@ -17,10 +17,9 @@ pub struct Script {
 impl Script {
     /// One that has said nothing.
     pub fn new(alloc: Global) -> Result<Script, Fault> {
-        Ok(Script {
-            change: first_change(alloc)?,
-            vote: first_vote(alloc)?,
-        })
+        let change = first_change(alloc)?;
+        let vote = first_vote(alloc);
+        Ok(Script { change, vote })
     }
 
     /// The answer to a question, if a word asks one.

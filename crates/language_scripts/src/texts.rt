@@ -3,27 +3,27 @@
 use crate::fault::Fault;
 use std::alloc::{AllocError, Global};
 
+/// A text with a character in place of each escape.
+fn replaced(
+    alloc: Global,
+    text: &str,
+    escape: &str,
+    character: char,
+) -> Result<String, AllocError> {
+    let mut whole = String::new(alloc);
+    for part in text.split(escape) {
+        whole.push_str(part)?;
+        whole.push(character)?;
+    }
+    let _ = whole.pop();
+    Ok(whole)
+}
+
 /// A text in which `\t`, `\r` and `\n` have become characters.
 fn unescaped(alloc: Global, text: &str) -> Result<String, AllocError> {
-    let mut plain = String::new(alloc);
-    for (place, part) in text.split("\\").enumerate() {
-        if place == 0 {
-            plain.push_str(part)?;
-        } else if let Some(rest) = part.strip_prefix("t") {
-            plain.push('\t')?;
-            plain.push_str(rest)?;
-        } else if let Some(rest) = part.strip_prefix("r") {
-            plain.push('\r')?;
-            plain.push_str(rest)?;
-        } else if let Some(rest) = part.strip_prefix("n") {
-            plain.push('\n')?;
-            plain.push_str(rest)?;
-        } else {
-            plain.push('\\')?;
-            plain.push_str(part)?;
-        }
-    }
-    Ok(plain)
+    let text = replaced(alloc, text, "\\t", '\t')?;
+    let text = replaced(alloc, text.as_str(), "\\r", '\r')?;
+    replaced(alloc, text.as_str(), "\\n", '\n')
 }
 
 /// What `N:PART}` says behind a brace: how often, the part, and what follows.
@@ -48,13 +48,12 @@ fn push_repeated(whole: &mut String, text: &str) -> Result<(), AllocError> {
 /// The text that a line of a script stands for.
 pub fn whole_text(alloc: Global, text: &str) -> Result<String, Fault> {
     let plain = unescaped(alloc, text)?;
-    let mut whole = String::new(alloc);
-    for (place, part) in plain.as_str().split("{").enumerate() {
-        if place == 0 {
-            whole.push_str(part)?;
-        } else {
-            push_repeated(&mut whole, part)?;
-        }
+    let Some((front, rest)) = plain.as_str().split_once("{") else {
+        return Ok(plain);
+    };
+    let mut whole = String::from_str(alloc, front)?;
+    for part in rest.split("{") {
+        push_repeated(&mut whole, part)?;
     }
     Ok(whole)
 }
