@@ -8,22 +8,24 @@ fn replaced(
     alloc: Global,
     text: &str,
     escape: &str,
-    character: char,
+    character: &str,
 ) -> Result<String, AllocError> {
-    let mut whole = String::new(alloc);
-    for part in text.split(escape) {
+    let Some((front, rest)) = text.split_once(escape) else {
+        return String::from_str(alloc, text);
+    };
+    let mut whole = String::from_str(alloc, front)?;
+    for part in rest.split(escape) {
+        whole.push_str(character)?;
         whole.push_str(part)?;
-        whole.push(character)?;
     }
-    let _ = whole.pop();
     Ok(whole)
 }
 
 /// A text in which `\t`, `\r` and `\n` have become characters.
 fn unescaped(alloc: Global, text: &str) -> Result<String, AllocError> {
-    let text = replaced(alloc, text, "\\t", '\t')?;
-    let text = replaced(alloc, text.as_str(), "\\r", '\r')?;
-    replaced(alloc, text.as_str(), "\\n", '\n')
+    let text = replaced(alloc, text, "\\t", "\t")?;
+    let text = replaced(alloc, text.as_str(), "\\r", "\r")?;
+    replaced(alloc, text.as_str(), "\\n", "\n")
 }
 
 /// What `N:PART}` says behind a brace: how often, the part, and what follows.
