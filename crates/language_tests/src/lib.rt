@@ -1,15 +1,10 @@
-//! Tests of expressions, from their grammar to what holds, over the public calls alone.
+//! Tests of what no text of an expression gives, over the public calls alone: tokens and words that are never cut from a text, and a
+//! term that no word spells. All else is in the scripts of `language_scripts`.
 #![tactic(auto)]
 
 #[cfg(test)]
-mod grammar;
-#[cfg(test)]
-mod judged;
-#[cfg(test)]
-mod page;
-#[cfg(test)]
-mod parsing;
-#[cfg(test)]
-mod spelling;
-#[cfg(test)]
 mod terms;
+#[cfg(test)]
+mod tokens;
+#[cfg(test)]
+mod words;

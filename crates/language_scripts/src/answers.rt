@@ -1,0 +1,70 @@
+//! What a script is answered.
+
+use crate::fault::Fault;
+use review_expr::{Expr, Facts, ParseFault, eval, labels_of};
+use review_printing::print;
+use std::alloc::{AllocError, Global};
+
+/// The text that an expression is printed as, or its length.
+fn printed(alloc: Global, expr: &Expr) -> Result<String, AllocError> {
+    let text = print(alloc, expr)?;
+    let length = text.len();
+    if length > 200 {
+        return format!(in alloc; "{length} bytes");
+    }
+    Ok(text)
+}
+
+/// The line of the labels that an expression names, with a line feed before it, if it names any.
+fn labels_line(alloc: Global, expr: &Expr) -> Result<String, AllocError> {
+    let mut line = String::new(alloc);
+    for label in &labels_of(alloc, expr)? {
+        line.push_str(if line.is_empty() {
+            "\n   labels: "
+        } else {
+            ", "
+        })?;
+        line.push_str(label.as_str())?;
+    }
+    Ok(line)
+}
+
+/// Why a text is no expression.
+fn refused(alloc: Global, fault: ParseFault) -> Result<String, Fault> {
+    match fault {
+        ParseFault::Text(fault) => {
+            let name = fault.code.name();
+            let place = fault.place;
+            Ok(format!(in alloc; "{name} at {place}")?)
+        }
+        ParseFault::Pattern => Ok(String::from_str(alloc, "PATTERN")?),
+        ParseFault::Memory => Err(Fault::Memory),
+    }
+}
+
+/// What is said of a text that was read.
+pub fn reading(alloc: Global, read: Result<Expr, ParseFault>) -> Result<String, Fault> {
+    match read {
+        Ok(expr) => {
+            let mut answer = printed(alloc, &expr)?;
+            answer.push_str(labels_line(alloc, &expr)?.as_str())?;
+            Ok(answer)
+        }
+        Err(fault) => refused(alloc, fault),
+    }
+}
+
+/// Whether a text that was read holds.
+pub fn judgement(
+    alloc: Global,
+    read: Result<Expr, ParseFault>,
+    facts: &Facts,
+) -> Result<String, Fault> {
+    match read {
+        Ok(expr) => {
+            let held = eval(alloc, &expr, facts)?;
+            Ok(String::from_str(alloc, if held { "yes" } else { "no" })?)
+        }
+        Err(fault) => refused(alloc, fault),
+    }
+}
