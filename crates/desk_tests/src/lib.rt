@@ -1,11 +1,9 @@
 //! What no script shows: a reader, a writer or a shelf that fails at one of its calls, input that comes slowly, answers that are
-//! waited for, a desk filled to its limits, and a desk in memory beside the plain one.
+//! waited for, and a desk in memory beside the plain one.
 #![tactic(auto)]
 
 #[cfg(test)]
 mod faults;
-#[cfg(test)]
-mod limits;
 #[cfg(test)]
 mod pace;
 #[cfg(test)]
