@@ -94,7 +94,7 @@ fn place<F: Form + Drop>(left: &Name<F>, right: &Name<F>) -> &'static str {
     }
 }
 
-/// How two names stand, or the text of a file once more, if a word asks that.
+/// How two names stand in their order, if a word asks that.
 pub fn compared(alloc: Global, word: &str, text: &str) -> Result<Option<String>, Fault> {
     let (left, right) = text.split_once(" ").unwrap_or((text, ""));
     let answer = match word {
