@@ -1,26 +1,12 @@
 //! A desk in memory against the definitions, over a thousand deliveries with repeats, clashes and questions.
 
-use crate::fault::Fault;
-use review_json::{answer_text, delivery_of_line};
-use review_machine::deliver;
+use crate::texts::{ANN, digits, joined};
+use review_json::delivery_of_line;
+use review_machine::{MemoryShelf, deliver, run_in_memory};
 use review_plain::PlainDesk;
-use review_shelves::MemoryShelf;
-use review_words::Reply;
+use review_words::{AccountNo, Answer, Refusal, Reply};
 use std::alloc::{AllocError, Global};
-
-/// Texts one after the other.
-fn joined(alloc: Global, parts: &[&str]) -> Result<String, AllocError> {
-    let mut all = String::new(alloc);
-    for part in parts {
-        all.push_str(part)?;
-    }
-    Ok(all)
-}
-
-/// The digits of a number.
-fn digits(alloc: Global, number: u64) -> Result<String, AllocError> {
-    format!(in alloc; "{number}")
-}
+use std::test::Fail;
 
 /// A label of three values, the same with two of them, a requirement with a pattern, and one whose expression is none.
 const FILES: [&str; 4] = [
@@ -150,16 +136,18 @@ fn line(alloc: Global, seed: u64) -> Result<String, AllocError> {
     joined(alloc, &parts)
 }
 
-/// What is counted: parts of answers.
-const KINDS: [&str; 7] = [
-    "IDENTITY_REUSED",
-    "bases",
-    "BAD_FILE",
-    "LABEL_NARROWED",
-    "COMMIT_KNOWN",
-    "NO_PROJECT",
-    "account",
-];
+/// The place of a reply's kind among those that are counted.
+fn kind(reply: &Reply) -> usize {
+    match reply {
+        Reply::IdentityReused => 0,
+        Reply::Done(Answer::Branch(_)) => 1,
+        Reply::Refused(Refusal::BadFile(_)) => 2,
+        Reply::Refused(Refusal::LabelNarrowed) => 3,
+        Reply::Refused(Refusal::CommitKnown) => 4,
+        Reply::Refused(Refusal::NoProject) => 5,
+        _ => 6,
+    }
+}
 
 /// Each third line is one that came before, or may have.
 fn seed_at(seeds: &mut Numbers, turn: u64) -> u64 {
@@ -170,51 +158,67 @@ fn seed_at(seeds: &mut Numbers, turn: u64) -> u64 {
     }
 }
 
-/// The answer of the desk in memory to a line, and whether the plain desk has the same.
-fn answer(
+/// The replies of both desks to a line.
+fn both_replies(
     alloc: Global,
     shelf: &mut MemoryShelf,
     plain: &mut PlainDesk,
     seed: u64,
-) -> Result<(String, bool), Fault> {
+) -> Result<(Reply, Reply), Fail> {
     let line = line(alloc, seed)?;
-    let delivery = delivery_of_line(alloc, line.as_bytes()).map_err(|_| Fault::Form)?;
-    let answer = answer_text(alloc, &deliver(alloc, shelf, &delivery))?;
-    let reply = match plain.deliver(alloc, delivery) {
-        Ok(reply) => reply,
-        Err(cause) => Reply::NotTaken(cause),
-    };
-    let told = answer_text(alloc, &reply)?;
-    let is_same = answer.as_str() == told.as_str();
-    Ok((answer, is_same))
+    let delivery = delivery_of_line(alloc, line.as_bytes())?;
+    let reply = deliver(alloc, shelf, &delivery);
+    Ok((reply, plain.deliver(alloc, delivery)?))
 }
 
-/// Counts an answer by its kinds.
-fn count(counts: &mut [u32; 7], answer: &str) {
-    for (count, kind) in counts.iter_mut().zip(KINDS) {
-        if answer.contains(kind) {
-            *count = count.saturating_add(1);
-        }
-    }
-}
-
-/// A thousand deliveries on both desks, with repeats, clashes and questions: how many answers are the same, and that each kind came.
-pub fn plain(rt: &HostRuntime) -> Result<(), Fault> {
-    println!(rt;
-        "\n### 1,000 deliveries on a desk in memory and on the plain one, which answers from the history alone"
-    ).map_err(Fault::of_output)?;
+#[test]
+fn a_thousand_deliveries(rt: HostRuntime) -> Result<(), Fail> {
     let mut shelf = MemoryShelf::new(rt.alloc())?;
     let mut plain = PlainDesk::new(rt.alloc());
     let mut seeds = Numbers(7);
     let mut counts = [0u32; 7];
-    let mut same = 0u32;
     for turn in 0..1000u64 {
         let seed = seed_at(&mut seeds, turn);
-        let (text, is_same) = answer(rt.alloc(), &mut shelf, &mut plain, seed)?;
-        same = same.saturating_add(u32::from(is_same));
-        count(&mut counts, text.as_str());
+        let (reply, told) = both_replies(rt.alloc(), &mut shelf, &mut plain, seed)?;
+        assert_eq!(rt; reply, told, "at {turn}");
+        if let Some(count) = counts.get_mut(kind(&reply)) {
+            *count = count.saturating_add(1);
+        }
     }
-    let is_each_there = counts.iter().all(|count| *count >= 5);
-    println!(rt; "{same} answers are the same").map_err(Fault::of_output)?;
-    println!(rt; "each kind came at least five times: {is_each_there}").map_err(Fault::of_output)
+    // Each kind came.
+    let least = counts.iter().min().copied().unwrap_or(0);
+    assert!(rt; least >= 5, "{least} of some kind");
+    Ok(())
+}
+
+/// The replies to a request, to its id with another command, and to it again, in one run.
+fn replies_in_memory(alloc: Global) -> Result<Vec<Reply>, Fail> {
+    let mut shelf = MemoryShelf::new(alloc)?;
+    let deliveries = [
+        delivery_of_line(alloc, ANN.as_bytes())?,
+        delivery_of_line(alloc, BOB.as_bytes())?,
+        delivery_of_line(alloc, ANN.as_bytes())?,
+    ];
+    match run_in_memory(alloc, &mut shelf, &deliveries) {
+        Ok(replies) => Ok(replies),
+        Err(_) => Err("no memory for the replies")?,
+    }
+}
+
+/// The id of that request with another command.
+const BOB: &str = r#"{"caller":1,"id":"a1","do":"CreateAccount","body":{"name":"bob"}}"#;
+
+#[test]
+fn a_run_in_memory_goes_to_its_end(rt: HostRuntime) -> Result<(), Fail> {
+    let second = AccountNo::from_number(2).ok_or("no account")?;
+    let wanted = [
+        Reply::Done(Answer::Account(second)),
+        Reply::IdentityReused,
+        Reply::Done(Answer::Account(second)),
+    ];
+    assert_eq!(rt;
+        replies_in_memory(rt.alloc())?.as_slice(),
+        wanted.as_slice()
+    );
+    Ok(())
 }

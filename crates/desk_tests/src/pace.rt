@@ -1,14 +1,14 @@
 //! Answers that are waited for, and a line that comes slowly.
 
-use crate::fault::Fault;
-use crate::runs::{ANN, print_run};
 use crate::streams::PoorReader;
+use crate::texts::{ANN, run_on};
 use review_machine::apply_lines;
 use review_shelves::MemoryShelf;
 use std::alloc::{AllocError, Global};
 use std::cell::Cell;
 use std::io;
 use std::io::{Read, Write};
+use std::test::Fail;
 
 /// How many lines were given, and how many answers written and flushed, at any time; and whether a read ever came too early.
 #[derive(Drop)]
@@ -96,8 +96,8 @@ const REPLIES: &str = r#"{"account":2}
 {"number":3,"refused":"NO_PROJECT"}
 "#;
 
-/// Whether the answers are right, and all to the lines so far were out before each read, of so many bytes.
-fn are_in_time(alloc: Global, most: usize) -> Result<bool, Fault> {
+/// Whether the answers are right, and whether all to the lines so far were out before each read, of so many bytes.
+fn are_in_time(alloc: Global, most: usize) -> Result<(bool, bool), Fail> {
     let watch = Watch::new();
     let mut reader = Asker {
         left: LINES.as_bytes(),
@@ -110,8 +110,21 @@ fn are_in_time(alloc: Global, most: usize) -> Result<bool, Fault> {
     };
     let mut shelf = MemoryShelf::new(alloc)?;
     let _ended = apply_lines(alloc, &mut reader, &mut writer, &mut shelf);
-    let is_right = str::from_utf8(&writer.taken).map_err(|_| Fault::Form)? == REPLIES;
-    Ok(is_right && !watch.is_late.get())
+    let is_right = str::from_utf8(&writer.taken)? == REPLIES;
+    Ok((is_right, !watch.is_late.get()))
+}
+
+#[test]
+fn answers_are_out_before_the_next_read(rt: HostRuntime) -> Result<(), Fail> {
+    // A byte, less than a line, a line, a line and some of the next, two lines, all.
+    for most in [1usize, 40, 66, 100, 132, 1_000] {
+        assert_eq!(rt;
+            are_in_time(rt.alloc(), most)?,
+            (true, true),
+            "{most} bytes a read"
+        );
+    }
+    Ok(())
 }
 
 /// A request with spaces up to a length, and what stands behind that.
@@ -123,40 +136,43 @@ fn long_line(alloc: Global, length: usize, behind: &str) -> Result<Vec<u8>, Allo
     Ok(line)
 }
 
-/// The end of the long line, a request, and a line that is none.
-const BEHIND: &str = r#"
-{"caller":1,"id":"a2","do":"CreateAccount","body":{"name":"bob"}}
-{}"#;
-
-/// Prints the answers to a long line, and what stands behind it, that come byte by byte.
-fn print_long(rt: &HostRuntime, length: usize, behind: &str) -> Result<(), Fault> {
-    println!(rt; "\n== {length} bytes, byte by byte{behind}").map_err(Fault::of_output)?;
-    let input = long_line(rt.alloc(), length, behind)?;
+/// The answers to a long line, and what stands behind it, that come byte by byte.
+fn answers_to_bytes(alloc: Global, length: usize, behind: &str) -> Result<String, Fail> {
+    let input = long_line(alloc, length, behind)?;
     let mut reader = PoorReader {
         left: &input,
         most: 1,
         calls: 0,
         failing: 0,
     };
-    print_run(rt, &mut reader, &mut MemoryShelf::new(rt.alloc())?)
+    let mut shelf = MemoryShelf::new(alloc)?;
+    let (text, _end) = run_on(alloc, &mut reader, &mut shelf)?;
+    Ok(text)
 }
 
-/// Answers that are waited for, and lines that come slowly.
-pub fn pace(rt: &HostRuntime) -> Result<(), Fault> {
-    println!(rt;
-        "\n### Four lines come so many bytes a read. Before each read all answers to the lines so far were written and flushed"
-    ).map_err(Fault::of_output)?;
-    // A byte, less than a line, a line, a line and some of the next, two lines, all.
-    for most in [1usize, 40, 66, 100, 132, 1_000] {
-        let in_time = are_in_time(rt.alloc(), most)?;
-        println!(rt; "{most} bytes: {in_time}").map_err(Fault::of_output)?;
-    }
-    println!(rt;
-        "\n### A request with spaces up to so many bytes, by itself and with other lines behind it"
-    ).map_err(Fault::of_output)?;
-    for length in [400_000usize, 400_001] {
-        print_long(rt, length, "")?;
-        print_long(rt, length, BEHIND)?;
+/// The end of the long line, a request, and a line that is none.
+const BEHIND: &str = r#"
+{"caller":1,"id":"a2","do":"CreateAccount","body":{"name":"bob"}}
+{}"#;
+
+#[test]
+fn a_long_line_comes_byte_by_byte(rt: HostRuntime) -> Result<(), Fail> {
+    for (length, behind, wanted) in [
+        (400_000, "", "{\"account\":2}\n"),
+        (
+            400_000,
+            BEHIND,
+            "{\"account\":2}\n{\"account\":3}\n{\"fault\":\"BAD_LINE\"}\n",
+        ),
+        (400_001, "", "{\"fault\":\"BAD_LINE\"}\n"),
+        (
+            400_001,
+            BEHIND,
+            "{\"fault\":\"BAD_LINE\"}\n{\"account\":2}\n{\"fault\":\"BAD_LINE\"}\n",
+        ),
+    ] {
+        let text = answers_to_bytes(rt.alloc(), length, behind)?;
+        assert_eq!(rt; text.as_str(), wanted, "{length}");
     }
     Ok(())
 }
