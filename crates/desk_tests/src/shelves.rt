@@ -1,7 +1,7 @@
 //! Shelves that fail, over their own calls, and a name that is given up, which no command does.
 
-use crate::texts::{no_need, stored};
-use review_rows::{Delta, Kept, Need, Shelf, ShelfFault};
+use crate::texts::stored;
+use review_rows::{Delta, Kept, Need, Shelf, ShelfFault, Want};
 use review_shelves::{FaultyShelf, MemoryShelf, ShuttingShelf};
 use review_table::Change;
 use review_words::{AccountNo, Name};
@@ -57,11 +57,11 @@ fn account_of<S: Shelf>(
     name: &str,
 ) -> Result<Result<Option<AccountNo>, ShelfFault>, Fail> {
     let need = Need {
-        name: Some(Name::read(alloc, name)?),
-        ..no_need(alloc)
+        wants: vec![in alloc; Want::AccountNamed(Name::read(alloc, name)?)]?,
     };
+    let name = Name::read(alloc, name)?;
     Ok(match shelf.load(alloc, &need) {
-        Ok(rows) => Ok(rows.named),
+        Ok(rows) => Ok(rows.holder(&name)),
         Err(fault) => Err(fault),
     })
 }

@@ -1,7 +1,7 @@
 //! Lines, and what a desk answers to them.
 
 use review_machine::{Fault, Outcome, apply_lines};
-use review_rows::{Need, Shelf};
+use review_rows::{Need, Shelf, Want};
 use std::alloc::{AllocError, Global};
 use std::io::Read;
 use std::test::Fail;
@@ -43,28 +43,15 @@ pub fn answers<S: Shelf>(alloc: Global, shelf: &mut S, input: &str) -> Result<St
     Ok(text)
 }
 
-/// A need of nothing.
-pub fn no_need(alloc: Global) -> Need {
-    Need {
-        accounts: Vec::new(alloc),
-        name: None,
-        members: Vec::new(alloc),
-        group: None,
-        last_account: false,
-        file: None,
-        project_count: false,
-        project: None,
-        base: None,
-        branch: None,
-    }
-}
-
 /// How many requests are stored.
 pub fn stored<S: Shelf>(alloc: Global, shelf: &mut S) -> Result<u64, Fail> {
+    let need = Need {
+        wants: vec![in alloc; Want::Requests]?,
+    };
     let rows = shelf
-        .load(alloc, &no_need(alloc))
+        .load(alloc, &need)
         .map_err(|_| Fail::from("the shelf failed"))?;
-    Ok(rows.requests)
+    Ok(rows.requests())
 }
 
 /// Texts one after the other.

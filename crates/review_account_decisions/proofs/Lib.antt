@@ -1,3 +1,4 @@
 pub mod Members
 pub mod Settings
+pub mod Told
 pub mod Decided

@@ -9,7 +9,8 @@ use Rattle.review_names.specs.Names.{admin_name}
 use Rattle.review_words.specs.declared.command.Command.{Command}
 use Rattle.review_words.specs.declared.command.Command.TheVariants.{CreateAccount, PutGroup, PutProject, RecordBase}
 use Rattle.review_words.specs.History.{Entry, accepted, counted, named, is_named, account_count, name_of, name_taken, is_account}
-use Rattle.review_rows.specs.Rows.{AccountKey, AccountRow, IsFoundByName, IsLastAccount}
+use Rattle.review_rows.specs.Rows.{AccountKey, AccountRow}
+use Rattle.review_rows.specs.Known.{IsFoundByName, IsLast}
 use Rattle.review_rows.specs.View.{fact}
 
 some_cond : {X : Type 0} (b : Bool) (x : X) (o : Option X) → is_some (cond b (Some x) o) ≡ (b || is_some o)
@@ -136,7 +137,7 @@ account_fact : (h : List Entry) (n : ℕ) → is_some (fact h (AccountKey n)) �
 account_fact h n = some_mapped AccountRow (name_of h n) ∙ named_account h n
 
 -- the greatest number is that of the last account
-pub last_is : (h : List Entry) (last : ℕ) → IsLastAccount (fact h) last → last ≡ account_count h
+pub last_is : (h : List Entry) (last : ℕ) → IsLast AccountKey (fact h) last → last ≡ account_count h
 last_is h last l =
     let some = some_account h in
     let reached : account_count h ≤ last =

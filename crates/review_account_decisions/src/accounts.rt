@@ -4,20 +4,23 @@ ghost use Rattle.std.specs.Map.Iter.{deref_pair};
 ghost use Rattle.std.specs.List.{list_all};
 ghost use Rattle.std.specs.List.Sorted.{IsStrictlySortedBy};
 ghost use Rattle.std.specs.Ordering.{nat_cmp};
-ghost use Rattle.review_table.specs.Rows.{row_in, rows_of};
+ghost use Rattle.review_table.specs.Rows.{rows_of};
 ghost use Rattle.review_words.specs.Texts.{IsStored};
 ghost use Rattle.review_words.specs.History.{Entry, is_account};
 ghost use Rattle.review_words.specs.declared.command.Command.TheVariants.{CreateAccount, PutGroup};
 ghost use Rattle.review_words.specs.declared.reply.NotTaken.TheVariants.{Memory};
 ghost use Rattle.review_rows.specs.Rows.{HasNoEffect, member_cmp};
-ghost use Rattle.review_rows.specs.View.{needed, IsLoaded, IsDecided};
+ghost use Rattle.review_rows.specs.declared.rows.Want.TheVariants as want;
+ghost use Rattle.review_rows.specs.Known.{known, is_there, members_of};
+ghost use Rattle.review_rows.specs.Steps.{OfCommand};
+ghost use Rattle.review_rows.specs.View.{AreEnough, IsDecided};
 ghost use Rattle.review_rows.specs.Decisions.{NamesOnce, NamesEachOnce};
-ghost use Rattle.review_account_decisions.specs.Decisions.{added, dropped};
+ghost use Rattle.review_account_decisions.specs.Decisions.{added, dropped, member_of};
 
-use crate::callers::{has_account, is_admin};
+use crate::callers::is_admin;
 use crate::deltas::{nothing, refused};
 use review_rows::{Delta, MemberKey, Rows};
-use review_table::{Change, Key};
+use review_table::{Change, Key, Table};
 use review_words::{AccountName, AccountNo, Answer, GroupName, Members, NotTaken, Refusal, Reply};
 use std::alloc::{AllocError, Global};
 
@@ -29,7 +32,7 @@ pub fn create_account(
     caller: AccountNo,
     name: &AccountName,
 ) -> Result<(Delta, Reply), NotTaken>
-    ensures decided { IfOk result (λ r. (h : List Entry) → is_account h caller ≡ true → IsLoaded h (needed caller (CreateAccount name.now)) rows.now → IsDecided h caller (CreateAccount name.now) r.0 r.1) }
+    ensures decided { IfOk result (λ r. (h : List Entry) → is_account h caller ≡ true → AreEnough h caller (OfCommand (CreateAccount name.now)) rows.now → IsDecided h caller (CreateAccount name.now) r.0 r.1) }
     ensures cause { IfErr result (λ e. e ≡ Memory) }
     ensures stored { IfOk result (λ r. IsStored r.1) }
     ensures refused { IfOk result (λ r. HasNoEffect r.1 r.0) }
@@ -39,10 +42,10 @@ pub fn create_account(
     if !admin {
         return Ok(refused(alloc, Refusal::NotAdmin));
     }
-    if rows.named.is_some() {
+    if rows.holder(name).is_some() {
         return Ok(refused(alloc, Refusal::NameTaken));
     }
-    let Some(number) = AccountNo::after(rows.last_account) else {
+    let Some(number) = AccountNo::after(rows.last_account()) else {
         return Ok(refused(alloc, Refusal::Limit));
     };
     let mut delta = nothing(alloc);
@@ -62,7 +65,7 @@ pub fn put_group(
     group: &GroupName,
     members: &Members,
 ) -> Result<(Delta, Reply), NotTaken>
-    ensures decided { IfOk result (λ r. (h : List Entry) → is_account h caller ≡ true → IsLoaded h (needed caller (PutGroup group.now members.now)) rows.now → IsDecided h caller (PutGroup group.now members.now) r.0 r.1) }
+    ensures decided { IfOk result (λ r. (h : List Entry) → is_account h caller ≡ true → AreEnough h caller (OfCommand (PutGroup group.now members.now)) rows.now → IsDecided h caller (PutGroup group.now members.now) r.0 r.1) }
     ensures cause { IfErr result (λ e. e ≡ Memory) }
     ensures stored { IfOk result (λ r. IsStored r.1) }
     ensures refused { IfOk result (λ r. HasNoEffect r.1 r.0) }
@@ -84,12 +87,12 @@ pub fn put_group(
 }
 
 fn have_accounts(rows: &Rows, members: &Members) -> bool
-    ensures { result ≡ list_all (λ n. is_some (row_in nat_cmp (rows_of rows.now.accounts) n)) members.now }
+    ensures { result ≡ list_all (λ n. is_there (known rows.now (want.Account n))) members.now }
 {
     members
         .as_slice()
         .iter()
-        .all(|number| has_account(rows, *number))
+        .all(|number| rows.is_account(*number))
 }
 
 // The rows that make these the members of a group: those that aren't there yet are put, those that are to leave taken away.
@@ -99,28 +102,44 @@ fn member_changes(
     group: &GroupName,
     members: &Members,
 ) -> Result<Vec<Change<MemberKey, ()>>, AllocError>
-    ensures changes { IfOk result (λ v. v.items ≡ added group.now (rows_of rows.now.members) members.now ++ dropped group.now members.now (rows_of rows.now.members)) }
+    ensures changes { IfOk result (λ v. v.items ≡ added group.now (members_of (known rows.now (want.Group group.now))) members.now ++ dropped group.now (members_of (known rows.now (want.Group group.now))) members.now) }
     ensures once { IfOk result (λ v. NamesOnce member_cmp v.items) }
 {
-    let mut changes = add_members(alloc, rows, group, members)?;
-    let held = rows.members.rows(alloc)?;
-    drop_members(alloc, &mut changes, &held, group, members)?;
+    match rows.group(group) {
+        Some(held) => changes_from(alloc, held, group, members),
+        None => changes_from(alloc, &Table::new(alloc), group, members),
+    }
+}
+
+// The same, where the group has these members.
+fn changes_from(
+    alloc: Global,
+    held: &Table<AccountNo, ()>,
+    group: &GroupName,
+    members: &Members,
+) -> Result<Vec<Change<MemberKey, ()>>, AllocError>
+    ensures changes { IfOk result (λ v. v.items ≡ added group.now (rows_of held.now) members.now ++ dropped group.now (rows_of held.now) members.now) }
+    ensures once { IfOk result (λ v. NamesOnce member_cmp v.items) }
+{
+    let mut changes = add_members(alloc, held, group, members)?;
+    let before = held.rows(alloc)?;
+    drop_members(alloc, &mut changes, &before, group, members)?;
     Ok(changes)
 }
 
 #[tactic(auto, using(crate::proofs::Members::added_more))]
 fn add_members(
     alloc: Global,
-    rows: &Rows,
+    held: &Table<AccountNo, ()>,
     group: &GroupName,
     members: &Members,
 ) -> Result<Vec<Change<MemberKey, ()>>, AllocError>
-    ensures changes { IfOk result (λ v. v.items ≡ added group.now (rows_of rows.now.members) members.now) }
+    ensures changes { IfOk result (λ v. v.items ≡ added group.now (rows_of held.now) members.now) }
     ensures ordered { IfOk result (λ v. IsStrictlySortedBy nat_cmp members.now) }
 {
     let mut changes = Vec::new(alloc);
     for account in members.as_slice() {
-        add_member(alloc, &mut changes, rows, group, *account)?;
+        add_member(alloc, &mut changes, held, group, *account)?;
     }
     Ok(changes)
 }
@@ -128,34 +147,40 @@ fn add_members(
 fn add_member(
     alloc: Global,
     changes: &mut Vec<Change<MemberKey, ()>>,
-    rows: &Rows,
+    held: &Table<AccountNo, ()>,
     group: &GroupName,
     account: AccountNo,
 ) -> Result<(), AllocError>
-    ensures { OnOk result (changes.new.items ≡ changes.old.items ++ added group.now (rows_of rows.now.members) (account ∷ [])) }
+    ensures { OnOk result (changes.new.items ≡ changes.old.items ++ added group.now (rows_of held.now) (account ∷ [])) }
 {
-    let key = MemberKey {
-        group: group.copy(alloc)?,
-        account,
-    };
-    if rows.members.get(&key).is_none() {
+    if held.get(&account).is_none() {
+        let key = member_key(alloc, group, account)?;
         changes.push(Change { key, row: Some(()) })?;
     }
     Ok(())
+}
+
+fn member_key(alloc: Global, group: &GroupName, account: AccountNo) -> Result<MemberKey, AllocError>
+    ensures { IfOk result (λ k. k ≡ member_of group.now account) }
+{
+    Ok(MemberKey {
+        group: group.copy(alloc)?,
+        account,
+    })
 }
 
 #[tactic(auto, using(crate::proofs::Members::dropped_more))]
 fn drop_members(
     alloc: Global,
     changes: &mut Vec<Change<MemberKey, ()>>,
-    held: &[(&MemberKey, &())],
+    held: &[(&AccountNo, &())],
     group: &GroupName,
     members: &Members,
 ) -> Result<(), AllocError>
-    ensures { OnOk result (changes.new.items ≡ changes.old.items ++ dropped group.now members.now (map deref_pair held.now)) }
+    ensures { OnOk result (changes.new.items ≡ changes.old.items ++ dropped group.now (map deref_pair held.now) members.now) }
 {
-    for (key, _) in held {
-        drop_member(alloc, changes, key, group, members)?;
+    for (account, _) in held {
+        drop_member(alloc, changes, **account, group, members)?;
     }
     Ok(())
 }
@@ -163,17 +188,15 @@ fn drop_members(
 fn drop_member(
     alloc: Global,
     changes: &mut Vec<Change<MemberKey, ()>>,
-    key: &MemberKey,
+    account: AccountNo,
     group: &GroupName,
     members: &Members,
 ) -> Result<(), AllocError>
-    ensures { OnOk result (changes.new.items ≡ changes.old.items ++ dropped group.now members.now ((key.now, tt) ∷ [])) }
+    ensures { OnOk result (changes.new.items ≡ changes.old.items ++ dropped group.now ((account, tt) ∷ []) members.now) }
 {
-    if group.as_str() == key.group.as_str() && !members.has(key.account) {
-        changes.push(Change {
-            key: key.copy(alloc)?,
-            row: None,
-        })?;
+    if !members.has(account) {
+        let key = member_key(alloc, group, account)?;
+        changes.push(Change { key, row: None })?;
     }
     Ok(())
 }

@@ -6,5 +6,5 @@ pub mod callers;
 pub mod deltas;
 
 pub use accounts::{create_account, put_group};
-pub use callers::{has_account, is_admin};
+pub use callers::is_admin;
 pub use deltas::{nothing, refused};

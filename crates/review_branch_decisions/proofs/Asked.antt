@@ -1,48 +1,52 @@
 -- What the loaded rows tell of the history, for a question.
-use Rattle.std.proofs.Common.{◌≡◌, ℕ, ◌≤◌, arith, List, [], ◌∷◌, length, Option, Some, None, Bool, true, false, cond, ◌&&◌, refl, sym, ap, ◌∙◌}
-use Rattle.std.specs.Prelude.{is_some, nat_le, option_map}
+use Rattle.std.proofs.Common.{◌≡◌, ℕ, ◌≤◌, ◌+◌, arith, length-append, List, [], ◌∷◌, ◌++◌, length, Option, Some, None, Bool, true, false, cond, ◌&&◌, refl, sym, ap, ◌∙◌}
+use Rattle.std.specs.Prelude.{nat_le}
 use Rattle.std.proofs.lemmas.Bool.Decides.{nat_tests}
-use Rattle.std.specs.Ordering.{nat_cmp}
-use Rattle.review_table.specs.Rows.{row_in, rows_of}
 use Rattle.review_words.specs.declared.command.Query.{Query}
 use Rattle.review_words.specs.declared.command.Query.TheVariants as asked
 use Rattle.review_words.specs.declared.reply.Reply.TheVariants.{Refused}
 use Rattle.review_words.specs.declared.reply.Answer.TheVariants as made
 use Rattle.review_words.specs.declared.reply.Refusal.{Refusal}
 use Rattle.review_words.specs.declared.reply.Refusal.TheVariants.{UnknownCaller, NoProject, NoBranch}
-use Rattle.review_words.specs.History.{Entry, is_account, is_project, is_branch, bases}
+use Rattle.review_words.specs.declared.command.Command.{Command}
+use Rattle.review_words.specs.declared.command.Command.TheVariants.{CreateAccount, PutGroup, PutProject, RecordBase}
+use Rattle.review_words.specs.History.{Entry, accepted, is_account, is_project, is_branch, bases, base_count, with_base, base_counted}
+use Rattle.std.specs.Str.{bytes_eq}
 use Rattle.review_rows.specs.declared.rows.Rows.{Rows}
-use Rattle.review_rows.specs.Rows.{AccountKey, BranchKey, BranchRow, branch_cmp}
+use Rattle.review_rows.specs.declared.rows.Want.TheVariants as want
+use Rattle.review_rows.specs.Known.{known, is_so, is_there, commits_of}
+use Rattle.review_rows.specs.Steps.{OfQuery}
 use Rattle.review_rows.specs.Answer.{query_answer, refused_or}
-use Rattle.review_rows.specs.View.{fact, branch_row, wanted_for, IsLoaded}
-use Rattle.review_account_decisions.proofs.Decided.{eq_same, text_same}
-use Rattle.review_account_decisions.proofs.Settings.{account_is}
+use Rattle.review_rows.specs.View.{AreEnough}
+use Rattle.review_rows.proofs.Asked.{all_asked}
+use Rattle.review_account_decisions.proofs.Told.{account_told, project_told, bases_told}
 
 -- whether the caller is an account
-pub asker_is : (h : List Entry) (caller : ℕ) (query : Query) (rows : Rows) → IsLoaded h (wanted_for caller query) rows → is_some (row_in nat_cmp (rows_of rows.accounts) caller) ≡ is_account h caller
-asker_is h caller query rows l =
-    account_is h caller (row_in nat_cmp (rows_of rows.accounts) caller) (l.picked.row_is (AccountKey caller) ∙ ap (λ b. cond b (fact h (AccountKey caller)) None) (eq_same caller))
+pub asker_is : (h : List Entry) (caller : ℕ) (query : Query) (rows : Rows) → AreEnough h caller (OfQuery query) rows → is_there (known rows (want.Account caller)) ≡ is_account h caller
+asker_is h caller (asked.Branch project branch) rows l = account_told h rows caller l.agree (all_asked rows caller (OfQuery (asked.Branch project branch)) l.nothing_left).0
 
--- the row of the branch
-pub branch_loaded : (h : List Entry) (caller : ℕ) (project branch : List ℕ) (rows : Rows) → IsLoaded h (wanted_for caller (asked.Branch project branch)) rows →
-    option_map BranchRow (row_in branch_cmp (rows_of rows.branches) (record { project = project; branch = branch })) ≡ branch_row (bases h project branch)
-branch_loaded h caller project branch rows l =
-    l.picked.row_is (BranchKey project branch) ∙ (λ i. cond (text_same project i && text_same branch i) (branch_row (bases h project branch)) None)
+-- whether the project is there
+pub project_asked : (h : List Entry) (caller : ℕ) (project branch : List ℕ) (rows : Rows) → AreEnough h caller (OfQuery (asked.Branch project branch)) rows →
+    is_so (known rows (want.Project project)) ≡ is_project h project
+project_asked h caller project branch rows l = project_told h rows project l.agree (all_asked rows caller (OfQuery (asked.Branch project branch)) l.nothing_left).1.0
 
--- the bases that were found, or that there are none
-pub found_bases : (bs cs : List (List ℕ)) → option_map BranchRow (Some cs) ≡ branch_row bs → (bs ≡ cs) × (nat_le 1 (length bs) ≡ true)
-found_bases [] cs is = absurd (cc)
-found_bases (b ∷ bs) cs is = (sym (same cs (b ∷ bs) is), some (length (b ∷ bs)) (omega arith))
+-- the bases of the branch
+pub bases_asked : (h : List Entry) (caller : ℕ) (project branch : List ℕ) (rows : Rows) → AreEnough h caller (OfQuery (asked.Branch project branch)) rows →
+    commits_of (known rows (want.Bases (record { project = project; branch = branch }))) ≡ bases h project branch
+bases_asked h caller project branch rows l =
+    bases_told h rows (record { project = project; branch = branch }) l.agree (all_asked rows caller (OfQuery (asked.Branch project branch)) l.nothing_left).1.1.0
+
+-- whether a branch has bases
+pub none_there : (bs : List (List ℕ)) → bs ≡ [] → nat_le 1 (length bs) ≡ false
+none_there [] is = refl
+none_there (b ∷ bs) is = absurd (cc)
+
+pub some_there : (bs : List (List ℕ)) → (bs ≡ [] → ⊥) → nat_le 1 (length bs) ≡ true
+some_there [] is = absurd (is refl)
+some_there (b ∷ bs) is = some (length (b ∷ bs)) (omega arith)
   where
     some : (n : ℕ) → 1 ≤ n → nat_le 1 n ≡ true
     some n le = grind (arith, nat_tests)
-
-    same : (xs ys : List (List ℕ)) → Some (BranchRow xs) ≡ Some (BranchRow ys) → xs ≡ ys
-    same xs ys e = cc
-
-pub no_bases : (bs : List (List ℕ)) → option_map BranchRow None ≡ branch_row bs → nat_le 1 (length bs) ≡ false
-no_bases [] is = refl
-no_bases (b ∷ bs) is = absurd (cc)
 
 abbrev branch_refusal : Bool → Bool → Bool → Option Refusal
 branch_refusal a b c = cond a (cond b (cond c None (Some NoBranch)) (Some NoProject)) (Some UnknownCaller)
@@ -54,3 +58,20 @@ branch_answer h caller project branch a b c p q r = λ i. refused_or (branch_ref
 
 pub unknown_asker : (h : List Entry) (caller : ℕ) (query : Query) → is_account h caller ≡ false → query_answer h caller query ≡ Refused UnknownCaller
 unknown_asker h caller (asked.Branch project branch) e = branch_answer h caller project branch false (is_project h project) (is_branch h project branch) e refl refl
+
+-- a branch has no more bases than its project
+pub branch_within : (h : List Entry) (project branch : List ℕ) → length (bases h project branch) ≤ base_count h project
+branch_within [] project branch = omega arith
+branch_within (e ∷ h) project branch = step (accepted e) (bases h project branch) (base_count h project) (branch_within h project branch)
+  where
+    more : (t u : Bool) (commit : List ℕ) (bs : List (List ℕ)) (n : ℕ) → length bs ≤ n → length (cond (t && u) (bs ++ commit ∷ []) bs) ≤ cond t (n + 1) n
+    more true true commit bs n le = let e = length-append bs (commit ∷ []) in omega arith
+    more true false commit bs n le = omega arith
+    more false u commit bs n le = le
+
+    step : (o : Option Command) (bs : List (List ℕ)) (n : ℕ) → length bs ≤ n → length (with_base o project branch bs) ≤ base_counted o project n
+    step (Some (RecordBase p b commit)) bs n le = more (bytes_eq p project) (bytes_eq b branch) commit bs n le
+    step (Some (CreateAccount name)) bs n le = le
+    step (Some (PutGroup group members)) bs n le = le
+    step (Some (PutProject p file)) bs n le = le
+    step None bs n le = le

@@ -5,20 +5,20 @@ ghost use Rattle.review_words.specs.History.{Entry, is_account};
 ghost use Rattle.review_words.specs.declared.command.Command.TheVariants.{RecordBase};
 ghost use Rattle.review_words.specs.declared.reply.NotTaken.TheVariants.{Memory};
 ghost use Rattle.review_rows.specs.Rows.{HasNoEffect};
-ghost use Rattle.review_rows.specs.View.{needed, IsLoaded, IsDecided};
+ghost use Rattle.review_rows.specs.Steps.{OfCommand};
+ghost use Rattle.review_rows.specs.View.{AreEnough, IsDecided};
 ghost use Rattle.review_rows.specs.Decisions.{NamesEachOnce};
 
+use crate::keys::{base_of, branch_of};
 use review_account_decisions::{is_admin, nothing, refused};
-use review_rows::{Base, Delta, Rows};
+use review_rows::{BaseRow, Delta, Rows};
 use review_words::{
     AccountNo, Answer, BranchName, CommitName, NotTaken, ProjectName, Refusal, Reply,
 };
 use std::alloc::Global;
 
-/// The most bases of a project, over all its branches.
-const MOST_BASES: u64 = 100_000;
-
-/// Records a commit as the next base of a branch.
+/// Records a commit as the next base of a branch. Refused for an administrator missing, a project that isn't there, a commit that is a base of
+/// the branch already, or the most bases of a project, in this order; an error is want of memory.
 pub fn record_base(
     alloc: Global,
     rows: &Rows,
@@ -27,7 +27,7 @@ pub fn record_base(
     branch: &BranchName,
     commit: &CommitName,
 ) -> Result<(Delta, Reply), NotTaken>
-    ensures decided { IfOk result (λ r. (h : List Entry) → is_account h caller ≡ true → IsLoaded h (needed caller (RecordBase project.now branch.now commit.now)) rows.now → IsDecided h caller (RecordBase project.now branch.now commit.now) r.0 r.1) }
+    ensures decided { IfOk result (λ r. (h : List Entry) → is_account h caller ≡ true → AreEnough h caller (OfCommand (RecordBase project.now branch.now commit.now)) rows.now → IsDecided h caller (RecordBase project.now branch.now commit.now) r.0 r.1) }
     ensures cause { IfErr result (λ e. e ≡ Memory) }
     ensures stored { IfOk result (λ r. IsStored r.1) }
     ensures refused { IfOk result (λ r. HasNoEffect r.1 r.0) }
@@ -37,20 +37,24 @@ pub fn record_base(
     if !admin {
         return Ok(refused(alloc, Refusal::NotAdmin));
     }
-    if !rows.has_project {
+    if !rows.has_project(project) {
         return Ok(refused(alloc, Refusal::NoProject));
     }
-    if rows.has_base {
+    let base = base_of(alloc, project, branch, commit)?;
+    if rows.has_base(&base) {
         return Ok(refused(alloc, Refusal::CommitKnown));
     }
-    if rows.base_count >= MOST_BASES {
+    if !rows.has_room_for_bases(project) {
         return Ok(refused(alloc, Refusal::Limit));
     }
+    let key = branch_of(alloc, project, branch)?;
+    let place = rows.last_place(&key).saturating_add(1);
     let mut delta = nothing(alloc);
-    delta.base = Some(Base {
-        project: project.copy(alloc)?,
-        branch: branch.copy(alloc)?,
-        commit: commit.copy(alloc)?,
+    delta.base = Some(BaseRow {
+        project: key.project,
+        branch: key.branch,
+        place,
+        commit: base.commit,
     });
     Ok((delta, Reply::Done(Answer::Nothing)))
 }

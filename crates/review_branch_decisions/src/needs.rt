@@ -1,100 +1,140 @@
-//! What deliveries need of the tables.
-ghost use Rattle.std.specs.Prelude.{◌≡◌, ◌∷◌, [], None, Some, false, IfOk};
-ghost use Rattle.review_names.specs.Names.{administrators};
-ghost use Rattle.review_rows.specs.Rows.{wanted_by};
-ghost use Rattle.review_rows.specs.View.{needed, wanted_for};
-ghost use Rattle.review_rows.specs.Decisions.{WantsAs};
-ghost use Rattle.review_account_decisions.specs.Decisions.{AsksFor, member_of};
+//! What deliveries ask of the tables.
+ghost use Rattle.std.specs.Prelude.{◌≡◌, ◌++◌, IfOk, OnOk, map};
+ghost use Rattle.review_words.specs.declared.command.Command.TheVariants.{RecordBase};
+ghost use Rattle.review_rows.specs.declared.rows.Want.TheVariants as want;
+ghost use Rattle.review_rows.specs.Steps.{caller_wants, command_wants, query_wants, first_wants, unknown, unless_none, wants_in, next, topic_of};
 
-use review_rows::{Base, BranchKey, MemberKey, Need};
-use review_words::{AccountNo, Command, Query, administrators};
+use crate::keys::{base_of, branch_of};
+use review_rows::{Counted, Matter, MemberKey, Need, Rows, Want};
+use review_words::{
+    AccountNo, BranchName, Command, CommitName, ProjectName, Query, administrators,
+};
 use std::alloc::{AllocError, Global};
 
-// A need of these accounts and members, and of nothing else.
-fn need_for(accounts: Vec<AccountNo>, members: Vec<MemberKey>) -> Need
-    ensures { AsksFor accounts.items members.items result }
+/// What a command or a question asks of the tables next; nothing where the rows decide it. Of a command these are: how many requests are
+/// stored, the caller's account and those that it names, whether the caller is an administrator, and what it is to change; of a question
+/// the caller's account, whether the project is there, and the bases of the branch.
+pub fn next_need(
+    alloc: Global,
+    rows: &Rows,
+    caller: AccountNo,
+    matter: Matter<'_>,
+) -> Result<Option<Need>, AllocError>
+    ensures { IfOk result (λ need. wants_in need ≡ unless_none (next rows.now caller (topic_of matter))) }
 {
-    Need {
-        accounts,
-        name: None,
-        members,
-        group: None,
-        last_account: false,
-        file: None,
-        project_count: false,
-        project: None,
-        base: None,
-        branch: None,
+    let wants = first_wants(alloc, caller, matter)?;
+    let wants = unknown(alloc, rows, wants)?;
+    if wants.is_empty() {
+        return Ok(None);
+    }
+    Ok(Some(Need { wants }))
+}
+
+fn first_wants(
+    alloc: Global,
+    caller: AccountNo,
+    matter: Matter<'_>,
+) -> Result<Vec<Want>, AllocError>
+    ensures { IfOk result (λ wants. wants.items ≡ first_wants caller (topic_of matter)) }
+{
+    match matter {
+        Matter::Command(command) => command_wants(alloc, caller, command),
+        Matter::Query(query) => query_wants(alloc, caller, query),
     }
 }
 
-// Whether the caller is an account and an administrator.
-fn need_of_caller(alloc: Global, caller: AccountNo) -> Result<Need, AllocError>
-    ensures { IfOk result (AsksFor (caller ∷ []) (member_of administrators caller ∷ [])) }
+// Those look-ups that weren't made.
+fn unknown(alloc: Global, rows: &Rows, wants: Vec<Want>) -> Result<Vec<Want>, AllocError>
+    ensures { IfOk result (λ left. left.items ≡ unknown rows.now wants.items) }
 {
-    let mut accounts = Vec::new(alloc);
-    accounts.push(caller)?;
-    let mut members = Vec::new(alloc);
-    members.push(MemberKey {
-        group: administrators(alloc)?,
-        account: caller,
-    })?;
-    Ok(need_for(accounts, members))
+    let mut left = Vec::new(alloc);
+    for want in wants {
+        if !rows.knows(&want) {
+            left.push(want)?;
+        }
+    }
+    Ok(left)
 }
 
-/// What a command needs of the tables: the caller's account and those that it names, whether the caller is an
-/// administrator, and what it is to change.
-pub fn need_of(alloc: Global, caller: AccountNo, command: &Command) -> Result<Need, AllocError>
-    ensures { IfOk result (λ need. WantsAs (wanted_by need) (needed caller command.now)) }
+// How many requests are stored, and whether the caller is an account and an administrator.
+fn caller_wants(alloc: Global, caller: AccountNo) -> Result<Vec<Want>, AllocError>
+    ensures { IfOk result (λ wants. wants.items ≡ caller_wants caller) }
 {
-    let mut need = need_of_caller(alloc, caller)?;
+    let mut wants = Vec::new(alloc);
+    wants.push(Want::Requests)?;
+    wants.push(Want::Account(caller))?;
+    wants.push(Want::Member(MemberKey {
+        group: administrators(alloc)?,
+        account: caller,
+    }))?;
+    Ok(wants)
+}
+
+fn command_wants(
+    alloc: Global,
+    caller: AccountNo,
+    command: &Command,
+) -> Result<Vec<Want>, AllocError>
+    ensures { IfOk result (λ wants. wants.items ≡ caller_wants caller ++ command_wants command.now) }
+{
+    let mut wants = caller_wants(alloc, caller)?;
     match command {
         Command::CreateAccount { name } => {
-            need.name = Some(name.copy(alloc)?);
-            need.last_account = true;
-            Ok(need)
+            wants.push(Want::AccountNamed(name.copy(alloc)?))?;
+            wants.push(Want::LastAccount)?;
         }
         Command::PutGroup { group, members } => {
-            need.accounts.extend_from_slice(members.as_slice())?;
-            need.group = Some(group.copy(alloc)?);
-            Ok(need)
+            wants.push(Want::Group(group.copy(alloc)?))?;
+            push_accounts(&mut wants, members.as_slice())?;
         }
         Command::PutProject { project, file: _ } => {
-            need.file = Some(project.copy(alloc)?);
-            need.project_count = true;
-            Ok(need)
+            wants.push(Want::File(project.copy(alloc)?))?;
+            wants.push(Want::Room(Counted::Projects))?;
         }
         Command::RecordBase {
             project,
             branch,
             commit,
-        } => {
-            need.project = Some(project.copy(alloc)?);
-            need.base = Some(Base {
-                project: project.copy(alloc)?,
-                branch: branch.copy(alloc)?,
-                commit: commit.copy(alloc)?,
-            });
-            Ok(need)
-        }
+        } => push_base(alloc, &mut wants, project, branch, commit)?,
     }
+    Ok(wants)
 }
 
-/// What a question needs of the tables: the caller's account, whether the project is there, and the bases of the branch.
-pub fn need_of_query(alloc: Global, caller: AccountNo, query: &Query) -> Result<Need, AllocError>
-    ensures { IfOk result (λ need. WantsAs (wanted_by need) (wanted_for caller query.now)) }
+fn push_accounts(wants: &mut Vec<Want>, numbers: &[AccountNo]) -> Result<(), AllocError>
+    ensures { OnOk result (wants.new.items ≡ wants.old.items ++ map want.Account numbers.now) }
 {
-    let mut accounts = Vec::new(alloc);
-    accounts.push(caller)?;
-    let mut need = need_for(accounts, Vec::new(alloc));
+    for number in numbers {
+        wants.push(Want::Account(*number))?;
+    }
+    Ok(())
+}
+
+fn push_base(
+    alloc: Global,
+    wants: &mut Vec<Want>,
+    project: &ProjectName,
+    branch: &BranchName,
+    commit: &CommitName,
+) -> Result<(), AllocError>
+    ensures { OnOk result (wants.new.items ≡ wants.old.items ++ command_wants (RecordBase project.now branch.now commit.now)) }
+{
+    wants.push(Want::Project(project.copy(alloc)?))?;
+    wants.push(Want::Base(base_of(alloc, project, branch, commit)?))?;
+    wants.push(Want::Room(Counted::BasesOf(project.copy(alloc)?)))?;
+    wants.push(Want::LastPlace(branch_of(alloc, project, branch)?))?;
+    Ok(())
+}
+
+fn query_wants(alloc: Global, caller: AccountNo, query: &Query) -> Result<Vec<Want>, AllocError>
+    ensures { IfOk result (λ wants. wants.items ≡ query_wants caller query.now) }
+{
+    let mut wants = Vec::new(alloc);
+    wants.push(Want::Account(caller))?;
     match query {
         Query::Branch { project, branch } => {
-            need.project = Some(project.copy(alloc)?);
-            need.branch = Some(BranchKey {
-                project: project.copy(alloc)?,
-                branch: branch.copy(alloc)?,
-            });
+            wants.push(Want::Project(project.copy(alloc)?))?;
+            wants.push(Want::Bases(branch_of(alloc, project, branch)?))?;
         }
     }
-    Ok(need)
+    Ok(wants)
 }

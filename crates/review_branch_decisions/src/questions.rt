@@ -4,22 +4,23 @@ ghost use Rattle.review_words.specs.History.{Entry, is_account};
 ghost use Rattle.review_words.specs.declared.command.Query.TheVariants.{Branch};
 ghost use Rattle.review_words.specs.declared.reply.NotTaken.TheVariants.{Memory};
 ghost use Rattle.review_rows.specs.Answer.{query_answer};
-ghost use Rattle.review_rows.specs.View.{wanted_for, IsLoaded};
+ghost use Rattle.review_rows.specs.Steps.{OfQuery};
+ghost use Rattle.review_rows.specs.View.{AreEnough};
 ghost use Rattle.review_rows.specs.Decisions.{IsDoneOrRefused};
 
-use review_account_decisions::has_account;
-use review_rows::{BranchKey, Rows};
-use review_words::{AccountNo, Answer, BranchName, NotTaken, ProjectName, Query, Refusal, Reply};
+use crate::keys::branch_of;
+use review_rows::Rows;
+use review_words::{AccountNo, Answer, Bases, BranchName, NotTaken, ProjectName, Query, Refusal, Reply};
 use std::alloc::{AllocError, Global};
 
 /// The answer to a question: the first check that fails refuses, in the order of the question's checks. It changes
 /// nothing. The only error is want of memory.
 pub fn show(alloc: Global, rows: &Rows, caller: AccountNo, query: &Query) -> Result<Reply, NotTaken>
-    ensures shown { IfOk result (λ r. (h : List Entry) → IsLoaded h (wanted_for caller query.now) rows.now → r ≡ query_answer h caller query.now) }
+    ensures shown { IfOk result (λ r. (h : List Entry) → AreEnough h caller (OfQuery query.now) rows.now → r ≡ query_answer h caller query.now) }
     ensures answered { IfOk result IsDoneOrRefused }
     ensures cause { IfErr result (λ e. e ≡ Memory) }
 {
-    let known = has_account(rows, caller);
+    let known = rows.is_account(caller);
     if !known {
         return Ok(Reply::Refused(Refusal::UnknownCaller));
     }
@@ -29,7 +30,7 @@ pub fn show(alloc: Global, rows: &Rows, caller: AccountNo, query: &Query) -> Res
 // The answer to a question of an account.
 fn answer(alloc: Global, rows: &Rows, caller: AccountNo, query: &Query) -> Result<Reply, AllocError>
     ensures answered { IfOk result IsDoneOrRefused }
-    ensures shown { IfOk result (λ r. (h : List Entry) → is_account h caller ≡ true → IsLoaded h (wanted_for caller query.now) rows.now → r ≡ query_answer h caller query.now) }
+    ensures shown { IfOk result (λ r. (h : List Entry) → is_account h caller ≡ true → AreEnough h caller (OfQuery query.now) rows.now → r ≡ query_answer h caller query.now) }
 {
     match query {
         Query::Branch { project, branch } => show_branch(alloc, rows, caller, project, branch),
@@ -44,17 +45,18 @@ fn show_branch(
     branch: &BranchName,
 ) -> Result<Reply, AllocError>
     ensures answered { IfOk result IsDoneOrRefused }
-    ensures shown { IfOk result (λ r. (h : List Entry) → is_account h caller ≡ true → IsLoaded h (wanted_for caller (Branch project.now branch.now)) rows.now → r ≡ query_answer h caller (Branch project.now branch.now)) }
+    ensures shown { IfOk result (λ r. (h : List Entry) → is_account h caller ≡ true → AreEnough h caller (OfQuery (Branch project.now branch.now)) rows.now → r ≡ query_answer h caller (Branch project.now branch.now)) }
 {
-    if !rows.has_project {
+    if !rows.has_project(project) {
         return Ok(Reply::Refused(Refusal::NoProject));
     }
-    let key = BranchKey {
-        project: project.copy(alloc)?,
-        branch: branch.copy(alloc)?,
+    let key = branch_of(alloc, project, branch)?;
+    let bases = match rows.bases(&key) {
+        Some(bases) => bases.copy(alloc)?,
+        None => Bases::new(alloc),
     };
-    match rows.branches.get(&key) {
-        Some(bases) => Ok(Reply::Done(Answer::Branch(bases.copy(alloc)?))),
-        None => Ok(Reply::Refused(Refusal::NoBranch)),
+    if bases.is_empty() {
+        return Ok(Reply::Refused(Refusal::NoBranch));
     }
+    Ok(Reply::Done(Answer::Branch(bases)))
 }

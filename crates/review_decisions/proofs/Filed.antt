@@ -28,11 +28,15 @@ use Rattle.review_rows.specs.declared.rows.Delta.{Delta}
 use Rattle.review_rows.specs.Files.{File, IsRead, IsFileFault, covers, HasPattern}
 use Rattle.review_rows.specs.Rows.{FileKey, FileRow, HasNoEffect}
 use Rattle.review_rows.specs.Answer.{IsHistory, IsAnswer, IsOutcome, HasFile, file_checks, first_refusal, refused_or, refused_by}
-use Rattle.review_rows.specs.View.{fact, needed, IsLoaded, IsDecided}
+use Rattle.review_rows.specs.declared.rows.Want.TheVariants as want
+use Rattle.review_rows.specs.declared.rows.Counted.TheVariants as counted
+use Rattle.review_rows.specs.Steps.{OfCommand}
+use Rattle.review_rows.specs.View.{fact, AreEnough, IsDecided}
 use Rattle.review_rows.specs.Decisions.{IsUndecided, ReadsPattern}
 use Rattle.review_account_decisions.specs.Decisions.{IsEmpty}
-use Rattle.review_decisions.specs.Files.{file_in, bad_value_cause, unread_cause, IsCovered, IsReadCause, IsUnreadText, IsUnread, IsFileRefusal, IsPutBy, IsFilePut, file_refused}
-use Rattle.review_account_decisions.proofs.Decided.{text_same, empty_changes, outcome_answer, project_refused, refused_decided, file_decided}
+use Rattle.review_decisions.specs.Files.{file_in, room_in, bad_value_cause, unread_cause, IsCovered, IsReadCause, IsUnreadText, IsUnread, IsFileRefusal, IsPutBy, IsFilePut, file_refused}
+use Rattle.review_account_decisions.proofs.Told.{text_told, room_told}
+use Rattle.review_account_decisions.proofs.Decided.{asked_beside, empty_changes, outcome_answer, project_refused, refused_decided, file_decided}
 
 -- a refusal changes nothing
 pub refused_nothing : (r : Delta × Reply) (refusal : Refusal) → IsEmpty r.0 → r.1 ≡ Refused refusal → HasNoEffect r.1 r.0
@@ -74,16 +78,14 @@ unread_is t (read.File file.BadValues) is pattern = λ f r. (read_or_fault t f f
 unread_is t (read.File file.UnknownLabel) is pattern = λ f r. (read_or_fault t f file.UnknownLabel r is).0
 unread_is t (read.File file.Limit) is pattern = λ f r. (read_or_fault t f file.Limit r is).0
 
--- the text that is loaded is the project's
-mapped_file : (o p : Option (List ℕ)) → option_map FileRow o ≡ option_map FileRow p → o ≡ p
-mapped_file None None e = refl
-mapped_file None (Some t) e = absurd (cc)
-mapped_file (Some t) None e = absurd (cc)
-mapped_file (Some t) (Some u) e = cc
+-- the text that rows know is the project's
+pub file_loaded : (h : List Entry) (caller : ℕ) (project text : List ℕ) (rows : Rows) → AreEnough h caller (OfCommand (PutProject project text)) rows → file_in rows project ≡ file_text h project
+file_loaded h caller project text rows l = text_told h rows project l.agree (asked_beside h caller (PutProject project text) rows l).0
 
-pub file_loaded : (h : List Entry) (caller : ℕ) (project text : List ℕ) (rows : Rows) → IsLoaded h (needed caller (PutProject project text)) rows → file_in rows project ≡ file_text h project
-file_loaded h caller project text rows l =
-    mapped_file (file_in rows project) (file_text h project) (l.picked.row_is (FileKey project) ∙ ap (λ b. cond b (fact h (FileKey project)) None) (text_same project))
+-- and the room that they know is there
+pub room_loaded : (h : List Entry) (caller : ℕ) (project text : List ℕ) (rows : Rows) → AreEnough h caller (OfCommand (PutProject project text)) rows →
+    room_in rows ≡ nat_lt (project_count h) 1000
+room_loaded h caller project text rows l = room_told h rows counted.Projects l.agree (asked_beside h caller (PutProject project text) rows l).1.0
 
 -- a text that was accepted spells a file
 accepted_read : (h : List Entry) (caller : ℕ) (project text : List ℕ) (a : Answer) → IsAnswer h caller (PutProject project text) (Done a) → (f : File) × IsRead text f
@@ -136,7 +138,7 @@ unread_undecided caller project text rows cause is = at (file_in rows project) r
     reads : (h : List Entry) (t : List ℕ) → file_text h project ≡ Some t → HasPattern t → ReadsPattern h (PutProject project text)
     reads h t there has = inr (subst (λ o. IsSomeAnd o HasPattern) (sym there) has)
 
-    stored : (h : List Entry) (t : List ℕ) → file_in rows project ≡ Some t → IsLoaded h (needed caller (PutProject project text)) rows → file_text h project ≡ Some t
+    stored : (h : List Entry) (t : List ℕ) → file_in rows project ≡ Some t → AreEnough h caller (OfCommand (PutProject project text)) rows → file_text h project ≡ Some t
     stored h t here l = sym (file_loaded h caller project text rows l) ∙ here
 
     at : (o : Option (List ℕ)) → file_in rows project ≡ o → (cause : Cause) → IsUnread o cause → IsUndecided caller (PutProject project text) rows cause
@@ -168,16 +170,16 @@ fault_decided h caller project text r fault known admin empty faulty is =
 
 -- a text that spells a file is put by its checks
 pub put_decided_by : (h : List Entry) (caller : ℕ) (project text : List ℕ) (rows : Rows) (new : File) (delta : Delta) (reply : Reply) → is_account h caller ≡ true → is_admin h caller ≡ true →
-    IsLoaded h (needed caller (PutProject project text)) rows → IsRead text new → IsFilePut (file_in rows project) rows.project_count project text new delta reply → IsDecided h caller (PutProject project text) delta reply
+    AreEnough h caller (OfCommand (PutProject project text)) rows → IsRead text new → IsFilePut (file_in rows project) (room_in rows) project text new delta reply → IsDecided h caller (PutProject project text) delta reply
 put_decided_by h caller project text rows new delta reply known admin l read put = at put.0 put.1 put.2
   where
-    answered : (o : Option Refusal) → IsFileRefusal (file_in rows project) rows.project_count project new o → IsAnswer h caller (PutProject project text) (refused_or o Nothing)
+    answered : (o : Option Refusal) → IsFileRefusal (file_in rows project) (room_in rows) project new o → IsAnswer h caller (PutProject project text) (refused_or o Nothing)
     answered o by =
         let loaded = file_loaded h caller project text rows l in
         outcome_answer h caller (PutProject project text) (refused_or o Nothing) (project_refused h caller project text true true known admin)
-        (inr (new, by.0, read, subst (λ f. HasFile f by.0) loaded by.1, ap (λ x. refused_or x Nothing) (sym (by.2 h (ap is_some (sym loaded)) (l.picked.projects refl)))))
+        (inr (new, by.0, read, subst (λ f. HasFile f by.0) loaded by.1, ap (λ x. refused_or x Nothing) (sym (by.2 h (ap is_some (sym loaded)) (room_loaded h caller project text rows l)))))
 
-    at : (o : Option Refusal) → IsFileRefusal (file_in rows project) rows.project_count project new o → IsPutBy project text o delta reply → IsDecided h caller (PutProject project text) delta reply
+    at : (o : Option Refusal) → IsFileRefusal (file_in rows project) (room_in rows) project new o → IsPutBy project text o delta reply → IsDecided h caller (PutProject project text) delta reply
     at None by x =
         subst (IsDecided h caller (PutProject project text) delta) (sym x.0)
         (file_decided h caller project text delta (answered None by) x.1.accounts x.1.members x.1.file x.1.base)
@@ -191,9 +193,9 @@ checks_by h project old new a b p q = λ i. cond (p i) (cond (q i) None (Some Li
 
 -- the same of results
 pub put_project_by : (caller : ℕ) (project text : List ℕ) (rows : Rows) (new : File) (result : Result (Delta × Reply) Cause) →
-    ((h : List Entry) → IsLoaded h (needed caller (PutProject project text)) rows → is_admin h caller ≡ true) → IsRead text new →
-    IfOk result (λ r. IsFilePut (file_in rows project) rows.project_count project text new r.0 r.1) →
-    IfOk result (λ r. (h : List Entry) → is_account h caller ≡ true → IsLoaded h (needed caller (PutProject project text)) rows → IsDecided h caller (PutProject project text) r.0 r.1)
+    ((h : List Entry) → AreEnough h caller (OfCommand (PutProject project text)) rows → is_admin h caller ≡ true) → IsRead text new →
+    IfOk result (λ r. IsFilePut (file_in rows project) (room_in rows) project text new r.0 r.1) →
+    IfOk result (λ r. (h : List Entry) → is_account h caller ≡ true → AreEnough h caller (OfCommand (PutProject project text)) rows → IsDecided h caller (PutProject project text) r.0 r.1)
 put_project_by caller project text rows new (Ok r) admin read put = λ h known l. put_decided_by h caller project text rows new r.0 r.1 known (admin h l) l read put
 put_project_by caller project text rows new (Err e) admin read put = tt
 
@@ -202,9 +204,9 @@ unread_by caller project text rows (Ok r) x = tt
 unread_by caller project text rows (Err e) x = unread_undecided caller project text rows e x
 
 pub fault_by : (caller : ℕ) (project text : List ℕ) (rows : Rows) (fault : ReadFault) (result : Result (Delta × Reply) Cause) →
-    ((h : List Entry) → IsLoaded h (needed caller (PutProject project text)) rows → is_admin h caller ≡ true) → IsReadFault text fault →
+    ((h : List Entry) → AreEnough h caller (OfCommand (PutProject project text)) rows → is_admin h caller ≡ true) → IsReadFault text fault →
     IfOk result (λ r. IsEmpty r.0 × ((f : FileFault) × (fault ≡ read.File f) × (r.1 ≡ Refused (BadFile f)))) →
-    IfOk result (λ r. (h : List Entry) → is_account h caller ≡ true → IsLoaded h (needed caller (PutProject project text)) rows → IsDecided h caller (PutProject project text) r.0 r.1)
+    IfOk result (λ r. (h : List Entry) → is_account h caller ≡ true → AreEnough h caller (OfCommand (PutProject project text)) rows → IsDecided h caller (PutProject project text) r.0 r.1)
 fault_by caller project text rows fault (Ok r) admin faulty x = λ h known l.
     fault_decided h caller project text r x.1.0 known (admin h l) x.0 (subst (IsReadFault text) x.1.1 faulty) x.1.2
 fault_by caller project text rows fault (Err e) admin faulty x = tt
@@ -213,24 +215,24 @@ has_same : (had : Option (List ℕ)) (old : Option File) → HasFile had old →
 has_same None old is = sym (ap is_some is)
 has_same (Some t) old is = sym (ap is_some is.2)
 
-refused_new : (h : List Entry) (count : ℕ) (project : List ℕ) (new : File) (b : Bool) → is_project h project ≡ false → count ≡ project_count h → nat_lt count 1000 ≡ b →
+refused_new : (h : List Entry) (project : List ℕ) (new : File) (b : Bool) → is_project h project ≡ false → b ≡ nat_lt (project_count h) 1000 →
     first_refusal (file_checks h project None new) ≡ cond b None (Some Limit)
-refused_new h count project new b none counted is =
-    checks_by h project None new true b refl (ap (λ x. x || nat_lt (project_count h) 1000) none ∙ (ap (λ n. nat_lt n 1000) (sym counted) ∙ is))
+refused_new h project new b none is =
+    checks_by h project None new true b refl (ap (λ x. x || nat_lt (project_count h) 1000) none ∙ sym is)
 
-refused_old : (h : List Entry) (count : ℕ) (project : List ℕ) (f new : File) (b : Bool) → is_project h project ≡ true → covers f new ≡ b → first_refusal (file_checks h project (Some f) new) ≡ file_refused (Some b) count
-refused_old h count project f new true there is = checks_by h project (Some f) new true true is (ap (λ x. x || nat_lt (project_count h) 1000) there)
-refused_old h count project f new false there is = checks_by h project (Some f) new false true is (ap (λ x. x || nat_lt (project_count h) 1000) there)
+refused_old : (h : List Entry) (room : Bool) (project : List ℕ) (f new : File) (b : Bool) → is_project h project ≡ true → covers f new ≡ b → first_refusal (file_checks h project (Some f) new) ≡ file_refused (Some b) room
+refused_old h room project f new true there is = checks_by h project (Some f) new true true is (ap (λ x. x || nat_lt (project_count h) 1000) there)
+refused_old h room project f new false there is = checks_by h project (Some f) new false true is (ap (λ x. x || nat_lt (project_count h) 1000) there)
 
-refused_at : (had : Option (List ℕ)) (count : ℕ) (project : List ℕ) (old : Option File) (new : File) (h : List Entry) → HasFile had old → is_project h project ≡ is_some had → count ≡ project_count h →
-    first_refusal (file_checks h project old new) ≡ file_refused (option_map (λ f. covers f new) old) count
-refused_at had count project None new h has same counted = refused_new h count project new (nat_lt count 1000) (same ∙ has_same had None has) counted refl
-refused_at had count project (Some f) new h has same counted = refused_old h count project f new (covers f new) (same ∙ has_same had (Some f) has) refl
+refused_at : (had : Option (List ℕ)) (room : Bool) (project : List ℕ) (old : Option File) (new : File) (h : List Entry) → HasFile had old → is_project h project ≡ is_some had →
+    room ≡ nat_lt (project_count h) 1000 → first_refusal (file_checks h project old new) ≡ file_refused (option_map (λ f. covers f new) old) room
+refused_at had room project None new h has same there = refused_new h project new room (same ∙ has_same had None has) there
+refused_at had room project (Some f) new h has same there = refused_old h room project f new (covers f new) (same ∙ has_same had (Some f) has) refl
 
 -- what refuses a file, where it is known whether it covers the old one
-pub refused_by_cover : (had : Option (List ℕ)) (count : ℕ) (project : List ℕ) (new : File) (found : Option Bool) → IsCovered had new found → IsFileRefusal had count project new (file_refused found count)
-refused_by_cover had count project new found is =
-    (is.0, is.1, λ h same counted. refused_at had count project is.0 new h is.1 same counted ∙ ap (λ o. file_refused o count) (sym is.2))
+pub refused_by_cover : (had : Option (List ℕ)) (room : Bool) (project : List ℕ) (new : File) (found : Option Bool) → IsCovered had new found → IsFileRefusal had room project new (file_refused found room)
+refused_by_cover had room project new found is =
+    (is.0, is.1, λ h same there. refused_at had room project is.0 new h is.1 same there ∙ ap (λ o. file_refused o room) (sym is.2))
 
 pub unreadable_by : (caller : ℕ) (project text : List ℕ) (rows : Rows) (fault : ReadFault) (result : Result (Delta × Reply) Cause) →
     IsReadFault text fault → IfErr result (IsReadCause fault) → IfErr result (IsUndecided caller (PutProject project text) rows)

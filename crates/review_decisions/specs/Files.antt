@@ -1,8 +1,5 @@
 -- What is done with the files of projects.
 use Rattle.std.specs.Prelude.{ℕ, ◌≡◌, List, [], Option, Some, None, Bool, true, false, is_some, nat_lt, option_map, if◌then◌else◌}
-use Rattle.std.specs.Ordering.{nat_cmp}
-use Rattle.std.specs.Cmp.Lexicographic.{slice_cmp}
-use Rattle.review_table.specs.Rows.{row_in, rows_of}
 use Rattle.review_words.specs.declared.faults.ExprCode.{ExprCode}
 use Rattle.review_words.specs.declared.faults.ExprCode.TheVariants.{BadValue}
 use Rattle.review_words.specs.declared.faults.FileFault.TheVariants.{Expr}
@@ -19,12 +16,19 @@ use Rattle.review_project.specs.declared.fault.ReadFault.TheVariants as read
 use Rattle.review_rows.specs.Files.{File, IsRead, HasPattern, covers}
 use Rattle.review_rows.specs.Answer.{HasFile, file_checks, first_refusal, most_projects}
 use Rattle.review_rows.specs.declared.rows.Rows.{Rows}
+use Rattle.review_rows.specs.declared.rows.Want.TheVariants as want
+use Rattle.review_rows.specs.declared.rows.Counted.TheVariants as counted
+use Rattle.review_rows.specs.Known.{known, is_so, text_of}
 use Rattle.review_rows.specs.declared.rows.Delta.{Delta}
 use Rattle.review_account_decisions.specs.Decisions.{IsEmpty}
 
--- the text of a project's file, among loaded rows
+-- the text of a project's file, as rows know it
 abbrev pub file_in : Rows → List ℕ → Option (List ℕ)
-file_in rows project = row_in (slice_cmp nat_cmp) (rows_of rows.files) project
+file_in rows project = text_of (known rows (want.File project))
+
+-- whether rows know of room for one more project
+abbrev pub room_in : Rows → Bool
+room_in rows = is_so (known rows (want.Room counted.Projects))
 
 -- what a fault of an expression in a stored file shows
 abbrev pub bad_value_cause : ExprCode → Cause
@@ -68,15 +72,15 @@ pub record PutsFile (project text : List ℕ) (delta : Delta) : Type 0 where
 abbrev pub IsCovered : Option (List ℕ) → File → Option Bool → Type 0
 IsCovered had new found = (old : Option File) × HasFile had old × (found ≡ option_map (λ f. covers f new) old)
 
--- what refuses a file, by whether it covers the one that the project has, and how many projects there are
-abbrev pub file_refused : Option Bool → ℕ → Option Refusal
-file_refused (Some true) projects = None
-file_refused (Some false) projects = Some LabelNarrowed
-file_refused None projects = if nat_lt projects most_projects then None else Some Limit
+-- what refuses a file, by whether it covers the one that the project has, and whether there is room for one more project
+abbrev pub file_refused : Option Bool → Bool → Option Refusal
+file_refused (Some true) room = None
+file_refused (Some false) room = Some LabelNarrowed
+file_refused None room = if room then None else Some Limit
 
--- What refuses a file where the project had this text: by the checks of a history that has the project where a text is there, and as many projects as are counted.
-abbrev pub IsFileRefusal : Option (List ℕ) → ℕ → List ℕ → File → Option Refusal → Type 0
-IsFileRefusal had count project new refusal = (old : Option File) × HasFile had old × ((h : List Entry) → is_project h project ≡ is_some had → count ≡ project_count h →
+-- What refuses a file where the project had this text: by the checks of a history that has the project where a text is there, and room for one more where there is.
+abbrev pub IsFileRefusal : Option (List ℕ) → Bool → List ℕ → File → Option Refusal → Type 0
+IsFileRefusal had room project new refusal = (old : Option File) × HasFile had old × ((h : List Entry) → is_project h project ≡ is_some had → room ≡ nat_lt (project_count h) most_projects →
     first_refusal (file_checks h project old new) ≡ refusal)
 
 -- the file is put, or refused
@@ -85,5 +89,5 @@ IsPutBy project text None delta reply = (reply ≡ Done Nothing) × PutsFile pro
 IsPutBy project text (Some refusal) delta reply = (reply ≡ Refused refusal) × IsEmpty delta
 
 -- a file is put where the project had this text, unless it is refused
-abbrev pub IsFilePut : Option (List ℕ) → ℕ → List ℕ → List ℕ → File → Delta → Reply → Type 0
-IsFilePut had count project text new delta reply = (refusal : Option Refusal) × IsFileRefusal had count project new refusal × IsPutBy project text refusal delta reply
+abbrev pub IsFilePut : Option (List ℕ) → Bool → List ℕ → List ℕ → File → Delta → Reply → Type 0
+IsFilePut had room project text new delta reply = (refusal : Option Refusal) × IsFileRefusal had room project new refusal × IsPutBy project text refusal delta reply

@@ -3,11 +3,12 @@ ghost use Rattle.std.specs.Prelude.{◌≡◌, ◌∷◌, List, [], IfOk, IfErr}
 ghost use Rattle.review_words.specs.Texts.{IsStored};
 ghost use Rattle.review_words.specs.History.{Entry};
 ghost use Rattle.review_rows.specs.Rows.{HasNoEffect};
-ghost use Rattle.review_rows.specs.View.{needed, IsLoaded, IsDecided};
+ghost use Rattle.review_rows.specs.Steps.{OfCommand};
+ghost use Rattle.review_rows.specs.View.{AreEnough, IsDecided};
 ghost use Rattle.review_rows.specs.Decisions.{IsUndecided, NamesEachOnce};
 
 use crate::projects::put_project;
-use review_account_decisions::{create_account, has_account, put_group, refused};
+use review_account_decisions::{create_account, put_group, refused};
 use review_branch_decisions::record_base;
 use review_file::FileMemo;
 use review_rows::{Delta, Rows};
@@ -25,13 +26,13 @@ pub fn decide(
     caller: AccountNo,
     command: &Command,
 ) -> Result<(Delta, Reply), NotTaken>
-    ensures decided { IfOk result (λ r. (h : List Entry) → IsLoaded h (needed caller command.now) rows.now → IsDecided h caller command.now r.0 r.1) }
+    ensures decided { IfOk result (λ r. (h : List Entry) → AreEnough h caller (OfCommand command.now) rows.now → IsDecided h caller command.now r.0 r.1) }
     ensures cause { IfErr result (IsUndecided caller command.now rows.now) }
     ensures stored { IfOk result (λ r. IsStored r.1) }
     ensures refused { IfOk result (λ r. HasNoEffect r.1 r.0) }
     ensures once { IfOk result (λ r. NamesEachOnce r.0) }
 {
-    let known = has_account(rows, caller);
+    let known = rows.is_account(caller);
     if !known {
         return Ok(refused(alloc, Refusal::UnknownCaller));
     }

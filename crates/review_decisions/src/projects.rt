@@ -4,14 +4,15 @@ ghost use Rattle.review_words.specs.Texts.{IsStored};
 ghost use Rattle.review_words.specs.History.{Entry, is_account};
 ghost use Rattle.review_words.specs.declared.command.Command.TheVariants.{PutProject};
 ghost use Rattle.review_rows.specs.Rows.{HasNoEffect};
-ghost use Rattle.review_rows.specs.View.{needed, IsLoaded, IsDecided};
+ghost use Rattle.review_rows.specs.Steps.{OfCommand};
+ghost use Rattle.review_rows.specs.View.{AreEnough, IsDecided};
 ghost use Rattle.review_words.specs.declared.reply.Reply.TheVariants.{Done, Refused};
 ghost use Rattle.review_words.specs.declared.reply.Answer.TheVariants.{Nothing};
 ghost use Rattle.review_words.specs.declared.reply.Refusal.TheVariants.{BadFile};
 ghost use Rattle.review_project.specs.declared.fault.ReadFault.TheVariants.{File};
 ghost use Rattle.review_rows.specs.Decisions.{IsUndecided, NamesEachOnce};
 ghost use Rattle.review_account_decisions.specs.Decisions.{IsEmpty};
-ghost use Rattle.review_decisions.specs.Files.{file_in, file_refused, unread_cause, IsCovered, IsReadCause, IsUnread, PutsFile, IsFileRefusal, IsFilePut};
+ghost use Rattle.review_decisions.specs.Files.{file_in, room_in, file_refused, unread_cause, IsCovered, IsReadCause, IsUnread, PutsFile, IsFileRefusal, IsFilePut};
 
 use review_account_decisions::{is_admin, nothing, refused};
 use review_file::{FileMemo, ProjectFile, ReadFault, ReadText, covers};
@@ -20,9 +21,6 @@ use review_words::{
     AccountNo, Answer, ExprCode, FileFault, FileText, NotTaken, ProjectName, Refusal, Reply,
 };
 use std::alloc::{AllocError, Global};
-
-/// The most projects of a desk.
-const MOST_PROJECTS: u64 = 1_000;
 
 /// Puts the file of a project. What is remembered spares reading the one that it has; the one that is put is remembered, where there is memory for it.
 pub fn put_project(
@@ -33,7 +31,7 @@ pub fn put_project(
     project: &ProjectName,
     file: &FileText,
 ) -> Result<(Delta, Reply), NotTaken>
-    ensures decided { IfOk result (λ r. (h : List Entry) → is_account h caller ≡ true → IsLoaded h (needed caller (PutProject project.now file.now)) rows.now → IsDecided h caller (PutProject project.now file.now) r.0 r.1) }
+    ensures decided { IfOk result (λ r. (h : List Entry) → is_account h caller ≡ true → AreEnough h caller (OfCommand (PutProject project.now file.now)) rows.now → IsDecided h caller (PutProject project.now file.now) r.0 r.1) }
     ensures cause { IfErr result (IsUndecided caller (PutProject project.now file.now) rows.now) }
     ensures stored { IfOk result (λ r. IsStored r.1) }
     ensures refused { IfOk result (λ r. HasNoEffect r.1 r.0) }
@@ -71,7 +69,7 @@ fn put_file(
     file: &FileText,
     new: ReadText,
 ) -> Result<(Delta, Reply), NotTaken>
-    ensures put { IfOk result (λ r. IsFilePut (file_in rows.now project.now) rows.now.project_count project.now file.now new.file r.0 r.1) }
+    ensures put { IfOk result (λ r. IsFilePut (file_in rows.now project.now) (room_in rows.now) project.now file.now new.file r.0 r.1) }
     ensures cause { IfErr result (IsUnread (file_in rows.now project.now)) }
     ensures stored { IfOk result (λ r. IsStored r.1) }
     ensures refused { IfOk result (λ r. HasNoEffect r.1 r.0) }
@@ -94,24 +92,24 @@ fn file_refusal(
     project: &ProjectName,
     new: &ProjectFile,
 ) -> Result<Option<Refusal>, NotTaken>
-    ensures refusal { IfOk result (IsFileRefusal (file_in rows.now project.now) rows.now.project_count project.now new.now) }
+    ensures refusal { IfOk result (IsFileRefusal (file_in rows.now project.now) (room_in rows.now) project.now new.now) }
     ensures cause { IfErr result (IsUnread (file_in rows.now project.now)) }
     ensures stored { IfOk result (λ o. IfSome o (λ r. IsStored (Refused r))) }
 {
     let covered = covers_old(alloc, memo, rows, project, new)?;
-    Ok(refusal_by(covered, rows.project_count))
+    Ok(refusal_by(covered, rows.has_room_for_projects()))
 }
 
-// What refuses a file, by whether it covers the one that the project has, where it has one, and how many projects there are.
-fn refusal_by(covered: Option<bool>, projects: u64) -> Option<Refusal>
-    ensures refusal { result ≡ file_refused covered projects }
+// What refuses a file, by whether it covers the one that the project has, where it has one, and whether there is room for one more project.
+fn refusal_by(covered: Option<bool>, has_room: bool) -> Option<Refusal>
+    ensures refusal { result ≡ file_refused covered has_room }
     ensures stored { IfSome result (λ r. IsStored (Refused r)) }
 {
     match covered {
         Some(true) => None,
         Some(false) => Some(Refusal::LabelNarrowed),
         None => {
-            if projects < MOST_PROJECTS {
+            if has_room {
                 None
             } else {
                 Some(Refusal::Limit)
@@ -149,7 +147,7 @@ fn covers_old(
     ensures covered { IfOk result (IsCovered (file_in rows.now project.now) new.now) }
     ensures cause { IfErr result (IsUnread (file_in rows.now project.now)) }
 {
-    let Some(text) = rows.files.get(project) else {
+    let Some(text) = rows.file(project) else {
         return Ok(None);
     };
     match memo.read(alloc, project, text) {

@@ -6,10 +6,13 @@ use Rattle.review_words.specs.declared.reply.Reply.{Reply}
 use Rattle.review_words.specs.declared.reply.Reply.TheVariants.{Done, Refused, IdentityReused, NotTaken}
 use Rattle.review_words.specs.History.{Identity, is_same}
 use Rattle.review_rows.specs.declared.rows.Delta.{Delta}
-use Rattle.review_rows.specs.declared.rows.Need.{Need}
 use Rattle.review_rows.specs.declared.rows.Rows.{Rows}
-use Rattle.review_rows.specs.Rows.{Key, Count, AnswerRow, Tables, HasNoEffect, after, count_after}
-use Rattle.review_rows.specs.Shelf.{AreSelected, IsCommitted, Shows, LeavesBy, IsCounted, cause_of}
+use Rattle.review_rows.specs.Rows.{Key, Count, AnswerRow, Answered, Tables, HasNoEffect, after, count_after}
+use Rattle.review_rows.specs.declared.rows.Want.TheVariants.{Requests}
+use Rattle.review_rows.specs.Known.{Agrees, known, number_of}
+use Rattle.review_rows.specs.Steps.{OfCommand, next}
+use Rattle.review_rows.proofs.Asked.{requests_are}
+use Rattle.review_rows.specs.Shelf.{IsCommitted, Shows, LeavesBy, IsCounted, cause_of}
 use Rattle.review_rows.specs.declared.shelf.ShelfFault.{ShelfFault}
 use Rattle.review_rows.specs.declared.shelf.ShelfFault.TheVariants as fault
 use Rattle.review_words.specs.Texts.{IsStored, content_text}
@@ -27,31 +30,31 @@ kept IdentityReused delta t u none rows counts = tt
 kept (NotTaken cause) delta t u none rows counts = tt
 
 -- a first arrival whose request was stored
-stored_request : (i : Identity) (command : Command) (reply : Reply) (delta : Delta) (need : Need) (rows : Rows) (row : AnswerRow) (t u : Tables) →
-    t.answer i ≡ None → AreSelected t need rows → HasNoEffect reply delta → IsCommitted t delta row u →
-    ((n : ℕ) → rows.requests ≡ n → row ≡ answer_row (record { identity = i; command = command; reply = reply }) (n + 1)) → StoresRequest i command reply t u
-stored_request i command reply delta need rows row t u none selected quiet c is =
-    let same : row ≡ answer_row (record { identity = i; command = command; reply = reply }) (t.requests + 1) = is t.requests selected.requests in
+stored_request : (i : Identity) (command : Command) (reply : Reply) (delta : Delta) (rows : Rows) (row : AnswerRow) (t u : Tables) →
+    t.answer i ≡ None → Agrees t rows → next rows i.caller (OfCommand command) ≡ [] → HasNoEffect reply delta → IsCommitted t delta row u →
+    ((n : ℕ) → number_of (known rows Requests) ≡ n → row ≡ answer_row (record { identity = i; command = command; reply = reply }) (n + 1)) → StoresRequest i command reply t u
+stored_request i command reply delta rows row t u none agree left quiet c is =
+    let same : row ≡ answer_row (record { identity = i; command = command; reply = reply }) (t.requests + 1) = is t.requests (requests_are t rows i.caller command agree left) in
     record {
       new = none;
-      answer_is = λ j. c.answer_is j ∙ (λ k. cond (is_same (same k).identity j) (Some (same k)) (t.answer j));
+      answer_is = λ j. c.answer_is j ∙ (λ k. cond (is_same (same k).identity j) (Some (Answered (same k))) (t.answer j));
       version = c.version;
       requests = c.requests;
       rows = kept reply delta t u quiet c.row_is c.count_is;
     }
 
-pub stored_shown : (i : Identity) (command : Command) (reply : Reply) (delta : Delta) (need : Need) (rows : Rows) (row : AnswerRow) (old mid new : Option Tables) →
-    mid ≡ old → Shows old (λ t. t.answer i ≡ None) → Shows old (λ t. AreSelected t need rows) → HasNoEffect reply delta → Shows mid (λ t. Shows new (IsCommitted t delta row)) →
-    ((n : ℕ) → rows.requests ≡ n → row ≡ answer_row (record { identity = i; command = command; reply = reply }) (n + 1)) →
+pub stored_shown : (i : Identity) (command : Command) (reply : Reply) (delta : Delta) (rows : Rows) (row : AnswerRow) (old mid new : Option Tables) →
+    mid ≡ old → Shows old (λ t. t.answer i ≡ None) → Shows old (λ t. Agrees t rows) → next rows i.caller (OfCommand command) ≡ [] → HasNoEffect reply delta → Shows mid (λ t. Shows new (IsCommitted t delta row)) →
+    ((n : ℕ) → number_of (known rows Requests) ≡ n → row ≡ answer_row (record { identity = i; command = command; reply = reply }) (n + 1)) →
     IsFoundOrStored i command reply old new
-stored_shown i command reply delta need rows row old mid new stays none selected quiet c is =
-    inr (both old new none selected (subst (λ (m : Option Tables). Shows m (λ t. Shows new (IsCommitted t delta row))) stays c))
+stored_shown i command reply delta rows row old mid new stays none agree left quiet c is =
+    inr (both old new none agree (subst (λ (m : Option Tables). Shows m (λ t. Shows new (IsCommitted t delta row))) stays c))
   where
-    both : (old new : Option Tables) → Shows old (λ t. t.answer i ≡ None) → Shows old (λ t. AreSelected t need rows) → Shows old (λ t. Shows new (IsCommitted t delta row)) →
+    both : (old new : Option Tables) → Shows old (λ t. t.answer i ≡ None) → Shows old (λ t. Agrees t rows) → Shows old (λ t. Shows new (IsCommitted t delta row)) →
         Shows old (λ t. Shows new (StoresRequest i command reply t))
-    both None new none selected c = absurd c
-    both (Some t) None none selected c = absurd c
-    both (Some t) (Some u) none selected c = stored_request i command reply delta need rows row t u none selected quiet c is
+    both None new none agree c = absurd c
+    both (Some t) None none agree c = absurd c
+    both (Some t) (Some u) none agree c = stored_request i command reply delta rows row t u none agree left quiet c is
 
 pub stores_once : (caller : ℕ) (id : List ℕ) (command : Command) (reply : Reply) (old new : Option Tables) →
     IsFoundOrStored (record { caller = caller; id = id }) command reply old new → StoresOnce (Write caller id command) reply old new
@@ -61,13 +64,13 @@ stores_once caller id command IdentityReused old new x = tt
 stores_once caller id command (NotTaken c) old new x = tt
 
 -- the row that an identity has
-has_stored : (i : Identity) (row : AnswerRow) (IsSo : AnswerRow → Type 0) (tables : Option Tables) → Shows tables (λ t. t.answer i ≡ Some row) → IsSo row → HasStored i tables IsSo
+has_stored : (i : Identity) (row : AnswerRow) (IsSo : AnswerRow → Type 0) (tables : Option Tables) → Shows tables (λ t. t.answer i ≡ Some (Answered row)) → IsSo row → HasStored i tables IsSo
 has_stored i row IsSo None there so = absurd there
 has_stored i row IsSo (Some t) there so = (row, there, so)
 
 -- a request whose identity is stored
 pub repeated : (caller : ℕ) (id : List ℕ) (command : Command) (result : Result Reply Cause) (row : AnswerRow) (old new : Option Tables) →
-    Shows old (λ t. t.answer (record { caller = caller; id = id }) ≡ Some row) → IsToldAgain row (content_text command) result → new ≡ old →
+    Shows old (λ t. t.answer (record { caller = caller; id = id }) ≡ Some (Answered row)) → IsToldAgain row (content_text command) result → new ≡ old →
     StoresOnce (Write caller id command) (reply_of result) old new
 repeated caller id command (Ok reply) row old new there (inl told) stays =
     stores_once caller id command reply old new (inl (has_stored (record { caller = caller; id = id }) row (HasTexts command reply) old there (told.0, sym told.2), stays))
@@ -82,7 +85,7 @@ decided_keeps caller id command IdentityReused old new s = absurd s
 decided_keeps caller id command (NotTaken c) old new s = absurd s
 
 pub repeat_keeps : (caller : ℕ) (id : List ℕ) (command : Command) (result : Result Reply Cause) (row : AnswerRow) (old new : Option Tables) →
-    Shows old (λ t. t.answer (record { caller = caller; id = id }) ≡ Some row) → IsToldAgain row (content_text command) result → new ≡ old →
+    Shows old (λ t. t.answer (record { caller = caller; id = id }) ≡ Some (Answered row)) → IsToldAgain row (content_text command) result → new ≡ old →
     KeepsUntaken (Write caller id command) (reply_of result) old new
 repeat_keeps caller id command (Ok reply) row old new there (inl told) stays = decided_keeps caller id command reply old new told.1
 repeat_keeps caller id command (Ok reply) row old new there (inr told) stays =
@@ -102,11 +105,12 @@ fault_keeps caller id command fault.Store old new stays = (tt, stays)
 fault_keeps caller id command fault.Damaged old new stays = (tt, stays)
 
 -- a new identity after the last number
-pub full_keeps : (caller : ℕ) (id : List ℕ) (command : Command) (need : Need) (rows : Rows) (old new : Option Tables) →
-    Shows old (λ t. t.answer (record { caller = caller; id = id }) ≡ None) → Shows old (λ t. AreSelected t need rows) → most_requests ≤ rows.requests → new ≡ old →
+pub full_keeps : (caller : ℕ) (id : List ℕ) (command : Command) (rows : Rows) (old new : Option Tables) →
+    Shows old (λ t. t.answer (record { caller = caller; id = id }) ≡ None) → Shows old (λ t. Agrees t rows) → next rows caller (OfCommand command) ≡ [] →
+    most_requests ≤ number_of (known rows Requests) → new ≡ old →
     KeepsUntaken (Write caller id command) (NotTaken Full) old new
-full_keeps caller id command need rows None new none selected most stays = absurd none
-full_keeps caller id command need rows (Some t) new none selected most stays = ((none, subst (λ n. most_requests ≤ n) selected.requests most), stays)
+full_keeps caller id command rows None new none agree left most stays = absurd none
+full_keeps caller id command rows (Some t) new none agree left most stays = ((none, subst (λ n. most_requests ≤ n) (requests_are t rows caller command agree left) most), stays)
 
 -- an answer that is stored says nothing of faults
 pub stored_counts : (reply : Reply) (before after : ℕ) → IsStored reply → after ≡ before → CountsReply reply before after

@@ -15,13 +15,13 @@ use Rattle.review_words.specs.declared.reply.Refusal.TheVariants.{UnknownCaller}
 use Rattle.review_words.specs.History.{Entry, Identity, stored, is_same, is_account, account_count}
 use Rattle.review_project_laws.proofs.Placed.{placed}
 use Rattle.review_rows.specs.declared.rows.Delta.{Delta}
-use Rattle.review_rows.specs.declared.rows.Need.{Need}
 use Rattle.review_rows.specs.declared.rows.Rows.{Rows}
-use Rattle.review_rows.specs.Rows.{Key, Row, Count, AnswerRow, Tables, Wanted, ArePicked, wanted_by, after, count_after}
+use Rattle.review_rows.specs.Rows.{Key, Row, Count, AnswerRow, Stored, Answered, Tables, after, count_after}
+use Rattle.review_rows.specs.Known.{Agrees, known, number_of}
+use Rattle.review_rows.specs.Steps.{Topic, OfCommand, next}
 use Rattle.review_rows.specs.Answer.{IsHistory, IsAnswer, IsOutcome, checks, file_checks, first_refusal, refused_by, refused_or, most_requests}
-use Rattle.review_rows.specs.View.{IsLoaded, IsView, IsDecided, fact, counted, stored_answer, answer_row}
-use Rattle.review_rows.specs.Shelf.{IsCommitted, AreSelected}
-use Rattle.review_rows.specs.Decisions.{WantsAs}
+use Rattle.review_rows.specs.View.{AreEnough, IsView, IsDecided, view, fact, counted, stored_answer, answer_row}
+use Rattle.review_rows.specs.Shelf.{IsCommitted, Shows, Views}
 
 pub same_from : (a b : Identity) → is_same a b ≡ true → a ≡ b
 same_from a b t =
@@ -98,13 +98,13 @@ history_length [] hist = omega arith
 history_length (e ∷ h) hist = let below = hist.2 in omega arith
 
 -- the entry of a stored answer
-pub recalled : (h : List Entry) (a : AnswerRow) (i : Identity) → IsHistory h → stored_answer h i ≡ Some a →
+pub recalled : (h : List Entry) (a : AnswerRow) (i : Identity) → IsHistory h → stored_answer h i ≡ Some (Answered a) →
     (e : Entry) × (stored h i ≡ Some e) × (a.content ≡ content_text e.command) × (a.reply ≡ reply_text e.reply) × IsStored e.reply
 recalled [] a i hist there = absurd (cc)
 recalled (e ∷ h) a i hist there =
     ⊎_elim
     (λ (t : is_same e.identity i ≡ true).
-    let is : Some (answer_row e (length h + 1)) ≡ Some a = sym (ap (λ b. cond b (Some (answer_row e (length h + 1))) (stored_answer h i)) t) ∙ there in
+    let is : Some (Answered (answer_row e (length h + 1))) ≡ Some (Answered a) = sym (ap (λ b. cond b (Some (Answered (answer_row e (length h + 1)))) (stored_answer h i)) t) ∙ there in
     let row : answer_row e (length h + 1) ≡ a = cc in (
       e,
       stored_here e h i t,
@@ -113,7 +113,7 @@ recalled (e ∷ h) a i hist there =
       answer_stored h e.identity.caller e.command e.reply hist.1,
     ))
     (λ (f : is_same e.identity i ≡ false).
-    let r = recalled h a i hist.3 (sym (ap (λ b. cond b (Some (answer_row e (length h + 1))) (stored_answer h i)) f) ∙ there) in
+    let r = recalled h a i hist.3 (sym (ap (λ b. cond b (Some (Answered (answer_row e (length h + 1)))) (stored_answer h i)) f) ∙ there) in
     (r.0, stored_there e h i f ∙ r.1, r.2, r.3, r.4))
     (cases_Bool (is_same e.identity i))
 
@@ -123,9 +123,9 @@ not_recalled [] i none = refl
 not_recalled (e ∷ h) i none =
     ⊎_elim
     (λ (t : is_same e.identity i ≡ true).
-    let is : Some (answer_row e (length h + 1)) ≡ None = sym (ap (λ b. cond b (Some (answer_row e (length h + 1))) (stored_answer h i)) t) ∙ none in absurd (cc))
+    let is : Some (Answered (answer_row e (length h + 1))) ≡ None = sym (ap (λ b. cond b (Some (Answered (answer_row e (length h + 1)))) (stored_answer h i)) t) ∙ none in absurd (cc))
     (λ (f : is_same e.identity i ≡ false).
-    stored_there e h i f ∙ not_recalled h i (sym (ap (λ b. cond b (Some (answer_row e (length h + 1))) (stored_answer h i)) f) ∙ none))
+    stored_there e h i f ∙ not_recalled h i (sym (ap (λ b. cond b (Some (Answered (answer_row e (length h + 1)))) (stored_answer h i)) f) ∙ none))
     (cases_Bool (is_same e.identity i))
 
 -- what is stored under an identity has it
@@ -164,26 +164,26 @@ view_grows h t new delta row caller id command reply v d c is =
     record {
       row_is = λ k. c.row_is k ∙ (ap (after delta k) (v.row_is k) ∙ sym (d.row_is id k));
       count_is = λ n. c.count_is n ∙ ((λ i. count_after delta (row i) n (v.count_is n i)) ∙ sym (d.count_is id n));
-      answer_is = λ i. c.answer_is i ∙ (λ j. cond (is_same (is j).identity i) (Some (is j)) (v.answer_is i j));
+      answer_is = λ i. c.answer_is i ∙ (λ j. cond (is_same (is j).identity i) (Some (Answered (is j))) (v.answer_is i j));
       version = c.version ∙ v.version;
       requests = let x = c.requests in let y = v.requests in omega arith;
     }
 
--- what was selected by a need is what is wanted of the view
-pub loaded : (h : List Entry) (t : Tables) (wanted : Wanted) (need : Need) (rows : Rows) →
-    IsView h t → WantsAs (wanted_by need) wanted → AreSelected t need rows → IsLoaded h wanted rows
-loaded h t wanted need rows v needs s =
-    let row : t.row ≡ fact h = λ i k. v.row_is k i in
-    let count : t.count ≡ counted h = λ i c. v.count_is c i in
-    let same : wanted_by need ≡ wanted = λ i. record {
-      row = λ k. needs.row k i;
-      name = needs.name i;
-      last_account = needs.last_account i;
-      project_count = needs.project_count i;
-      project = needs.project i;
-      base = needs.base i;
-    } in
-    record {
-      picked = subst (λ (p : (Key → Option Row) × (Count → ℕ) × Wanted). ArePicked p.0 p.1 p.2 rows) (λ i. (row i, count i, same i)) s.picked;
-      requests = s.requests ∙ v.requests;
-    }
+-- the tables that are a history's view are its view
+pub view_of : (h : List Entry) (t : Tables) → IsView h t → t ≡ view h
+view_of h t v = λ i. record {
+  row = λ k. v.row_is k i;
+  count = λ c. v.count_is c i;
+  answer = λ a. v.answer_is a i;
+  version = v.version i;
+  requests = v.requests i;
+}
+
+-- rows that agree with the tables in use decide after the history whose view these are
+pub enough_shown : (h : List Entry) (tables : Option Tables) (caller : ℕ) (topic : Topic) (rows : Rows) → Views h tables →
+    Shows tables (λ t. Agrees t rows) → next rows caller topic ≡ [] → AreEnough h caller topic rows
+enough_shown h None caller topic rows v found left = absurd found
+enough_shown h (Some t) caller topic rows v found left = record {
+  agree = subst (λ (u : Tables). Agrees u rows) (view_of h t v) found;
+  nothing_left = left;
+}

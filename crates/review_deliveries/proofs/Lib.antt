@@ -1,3 +1,4 @@
+pub mod Gathered
 pub mod Histories
 pub mod Served
 pub mod Effects

@@ -22,16 +22,16 @@ use Rattle.review_words.specs.History.{Entry, Identity, stored, is_account}
 use Rattle.review_rows.specs.declared.shelf.ShelfFault.{ShelfFault}
 use Rattle.review_rows.specs.declared.shelf.ShelfFault.TheVariants as fault
 use Rattle.review_rows.specs.declared.rows.Delta.{Delta}
-use Rattle.review_rows.specs.declared.rows.Need.{Need}
 use Rattle.review_rows.specs.declared.rows.Rows.{Rows}
-use Rattle.review_rows.specs.Rows.{AnswerRow, Tables, Wanted, wanted_by}
+use Rattle.review_rows.specs.Rows.{AnswerRow, Answered, Tables}
+use Rattle.review_rows.specs.Steps.{OfCommand, OfQuery}
 use Rattle.review_rows.specs.Answer.{IsHistory, IsAnswer, query_answer, query_checks, first_refusal, refused_or, told as told_of_query, most_requests}
-use Rattle.review_rows.specs.View.{IsLoaded, IsView, IsDecided, answer_row, needed, wanted_for}
-use Rattle.review_rows.specs.Shelf.{IsCommitted, AreSelected, Shown, Shows, Views, LeavesBy, StopLeavesOwnTables, AddsNoStop, IsCounted, Blames, cause_of}
-use Rattle.review_rows.specs.Decisions.{WantsAs, IsUndecided}
+use Rattle.review_rows.specs.View.{AreEnough, IsView, IsDecided, answer_row}
+use Rattle.review_rows.specs.Shelf.{IsCommitted, Shown, Shows, Views, LeavesBy, StopLeavesOwnTables, AddsNoStop, IsCounted, Blames, cause_of}
+use Rattle.review_rows.specs.Decisions.{IsUndecided}
 use Rattle.review_rows.specs.Decisions.{IsDoneOrRefused}
 use Rattle.review_deliveries.specs.Replies.{history_after, with_entries as hist, entry_of, IsRight, IsTold, IsToldOfStored, IsServed, IsToldAgain, IsLawful, reply_of, IsNew, HasEffect, StopGoesOnFrom, StopHasEntry, IsEntered, GoesOn, KeepsUntaken, CountsReply}
-use Rattle.review_deliveries.proofs.Histories.{loaded, recalled, not_recalled, view_grows, answer_stored, stored_stays, stored_here, same_to, stored_identity}
+use Rattle.review_deliveries.proofs.Histories.{recalled, not_recalled, view_grows, answer_stored, stored_stays, stored_here, same_to, stored_identity}
 
 -- a new identity adds its entry, and an old one nothing
 pub new_history : (h : List Entry) (caller : ℕ) (id : List ℕ) (command : Command) (reply : Reply) → IsStored reply → stored h (record { caller = caller; id = id }) ≡ None →
@@ -169,7 +169,7 @@ old_served h caller id command reply e old new hist v some kind told same adds =
 
 -- a request whose identity is stored
 pub repeat_served : (h : List Entry) (row : AnswerRow) (caller : ℕ) (id : List ℕ) (command : Command) (result : Result Reply Cause) (old new : Shown) →
-    IsHistory h → Views h old.tables → Shows old.tables (λ t. t.answer (record { caller = caller; id = id }) ≡ Some row) → IsToldAgain row (content_text command) result →
+    IsHistory h → Views h old.tables → Shows old.tables (λ t. t.answer (record { caller = caller; id = id }) ≡ Some (Answered row)) → IsToldAgain row (content_text command) result →
     new.tables ≡ old.tables → new.faults ≡ old.faults → AddsNoStop old new → IsServed h (Write caller id command) (reply_of result) old new
 repeat_served h row caller id command result old new hist v there told stays quiet adds =
     let r = found old.tables v there in
@@ -178,7 +178,7 @@ repeat_served h row caller id command result old new hist v there told stays qui
     i : Identity
     i = record { caller = caller; id = id }
 
-    found : (tables : Option Tables) → Views h tables → Shows tables (λ t. t.answer (record { caller = caller; id = id }) ≡ Some row) →
+    found : (tables : Option Tables) → Views h tables → Shows tables (λ t. t.answer (record { caller = caller; id = id }) ≡ Some (Answered row)) →
         (e : Entry) × (stored h (record { caller = caller; id = id }) ≡ Some e) × (row.content ≡ content_text e.command) × (row.reply ≡ reply_text e.reply) × IsStored e.reply
     found None v there = absurd there
     found (Some t) v there = recalled h row (record { caller = caller; id = id }) hist (sym (v.answer_is (record { caller = caller; id = id })) ∙ there)
@@ -284,12 +284,6 @@ pub unrecalled : (h : List Entry) (tables : Option Tables) (i : Identity) → Is
 unrecalled h None i hist v none = absurd none
 unrecalled h (Some t) i hist v none = not_recalled h i (sym (v.answer_is i) ∙ none)
 
--- what was selected of tables in use is what is wanted of the history
-pub loaded_shown : (h : List Entry) (tables : Option Tables) (wanted : Wanted) (need : Need) (rows : Rows) → Views h tables →
-    WantsAs (wanted_by need) wanted → Shows tables (λ t. AreSelected t need rows) → IsLoaded h wanted rows
-loaded_shown h None wanted need rows v needs s = absurd s
-loaded_shown h (Some t) wanted need rows v needs s = loaded h t wanted need rows v needs s
-
 -- a cause that a `?` passed on
 pub err_reply : (r : Result Reply Cause) (c : Cause) → IsErr r × IsErrAnd r (λ d. d ≡ c) → NotTaken c ≡ reply_of r
 err_reply (Ok x) c e = let f = e.0 in absurd (cc)
@@ -305,7 +299,7 @@ pub alone_since : (h : List Entry) (s : Shown) → IsHistory h → Views h s.tab
 alone_since h s hist v alone t x = ([], hist, subst (Views h) (alone t x) v)
 
 -- a command that was not decided
-pub undecided_lawful : (h : List Entry) (caller : ℕ) (id : List ℕ) (command : Command) (rows : Rows) (cause : Cause) (before after : ℕ) → IsHistory h → IsLoaded h (needed caller command) rows →
+pub undecided_lawful : (h : List Entry) (caller : ℕ) (id : List ℕ) (command : Command) (rows : Rows) (cause : Cause) (before after : ℕ) → IsHistory h → AreEnough h caller (OfCommand command) rows →
     stored h (record { caller = caller; id = id }) ≡ None → IsUndecided caller command rows cause → after ≡ before → IsLawful h (Write caller id command) cause before after
 undecided_lawful h caller id command rows Memory before after hist l none u same = same
 undecided_lawful h caller id command rows Pattern before after hist l none u same = (none, u h hist l, same)
@@ -329,8 +323,8 @@ undecided_counts caller command rows Store before after u same = absurd u
 undecided_counts caller command rows Full before after u same = absurd u
 
 -- a question, answered or not for want of memory
-pub shown_served : (h : List Entry) (caller : ℕ) (query : Query) (r : Result Reply Cause) (rows : Rows) (old new : Shown) → IsHistory h → Views h old.tables → IsLoaded h (wanted_for caller query) rows →
-    IfOk r (λ reply. (h : List Entry) → IsLoaded h (wanted_for caller query) rows → reply ≡ query_answer h caller query) → IfErr r (λ e. e ≡ Memory) →
+pub shown_served : (h : List Entry) (caller : ℕ) (query : Query) (r : Result Reply Cause) (rows : Rows) (old new : Shown) → IsHistory h → Views h old.tables → AreEnough h caller (OfQuery query) rows →
+    IfOk r (λ reply. (h : List Entry) → AreEnough h caller (OfQuery query) rows → reply ≡ query_answer h caller query) → IfErr r (λ e. e ≡ Memory) →
     new.tables ≡ old.tables → new.faults ≡ old.faults → AddsNoStop old new → IsServed h (Read caller query) (reply_of r) old new
 shown_served h caller query (Ok reply) rows old new hist v l shown cause stays quiet adds = read_served h caller query reply old new hist v (shown h l) stays quiet adds
 shown_served h caller query (Err e) rows old new hist v l shown cause stays quiet adds =

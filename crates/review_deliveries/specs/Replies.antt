@@ -10,7 +10,7 @@ use Rattle.review_words.specs.declared.reply.NotTaken.TheVariants.{Memory, Store
 use Rattle.review_words.specs.History.{Entry, Identity, stored, is_same}
 use Rattle.review_words.specs.Texts.{content_text, reply_text, IsStored}
 use Rattle.review_rows.specs.Answer.{IsHistory, IsAnswer, query_answer, most_requests}
-use Rattle.review_rows.specs.Rows.{Key, Count, Tables, AnswerRow}
+use Rattle.review_rows.specs.Rows.{Key, Count, Tables, AnswerRow, Answered}
 use Rattle.review_rows.specs.View.{IsView, answer_row}
 use Rattle.review_rows.specs.Decisions.{ReadsPattern}
 use Rattle.review_rows.specs.Shelf.{greatest_count, Shown, Shows, Views, LeavesBy, StopLeavesOwnTables}
@@ -165,7 +165,7 @@ IsToldAgain row content (Err _) = ⊥
 
 -- the identity is stored, with a request of which this is true
 abbrev pub HasStored : Identity → Option Tables → (AnswerRow → Type 0) → Type 0
-HasStored i tables IsSo = Shows tables (λ t. (row : AnswerRow) × (t.answer i ≡ Some row) × IsSo row)
+HasStored i tables IsSo = Shows tables (λ t. (row : AnswerRow) × (t.answer i ≡ Some (Answered row)) × IsSo row)
 
 -- the stored request has this command and this reply
 abbrev pub HasTexts : Command → Reply → AnswerRow → Type 0
@@ -200,7 +200,7 @@ KeepsRows _ t u = Unit {0}
 -- the request is stored beside the others under the next number, and a refusal does nothing else
 pub record StoresRequest (i : Identity) (command : Command) (reply : Reply) (t u : Tables) : Type 0 where
   pub new : t.answer i ≡ None
-  pub answer_is : (j : Identity) → u.answer j ≡ (if is_same i j then Some (answer_row (record { identity = i; command = command; reply = reply }) (t.requests + 1)) else t.answer j)
+  pub answer_is : (j : Identity) → u.answer j ≡ (if is_same i j then Some (Answered (answer_row (record { identity = i; command = command; reply = reply }) (t.requests + 1))) else t.answer j)
   pub version : u.version ≡ t.version
   pub requests : u.requests ≡ t.requests + 1
   pub rows : KeepsRows reply t u

@@ -5,11 +5,12 @@ ghost use Rattle.review_words.specs.History.{Entry, stored};
 ghost use Rattle.review_words.specs.declared.command.Delivery.TheVariants.{Write, Read};
 ghost use Rattle.review_rows.specs.Answer.{IsHistory};
 ghost use Rattle.review_rows.specs.Rows.{kept_row};
-ghost use Rattle.review_rows.specs.Shelf.{Shows, Views, AreSelected, KeepsTables, BlamesTables, AddsNoStop, CountsFaults};
+ghost use Rattle.review_rows.specs.Shelf.{Shows, Views};
 ghost use Rattle.review_deliveries.specs.Replies.{IsServed, IsToldAgain, KeepsUntaken, StoresOnce, CountsReply, StopGoesOnFrom, StopHasEntry, history_after, reply_of};
 
+use crate::gathering::gather;
 use crate::rules::Rules;
-use review_rows::{Kept, Need, Rows, Shelf, ShelfFault};
+use review_rows::{Kept, Matter, Shelf};
 use review_words::{
     AccountNo, BadReply, Command, Delivery, NotTaken, Query, Reply, RequestId, content_text,
     read_reply, reply_text,
@@ -119,21 +120,8 @@ fn read<S: Shelf, R: Rules>(
     ensures unchanged { (S.state shelf.new).is_honest → KeepsUntaken (Read caller query.now) (reply_of result) (S.state shelf.old).tables (S.state shelf.new).tables }
     ensures counted { CountsReply (reply_of result) (S.state shelf.old).faults (S.state shelf.new).faults }
 {
-    let need = rules.need_of_query(alloc, caller, query)?;
-    let rows = load(alloc, shelf, need)?;
+    let rows = gather(alloc, shelf, rules, caller, Matter::Query(query))?;
     rules.show(alloc, &rows, caller, query)
-}
-
-// The rows that the need selects.
-fn load<S: Shelf>(alloc: Global, shelf: &mut S, need: Need) -> Result<Rows, ShelfFault>
-    ensures honest { (S.state shelf.new).is_honest → (S.state shelf.old).is_honest }
-    ensures found { (S.state shelf.new).is_honest → IfOk result (λ rows. Shows (S.state shelf.old).tables (λ t. AreSelected t need rows)) }
-    ensures tables { (S.state shelf.new).is_honest → KeepsTables result (S.state shelf.old).tables (S.state shelf.new).tables }
-    ensures damaged { (S.state shelf.new).is_honest → BlamesTables result (S.state shelf.old).tables }
-    ensures stops { (S.state shelf.new).is_honest → AddsNoStop (S.state shelf.old) (S.state shelf.new) }
-    ensures counted { CountsFaults result (S.state shelf.old).faults (S.state shelf.new).faults }
-{
-    shelf.load(alloc, &need)
 }
 
 // What a request is told whose identity is stored.
@@ -171,9 +159,9 @@ fn first_arrival<S: Shelf, R: Rules>(
         StoresOnce (Write caller id.now command.now) (reply_of result) (S.state shelf.old).tables (S.state shelf.new).tables }
     ensures counted { CountsReply (reply_of result) (S.state shelf.old).faults (S.state shelf.new).faults }
 {
-    let need = rules.need_of(alloc, caller, command)?;
-    let rows = load(alloc, shelf, need)?;
-    if rows.requests >= MOST_REQUESTS {
+    let rows = gather(alloc, shelf, rules, caller, Matter::Command(command))?;
+    let requests = rows.requests();
+    if requests >= MOST_REQUESTS {
         return Err(NotTaken::Full);
     }
     let (delta, reply) = rules.decide(alloc, &rows, caller, command)?;
@@ -182,7 +170,7 @@ fn first_arrival<S: Shelf, R: Rules>(
     let kept = Kept {
         caller,
         id,
-        request: rows.requests + 1,
+        request: requests + 1,
         content,
         reply: text,
     };

@@ -7,11 +7,13 @@
 #![tactic(auto)]
 
 pub mod deliveries;
+pub mod gathering;
 pub mod laws;
 pub mod rules;
 pub mod runs;
 
 pub use deliveries::deliver;
+pub use gathering::gather;
 pub use laws::{one_answer, restart_completes, runs_compose};
 pub use rules::Rules;
 pub use runs::{Stopped, run};

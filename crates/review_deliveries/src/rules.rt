@@ -1,5 +1,5 @@
 //! What decides deliveries.
-use review_rows::{Delta, Need, Rows};
+use review_rows::{Delta, Matter, Need, Rows};
 use review_words::{AccountNo, Command, NotTaken, Query, Reply};
 use std::alloc::{AllocError, Global};
 
@@ -11,27 +11,20 @@ pub trait Rules {
     ghost use Rattle.review_words.specs.History.{Entry};
     ghost use Rattle.review_words.specs.declared.reply.NotTaken.TheVariants.{Memory};
     ghost use Rattle.review_rows.specs.Answer.{query_answer};
-    ghost use Rattle.review_rows.specs.Rows.{HasNoEffect, wanted_by};
-    ghost use Rattle.review_rows.specs.View.{needed, wanted_for, IsLoaded, IsDecided};
-    ghost use Rattle.review_rows.specs.Decisions.{WantsAs, IsUndecided, NamesEachOnce, IsDoneOrRefused};
+    ghost use Rattle.review_rows.specs.Rows.{HasNoEffect};
+    ghost use Rattle.review_rows.specs.Steps.{next, topic_of, wants_in, unless_none, OfCommand, OfQuery};
+    ghost use Rattle.review_rows.specs.View.{AreEnough, IsDecided};
+    ghost use Rattle.review_rows.specs.Decisions.{IsUndecided, NamesEachOnce, IsDoneOrRefused};
 
-    /// What a command needs of the tables.
-    fn need_of(
+    /// What a command or a question asks of the tables next; nothing where the rows decide it.
+    fn next_need(
         &mut self,
         alloc: Global,
+        rows: &Rows,
         caller: AccountNo,
-        command: &Command,
-    ) -> Result<Need, AllocError>
-        ensures { IfOk result (λ need. WantsAs (wanted_by need) (needed caller command.now)) };
-
-    /// What a question needs of the tables.
-    fn need_of_query(
-        &mut self,
-        alloc: Global,
-        caller: AccountNo,
-        query: &Query,
-    ) -> Result<Need, AllocError>
-        ensures { IfOk result (λ need. WantsAs (wanted_by need) (wanted_for caller query.now)) };
+        matter: Matter<'_>,
+    ) -> Result<Option<Need>, AllocError>
+        ensures { IfOk result (λ need. wants_in need ≡ unless_none (next rows.now caller (topic_of matter))) };
 
     /// The reply to a command and what it changes.
     fn decide(
@@ -41,7 +34,7 @@ pub trait Rules {
         caller: AccountNo,
         command: &Command,
     ) -> Result<(Delta, Reply), NotTaken>
-        ensures decided { IfOk result (λ r. (h : List Entry) → IsLoaded h (needed caller command.now) rows.now → IsDecided h caller command.now r.0 r.1) }
+        ensures decided { IfOk result (λ r. (h : List Entry) → AreEnough h caller (OfCommand command.now) rows.now → IsDecided h caller command.now r.0 r.1) }
         ensures cause { IfErr result (IsUndecided caller command.now rows.now) }
         ensures stored { IfOk result (λ r. IsStored r.1) }
         ensures refused { IfOk result (λ r. HasNoEffect r.1 r.0) }
@@ -55,7 +48,7 @@ pub trait Rules {
         caller: AccountNo,
         query: &Query,
     ) -> Result<Reply, NotTaken>
-        ensures shown { IfOk result (λ r. (h : List Entry) → IsLoaded h (wanted_for caller query.now) rows.now → r ≡ query_answer h caller query.now) }
+        ensures shown { IfOk result (λ r. (h : List Entry) → AreEnough h caller (OfQuery query.now) rows.now → r ≡ query_answer h caller query.now) }
         ensures answered { IfOk result IsDoneOrRefused }
         ensures cause { IfErr result (λ e. e ≡ Memory) };
 }

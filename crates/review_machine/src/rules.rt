@@ -1,9 +1,9 @@
 //! The decisions as rules.
-use review_branch_decisions::{need_of, need_of_query, show};
+use review_branch_decisions::{next_need, show};
 use review_decisions::decide;
 use review_deliveries::Rules;
 use review_file::FileMemo;
-use review_rows::{Delta, Need, Rows};
+use review_rows::{Delta, Matter, Need, Rows};
 use review_words::{AccountNo, Command, NotTaken, Query, Reply};
 use std::alloc::{AllocError, Global};
 
@@ -23,22 +23,14 @@ impl DeskRules {
 }
 
 impl Rules for DeskRules {
-    fn need_of(
+    fn next_need(
         &mut self,
         alloc: Global,
+        rows: &Rows,
         caller: AccountNo,
-        command: &Command,
-    ) -> Result<Need, AllocError> {
-        need_of(alloc, caller, command)
-    }
-
-    fn need_of_query(
-        &mut self,
-        alloc: Global,
-        caller: AccountNo,
-        query: &Query,
-    ) -> Result<Need, AllocError> {
-        need_of_query(alloc, caller, query)
+        matter: Matter<'_>,
+    ) -> Result<Option<Need>, AllocError> {
+        next_need(alloc, rows, caller, matter)
     }
 
     fn decide(

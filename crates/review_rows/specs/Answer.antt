@@ -16,19 +16,8 @@ use Rattle.review_words.specs.declared.reply.Refusal.TheVariants.{UnknownCaller,
 use Rattle.review_words.specs.declared.faults.FileFault.{FileFault}
 use Rattle.review_words.specs.History.{Entry, stored, account_count, name_taken, is_account, is_admin, file_text, is_project, project_count, bases, base_count, is_branch, is_base}
 use Rattle.review_names.specs.Names.{registered_users}
+pub use Rattle.review_rows.specs.Limits.{most_requests, most_accounts, most_projects, most_bases}
 use Rattle.review_rows.specs.Files.{File, IsRead, IsFileFault, covers}
-
--- the most accounts of a desk
-abbrev pub most_accounts : ℕ
-most_accounts = 1000000
-
--- the most projects of a desk
-abbrev pub most_projects : ℕ
-most_projects = 1000
-
--- the most bases of a project, over all its branches
-abbrev pub most_bases : ℕ
-most_bases = 100000
 
 -- The checks of a command in their order, each with the refusal where it fails. What is asked of the file that a PutProject puts comes after them.
 abbrev pub checks : List Entry → ℕ → Command → List (Bool × Refusal)
@@ -101,10 +90,6 @@ told h (asked.Branch project branch) = Branch (bases h project branch)
 -- the answer to a question
 abbrev pub query_answer : List Entry → ℕ → Query → Reply
 query_answer h caller query = refused_or (first_refusal ((is_account h caller, UnknownCaller) ∷ query_checks h query)) (told h query)
-
--- the most requests that a desk stores
-abbrev pub most_requests : ℕ
-most_requests = 9007199254740991
 
 -- A history: each identity stands once, each reply is an answer after what stood before, and there are at most so many requests. Nothing is
 -- asked of the forms of names and numbers in it, so where a history is assumed, more lists are spoken of than the desk can make.

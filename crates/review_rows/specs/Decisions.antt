@@ -1,4 +1,4 @@
--- What a decision is asked for: what it needs, why it isn't made, and what it names.
+-- Why a decision isn't made, and what one names.
 use Rattle.std.specs.Prelude.{ℕ, ◌≡◌, ◌⊎◌, IsSomeAnd, List, [], ◌∷◌, None, Bool}
 use Rattle.std.specs.declared.cmp.Ordering.{Ordering}
 use Rattle.std.specs.Ordering.{nat_cmp}
@@ -15,10 +15,11 @@ use Rattle.review_project.specs.Reading.{IsReadFault}
 use Rattle.review_project.specs.declared.fault.ReadFault.TheVariants as read
 use Rattle.review_rows.specs.Files.{HasPattern}
 use Rattle.review_rows.specs.Answer.{IsHistory}
-use Rattle.review_rows.specs.View.{IsLoaded, needed}
+use Rattle.review_rows.specs.View.{AreEnough}
 use Rattle.review_rows.specs.declared.rows.Rows.{Rows}
 use Rattle.review_rows.specs.declared.rows.Delta.{Delta}
-use Rattle.review_rows.specs.Rows.{Key, Wanted, member_cmp}
+use Rattle.review_rows.specs.Rows.{member_cmp}
+use Rattle.review_rows.specs.Steps.{OfCommand}
 
 -- The command reads a pattern that the engine may refuse: in the file that is put, all before it being good, or in the file of its project.
 abbrev pub ReadsPattern : List Entry → Command → Type 0
@@ -28,18 +29,9 @@ ReadsPattern h command = ⊥
 -- Why a command is not decided: want of memory, a pattern that the engine refuses in a file that the command reads, or rows that are those of no history.
 abbrev pub IsUndecided : ℕ → Command → Rows → Cause → Type 0
 IsUndecided caller command rows Memory = Unit {0}
-IsUndecided caller command rows Pattern = (h : List Entry) → IsHistory h → IsLoaded h (needed caller command) rows → ReadsPattern h command
-IsUndecided caller command rows Damaged = (h : List Entry) → IsHistory h → IsLoaded h (needed caller command) rows → ⊥
+IsUndecided caller command rows Pattern = (h : List Entry) → IsHistory h → AreEnough h caller (OfCommand command) rows → ReadsPattern h command
+IsUndecided caller command rows Damaged = (h : List Entry) → IsHistory h → AreEnough h caller (OfCommand command) rows → ⊥
 IsUndecided caller command rows _ = ⊥
-
--- the same is wanted
-pub record WantsAs (one other : Wanted) : Type 0 where
-  pub row : (k : Key) → one.row k ≡ other.row k
-  pub name : one.name ≡ other.name
-  pub last_account : one.last_account ≡ other.last_account
-  pub project_count : one.project_count ≡ other.project_count
-  pub project : one.project ≡ other.project
-  pub base : one.base ≡ other.base
 
 -- an answer or a refusal
 abbrev pub IsDoneOrRefused : Reply → Type 0

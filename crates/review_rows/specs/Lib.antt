@@ -1,5 +1,8 @@
 pub mod Files
+pub mod Limits
 pub mod Rows
+pub mod Known
+pub mod Steps
 pub mod Answer
 pub mod View
 pub mod Count

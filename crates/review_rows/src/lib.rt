@@ -4,8 +4,14 @@
 //! history says, and the tables that are the view of a history.
 #![tactic(auto)]
 
+mod known;
+mod learned;
+pub mod matter;
 pub mod rows;
 pub mod shelf;
 
-pub use rows::{Base, BranchKey, Delta, Kept, MemberKey, Need, ProjectRow, Rows};
+pub use matter::Matter;
+pub use rows::{
+    Base, BaseRow, BranchKey, Counted, Delta, Kept, MemberKey, Need, ProjectRow, Rows, Want,
+};
 pub use shelf::{Shelf, ShelfFault};

@@ -1,4 +1,4 @@
-//! Typed rows, table by table.
+//! Typed rows, what may be asked of tables, and what is known of them.
 ghost use Rattle.std.specs.Prelude.{◌≡◌, IfOk};
 
 use review_table::{Change, Key, Table};
@@ -25,7 +25,7 @@ impl Key for MemberKey {
     }
 }
 
-/// The key of the row that has the bases of a branch.
+/// A branch of a project.
 #[derive(Debug, PartialEq, Eq, PartialOrd, Ord, Drop)]
 pub struct BranchKey {
     pub project: ProjectName,
@@ -68,61 +68,87 @@ pub struct ProjectRow {
     pub file: FileText,
 }
 
-/// Which rows a delivery asks for, by their keys, and what else it asks of the tables.
+/// A base of a branch at its place, which is counted from 1.
+#[derive(Debug, Drop)]
+pub struct BaseRow {
+    pub project: ProjectName,
+    pub branch: BranchName,
+    pub place: u64,
+    pub commit: CommitName,
+}
+
+/// What is counted of a desk, up to a limit.
+#[derive(Debug, PartialEq, Eq, Drop)]
+pub enum Counted {
+    /// The projects: at most 1,000.
+    Projects,
+    /// The bases of a project, over all its branches: at most 100,000.
+    BasesOf(ProjectName),
+}
+
+/// One look-up. Each is by a full key or by the front of one, but for the greatest numbers and for whether a count has reached its limit, of
+/// which a shelf may know more than its rows: none needs a walk over a table.
+#[derive(Debug, Drop)]
+pub enum Want {
+    /// How many requests are stored.
+    Requests,
+    /// The account of a number.
+    Account(AccountNo),
+    /// The account of a name.
+    AccountNamed(AccountName),
+    /// The greatest number of an account.
+    LastAccount,
+    /// Whether an account is a member of a group.
+    Member(MemberKey),
+    /// All members of a group.
+    Group(GroupName),
+    /// The file of a project.
+    File(ProjectName),
+    /// Whether a project is there, without its file.
+    Project(ProjectName),
+    /// Whether there may be one more.
+    Room(Counted),
+    /// Whether a commit is a base of a branch.
+    Base(Base),
+    /// The last place of a branch's bases.
+    LastPlace(BranchKey),
+    /// The bases of a branch.
+    Bases(BranchKey),
+}
+
+/// What a load asks for.
 #[derive(Debug, Drop)]
 pub struct Need {
-    /// The accounts of these numbers.
-    pub accounts: Vec<AccountNo>,
-    /// The account of this name.
-    pub name: Option<AccountName>,
-    /// Whether these are members.
-    pub members: Vec<MemberKey>,
-    /// All members of this group.
-    pub group: Option<GroupName>,
-    /// The greatest number of an account.
-    pub last_account: bool,
-    /// The file of this project.
-    pub file: Option<ProjectName>,
-    /// How many projects there are.
-    pub project_count: bool,
-    /// Whether this project is there, without its file.
-    pub project: Option<ProjectName>,
-    /// Whether this is a base, and how many bases its project has.
-    pub base: Option<Base>,
-    /// The bases of this branch.
-    pub branch: Option<BranchKey>,
+    pub wants: Vec<Want>,
 }
 
-/// The rows that a need selects, and how many requests the desk has stored.
+/// What is known of the tables: of each look-up that was made, what it found. Of others nothing is known.
 #[derive(Drop)]
 pub struct Rows {
-    pub accounts: Table<AccountNo, AccountName>,
-    pub members: Table<MemberKey, ()>,
-    pub files: Table<ProjectName, FileText>,
-    pub branches: Table<BranchKey, Bases>,
-    /// The account of the name that was asked for.
-    pub named: Option<AccountNo>,
-    /// The greatest number of an account, where it was asked for; 0 where there is none.
-    pub last_account: u32,
-    /// How many projects there are, where that was asked for.
-    pub project_count: u64,
-    /// Whether the project is there that was asked for without its file.
-    pub has_project: bool,
-    /// Whether the base is there that was asked for.
-    pub has_base: bool,
-    /// How many bases its project has, over all branches.
-    pub base_count: u64,
-    pub requests: u64,
+    pub requests: Option<u64>,
+    pub accounts: Table<AccountNo, Option<AccountName>>,
+    pub named: Table<AccountName, Option<AccountNo>>,
+    /// The greatest number of an account; 0 where there is none.
+    pub last_account: Option<u32>,
+    pub members: Table<MemberKey, bool>,
+    pub groups: Table<GroupName, Table<AccountNo, ()>>,
+    pub files: Table<ProjectName, Option<FileText>>,
+    pub projects: Table<ProjectName, bool>,
+    pub room_for_projects: Option<bool>,
+    pub room_for_bases: Table<ProjectName, bool>,
+    pub known_bases: Table<Base, bool>,
+    /// The last place of each branch; 0 where it has no base.
+    pub last_places: Table<BranchKey, u64>,
+    pub bases: Table<BranchKey, Bases>,
 }
 
-/// What a request changes: for each key that it names a new row, or none; the file of a project, and a commit that becomes
-/// the last base of a branch.
+/// What a request changes: for each key that it names a new row, or none; the file of a project, and a base of a branch.
 #[derive(Drop)]
 pub struct Delta {
     pub accounts: Vec<Change<AccountNo, AccountName>>,
     pub members: Vec<Change<MemberKey, ()>>,
     pub file: Option<ProjectRow>,
-    pub base: Option<Base>,
+    pub base: Option<BaseRow>,
 }
 
 /// A stored request, with the texts of its command and its reply.

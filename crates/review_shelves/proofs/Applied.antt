@@ -1,5 +1,5 @@
 -- The tables after changes.
-use Rattle.std.proofs.Common.{◌≡◌, ℕ, ◌+◌, ◌≤◌, Bool, true, false, cond, ◌&&◌, arith, List, [], ◌∷◌, ◌++◌, Option, Some, None, Result, Ok, Err, ap, sym, ◌∙◌, subst, refl, ◌⊎◌, inl, inr}
+use Rattle.std.proofs.Common.{◌≡◌, ℕ, ◌+◌, ◌≤◌, Bool, true, false, cond, ◌&&◌, ◌==◌, arith, List, [], ◌∷◌, ◌++◌, Option, Some, None, Result, Ok, Err, ap, sym, ◌∙◌, subst, refl, ◌⊎◌, inl, inr}
 use Rattle.std.specs.Option.{IfSome, option_map, is_some}
 use Rattle.std.specs.Str.{bytes_eq}
 use Rattle.std.specs.Cmp.Lexicographic.{slice_cmp}
@@ -16,22 +16,24 @@ use Rattle.std.proofs.lemmas.Map.Lookups.{CmpEqualImpliesEq, exact_unsigned}
 use Rattle.std.proofs.lemmas.Map.Views.{tells_apart}
 use Rattle.review_table.specs.declared.table.Change.{Change}
 use Rattle.review_table.specs.Rows.{row_in, rows_of, change_of, after_change, changed}
-use Rattle.review_words.specs.History.{Identity}
+use Rattle.review_words.specs.History.{Identity, is_same}
 use Rattle.review_rows.specs.declared.rows.MemberKey.{MemberKey as Member}
 use Rattle.review_rows.specs.declared.rows.Delta.{Delta}
 use Rattle.review_rows.specs.declared.rows.Kept.{Kept}
-use Rattle.review_rows.specs.declared.rows.Base.{Base}
+use Rattle.review_rows.specs.declared.rows.BaseRow.{BaseRow as PlacedBase}
 use Rattle.review_rows.specs.declared.rows.ProjectRow.{ProjectRow}
-use Rattle.review_rows.specs.Rows.{Key, AccountKey, MemberKey, FileKey, BranchKey, OddKey, Row, AccountRow, FileRow, Count, Projects, BasesOf, Tables, member_cmp, member_row, member_change, account_change, file_after, with_base, branch_after, projects_after, bases_after, after, count_after, kept_row}
-use Rattle.review_rows.specs.View.{branch_row, tables_version}
+use Rattle.review_rows.specs.Rows.{Key, AccountKey, MemberKey, FileKey, BaseKey, OddKey, Row, AccountRow, FileRow, BaseRow, Count, Projects, BasesOf, AnswerRow, Answered, Tables, member_cmp, member_row, member_change, account_change, file_after, base_after, projects_after, bases_after, after, count_after, kept_row}
+use Rattle.review_rows.specs.View.{tables_version}
 use Rattle.review_rows.specs.Shelf.{IsCommitted}
 use Rattle.review_shelves.specs.declared.changes.Changes.{Changes}
 use Rattle.review_shelves.specs.declared.keys.AnswerKey.{AnswerKey}
 use Rattle.review_shelves.specs.declared.keys.NameKey.{NameKey}
 use Rattle.review_shelves.specs.declared.keys.StoredAnswer.{StoredAnswer}
 use Rattle.review_shelves.specs.declared.tables.MemoryTables.{MemoryTables}
-use Rattle.review_shelves.specs.Desk.{Desk, desk_of, tables_of, row_of, count_of, stored_row, file_changes, answer_cmp, name_cmp, IsNumber, IsIndexed, IsNumbered, IsBounded, IsSound, IsGiven, IsHeld, AreIndexed, KeepsNames, AreChangesOf, AreApplied, IsWithBase, IsSameDesk, HasRoom, with_branches}
-use Rattle.review_shelves.specs.Branches.{BranchesView, bases_in, total_in}
+use Rattle.review_shelves.specs.Desk.{Desk, desk_of, tables_of, row_of, count_of, stored_row, file_changes, answer_cmp, name_cmp, IsNumber, IsIndexed, IsNumbered, IsBounded, IsSound, IsGiven, IsHeld, AreIndexed, KeepsNames, AreChangesOf, AreApplied, IsWithBase, HasRoom, with_branches}
+use Rattle.review_shelves.specs.Branches.{BranchesView, IsPut, place_cmp, base_at, total_in, place_of}
+use Rattle.review_shelves.specs.declared.keys.PlaceKey.{PlaceKey}
+use Rattle.review_shelves.proofs.Based.{at_place_of}
 use Rattle.review_shelves.proofs.Orders.{exact_member, exact_answer, at_answer}
 
 -- names that are listed stay so
@@ -104,6 +106,10 @@ answer_after : (kept : Kept) (i : Identity) (b : Bool) (row was : Option StoredA
 answer_after kept i true row was same is = ap (λ j. stored_row j row) (sym (same refl)) ∙ is
 answer_after kept i false row was same is = refl
 
+answer_there : (b : Bool) (row : AnswerRow) (was : Option AnswerRow) → option_map Answered (cond b (Some row) was) ≡ cond b (Some (Answered row)) (option_map Answered was)
+answer_there true row was = refl
+answer_there false row was = refl
+
 -- the row of a project that gets a file
 file_there : (b : Bool) (file : List ℕ) (was : Option (List ℕ)) → option_map FileRow (after_change (cond b (Some (Some file)) None) was) ≡ cond b (Some (FileRow file)) (option_map FileRow was)
 file_there true file was = refl
@@ -115,23 +121,30 @@ file_row_after None project was = refl
 file_row_after (Some put) project was =
     ap (λ b. option_map FileRow (after_change (cond b (Some (Some put.file)) None) was)) (is_eq-slice_cmp put.project project) ∙ file_there (bytes_eq put.project project) put.file was
 
--- the row of a branch that gets a base
-appended_row : (bases : List (List ℕ)) (commit : List ℕ) → branch_row (bases ++ commit ∷ []) ≡ with_base commit (branch_row bases)
-appended_row [] commit = refl
-appended_row (b ∷ bases) commit = refl
+-- the row of a base that is put
+base_there : (b : Bool) (commit : List ℕ) (was : Option (List ℕ)) → option_map BaseRow (cond b (Some commit) was) ≡ cond b (Some (BaseRow commit)) (option_map BaseRow was)
+base_there true commit was = refl
+base_there false commit was = refl
 
-branch_there : (b : Bool) (bases : List (List ℕ)) (commit : List ℕ) → branch_row (cond b (bases ++ commit ∷ []) bases) ≡ cond b (with_base commit (branch_row bases)) (branch_row bases)
-branch_there true bases commit = appended_row bases commit
-branch_there false bases commit = refl
+base_row_after : (base : Option PlacedBase) (old new : BranchesView) → IsWithBase base old new → (p b : List ℕ) (n : ℕ) →
+    option_map BaseRow (base_at new.bases p b n) ≡ base_after base p b n (option_map BaseRow (base_at old.bases p b n))
+base_row_after None old new same p b n = ap (λ (v : BranchesView). option_map BaseRow (base_at v.bases p b n)) same
+base_row_after (Some base) old new put p b n =
+    let k : PlaceKey = record { project = p; branch = b; place = n } in
+    ap (option_map BaseRow) (put.bases k ∙ ap (λ t. cond t (Some base.commit) (row_in place_cmp old.bases k)) (at_place_of base p b n))
+    ∙ base_there (bytes_eq base.project p && (bytes_eq base.branch b && (base.place == n))) base.commit (base_at old.bases p b n)
 
-branch_row_after : (base : Option Base) (old new : BranchesView) → IsWithBase base old new → (p b : List ℕ) → branch_row (bases_in new.bases p b) ≡ branch_after base p b (branch_row (bases_in old.bases p b))
-branch_row_after None old new same p b = ap branch_row (same.bases p b)
-branch_row_after (Some base) old new added p b =
-    ap branch_row (added.bases p b) ∙ branch_there (bytes_eq base.project p && bytes_eq base.branch b) (bases_in old.bases p b) base.commit
+some_based : (o : Option (List ℕ)) → is_some (option_map BaseRow o) ≡ is_some o
+some_based None = refl
+some_based (Some c) = refl
 
-total_after : (base : Option Base) (old new : BranchesView) → IsWithBase base old new → (p : List ℕ) → total_in new.totals p ≡ bases_after base p (total_in old.totals p)
-total_after None old new same p = same.totals p
-total_after (Some base) old new added p = added.totals p
+total_after : (base : Option PlacedBase) (old new : Desk) → IsWithBase base old.branches new.branches → (p : List ℕ) →
+    total_in new.branches.totals p ≡ bases_after base (row_of old) p (total_in old.branches.totals p)
+total_after None old new same p = ap (λ (v : BranchesView). total_in v.totals p) same
+total_after (Some base) old new put p =
+    put.totals p
+    ∙ ap (λ t. cond (bytes_eq base.project p) (cond t (total_in old.branches.totals p) (total_in old.branches.totals p + 1)) (total_in old.branches.totals p))
+    (sym (some_based (row_in place_cmp old.branches.bases (place_of base))))
 
 pub committed : (delta : Delta) (kept : Kept) (changes : Changes) (projects : ℕ) (old new : Desk) → AreChangesOf delta kept changes → AreApplied old changes projects new →
     IsWithBase delta.base old.branches new.branches → projects ≡ projects_after delta.file (row_of old) old.projects → IsCommitted (tables_of old) delta (kept_row kept) (tables_of new)
@@ -143,16 +156,17 @@ committed delta kept changes projects old new copies applied based number = reco
       let asked : AnswerKey = record { caller = i.caller; id = i.id } in
       let was = row_in answer_cmp old.answers asked in
       let c = copies.answers.0 in
-      ap (stored_row i) (applied.answers asked ∙ ap (λ cs. changed answer_cmp cs asked was) copies.answers.1 ∙ ap (λ k. after_change (cond (is_at (answer_cmp k) asked) (Some c.row) None) was) copies.answers.2.key)
+      ap (option_map Answered) (ap (stored_row i) (applied.answers asked ∙ ap (λ cs. changed answer_cmp cs asked was) copies.answers.1 ∙ ap (λ k. after_change (cond (is_at (answer_cmp k) asked) (Some c.row) None) was) copies.answers.2.key)
       ∙ answer_after kept i (is_at (answer_cmp key) asked) c.row was (λ same. ap (λ (k : AnswerKey). record { caller = k.caller; id = k.id }) (tells_apart exact_answer key asked same)) copies.answers.2.row
-      ∙ ap (λ b. cond b (Some (kept_row kept)) (stored_row i was)) (at_answer key asked);
+      ∙ ap (λ b. cond b (Some (kept_row kept)) (stored_row i was)) (at_answer key asked))
+      ∙ answer_there (is_same (kept_row kept).identity i) (kept_row kept) (stored_row i was);
   version = refl;
   requests = applied.requests;
 }
   where
     counts : (c : Count) → count_of new c ≡ count_after delta (row_of old) c (count_of old c)
     counts Projects = applied.projects_are ∙ number
-    counts (BasesOf project) = total_after delta.base old.branches new.branches based project
+    counts (BasesOf project) = total_after delta.base old new based project
 
     rows : (k : Key) → row_of new k ≡ after delta k (row_of old k)
     rows (AccountKey n) = ap (option_map AccountRow) (applied.accounts n ∙ ap (λ cs. changed nat_cmp cs n (row_in nat_cmp old.accounts n)) copies.accounts) ∙ account_after (change_of nat_cmp delta.accounts.items n) (row_in nat_cmp old.accounts n)
@@ -162,7 +176,7 @@ committed delta kept changes projects old new copies applied based number = reco
     rows (FileKey project) =
         ap (option_map FileRow) (applied.files project ∙ ap (λ cs. changed (slice_cmp nat_cmp) cs project (row_in (slice_cmp nat_cmp) old.files project)) copies.files)
         ∙ file_row_after delta.file project (row_in (slice_cmp nat_cmp) old.files project)
-    rows (BranchKey project branch) = branch_row_after delta.base old.branches new.branches based project branch
+    rows (BaseKey project branch place) = base_row_after delta.base old.branches new.branches based project branch place
     rows (OddKey o) = refl
 
 -- there is room beside other branches
@@ -181,35 +195,15 @@ applied_from old mid branches changes projects new same applied = record {
   requests = applied.requests ∙ ap (λ (d : Desk). d.requests + 1) same;
 }
 
--- the tables of a desk that is as it was
-pub same_tables : (old new : Desk) → IsSameDesk old new → tables_of new ≡ tables_of old
-same_tables old new same = λ i. record {
-  row = λ k. rows k i;
-  count = λ c. counts c i;
-  answer = λ j. stored_row j (row_in answer_cmp (same.answers i) (record { caller = j.caller; id = j.id }));
-  version = tables_version;
-  requests = same.requests i;
-}
-  where
-    rows : (k : Key) → row_of new k ≡ row_of old k
-    rows (AccountKey n) = ap (λ rows. option_map AccountRow (row_in nat_cmp rows n)) same.accounts
-    rows (MemberKey group account) = ap (λ rows. member_row (row_in member_cmp rows (record { group = group; account = account }))) same.members
-    rows (FileKey project) = ap (λ rows. option_map FileRow (row_in (slice_cmp nat_cmp) rows project)) same.files
-    rows (BranchKey project branch) = ap branch_row (same.branches.bases project branch)
-    rows (OddKey o) = refl
-
-    counts : (c : Count) → count_of new c ≡ count_of old c
-    counts Projects = same.projects
-    counts (BasesOf project) = same.branches.totals project
-
 -- nothing is counted more often than there were requests
-total_bounded : (b : Bool) (t n : ℕ) → t ≤ n → cond b (t + 1) t ≤ n + 1
-total_bounded true t n le = omega arith
-total_bounded false t n le = omega arith
+total_bounded : (b c : Bool) (t n : ℕ) → t ≤ n → cond b (cond c t (t + 1)) t ≤ n + 1
+total_bounded true true t n le = omega arith
+total_bounded true false t n le = omega arith
+total_bounded false c t n le = omega arith
 
-base_bounded : (base : Option Base) (p : List ℕ) (t n : ℕ) → t ≤ n → bases_after base p t ≤ n + 1
-base_bounded None p t n le = omega arith
-base_bounded (Some base) p t n le = total_bounded (bytes_eq base.project p) t n le
+base_bounded : (base : Option PlacedBase) (row : Key → Option Row) (p : List ℕ) (t n : ℕ) → t ≤ n → bases_after base row p t ≤ n + 1
+base_bounded None row p t n le = omega arith
+base_bounded (Some base) row p t n le = total_bounded (bytes_eq base.project p) (is_some (row (BaseKey base.project base.branch base.place))) t n le
 
 file_bounded : (b : Bool) (t n : ℕ) → t ≤ n → cond b t (t + 1) ≤ n + 1
 file_bounded true t n le = omega arith
@@ -224,25 +218,23 @@ applied_bounded : (delta : Delta) (changes : Changes) (projects : ℕ) (old new 
 applied_bounded delta changes projects old new applied based number bounded = record {
   projects = subst (λ n. new.projects ≤ n) (sym applied.requests) (subst (λ n. n ≤ old.requests + 1) (sym (applied.projects_are ∙ number)) (projects_bounded delta.file (row_of old) old.projects old.requests bounded.projects));
   bases = λ p. subst (λ n. total_in new.branches.totals p ≤ n) (sym applied.requests)
-      (subst (λ n. n ≤ old.requests + 1) (sym (total_after delta.base old.branches new.branches based p)) (base_bounded delta.base p (total_in old.branches.totals p) old.requests (bounded.bases p)));
+      (subst (λ n. n ≤ old.requests + 1) (sym (total_after delta.base old new based p)) (base_bounded delta.base (row_of old) p (total_in old.branches.totals p) old.requests (bounded.bases p)));
 }
 
 -- whether the changes were made or not
 pub made_sound : (delta : Delta) (kept : Kept) (changes : Changes) (given : List NameKey) (projects : ℕ) (r : Result (Unit {0}) AllocError) (old new : MemoryTables) → AreChangesOf delta kept changes → All (IsGiven given) delta.accounts.items
     → KeepsNames (rows_of old.names) (rows_of new.names) → OnOk r (AreIndexed (rows_of new.names) given) → OnOk r (AreApplied (desk_of old) changes projects (desk_of new)) → OnOk r (IsWithBase delta.base old.branches new.branches)
-    → projects ≡ projects_after delta.file (row_of (desk_of old)) old.projects → OnErr r (IsSameDesk (desk_of old) (desk_of new)) → IsSound old → IsSound new
+    → projects ≡ projects_after delta.file (row_of (desk_of old)) old.projects → OnErr r (desk_of new ≡ desk_of old) → IsSound old → IsSound new
 made_sound delta kept changes given projects (Ok u) old new copies are keeps listed done based number same sound = record {
   indexed = applied_indexed delta kept changes given projects old new copies are listed keeps done sound.indexed;
   numbered = applied_numbered delta kept changes projects (desk_of old) (desk_of new) copies done sound.numbered;
   bounded = applied_bounded delta changes projects (desk_of old) (desk_of new) done based number sound.bounded;
 }
 made_sound delta kept changes given projects (Err e) old new copies are keeps listed done based number same sound = record {
-  indexed = λ number name is. let was = sound.indexed number name (ap (λ rows. row_in nat_cmp rows number) (sym same.accounts) ∙ is) in (was.0, keeps (record { name = name; account = number }) was.1);
-  numbered = subst IsNumbered (sym same.members) sound.numbered;
-  bounded = record {
-    projects = subst (λ n. n ≤ new.requests) (sym same.projects) (subst (λ n. old.projects ≤ n) (sym same.requests) sound.bounded.projects);
-    bases = λ p. subst (λ n. n ≤ new.requests) (sym (same.branches.totals p)) (subst (λ n. total_in old.branches.totals p ≤ n) (sym same.requests) (sound.bounded.bases p));
-  };
+  indexed = λ number name is.
+      let was = sound.indexed number name (ap (λ (d : Desk). row_in nat_cmp d.accounts number) (sym same) ∙ is) in (was.0, keeps (record { name = name; account = number }) was.1);
+  numbered = subst (λ (d : Desk). IsNumbered d.members) (sym same) sound.numbered;
+  bounded = subst IsBounded (sym same) sound.bounded;
 }
 
 pub made_committed : (delta : Delta) (kept : Kept) (changes : Changes) (projects : ℕ) (r : Result (Unit {0}) AllocError) (old made new : Desk) → AreChangesOf delta kept changes → OnOk r (AreApplied old changes projects made) →
@@ -251,9 +243,9 @@ made_committed delta kept changes projects (Ok u) old made new copies done based
     subst (λ d. IsCommitted (tables_of old) delta (kept_row kept) (tables_of d)) (sym same) (committed delta kept changes projects old made copies done based number)
 made_committed delta kept changes projects (Err e) old made new copies done based number same = tt
 
-pub unmade_same : (r : Result (Unit {0}) AllocError) (old made new : Desk) → OnErr r (IsSameDesk old made) → new ≡ made → OnErr r (tables_of new ≡ tables_of old)
+pub unmade_same : (r : Result (Unit {0}) AllocError) (old made new : Desk) → OnErr r (made ≡ old) → new ≡ made → OnErr r (tables_of new ≡ tables_of old)
 unmade_same (Ok u) old made new undone same = tt
-unmade_same (Err e) old made new undone same = ap tables_of same ∙ same_tables old made undone
+unmade_same (Err e) old made new undone same = ap tables_of (same ∙ undone)
 
 -- a stop after the changes leaves the desk before them or after them
 pub made_stops : (delta : Delta) (kept : Kept) (r : Result (Unit {0}) AllocError) (old new : Desk) (t : Tables) → OnOk r (IsCommitted (tables_of old) delta (kept_row kept) (tables_of new)) → OnErr r (tables_of new ≡ tables_of old) → t ≡ tables_of new

@@ -1,174 +1,189 @@
--- Bases of branches after one more, or after none.
-use Rattle.std.proofs.Common.{◌≡◌, ℕ, ◌+◌, Bool, true, false, cond, ◌&&◌, ◌||◌, List, [], ◌∷◌, ◌++◌, Option, Some, None, Result, Ok, Err, ap, sym, ◌∙◌, refl, ⊎_elim}
-use Rattle.std.specs.Option.{is_some, unwrap_or, option_map}
-use Rattle.std.specs.Prelude.{OnOk, OnErr}
-use Rattle.std.specs.declared.alloc.AllocError.{AllocError}
+-- Bases of branches, after one more is put at its place.
+use Rattle.std.proofs.Common.{◌≡◌, ℕ, ◌+◌, ◌<◌, ◌≤◌, ◌==◌, Bool, true, false, cond, ◌&&◌, List, [], ◌∷◌, Option, Some, None, ap, sym, ◌∙◌, refl, subst, ⊎_elim, ◌⊎◌, inl, inr, arith}
+use Rattle.std.specs.Option.{is_some, IsSome, unwrap_or}
 use Rattle.std.specs.declared.cmp.Ordering.{Ordering}
 use Rattle.std.specs.declared.cmp.Ordering.TheVariants.{Less, Equal, Greater}
 use Rattle.std.specs.Ordering.{is_eq, nat_cmp, ordering_then}
+use Rattle.std.specs.Cmp.{unsigned_tied, IsTotalOrder}
 use Rattle.std.specs.Cmp.Lexicographic.{slice_cmp}
-use Rattle.std.specs.List.{list_any}
 use Rattle.std.specs.Str.{bytes_eq}
 use Rattle.std.specs.BTreeMap.{is_at}
-use Rattle.std.proofs.lemmas.Bool.{cases_Bool, and_parts}
+use Rattle.std.proofs.lemmas.Bool.{cases_Bool, and_parts, cases_lt}
 use Rattle.std.proofs.lemmas.Slice.Eq.{bytes_eq-Decides}
 use Rattle.std.proofs.lemmas.Map.Text.{is_eq-slice_cmp}
+use Rattle.std.proofs.lemmas.Cmp.{then_total, on_total, nat_cmp_total, nat_list_cmp_total, tied_itself}
+use Rattle.std.proofs.lemmas.Map.Lookups.{CmpEqualImpliesEq, exact_unsigned, exact_bytes}
+use Rattle.std.proofs.lemmas.Map.Views.{tells_apart}
 use Rattle.review_table.specs.Rows.{row_in, after_change, changed}
 use Rattle.review_rows.specs.declared.rows.BranchKey.{BranchKey}
-use Rattle.review_rows.specs.declared.rows.Base.{Base}
-use Rattle.review_rows.specs.Rows.{BranchRow, branch_cmp}
-use Rattle.review_rows.specs.View.{branch_row}
-use Rattle.review_shelves.specs.Branches.{base_cmp, bases_in, total_in, is_branch_of, HaveBase, HaveSameBases, AreKnown}
-
-abbrev pub branch_of : Base → BranchKey
-branch_of base = record { project = base.project; branch = base.branch }
+use Rattle.review_rows.specs.declared.rows.BaseRow.{BaseRow}
+use Rattle.review_rows.specs.Rows.{branch_cmp}
+use Rattle.review_rows.proofs.Learning.{branch_total, exact_branch}
+use Rattle.review_shelves.specs.declared.keys.PlaceKey.{PlaceKey}
+use Rattle.review_shelves.specs.declared.keys.CommitKey.{CommitKey}
+use Rattle.review_shelves.specs.Branches.{place_cmp, commit_cmp, base_at, total_in, last_in, commit_at, place_of, greatest_place, AreListed, AreLast, IsLastPlace}
 
 is_eq-then : (a b : Ordering) → is_eq (ordering_then a b) ≡ (is_eq a && is_eq b)
 is_eq-then Less b = refl
 is_eq-then Equal b = refl
 is_eq-then Greater b = refl
 
-pub at_branch : (k : BranchKey) (p b : List ℕ) → is_at (branch_cmp k) (record { project = p; branch = b }) ≡ (bytes_eq k.project p && bytes_eq k.branch b)
-at_branch k p b =
-    is_eq-then (slice_cmp nat_cmp k.project p) (slice_cmp nat_cmp k.branch b) ∙ (λ i. is_eq-slice_cmp k.project p i && is_eq-slice_cmp k.branch b i)
+both_equal : (a b : Ordering) → ordering_then a b ≡ Equal → (a ≡ Equal) × (b ≡ Equal)
+both_equal Equal b e = (refl, e)
+both_equal Less b e = absurd (cc)
+both_equal Greater b e = absurd (cc)
 
-at_base : (a b : Base) → is_at (base_cmp a) b ≡ (bytes_eq a.project b.project && (bytes_eq a.branch b.branch && bytes_eq a.commit b.commit))
-at_base a b =
-    is_eq-then (slice_cmp nat_cmp a.project b.project) (ordering_then (slice_cmp nat_cmp a.branch b.branch) (slice_cmp nat_cmp a.commit b.commit))
-    ∙ (λ i. is_eq-slice_cmp a.project b.project i && (is_eq-then (slice_cmp nat_cmp a.branch b.branch) (slice_cmp nat_cmp a.commit b.commit) ∙ (λ j. is_eq-slice_cmp a.branch b.branch j && is_eq-slice_cmp a.commit b.commit j)) i)
+-- the place of a base, asked by its parts
+pub at_place_of : (base : BaseRow) (p b : List ℕ) (n : ℕ) →
+    is_at (place_cmp (place_of base)) (record { project = p; branch = b; place = n }) ≡ (bytes_eq base.project p && (bytes_eq base.branch b && (base.place == n)))
+at_place_of base p b n =
+    is_eq-then (slice_cmp nat_cmp base.project p) (ordering_then (slice_cmp nat_cmp base.branch b) (nat_cmp base.place n))
+    ∙ (λ i. is_eq-slice_cmp base.project p i
+    && (is_eq-then (slice_cmp nat_cmp base.branch b) (nat_cmp base.place n) ∙ (λ j. is_eq-slice_cmp base.branch b j && unsigned_tied base.place n j)) i)
 
--- the rows with another row at a key
-abbrev pub WithRow : List (BranchKey × List (List ℕ)) → BranchKey → List (List ℕ) → List (BranchKey × List (List ℕ)) → Type 0
-WithRow old k row new = (q : BranchKey) → row_in branch_cmp new q ≡ cond (is_at (branch_cmp k) q) (Some row) (row_in branch_cmp old q)
+pub exact_place : CmpEqualImpliesEq place_cmp
+exact_place x y e =
+    let one = both_equal (slice_cmp nat_cmp x.project y.project) (ordering_then (slice_cmp nat_cmp x.branch y.branch) (nat_cmp x.place y.place)) e in
+    let two = both_equal (slice_cmp nat_cmp x.branch y.branch) (nat_cmp x.place y.place) one.1 in
+    let p = exact_bytes x.project y.project one.0 in
+    let b = exact_bytes x.branch y.branch two.0 in
+    let n = exact_unsigned x.place y.place two.1 in
+    λ i. record { project = p i; branch = b i; place = n i }
 
--- a row that was taken out and put back
-pub put_back : (old out new : List (BranchKey × List (List ℕ))) (k t : BranchKey) (place : Bool) (row : List (List ℕ)) → t ≡ k → place ≡ true →
-    ((q : BranchKey) → row_in branch_cmp out q ≡ cond (is_at (branch_cmp t) q) None (row_in branch_cmp old q)) →
-    ((q : BranchKey) → row_in branch_cmp new q ≡ cond (place && is_at (branch_cmp k) q) (Some row) (row_in branch_cmp out q)) → WithRow old k row new
-put_back old out new k t place row same there taken back q =
-    back q ∙ (λ i. cond (there i && is_at (branch_cmp k) q) (Some row) ((taken q ∙ ap (λ (x : BranchKey). cond (is_at (branch_cmp x) q) None (row_in branch_cmp old q)) same) i)) ∙ both (is_at (branch_cmp k) q) (row_in branch_cmp old q)
+pub commit_total : IsTotalOrder commit_cmp
+commit_total =
+    then_total (on_total (λ (k : CommitKey). k.project) nat_list_cmp_total)
+    (then_total (on_total (λ (k : CommitKey). k.branch) nat_list_cmp_total)
+    (then_total (on_total (λ (k : CommitKey). k.commit) nat_list_cmp_total) (on_total (λ (k : CommitKey). k.place) nat_cmp_total)))
+
+pub place_total : IsTotalOrder place_cmp
+place_total =
+    then_total (on_total (λ (k : PlaceKey). k.project) nat_list_cmp_total)
+    (then_total (on_total (λ (k : PlaceKey). k.branch) nat_list_cmp_total) (on_total (λ (k : PlaceKey). k.place) nat_cmp_total))
+
+-- a table with another row at a key
+abbrev pub WithRow : {K X : Type 0} → (K → K → Ordering) → List (K × X) → K → X → List (K × X) → Type 0
+WithRow {K} R old key row new = (q : K) → row_in R new q ≡ cond (is_at (R key) q) (Some row) (row_in R old q)
+
+-- a change of one row makes it so
+pub with_row : {K X : Type 0} (R : K → K → Ordering) (old new : List (K × X)) (key : K) (row : X) →
+    ((q : K) → row_in R new q ≡ changed R (record { key = key; row = Some row } ∷ []) q (row_in R old q)) → WithRow R old key row new
+with_row R old new key row is q = is q ∙ at (is_at (R key) q)
   where
-    both : (b : Bool) (o : Option (List (List ℕ))) → cond b (Some row) (cond b None o) ≡ cond b (Some row) o
-    both true o = refl
-    both false o = refl
+    at : (t : Bool) → after_change (cond t (Some (Some row)) None) (row_in R old q) ≡ cond t (Some row) (row_in R old q)
+    at true = refl
+    at false = refl
 
--- the bases of each branch then
-bases_at : (old new : List (BranchKey × List (List ℕ))) (base : Base) (row : List (List ℕ)) → WithRow old (branch_of base) row new →
-    (p b : List ℕ) → bases_in new p b ≡ cond (is_branch_of base p b) row (bases_in old p b)
-bases_at old new base row with p b =
-    ap (λ o. unwrap_or o []) (with (record { project = p; branch = b }) ∙ ap (λ t. cond t (Some row) (row_in branch_cmp old (record { project = p; branch = b }))) (at_branch (branch_of base) p b))
-    ∙ either (is_branch_of base p b) (row_in branch_cmp old (record { project = p; branch = b }))
+kept_there : {K X : Type 0} {R : K → K → Ordering} (old new : List (K × Unit {0})) (key q : K) → WithRow R old key tt new → row_in R old q ≡ Some tt → row_in R new q ≡ Some tt
+kept_there {R = R} old new key q with there =
+    with q ∙ (ap (cond (is_at (R key) q) (Some tt)) there ∙ elim (is_at (R key) q) as (λ b. cond {A = Option (Unit {0})} b (Some tt) (Some tt) ≡ Some tt) [ true ↦ refl | false ↦ refl ])
+
+-- the index has the base that is put
+pub listed_more : (base : BaseRow) (commits after : List (CommitKey × Unit {0})) (old new : List (PlaceKey × List ℕ)) → base.place ≤ greatest_place → AreListed commits old →
+    WithRow commit_cmp commits (commit_at (place_of base) base.commit) tt after → WithRow place_cmp old (place_of base) base.commit new → AreListed after new
+listed_more base commits after old new fits all listed put k commit is =
+    ⊎_elim
+    (λ (t : is_at (place_cmp (place_of base)) k ≡ true).
+    let same = tells_apart exact_place (place_of base) k t in
+    let given : Some base.commit ≡ Some commit = sym (put k ∙ ap (λ b. cond b (Some base.commit) (row_in place_cmp old k)) t) ∙ is in
+    let text : base.commit ≡ commit = cc in
+    (subst (λ (q : PlaceKey). q.place ≤ greatest_place) same fits, subst (λ (q : CommitKey). row_in commit_cmp after q ≡ Some tt) (λ i. commit_at (same i) (text i))
+    (listed (commit_at (place_of base) base.commit)
+    ∙ ap (λ b. cond b (Some tt) (row_in commit_cmp commits (commit_at (place_of base) base.commit))) (ap is_eq (tied_itself commit_total (commit_at (place_of base) base.commit))))))
+    (λ (f : is_at (place_cmp (place_of base)) k ≡ false).
+    let was = all k commit (sym (put k ∙ ap (λ b. cond b (Some base.commit) (row_in place_cmp old k)) f) ∙ is) in
+    (was.0, kept_there commits after (commit_at (place_of base) base.commit) (commit_at k commit) listed was.1))
+    (cases_Bool (is_at (place_cmp (place_of base)) k))
+
+-- the greater of two numbers
+abbrev IsGreater : ℕ → ℕ → ℕ → Type 0
+IsGreater a b c = (a ≤ c) × (b ≤ c) × ((c ≡ a) ⊎ (c ≡ b))
+
+at_branch : (base : BaseRow) (p b : List ℕ) → is_at (branch_cmp (record { project = base.project; branch = base.branch })) (record { project = p; branch = b }) ≡ (bytes_eq base.project p && bytes_eq base.branch b)
+at_branch base p b =
+    is_eq-then (slice_cmp nat_cmp base.project p) (slice_cmp nat_cmp base.branch b) ∙ (λ i. is_eq-slice_cmp base.project p i && is_eq-slice_cmp base.branch b i)
+
+branch_of : BaseRow → BranchKey
+branch_of base = record { project = base.project; branch = base.branch }
+
+-- the last place of each branch, once a base is put
+pub last_more : (base : BaseRow) (last : ℕ) (lasts after : List (BranchKey × ℕ)) (old new : List (PlaceKey × List ℕ)) → AreLast lasts old →
+    IsGreater (last_in lasts base.project base.branch) base.place last → WithRow branch_cmp lasts (record { project = base.project; branch = base.branch }) last after →
+    WithRow place_cmp old (place_of base) base.commit new → AreLast after new
+last_more base last lasts after old new all greater ended put p b =
+    ⊎_elim
+    (λ (t : (bytes_eq base.project p && bytes_eq base.branch b) ≡ true). here (and_parts (bytes_eq base.project p) (bytes_eq base.branch b) t) t)
+    (λ (f : (bytes_eq base.project p && bytes_eq base.branch b) ≡ false). there f)
+    (cases_Bool (bytes_eq base.project p && bytes_eq base.branch b))
   where
-    either : (t : Bool) (o : Option (List (List ℕ))) → unwrap_or (cond t (Some row) o) [] ≡ cond t row (unwrap_or o [])
-    either true o = refl
-    either false o = refl
+    key : BranchKey
+    key = record { project = p; branch = b }
 
--- the branch of a base is that one
-same_branch : (base : Base) (p b : List ℕ) → is_branch_of base p b ≡ true → (base.project ≡ p) × (base.branch ≡ b)
-same_branch base p b t =
-    let both = and_parts (bytes_eq base.project p) (bytes_eq base.branch b) t in
-    ((bytes_eq-Decides base.project p).0 both.0, (bytes_eq-Decides base.branch b).0 both.1)
+    now_at : (n : ℕ) (c : Bool) → (bytes_eq base.project p && (bytes_eq base.branch b && (base.place == n))) ≡ c → base_at new p b n ≡ cond c (Some base.commit) (base_at old p b n)
+    now_at n c e = put (record { project = p; branch = b; place = n }) ∙ ap (λ x. cond x (Some base.commit) (base_at old p b n)) (at_place_of base p b n ∙ e)
 
-pub have_base : (old new : List (BranchKey × List (List ℕ))) (base : Base) (row was : List (List ℕ)) → WithRow old (branch_of base) row new →
-    was ≡ bases_in old base.project base.branch → row ≡ was ++ base.commit ∷ [] → HaveBase base old new
-have_base old new base row was with is more p b =
-    bases_at old new base row with p b
-    ∙ ⊎_elim
-    (λ (t : is_branch_of base p b ≡ true).
-    let same = same_branch base p b t in
-    ap (λ x. cond x row (bases_in old p b)) t ∙ (more ∙ ap (λ bs. bs ++ base.commit ∷ []) (is ∙ (λ i. bases_in old (same.0 i) (same.1 i)))) ∙ sym (ap (λ x. cond x (bases_in old p b ++ base.commit ∷ []) (bases_in old p b)) t))
-    (λ (f : is_branch_of base p b ≡ false). ap (λ x. cond x row (bases_in old p b)) f ∙ sym (ap (λ x. cond x (bases_in old p b ++ base.commit ∷ []) (bases_in old p b)) f))
-    (cases_Bool (is_branch_of base p b))
+    last_now : (c : Bool) → (bytes_eq base.project p && bytes_eq base.branch b) ≡ c → last_in after p b ≡ unwrap_or (cond c (Some last) (row_in branch_cmp lasts key)) 0
+    last_now c e = ap (λ o. unwrap_or o 0) (ended key ∙ ap (λ x. cond x (Some last) (row_in branch_cmp lasts key)) (at_branch base p b ∙ e))
 
-pub have_same : (old new : List (BranchKey × List (List ℕ))) (base : Base) (row was : List (List ℕ)) → WithRow old (branch_of base) row new →
-    was ≡ bases_in old base.project base.branch → row ≡ was → HaveSameBases old new
-have_same old new base row was with is none p b =
-    bases_at old new base row with p b
-    ∙ ⊎_elim
-    (λ (t : is_branch_of base p b ≡ true).
-    let same = same_branch base p b t in
-    ap (λ x. cond x row (bases_in old p b)) t ∙ (none ∙ (is ∙ (λ i. bases_in old (same.0 i) (same.1 i)))))
-    (λ (f : is_branch_of base p b ≡ false). ap (λ x. cond x row (bases_in old p b)) f)
-    (cases_Bool (is_branch_of base p b))
+    off : (x y z : Bool) → (x && y) ≡ false → (x && (y && z)) ≡ false
+    off true true z e = absurd (cc)
+    off true false z e = refl
+    off false y z e = refl
 
--- whether the commit was added or not
-pub added_or_same : (r : Result (Unit {0}) AllocError) (old new : List (BranchKey × List (List ℕ))) (base : Base) (row was : List (List ℕ)) → WithRow old (branch_of base) row new →
-    was ≡ bases_in old base.project base.branch → OnOk r (row ≡ was ++ base.commit ∷ []) → OnErr r (row ≡ was) → OnOk r (HaveBase base old new) × OnErr r (HaveSameBases old new)
-added_or_same (Ok u) old new base row was with is more none = (have_base old new base row was with is more, tt)
-added_or_same (Err e) old new base row was with is more none = (tt, have_same old new base row was with is none)
+    there : (bytes_eq base.project p && bytes_eq base.branch b) ≡ false → IsLastPlace new p b (last_in after p b)
+    there f =
+        subst (IsLastPlace new p b) (sym (last_now false f))
+        (record {
+          above = λ n lt. now_at n false (off (bytes_eq base.project p) (bytes_eq base.branch b) (base.place == n) f) ∙ (all p b).above n lt;
+          there = ⊎_elim (λ z. inl z)
+              (λ s. inr (subst IsSome (sym (now_at (last_in lasts p b) false (off (bytes_eq base.project p) (bytes_eq base.branch b) (base.place == last_in lasts p b) f))) s)) (all p b).there;
+        })
 
-any_append : (f : List ℕ → Bool) (xs : List (List ℕ)) (x : List ℕ) → list_any f (xs ++ x ∷ []) ≡ (list_any f xs || f x)
-any_append f [] x = elim (f x) as (λ b. (b || false) ≡ (false || b)) [ true ↦ refl | false ↦ refl ]
-any_append f (y ∷ ys) x = ap (λ b. f y || b) (any_append f ys x) ∙ elim (f y) as (λ b. (b || (list_any f ys || f x)) ≡ ((b || list_any f ys) || f x)) [ true ↦ refl | false ↦ refl ]
+    here : (bytes_eq base.project p ≡ true) × (bytes_eq base.branch b ≡ true) → (bytes_eq base.project p && bytes_eq base.branch b) ≡ true → IsLastPlace new p b (last_in after p b)
+    here both t =
+        let was : last_in lasts base.project base.branch ≡ last_in lasts p b = λ i. last_in lasts ((bytes_eq-Decides base.project p).0 both.0 i) ((bytes_eq-Decides base.branch b).0 both.1 i) in
+        subst (IsLastPlace new p b) (sym (last_now true t))
+        (record { above = λ n lt. beyond n lt was; there = reached was })
+      where
+        on : (n : ℕ) → (bytes_eq base.project p && (bytes_eq base.branch b && (base.place == n))) ≡ (base.place == n)
+        on n = λ i. both.0 i && (both.1 i && (base.place == n))
 
--- the index has one commit more
-pub known_more : (base : Base) (known after : List (Base × Unit {0})) (old new : List (BranchKey × List (List ℕ))) → AreKnown known old →
-    ((q : Base) → row_in base_cmp after q ≡ changed base_cmp (record { key = base; row = Some tt } ∷ []) q (row_in base_cmp known q)) → HaveBase base old new → AreKnown after new
-known_more base known after old new all is have q =
-    let project = bytes_eq base.project q.project in
-    let branch = bytes_eq base.branch q.branch in
-    let commit = bytes_eq base.commit q.commit in
-    let xs = bases_in old q.project q.branch in
-    let there = is_some (row_in base_cmp known q) in
-    ap is_some (is q) ∙ known_at (is_at (base_cmp base) q) (row_in base_cmp known q) ∙ ap (λ t. t || there) (at_base base q)
-    ∙ split project branch commit there (list_any (λ c. bytes_eq c q.commit) xs) (list_any (λ c. bytes_eq c q.commit) (xs ++ base.commit ∷ [])) (all q) (any_append (λ c. bytes_eq c q.commit) xs base.commit)
-    ∙ choose (project && branch) (list_any (λ c. bytes_eq c q.commit)) (xs ++ base.commit ∷ []) xs
-    ∙ sym (ap (list_any (λ c. bytes_eq c q.commit)) (have q.project q.branch))
+        ne : (m n : ℕ) → m < n → (m == n) ≡ false
+        ne m n lt = grind (arith, unsigned_tied)
+
+        beyond : (n : ℕ) → last < n → last_in lasts base.project base.branch ≡ last_in lasts p b → base_at new p b n ≡ None
+        beyond n lt was =
+            let g = greater in
+            now_at n false (on n ∙ ne base.place n (let a = g.1 in omega arith)) ∙ (all p b).above n (let a = g.0 in omega arith)
+
+        reached : last_in lasts base.project base.branch ≡ last_in lasts p b → (last ≡ 0) ⊎ IsSome (base_at new p b last)
+        reached was =
+            ⊎_elim
+            (λ (same : last ≡ last_in lasts base.project base.branch). ⊎_elim
+            (λ z. inl (same ∙ (was ∙ z)))
+            (λ s. inr (still (base.place == last) refl (subst (λ n. IsSome (base_at old p b n)) (sym (same ∙ was)) s)))
+            (all p b).there)
+            (λ (same : last ≡ base.place). inr (put_here (base.place == last) refl same))
+            greater.2
+
+        still : (c : Bool) → (base.place == last) ≡ c → IsSome (base_at old p b last) → IsSome (base_at new p b last)
+        still true e s = subst IsSome (sym (now_at last true (on last ∙ e))) refl
+        still false e s = subst IsSome (sym (now_at last false (on last ∙ e))) s
+
+        put_here : (c : Bool) → (base.place == last) ≡ c → last ≡ base.place → IsSome (base_at new p b last)
+        put_here true e same = subst IsSome (sym (now_at last true (on last ∙ e))) refl
+        put_here false e same = absurd (ne_self base.place last e same)
+          where
+            ne_self : (m n : ℕ) → (m == n) ≡ false → n ≡ m → ⊥
+            ne_self m n e same = grind (arith, unsigned_tied)
+
+-- how many bases projects have, once one is put
+pub total_more : (base : BaseRow) (known : Bool) (total : ℕ) (old new : List (List ℕ × ℕ)) → total ≡ cond known (total_in old base.project) (total_in old base.project + 1) →
+    WithRow (slice_cmp nat_cmp) old base.project total new →
+    (p : List ℕ) → total_in new p ≡ cond (bytes_eq base.project p) (cond known (total_in old p) (total_in old p + 1)) (total_in old p)
+total_more base known total old new is with p =
+    ap (λ o. unwrap_or o 0) (with p ∙ ap (λ t. cond t (Some total) (row_in (slice_cmp nat_cmp) old p)) (is_eq-slice_cmp base.project p)) ∙ at (bytes_eq base.project p) refl
   where
-    known_at : (t : Bool) (o : Option (Unit {0})) → is_some (after_change (cond t (Some (Some tt)) None) o) ≡ (t || is_some o)
-    known_at true o = refl
-    known_at false o = refl
-
-    turn : (c n : Bool) → (c || n) ≡ (n || c)
-    turn true true = refl
-    turn true false = refl
-    turn false true = refl
-    turn false false = refl
-
-    split : (p b c m n k : Bool) → m ≡ n → k ≡ (n || c) → ((p && (b && c)) || m) ≡ cond (p && b) k n
-    split true true c m n k e f = ap (λ b. c || b) e ∙ turn c n ∙ sym f
-    split true false c m n k e f = e
-    split false b c m n k e f = e
-
-    choose : (t : Bool) (f : List (List ℕ) → Bool) (xs ys : List (List ℕ)) → cond t (f xs) (f ys) ≡ f (cond t xs ys)
-    choose true f xs ys = refl
-    choose false f xs ys = refl
-
--- a project has one base more
-pub total_more : (project : List ℕ) (total : ℕ) (old new : List (List ℕ × ℕ)) → total ≡ total_in old project + 1 →
-    ((q : List ℕ) → row_in (slice_cmp nat_cmp) new q ≡ changed (slice_cmp nat_cmp) (record { key = project; row = Some total } ∷ []) q (row_in (slice_cmp nat_cmp) old q)) →
-    (p : List ℕ) → total_in new p ≡ cond (bytes_eq project p) (total_in old p + 1) (total_in old p)
-total_more project total old new is rows p =
-    ap (λ o. unwrap_or o 0) (rows p ∙ ap (λ t. after_change (cond t (Some (Some total)) None) (row_in (slice_cmp nat_cmp) old p)) (is_eq-slice_cmp project p))
-    ∙ at (bytes_eq project p) refl (row_in (slice_cmp nat_cmp) old p) refl
-  where
-    at : (t : Bool) → bytes_eq project p ≡ t → (o : Option ℕ) → row_in (slice_cmp nat_cmp) old p ≡ o →
-        unwrap_or (after_change (cond t (Some (Some total)) None) o) 0 ≡ cond t (unwrap_or o 0 + 1) (unwrap_or o 0)
-    at true t o here = is ∙ ap (λ x. total_in old x + 1) ((bytes_eq-Decides project p).0 t) ∙ ap (λ x. unwrap_or x 0 + 1) here
-    at false t o here = refl
-
--- the file of one project among others
-pub file_picked : (files new : List (List ℕ × List ℕ)) (k file : List ℕ) → row_in (slice_cmp nat_cmp) files k ≡ Some file →
-    ((q : List ℕ) → row_in (slice_cmp nat_cmp) new q ≡ cond (is_at (slice_cmp nat_cmp k) q) (Some file) None) → (q : List ℕ) → row_in (slice_cmp nat_cmp) new q ≡ cond (bytes_eq k q) (row_in (slice_cmp nat_cmp) files q) None
-file_picked files new k file found is q = is q ∙ (ap (λ t. cond t (Some file) None) (is_eq-slice_cmp k q) ∙ at (bytes_eq k q) refl)
-  where
-    at : (t : Bool) → bytes_eq k q ≡ t → cond t (Some file) None ≡ cond t (row_in (slice_cmp nat_cmp) files q) None
-    at true t = sym found ∙ ap (row_in (slice_cmp nat_cmp) files) ((bytes_eq-Decides k q).0 t)
-    at false t = refl
-
--- the bases of one branch among others
-pub branch_picked : (bases new : List (BranchKey × List (List ℕ))) (k : BranchKey) (row : List (List ℕ)) → row ≡ bases_in bases k.project k.branch → (row ≡ [] → ⊥) →
-    ((q : BranchKey) → row_in branch_cmp new q ≡ cond (is_at (branch_cmp k) q) (Some row) None) →
-    (p b : List ℕ) → option_map BranchRow (row_in branch_cmp new (record { project = p; branch = b })) ≡ cond (bytes_eq k.project p && bytes_eq k.branch b) (branch_row (bases_in bases p b)) None
-branch_picked bases new k row found some is p b =
-    ap (option_map BranchRow) (is (record { project = p; branch = b }) ∙ ap (λ t. cond t (Some row) None) (at_branch k p b)) ∙ at (bytes_eq k.project p && bytes_eq k.branch b) refl
-  where
-    filled : (row : List (List ℕ)) → (row ≡ [] → ⊥) → Some (BranchRow row) ≡ branch_row row
-    filled [] some = absurd (some refl)
-    filled (x ∷ xs) some = refl
-
-    at : (t : Bool) → (bytes_eq k.project p && bytes_eq k.branch b) ≡ t → option_map BranchRow (cond t (Some row) None) ≡ cond t (branch_row (bases_in bases p b)) None
-    at true t =
-        let both = and_parts (bytes_eq k.project p) (bytes_eq k.branch b) t in
-        filled row some ∙ ap branch_row (found ∙ (λ i. bases_in bases ((bytes_eq-Decides k.project p).0 both.0 i) ((bytes_eq-Decides k.branch b).0 both.1 i)))
+    at : (t : Bool) → bytes_eq base.project p ≡ t → unwrap_or (cond t (Some total) (row_in (slice_cmp nat_cmp) old p)) 0 ≡ cond t (cond known (total_in old p) (total_in old p + 1)) (total_in old p)
+    at true t = is ∙ ap (λ x. cond known (total_in old x) (total_in old x + 1)) ((bytes_eq-Decides base.project p).0 t)
     at false t = refl

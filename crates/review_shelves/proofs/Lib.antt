@@ -5,5 +5,6 @@ pub mod Steps
 pub mod Applied
 pub mod First
 pub mod Based
+pub mod Placed
 pub mod Lengths
 pub mod Turns

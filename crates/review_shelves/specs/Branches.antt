@@ -1,58 +1,96 @@
 -- The bases of branches, in memory.
-use Rattle.std.specs.Prelude.{ℕ, ◌+◌, ◌≡◌, List, [], ◌∷◌, ◌++◌, unwrap_or, is_some, Bool, ◌&&◌, if◌then◌else◌}
+use Rattle.std.specs.Prelude.{ℕ, ◌+◌, ◌<◌, ◌≤◌, ◌≡◌, ◌⊎◌, List, [], ◌∷◌, Option, Some, None, IsSome, Bool, true, false, unwrap_or, is_some, if◌then◌else◌}
 use Rattle.std.specs.declared.cmp.Ordering.{Ordering}
 use Rattle.std.specs.Ordering.{nat_cmp, ordering_then}
 use Rattle.std.specs.Cmp.Lexicographic.{slice_cmp}
-use Rattle.std.specs.List.{list_any}
+use Rattle.std.specs.BTreeMap.{is_at}
 use Rattle.std.specs.Str.{bytes_eq}
 use Rattle.review_table.specs.Rows.{row_in}
 use Rattle.review_rows.specs.declared.rows.BranchKey.{BranchKey}
+use Rattle.review_rows.specs.declared.rows.BaseRow.{BaseRow}
 use Rattle.review_rows.specs.declared.rows.Base.{Base}
 use Rattle.review_rows.specs.Rows.{branch_cmp}
+use Rattle.review_rows.specs.Known.{at_place}
+use Rattle.review_shelves.specs.declared.branches.BasesFault.{BasesFault}
+use Rattle.review_shelves.specs.declared.branches.BasesFault.TheVariants.{Memory, Gap}
+use Rattle.review_shelves.specs.declared.branches.BaseChanges.{BaseChanges}
+use Rattle.review_shelves.specs.declared.keys.PlaceKey.{PlaceKey}
+use Rattle.review_shelves.specs.declared.keys.CommitKey.{CommitKey}
 
--- by project, then by branch, then by commit
-abbrev pub base_cmp : Base → Base → Ordering
-base_cmp a b = ordering_then (slice_cmp nat_cmp a.project b.project) (ordering_then (slice_cmp nat_cmp a.branch b.branch) (slice_cmp nat_cmp a.commit b.commit))
+-- by project, then by branch, then by place
+abbrev pub place_cmp : PlaceKey → PlaceKey → Ordering
+place_cmp a b = ordering_then (slice_cmp nat_cmp a.project b.project) (ordering_then (slice_cmp nat_cmp a.branch b.branch) (nat_cmp a.place b.place))
 
--- the rows of branches that have bases, and of projects with how many they have
+-- by project, then by branch, then by commit, then by place
+abbrev pub commit_cmp : CommitKey → CommitKey → Ordering
+commit_cmp a b =
+    ordering_then (slice_cmp nat_cmp a.project b.project)
+    (ordering_then (slice_cmp nat_cmp a.branch b.branch) (ordering_then (slice_cmp nat_cmp a.commit b.commit) (nat_cmp a.place b.place)))
+
+-- the commits at places of branches, and of projects how many bases they have
 pub record BranchesView : Type 0 where
-  pub bases : List (BranchKey × List (List ℕ))
+  pub bases : List (PlaceKey × List ℕ)
   pub totals : List (List ℕ × ℕ)
 
--- the bases of a branch, among rows
-abbrev pub bases_in : List (BranchKey × List (List ℕ)) → List ℕ → List ℕ → List (List ℕ)
-bases_in rows project branch = unwrap_or (row_in branch_cmp rows (record { project = project; branch = branch })) []
+-- the base at a place of a branch, among rows
+abbrev pub base_at : List (PlaceKey × List ℕ) → List ℕ → List ℕ → ℕ → Option (List ℕ)
+base_at rows project branch place = row_in place_cmp rows (record { project = project; branch = branch; place = place })
 
 -- how many bases a project has, among rows
 abbrev pub total_in : List (List ℕ × ℕ) → List ℕ → ℕ
 total_in rows project = unwrap_or (row_in (slice_cmp nat_cmp) rows project) 0
 
--- the index has the bases of all branches and no other commits
-abbrev pub AreKnown : List (Base × Unit {0}) → List (BranchKey × List (List ℕ)) → Type 0
-AreKnown commits rows = (b : Base) → is_some (row_in base_cmp commits b) ≡ list_any (λ c. bytes_eq c b.commit) (bases_in rows b.project b.branch)
+-- the last place of a branch, among rows
+abbrev pub last_in : List (BranchKey × ℕ) → List ℕ → List ℕ → ℕ
+last_in rows project branch = unwrap_or (row_in branch_cmp rows (record { project = project; branch = branch })) 0
 
--- whether a branch is that of a base
-abbrev pub is_branch_of : Base → List ℕ → List ℕ → Bool
-is_branch_of base project branch = bytes_eq base.project project && bytes_eq base.branch branch
+-- where a commit stands, as a key
+abbrev pub commit_at : PlaceKey → List ℕ → CommitKey
+commit_at k commit = record { project = k.project; branch = k.branch; commit = commit; place = k.place }
 
--- a branch has one base more
-abbrev pub bases_with : Base → List (BranchKey × List (List ℕ)) → List ℕ → List ℕ → List (List ℕ)
-bases_with base rows project branch = if is_branch_of base project branch then bases_in rows project branch ++ base.commit ∷ [] else bases_in rows project branch
+-- the greatest place that a key can have
+abbrev pub greatest_place : ℕ
+greatest_place = 18446744073709551615
 
--- each branch has the bases that it had
-abbrev pub HaveSameBases : List (BranchKey × List (List ℕ)) → List (BranchKey × List (List ℕ)) → Type 0
-HaveSameBases old new = (p b : List ℕ) → bases_in new p b ≡ bases_in old p b
+-- each base is in the index by its commit, and its place is one that a key can have
+abbrev pub AreListed : List (CommitKey × Unit {0}) → List (PlaceKey × List ℕ) → Type 0
+AreListed commits bases = (k : PlaceKey) (commit : List ℕ) → row_in place_cmp bases k ≡ Some commit → (k.place ≤ greatest_place) × (row_in commit_cmp commits (commit_at k commit) ≡ Some tt)
 
--- a branch has one base more, and each other one those that it had
-abbrev pub HaveBase : Base → List (BranchKey × List (List ℕ)) → List (BranchKey × List (List ℕ)) → Type 0
-HaveBase base old new = (p b : List ℕ) → bases_in new p b ≡ bases_with base old p b
+-- no base of a branch stands behind its last place, and one stands there, unless it is 0
+pub record IsLastPlace (bases : List (PlaceKey × List ℕ)) (project branch : List ℕ) (last : ℕ) : Type 0 where
+  pub above : (place : ℕ) → last < place → base_at bases project branch place ≡ None
+  pub there : (last ≡ 0) ⊎ IsSome (base_at bases project branch last)
 
--- a base was added
-pub record IsAdded (base : Base) (old new : BranchesView) : Type 0 where
-  pub bases : HaveBase base old.bases new.bases
-  pub totals : (p : List ℕ) → total_in new.totals p ≡ (if bytes_eq base.project p then total_in old.totals p + 1 else total_in old.totals p)
+-- the last place of each branch is known
+abbrev pub AreLast : List (BranchKey × ℕ) → List (PlaceKey × List ℕ) → Type 0
+AreLast lasts bases = (project branch : List ℕ) → IsLastPlace bases project branch (last_in lasts project branch)
 
--- nothing was added
-pub record IsAsBefore (old new : BranchesView) : Type 0 where
-  pub bases : HaveSameBases old.bases new.bases
-  pub totals : (p : List ℕ) → total_in new.totals p ≡ total_in old.totals p
+-- the key of a base
+abbrev pub place_of : BaseRow → PlaceKey
+place_of base = record { project = base.project; branch = base.branch; place = base.place }
+
+-- a base was put at its place
+pub record IsPut (base : BaseRow) (old new : BranchesView) : Type 0 where
+  pub bases : (k : PlaceKey) → row_in place_cmp new.bases k ≡ (if is_at (place_cmp (place_of base)) k then Some base.commit else row_in place_cmp old.bases k)
+  pub totals : (p : List ℕ) → total_in new.totals p ≡ (if bytes_eq base.project p then (if is_some (row_in place_cmp old.bases (place_of base)) then total_in old.totals p else total_in old.totals p + 1) else total_in old.totals p)
+
+-- the bases of a branch are these, each at its place
+abbrev pub AreBases : List (PlaceKey × List ℕ) → BranchKey → List (List ℕ) → Type 0
+AreBases rows key commits = (place : ℕ) → base_at rows key.project key.branch place ≡ at_place commits place
+
+-- why the bases of a branch are not given: where they have a gap, no list has them at its places
+abbrev pub IsUnlisted : List (PlaceKey × List ℕ) → BranchKey → BasesFault → Type 0
+IsUnlisted rows key Memory = Unit {0}
+IsUnlisted rows key Gap = (commits : List (List ℕ)) → AreBases rows key commits → ⊥
+
+-- whether the commit stands at some place of its branch
+abbrev pub IsCommitThere : List (PlaceKey × List ℕ) → Base → Bool → Type 0
+IsCommitThere rows base true = (place : ℕ) × (base_at rows base.project base.branch place ≡ Some base.commit)
+IsCommitThere rows base false = (place : ℕ) → base_at rows base.project base.branch place ≡ Some base.commit → ⊥
+
+-- the changes put a base, where its branch has this last place then and its project so many bases
+pub record PutsBase (base : BaseRow) (branch : BranchKey) (last total : ℕ) (changes : BaseChanges) : Type 0 where
+  pub placed : changes.placed.items ≡ record { key = place_of base; row = Some base.commit } ∷ []
+  pub listed : changes.listed.items ≡ record { key = commit_at (place_of base) base.commit; row = Some tt } ∷ []
+  pub ended : changes.ended.items ≡ record { key = branch; row = Some last } ∷ []
+  pub counted : changes.counted.items ≡ record { key = base.project; row = Some total } ∷ []

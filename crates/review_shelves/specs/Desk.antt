@@ -8,13 +8,13 @@ use Rattle.review_table.specs.declared.table.Change.{Change}
 use Rattle.review_table.specs.Rows.{row_in, rows_of, HavePlaces, changed}
 use Rattle.review_words.specs.History.{Identity}
 use Rattle.review_rows.specs.declared.rows.MemberKey.{MemberKey as Member}
-use Rattle.review_rows.specs.declared.rows.Base.{Base}
+use Rattle.review_rows.specs.declared.rows.BaseRow.{BaseRow as PlacedBase}
 use Rattle.review_rows.specs.declared.rows.ProjectRow.{ProjectRow}
 use Rattle.review_rows.specs.declared.rows.Delta.{Delta}
 use Rattle.review_rows.specs.declared.rows.Kept.{Kept}
-use Rattle.review_rows.specs.Rows.{Key, AccountKey, MemberKey, FileKey, BranchKey, OddKey, Row, AccountRow, FileRow, Count, Projects, BasesOf, AnswerRow, Tables, member_cmp, member_row, kept_row}
-use Rattle.review_rows.specs.View.{branch_row, tables_version}
-use Rattle.review_shelves.specs.Branches.{BranchesView, IsAdded, IsAsBefore, bases_in, total_in}
+use Rattle.review_rows.specs.Rows.{Key, AccountKey, MemberKey, FileKey, BaseKey, OddKey, Row, AccountRow, FileRow, BaseRow, Count, Projects, BasesOf, AnswerRow, Stored, Answered, Tables, member_cmp, member_row, kept_row}
+use Rattle.review_rows.specs.View.{tables_version}
+use Rattle.review_shelves.specs.Branches.{BranchesView, IsPut, base_at, total_in}
 use Rattle.review_shelves.specs.declared.keys.NameKey.{NameKey}
 use Rattle.review_shelves.specs.declared.keys.AnswerKey.{AnswerKey}
 use Rattle.review_shelves.specs.declared.keys.StoredAnswer.{StoredAnswer}
@@ -65,7 +65,7 @@ abbrev pub row_of : Desk → Key → Option Row
 row_of d (AccountKey number) = option_map AccountRow (row_in nat_cmp d.accounts number)
 row_of d (MemberKey group account) = member_row (row_in member_cmp d.members (record { group = group; account = account }))
 row_of d (FileKey project) = file_row d.files project
-row_of d (BranchKey project branch) = branch_row (bases_in d.branches.bases project branch)
+row_of d (BaseKey project branch place) = option_map BaseRow (base_at d.branches.bases project branch place)
 row_of d (OddKey o) = None
 
 -- a count
@@ -87,8 +87,8 @@ with_branches t branches = record {
 }
 
 -- the stored request of an identity
-abbrev pub answer_of : List (AnswerKey × StoredAnswer) → Identity → Option AnswerRow
-answer_of answers i = stored_row i (row_in answer_cmp answers (record { caller = i.caller; id = i.id }))
+abbrev pub answer_of : List (AnswerKey × StoredAnswer) → Identity → Option Stored
+answer_of answers i = option_map Answered (stored_row i (row_in answer_cmp answers (record { caller = i.caller; id = i.id })))
 
 -- a desk as the tables that contracts see
 abbrev pub tables_of : Desk → Tables
@@ -158,20 +158,10 @@ pub record HasRoom (t : MemoryTables) (changes : Changes) : Type 0 where
   pub files : HavePlaces (slice_cmp nat_cmp) t.files changes.files.items
   pub answers : HavePlaces answer_cmp t.answers changes.answers.items
 
--- the desk has just the rows that it had
-pub record IsSameDesk (old new : Desk) : Type 0 where
-  pub accounts : new.accounts ≡ old.accounts
-  pub members : new.members ≡ old.members
-  pub files : new.files ≡ old.files
-  pub branches : IsAsBefore old.branches new.branches
-  pub projects : new.projects ≡ old.projects
-  pub answers : new.answers ≡ old.answers
-  pub requests : new.requests ≡ old.requests
-
--- a base was added to branches, where there is one to add
-abbrev pub IsWithBase : Option Base → BranchesView → BranchesView → Type 0
-IsWithBase None old new = IsAsBefore old new
-IsWithBase (Some base) old new = IsAdded base old new
+-- a base was put, where there is one to put
+abbrev pub IsWithBase : Option PlacedBase → BranchesView → BranchesView → Type 0
+IsWithBase None old new = new ≡ old
+IsWithBase (Some base) old new = IsPut base old new
 
 -- all rows are changed but those of branches, and so many projects are there
 pub record AreApplied (old : Desk) (changes : Changes) (projects : ℕ) (new : Desk) : Type 0 where

@@ -2,3 +2,4 @@ pub mod Branches
 pub mod Desk
 pub mod Fits
 pub mod Faults
+pub mod Loads

@@ -1,36 +1,56 @@
 //! The bases of branches in memory.
-ghost use Rattle.std.specs.Prelude.{◌≡◌, ◌+◌, ◌-◌, ◌^◌, ◌<◌, ◌∷◌, [], Some, IfOk, OnOk, OnErr, option_copied, unwrap_or};
-ghost use Rattle.std.specs.List.{list_any};
+ghost use Rattle.std.specs.Prelude.{◌≡◌, ◌-◌, ◌^◌, ◌<◌, ◌↔◌, [], Some, IsTrue, IfOk, IfErr, OnOk, OnErr, is_some};
 ghost use Rattle.std.specs.Ordering.{nat_cmp};
 ghost use Rattle.std.specs.Cmp.Lexicographic.{slice_cmp};
-ghost use Rattle.std.specs.Str.{bytes_eq};
 ghost use Rattle.review_table.specs.Rows.{rows_of, row_in, HavePlaces};
-ghost use Rattle.review_shelves.specs.Branches.{base_cmp, bases_in, total_in, HaveBase, HaveSameBases, IsAdded, IsAsBefore, AreKnown};
+ghost use Rattle.review_rows.specs.Rows.{branch_cmp};
+ghost use Rattle.review_shelves.specs.Branches.{place_cmp, commit_cmp, base_at, total_in, IsLastPlace, IsPut, place_of, commit_at, AreBases, IsCommitThere, IsUnlisted, PutsBase};
 
-use review_rows::{Base, BranchKey};
+use crate::keys::{CommitKey, PlaceKey};
+use review_rows::{Base, BaseRow, BranchKey};
 use review_table::{Change, Key, Table};
-use review_words::{Bases, ProjectName};
+use review_words::{Bases, CommitName, ProjectName};
 use std::alloc::{AllocError, Global};
 use std::marker::Model;
 
-/// The bases of branches, with an index by commit and the number of each project's bases. A base is added in the time of
-/// look-ups by key, however many there are.
+/// The bases of branches by their places, with an index by commit, the last place of each branch and the number of each project's
+/// bases. A base is put in the time of look-ups by key, however many there are.
 #[derive(Drop)]
 pub struct Branches {
-    bases: Table<BranchKey, Bases>,
-    commits: Table<Base, ()>,
+    bases: Table<PlaceKey, CommitName>,
+    commits: Table<CommitKey, ()>,
+    lasts: Table<BranchKey, u64>,
     totals: Table<ProjectName, u64>,
+}
+
+/// Why the bases of a branch are not given.
+#[derive(Clone, Copy, Debug, PartialEq, Eq, Drop)]
+pub enum BasesFault {
+    Memory,
+    /// A place has none, or place 0 has one.
+    Gap,
+}
+
+impl From<AllocError> for BasesFault {
+    ghost use Rattle.std.specs.Prelude.{◌≡◌};
+    ghost use Rattle.review_shelves.specs.declared.branches.BasesFault.TheVariants.{Memory};
+
+    ghost from_gives = { λ _ f. f ≡ Memory };
+
+    fn from(_error: AllocError) -> BasesFault {
+        BasesFault::Memory
+    }
 }
 
 impl Model for Branches {
     ghost use Rattle.review_table.specs.Rows.{rows_of};
-    ghost use Rattle.review_shelves.specs.Branches.{BranchesView, AreKnown};
+    ghost use Rattle.review_shelves.specs.Branches.{BranchesView, AreListed, AreLast};
 
     ghost Value = { BranchesView };
 
     ghost view = { λ t. record { bases = rows_of t.bases; totals = rows_of t.totals } };
 
-    ghost invariant = { λ t. AreKnown (rows_of t.commits) (rows_of t.bases) };
+    ghost invariant = { λ t. AreListed (rows_of t.commits) (rows_of t.bases) × AreLast (rows_of t.lasts) (rows_of t.bases) };
 }
 
 impl Branches {
@@ -41,22 +61,72 @@ impl Branches {
         Branches {
             bases: Table::new(alloc),
             commits: Table::new(alloc),
+            lasts: Table::new(alloc),
             totals: Table::new(alloc),
         }
     }
 
-    /// The bases of a branch; a branch that has none may be there or not.
-    pub fn get(&self, key: &BranchKey) -> Option<&Bases>
-        ensures { unwrap_or (option_copied result) [] ≡ bases_in self.now.bases key.now.project key.now.branch }
+    /// The last place of a branch's bases; 0 where it has none.
+    pub fn last_place(&self, branch: &BranchKey) -> u64
+        ensures { IsLastPlace self.now.bases branch.now.project branch.now.branch result }
     {
-        self.bases.get(key)
+        match self.lasts.get(branch) {
+            Some(place) => *place,
+            None => 0,
+        }
+    }
+
+    /// The bases of a branch in the order of their places, or that these have a gap.
+    pub fn bases_of(&self, alloc: Global, branch: &BranchKey) -> Result<Bases, BasesFault>
+        ensures bases { IfOk result (AreBases self.now.bases branch.now) }
+        ensures gap { IfErr result (IsUnlisted self.now.bases branch.now) }
+    {
+        let mut key = PlaceKey {
+            project: branch.project.copy(alloc)?,
+            branch: branch.branch.copy(alloc)?,
+            place: 0,
+        };
+        if self.bases.get(&key).is_some() {
+            return Err(BasesFault::Gap);
+        }
+        let mut bases = Bases::new(alloc);
+        for place in 1..=self.last_place(branch) {
+            key.place = place;
+            let Some(commit) = self.bases.get(&key) else {
+                return Err(BasesFault::Gap);
+            };
+            bases.push(commit.copy(alloc)?)?;
+        }
+        Ok(bases)
     }
 
     /// Whether a commit is a base of a branch.
-    pub fn has(&self, base: &Base) -> bool
-        ensures { result ≡ list_any (λ c. bytes_eq c base.now.commit) (bases_in self.now.bases base.now.project base.now.branch) }
+    pub fn has(&self, alloc: Global, base: &Base) -> Result<bool, AllocError>
+        ensures { IfOk result (IsCommitThere self.now.bases base.now) }
     {
-        self.commits.get(base).is_some()
+        let from = commit_key(alloc, base, 0)?;
+        let to = commit_key(alloc, base, u64::MAX)?;
+        for (key, _) in self.commits.select(alloc, from, to)? {
+            if self.stands_at(alloc, base, key.place)? {
+                return Ok(true);
+            }
+        }
+        Ok(false)
+    }
+
+    // Whether a commit stands at a place of its branch.
+    fn stands_at(&self, alloc: Global, base: &Base, place: u64) -> Result<bool, AllocError>
+        ensures { IfOk result (λ is. IsTrue is ↔ (base_at self.now.bases base.now.project base.now.branch place ≡ Some base.now.commit)) }
+    {
+        let key = PlaceKey {
+            project: base.project.copy(alloc)?,
+            branch: base.branch.copy(alloc)?,
+            place,
+        };
+        match self.bases.get(&key) {
+            Some(commit) => Ok(commit.as_str() == base.commit.as_str()),
+            None => Ok(false),
+        }
     }
 
     /// How many bases a project has, over all its branches.
@@ -69,89 +139,129 @@ impl Branches {
         }
     }
 
-    /// Adds a base after the others of its branch, or changes nothing.
-    pub fn push(&mut self, alloc: Global, base: &Base) -> Result<(), AllocError>
+    /// Puts a base at its place, or changes nothing.
+    pub fn put(&mut self, alloc: Global, base: &BaseRow) -> Result<(), AllocError>
         requires { total_in self.old.totals base.now.project < 2 ^ 64 - 1 }
-        ensures added { OnOk result (IsAdded base.now self.old self.new) }
-        ensures same { OnErr result (IsAsBefore self.old self.new) }
+        ensures put { OnOk result (IsPut base.now self.old self.new) }
+        ensures same { OnErr result (self.new ≡ self.old) }
     {
-        let known = known(alloc, base)?;
-        let counted = counted(alloc, base, self.total(&base.project) + 1)?;
+        let branch = branch_of(alloc, base)?;
+        let last = self.last_place(&branch).max(base.place);
+        let known = self.has_place(alloc, base)?;
+        let total = self.total(&base.project) + u64::from(!known);
+        let changes = changes_of(alloc, base, branch, last, total)?;
         let reserved = reserve(
             alloc,
-            &mut self.commits,
-            &mut self.totals,
             &mut self.bases,
-            base,
-            &known,
-            &counted,
+            &mut self.commits,
+            &mut self.lasts,
+            &mut self.totals,
+            &changes,
         );
         match reserved {
             Ok(()) => {
-                self.commits.apply(known);
-                self.totals.apply(counted);
+                self.bases.apply(changes.placed);
+                self.commits.apply(changes.listed);
+                self.lasts.apply(changes.ended);
+                self.totals.apply(changes.counted);
                 Ok(())
             }
             Err(error) => {
-                self.commits.release(&known);
-                self.totals.release(&counted);
+                self.bases.release(&changes.placed);
+                self.commits.release(&changes.listed);
+                self.lasts.release(&changes.ended);
+                self.totals.release(&changes.counted);
                 Err(error)
             }
         }
     }
+
+    // Whether there is a base at the place of one.
+    fn has_place(&self, alloc: Global, base: &BaseRow) -> Result<bool, AllocError>
+        ensures { IfOk result (λ is. is ≡ is_some (row_in place_cmp self.now.bases (place_of base.now))) }
+    {
+        let key = place_of(alloc, base)?;
+        Ok(self.bases.get(&key).is_some())
+    }
 }
 
-// Makes room for the rows that a base changes, and adds it to its branch, or changes no row.
-fn reserve(
+// What the putting of a base changes, table by table.
+#[derive(Drop)]
+struct BaseChanges {
+    placed: Vec<Change<PlaceKey, CommitName>>,
+    listed: Vec<Change<CommitKey, ()>>,
+    ended: Vec<Change<BranchKey, u64>>,
+    counted: Vec<Change<ProjectName, u64>>,
+}
+
+// The changes that put a base, where its branch has this last place then and its project so many bases.
+fn changes_of(
     alloc: Global,
-    commits: &mut Table<Base, ()>,
-    totals: &mut Table<ProjectName, u64>,
-    bases: &mut Table<BranchKey, Bases>,
-    base: &Base,
-    known: &[Change<Base, ()>],
-    counted: &[Change<ProjectName, u64>],
-) -> Result<(), AllocError>
-    ensures commits { rows_of commits.new ≡ rows_of commits.old }
-    ensures totals { rows_of totals.new ≡ rows_of totals.old }
-    ensures added { OnOk result (HaveBase base.now (rows_of bases.old) (rows_of bases.new)) }
-    ensures known { OnOk result (HavePlaces base_cmp commits.new known.now) }
-    ensures counted { OnOk result (HavePlaces (slice_cmp nat_cmp) totals.new counted.now) }
-    ensures same { OnErr result (HaveSameBases (rows_of bases.old) (rows_of bases.new)) }
+    base: &BaseRow,
+    branch: BranchKey,
+    last: u64,
+    total: u64,
+) -> Result<BaseChanges, AllocError>
+    ensures { IfOk result (PutsBase base.now branch last total) }
 {
-    commits.reserve_all(alloc, known)?;
-    totals.reserve_all(alloc, counted)?;
-    append(alloc, bases, base)
-}
-
-// The change that makes a commit known.
-fn known(alloc: Global, base: &Base) -> Result<Vec<Change<Base, ()>>, AllocError>
-    ensures { IfOk result (λ v. v.items ≡ record { key = base.now; row = Some tt } ∷ []) }
-{
-    Ok(vec![in alloc;
+    let placed = vec![in alloc;
         Change {
-            key: base.copy(alloc)?,
+            key: place_of(alloc, base)?,
+            row: Some(base.commit.copy(alloc)?),
+        },
+    ]?;
+    let listed = vec![in alloc;
+        Change {
+            key: listed_of(alloc, base)?,
             row: Some(()),
         },
-    ]?)
-}
-
-// The change of the number of a project's bases.
-fn counted(
-    alloc: Global,
-    base: &Base,
-    total: u64,
-) -> Result<Vec<Change<ProjectName, u64>>, AllocError>
-    ensures { IfOk result (λ v. v.items ≡ record { key = base.now.project; row = Some total } ∷ []) }
-{
-    Ok(vec![in alloc;
+    ]?;
+    let ended = vec![in alloc;
+        Change {
+            key: branch,
+            row: Some(last),
+        },
+    ]?;
+    let counted = vec![in alloc;
         Change {
             key: base.project.copy(alloc)?,
             row: Some(total),
         },
-    ]?)
+    ]?;
+    Ok(BaseChanges {
+        placed,
+        listed,
+        ended,
+        counted,
+    })
 }
 
-fn branch_of(alloc: Global, base: &Base) -> Result<BranchKey, AllocError>
+// Makes room for changes, which changes no row.
+fn reserve(
+    alloc: Global,
+    bases: &mut Table<PlaceKey, CommitName>,
+    commits: &mut Table<CommitKey, ()>,
+    lasts: &mut Table<BranchKey, u64>,
+    totals: &mut Table<ProjectName, u64>,
+    changes: &BaseChanges,
+) -> Result<(), AllocError>
+    ensures bases { rows_of bases.new ≡ rows_of bases.old }
+    ensures commits { rows_of commits.new ≡ rows_of commits.old }
+    ensures lasts { rows_of lasts.new ≡ rows_of lasts.old }
+    ensures totals { rows_of totals.new ≡ rows_of totals.old }
+    ensures placed { OnOk result (HavePlaces place_cmp bases.new changes.now.placed.items) }
+    ensures listed { OnOk result (HavePlaces commit_cmp commits.new changes.now.listed.items) }
+    ensures ended { OnOk result (HavePlaces branch_cmp lasts.new changes.now.ended.items) }
+    ensures counted { OnOk result (HavePlaces (slice_cmp nat_cmp) totals.new changes.now.counted.items) }
+{
+    bases.reserve_all(alloc, &changes.placed)?;
+    commits.reserve_all(alloc, &changes.listed)?;
+    lasts.reserve_all(alloc, &changes.ended)?;
+    totals.reserve_all(alloc, &changes.counted)?;
+    Ok(())
+}
+
+fn branch_of(alloc: Global, base: &BaseRow) -> Result<BranchKey, AllocError>
     ensures { IfOk result (λ k. k ≡ record { project = base.now.project; branch = base.now.branch }) }
 {
     Ok(BranchKey {
@@ -160,20 +270,34 @@ fn branch_of(alloc: Global, base: &Base) -> Result<BranchKey, AllocError>
     })
 }
 
-// Adds a base to the list of its branch, or changes nothing.
-fn append(alloc: Global, rows: &mut Table<BranchKey, Bases>, base: &Base) -> Result<(), AllocError>
-    ensures added { OnOk result (HaveBase base.now (rows_of rows.old) (rows_of rows.new)) }
-    ensures same { OnErr result (HaveSameBases (rows_of rows.old) (rows_of rows.new)) }
+fn place_of(alloc: Global, base: &BaseRow) -> Result<PlaceKey, AllocError>
+    ensures { IfOk result (λ k. k ≡ place_of base.now) }
 {
-    let commit = base.commit.copy(alloc)?;
-    let key = branch_of(alloc, base)?;
-    let taken = branch_of(alloc, base)?;
-    rows.reserve(branch_of(alloc, base)?)?;
-    let mut bases = match rows.take(taken) {
-        Some(bases) => bases,
-        None => Bases::new(alloc),
-    };
-    let pushed = bases.push(commit);
-    rows.restore(key, bases);
-    pushed
+    Ok(PlaceKey {
+        project: base.project.copy(alloc)?,
+        branch: base.branch.copy(alloc)?,
+        place: base.place,
+    })
+}
+
+fn listed_of(alloc: Global, base: &BaseRow) -> Result<CommitKey, AllocError>
+    ensures { IfOk result (λ k. k ≡ commit_at (place_of base.now) base.now.commit) }
+{
+    Ok(CommitKey {
+        project: base.project.copy(alloc)?,
+        branch: base.branch.copy(alloc)?,
+        commit: base.commit.copy(alloc)?,
+        place: base.place,
+    })
+}
+
+fn commit_key(alloc: Global, base: &Base, place: u64) -> Result<CommitKey, AllocError>
+    ensures { IfOk result (λ k. k ≡ record { project = base.now.project; branch = base.now.branch; commit = base.now.commit; place = place }) }
+{
+    Ok(CommitKey {
+        project: base.project.copy(alloc)?,
+        branch: base.branch.copy(alloc)?,
+        commit: base.commit.copy(alloc)?,
+        place,
+    })
 }

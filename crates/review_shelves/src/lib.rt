@@ -6,6 +6,7 @@ mod changes;
 mod faulty;
 mod keys;
 mod laws;
+mod loading;
 mod memory;
 mod shutting;
 mod tables;

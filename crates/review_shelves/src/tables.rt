@@ -1,25 +1,21 @@
-//! The tables of a desk in memory, and what is read from them.
-ghost use Rattle.std.specs.Prelude.{◌≡◌, ◌≤◌, ◌||◌, ◌==◌, ℕ, List, Some, None, IfOk, IfSome, OnOk, OnErr, ◌<◌, ◌^◌, ◌-◌, [], MatchOption, IsTrue, ◌↔◌, if◌then◌else◌, string_bytes, is_some, option_map};
-ghost use Rattle.std.specs.Option.{option_or};
-ghost use Rattle.std.specs.List.{All, list_any};
+//! The tables of a desk in memory, and what changes in them.
+ghost use Rattle.std.specs.Prelude.{◌≡◌, Some, IfOk, IfSome, OnOk, OnErr, ◌<◌, ◌^◌, ◌-◌, IsTrue, ◌↔◌, []};
+ghost use Rattle.std.specs.List.{All};
 ghost use Rattle.std.specs.Ordering.{nat_cmp};
 ghost use Rattle.std.specs.Cmp.Lexicographic.{slice_cmp};
-ghost use Rattle.std.specs.Str.{bytes_eq};
 ghost use Rattle.review_table.specs.Rows.{row_in, rows_of, IsEmptyPlace};
-ghost use Rattle.review_rows.specs.Rows.{BranchRow, member_cmp, branch_cmp, is_member_key, is_asked_name, is_branch_key, has_commit, projects_after, kept_row, wanted_by, IsLastAccount, IsFoundWhereAsked, ArePicked};
-ghost use Rattle.review_rows.specs.Shelf.{IsRecalled, AreSelected, IsCommitted};
-ghost use Rattle.review_rows.specs.View.{IsView, branch_row};
-ghost use Rattle.review_shelves.specs.Desk.{tables_of, desk_of, row_of, file_row, name_cmp, answer_cmp, IsIndexed, IsNumbered, IsBounded, IsSound, AreIndexed, KeepsNames, HasRoom, AreApplied, IsWithBase, IsSameDesk, with_branches};
-ghost use Rattle.review_shelves.specs.Branches.{bases_in, total_in, IsAsBefore};
+ghost use Rattle.review_rows.specs.Rows.{member_cmp, projects_after, kept_row};
+ghost use Rattle.review_rows.specs.Shelf.{IsRecalled, IsCommitted};
+ghost use Rattle.review_rows.specs.View.{IsView};
+ghost use Rattle.review_shelves.specs.Desk.{tables_of, desk_of, row_of, name_cmp, answer_cmp, IsIndexed, IsBounded, IsSound, AreIndexed, KeepsNames, HasRoom, AreApplied, IsWithBase, with_branches};
 
 use crate::branches::Branches;
 use crate::changes::{Changes, names_given, names_held};
 use crate::keys::{AnswerKey, NameKey, StoredAnswer};
-use review_rows::{Base, BranchKey, Delta, Kept, MemberKey, Need, ProjectRow, Rows};
+use review_rows::{BaseRow, Delta, Kept, MemberKey, ProjectRow};
 use review_table::{Key, Table};
 use review_words::{
-    AccountName, AccountNo, Bases, FileText, GroupName, ProjectName, RequestId, admin_name,
-    administrators,
+    AccountName, AccountNo, FileText, ProjectName, RequestId, admin_name, administrators,
 };
 use std::alloc::{AllocError, Global};
 
@@ -96,181 +92,7 @@ impl MemoryTables {
         }))
     }
 
-    /// The rows that a need selects, and no others.
-    pub fn load(&self, alloc: Global, need: &Need) -> Result<Rows, AllocError>
-        requires indexed { IsIndexed (rows_of self.now.accounts) (rows_of self.now.names) }
-        requires numbered { IsNumbered (rows_of self.now.members) }
-        ensures { IfOk result (λ rows. AreSelected (tables_of (desk_of self.now)) need.now rows) }
-    {
-        let accounts = self.accounts_of(alloc, &need.accounts)?;
-        let mut members = self.members_of(alloc, &need.members)?;
-        if let Some(group) = &need.group {
-            self.add_group(alloc, group, &mut members)?;
-        }
-        let named = match &need.name {
-            Some(name) => self.named(alloc, name)?,
-            None => None,
-        };
-        Ok(Rows {
-            accounts,
-            members,
-            files: self.files_of(alloc, &need.file)?,
-            branches: self.branches_of(alloc, &need.branch)?,
-            named,
-            last_account: self.last_account(),
-            project_count: self.projects,
-            has_project: self.has_project(&need.project),
-            has_base: self.has_base(&need.base),
-            base_count: self.base_count(&need.base),
-            requests: self.requests,
-        })
-    }
-
-    fn files_of(
-        &self,
-        alloc: Global,
-        project: &Option<ProjectName>,
-    ) -> Result<Table<ProjectName, FileText>, AllocError>
-        ensures { IfOk result (λ rows. (q : List ℕ) → row_in (slice_cmp nat_cmp) (rows_of rows) q ≡ (if is_asked_name project.now q then row_in (slice_cmp nat_cmp) (rows_of self.now.files) q else None)) }
-    {
-        let mut rows = Table::new(alloc);
-        let Some(project) = project else {
-            return Ok(rows);
-        };
-        let Some(file) = self.files.get(project) else {
-            return Ok(rows);
-        };
-        rows.put(project.copy(alloc)?, file.copy(alloc)?)?;
-        Ok(rows)
-    }
-
-    fn branches_of(
-        &self,
-        alloc: Global,
-        branch: &Option<BranchKey>,
-    ) -> Result<Table<BranchKey, Bases>, AllocError>
-        ensures { IfOk result (λ rows. (p b : List ℕ) → option_map BranchRow (row_in branch_cmp (rows_of rows) (record { project = p; branch = b })) ≡ (if is_branch_key branch.now p b then branch_row (bases_in self.now.branches.bases p b) else None)) }
-    {
-        let mut rows = Table::new(alloc);
-        let Some(key) = branch else {
-            return Ok(rows);
-        };
-        let Some(bases) = self.branches.get(key) else {
-            return Ok(rows);
-        };
-        if bases.is_empty() {
-            return Ok(rows);
-        }
-        rows.put(key.copy(alloc)?, bases.copy(alloc)?)?;
-        Ok(rows)
-    }
-
-    fn has_project(&self, project: &Option<ProjectName>) -> bool
-        ensures { IfSome project.now (λ p. result ≡ is_some (file_row (rows_of self.now.files) p)) }
-    {
-        match project {
-            Some(project) => self.files.get(project).is_some(),
-            None => false,
-        }
-    }
-
-    fn has_base(&self, base: &Option<Base>) -> bool
-        ensures { IfSome base.now (λ b. result ≡ has_commit (branch_row (bases_in self.now.branches.bases b.project b.branch)) b.commit) }
-    {
-        match base {
-            Some(base) => self.branches.has(base),
-            None => false,
-        }
-    }
-
-    fn base_count(&self, base: &Option<Base>) -> u64
-        ensures { IfSome base.now (λ b. result ≡ total_in self.now.branches.totals b.project) }
-    {
-        match base {
-            Some(base) => self.branches.total(&base.project),
-            None => 0,
-        }
-    }
-
-    fn accounts_of(
-        &self,
-        alloc: Global,
-        numbers: &[AccountNo],
-    ) -> Result<Table<AccountNo, AccountName>, AllocError>
-        ensures { IfOk result (λ rows. (q : ℕ) → row_in nat_cmp (rows_of rows) q ≡ (if list_any (λ n. n == q) numbers.now then row_in nat_cmp (rows_of self.now.accounts) q else None)) }
-    {
-        let mut rows = Table::new(alloc);
-        for number in numbers {
-            if let Some(name) = self.accounts.get(number) {
-                rows.put(*number, name.copy(alloc)?)?;
-            }
-        }
-        Ok(rows)
-    }
-
-    fn members_of(
-        &self,
-        alloc: Global,
-        keys: &[MemberKey],
-    ) -> Result<Table<MemberKey, ()>, AllocError>
-        ensures { IfOk result (λ rows. (q : _) → row_in member_cmp (rows_of rows) q ≡ (if list_any (is_member_key q.group q.account) keys.now then row_in member_cmp (rows_of self.now.members) q else None)) }
-    {
-        let mut rows = Table::new(alloc);
-        for key in keys {
-            if self.members.get(key).is_some() {
-                rows.put(key.copy(alloc)?, ())?;
-            }
-        }
-        Ok(rows)
-    }
-
-    /// Adds all members of a group to rows.
-    fn add_group(
-        &self,
-        alloc: Global,
-        group: &GroupName,
-        rows: &mut Table<MemberKey, ()>,
-    ) -> Result<(), AllocError>
-        requires { IsNumbered (rows_of self.now.members) }
-        ensures { OnOk result ((q : _) → row_in member_cmp (rows_of rows.new) q ≡ option_or (if bytes_eq group.now q.group then row_in member_cmp (rows_of self.now.members) q else None) (row_in member_cmp (rows_of rows.old) q)) }
-    {
-        let from = MemberKey {
-            group: group.copy(alloc)?,
-            account: AccountNo::first(),
-        };
-        let to = MemberKey {
-            group: group.copy(alloc)?,
-            account: AccountNo::last(),
-        };
-        for (key, _) in self.members.select(alloc, from, to)? {
-            rows.put(key.copy(alloc)?, ())?;
-        }
-        Ok(())
-    }
-
-    /// The account that has a name.
-    fn named(&self, alloc: Global, name: &AccountName) -> Result<Option<AccountNo>, AllocError>
-        requires { IsIndexed (rows_of self.now.accounts) (rows_of self.now.names) }
-        ensures { IfOk result (λ found. MatchOption found ((n : ℕ) → row_in nat_cmp (rows_of self.now.accounts) n ≡ Some name.now → ⊥) (λ n. row_in nat_cmp (rows_of self.now.accounts) n ≡ Some name.now)) }
-    {
-        let from = NameKey {
-            name: name.copy(alloc)?,
-            account: AccountNo::first(),
-        };
-        let to = NameKey {
-            name: name.copy(alloc)?,
-            account: AccountNo::last(),
-        };
-        for (key, _) in self.names.select(alloc, from, to)? {
-            if self.has_name(key.account, name) {
-                return Ok(Some(key.account));
-            }
-        }
-        Ok(None)
-    }
-
-    /// Applies a delta and stores its request, or changes no row. Places of accounts, members, the file and the request that got no
-    /// row are given back; a branch may keep one where there was no memory for its base.
+    /// Applies a delta and stores its request, or changes no row. Places that got no row are given back.
     pub fn commit(&mut self, alloc: Global, delta: &Delta, kept: &Kept) -> Result<(), AllocError>
         requires sound { IsSound self.old }
         requires room { self.old.requests < 2 ^ 64 - 1 }
@@ -304,14 +126,14 @@ impl MemoryTables {
         }
     }
 
-    /// Makes changes, adds a base, and lists the names that they give, or changes no row.
+    /// Makes changes, puts a base, and lists the names that they give, or changes no row.
     fn make(
         &mut self,
         alloc: Global,
         given: &[NameKey],
         changes: Changes,
         projects: u64,
-        base: &Option<Base>,
+        base: &Option<BaseRow>,
     ) -> Result<(), AllocError>
         requires number { self.old.requests < 2 ^ 64 - 1 }
         requires bounded { IsBounded (desk_of self.old) }
@@ -319,24 +141,24 @@ impl MemoryTables {
         ensures listed { OnOk result (AreIndexed (rows_of self.new.names) given.now) }
         ensures done { OnOk result (AreApplied (desk_of self.old) changes projects (desk_of self.new)) }
         ensures based { OnOk result (IsWithBase base.now self.old.branches self.new.branches) }
-        ensures same { OnErr result (IsSameDesk (desk_of self.old) (desk_of self.new)) }
+        ensures same { OnErr result (desk_of self.new ≡ desk_of self.old) }
     {
         self.reserve(alloc, given, &changes)?;
-        self.add_base(alloc, base)?;
+        self.put_base(alloc, base)?;
         self.apply(changes, projects);
         Ok(())
     }
 
-    /// Adds a base, where there is one, or changes nothing.
-    fn add_base(&mut self, alloc: Global, base: &Option<Base>) -> Result<(), AllocError>
+    /// Puts a base, where there is one, or changes nothing.
+    fn put_base(&mut self, alloc: Global, base: &Option<BaseRow>) -> Result<(), AllocError>
         requires number { self.old.requests < 2 ^ 64 - 1 }
         requires bounded { IsBounded (desk_of self.old) }
         ensures added { OnOk result (IsWithBase base.now self.old.branches self.new.branches) }
-        ensures same { OnErr result (IsAsBefore self.old.branches self.new.branches) }
+        ensures same { OnErr result (self.new.branches ≡ self.old.branches) }
         ensures rest { self.new ≡ with_branches self.old self.new.branches }
     {
         match base {
-            Some(base) => self.branches.push(alloc, base),
+            Some(base) => self.branches.put(alloc, base),
             None => Ok(()),
         }
     }
@@ -440,16 +262,6 @@ impl MemoryTables {
         match self.accounts.get(&account) {
             Some(given) => given.as_str() == name.as_str(),
             None => false,
-        }
-    }
-
-    /// The greatest number of an account, or 0 where there is none.
-    fn last_account(&self) -> u32
-        ensures { IsLastAccount (row_of (desk_of self.now)) result }
-    {
-        match self.accounts.last_key() {
-            Some(number) => number.get(),
-            None => 0,
         }
     }
 }

@@ -1,11 +1,11 @@
 use Rattle.std.proofs.Common.{◌≡◌, ◌+◌, [], ◌∷◌, ◌++◌, Some, true, false, refl, sym, ap, ◌∙◌, arith}
-use Rattle.std.specs.Prelude.{nat_lt}
+use Rattle.std.specs.Prelude.{is_some, nat_lt}
 use Rattle.std.proofs.lemmas.Bool.{le-ltb, lt-ltb}
 use Rattle.review_words.specs.declared.command.Command.TheVariants.{CreateAccount}
 use Rattle.review_words.specs.declared.reply.Refusal.TheVariants.{NotAdmin, NameTaken, Limit}
 use Rattle.review_words.specs.History.{account_count, name_taken}
-use Rattle.review_account_decisions.proofs.Settings.{found_taken, last_is}
-use Rattle.review_account_decisions.proofs.Decided.{admin_is, refused_pair, create_decided, create_refused}
+use Rattle.review_account_decisions.proofs.Told.{holder_told, last_told}
+use Rattle.review_account_decisions.proofs.Decided.{admin_is, asked_beside, refused_pair, create_decided, create_refused}
 use Rattle.review_account_decisions.proofs.accounts.create_account.Goals as goal
 
 pub returns-then-not-admin-clause-decided : goal.returns-then-not-admin-clause-decided
@@ -19,7 +19,7 @@ pub returns-then-is_some-clause-decided : goal.returns-then-is_some-clause-decid
 returns-then-is_some-clause-decided c = λ h known l.
     let a = c.args in
     let admin = sym (admin_is h a.caller (CreateAccount a.name.now) a.rows.now l) ∙ (sym c.in_ok-admin.ensures ∙ c.if-not-admin.false) in
-    let taken = sym (found_taken h a.name.now a.rows.now.named l.picked.named) ∙ (sym c.is_some.ensures ∙ c.if-is_some.true) in
+    let taken = sym (holder_told h a.rows.now a.name.now l.agree (asked_beside h a.caller (CreateAccount a.name.now) a.rows.now l).0) ∙ (ap is_some (sym c.holder.ensures) ∙ sym c.is_some.ensures ∙ c.if-is_some.true) in
     refused_pair h a.caller (CreateAccount a.name.now) c.refused-then-is_some.result NameTaken c.refused-then-is_some.ensures.empty c.refused-then-is_some.ensures.reply
     (create_refused h a.caller a.name.now true true true (nat_lt (account_count h) 1000000) known admin taken refl)
 
@@ -27,8 +27,8 @@ pub returns-in_default-clause-decided : goal.returns-in_default-clause-decided
 returns-in_default-clause-decided c = λ h known l.
     let a = c.args in
     let admin = sym (admin_is h a.caller (CreateAccount a.name.now) a.rows.now l) ∙ (sym c.in_ok-admin.ensures ∙ c.if-not-admin.false) in
-    let free = sym (found_taken h a.name.now a.rows.now.named l.picked.named) ∙ (sym c.is_some.ensures ∙ c.if-is_some.false) in
-    let last : a.rows.now.last_account ≡ account_count h = last_is h a.rows.now.last_account (l.picked.last_account refl) in
+    let free = sym (holder_told h a.rows.now a.name.now l.agree (asked_beside h a.caller (CreateAccount a.name.now) a.rows.now l).0) ∙ (ap is_some (sym c.holder.ensures) ∙ sym c.is_some.ensures ∙ c.if-is_some.false) in
+    let last : c.last_account.result ≡ account_count h = c.last_account.ensures ∙ last_told h a.rows.now l.agree (asked_beside h a.caller (CreateAccount a.name.now) a.rows.now l).1.0 in
     let full = c.after.ensures.none c.in_default.is in
     refused_pair h a.caller (CreateAccount a.name.now) c.refused-in_default.result Limit c.refused-in_default.ensures.empty c.refused-in_default.ensures.reply
     (create_refused h a.caller a.name.now true true false false known admin free (le-ltb (account_count h) 1000000 (omega arith)))
@@ -37,8 +37,8 @@ pub returns-clause-decided : goal.returns-clause-decided
 returns-clause-decided c = λ h known l.
     let a = c.args in
     let admin = sym (admin_is h a.caller (CreateAccount a.name.now) a.rows.now l) ∙ (sym c.in_ok-admin.ensures ∙ c.if-not-admin.false) in
-    let free = sym (found_taken h a.name.now a.rows.now.named l.picked.named) ∙ (sym c.is_some.ensures ∙ c.if-is_some.false) in
-    let last : a.rows.now.last_account ≡ account_count h = last_is h a.rows.now.last_account (l.picked.last_account refl) in
+    let free = sym (holder_told h a.rows.now a.name.now l.agree (asked_beside h a.caller (CreateAccount a.name.now) a.rows.now l).0) ∙ (ap is_some (sym c.holder.ensures) ∙ sym c.is_some.ensures ∙ c.if-is_some.false) in
+    let last : c.last_account.result ≡ account_count h = c.last_account.ensures ∙ last_told h a.rows.now l.agree (asked_beside h a.caller (CreateAccount a.name.now) a.rows.now l).1.0 in
     let given = c.in-Some.ensures.some in
     let room = given.1 in
     let number : c.in-Some.number ≡ account_count h + 1 = given.0 ∙ ap (λ k. k + 1) last in

@@ -1,10 +1,15 @@
-use Rattle.std.proofs.Common.{◌≡◌, ◌∙◌, Some, true, false, refl, sym, arith}
+use Rattle.std.proofs.Common.{◌≡◌, ◌+◌, ◌∙◌, length, Some, true, false, refl, sym, ap, arith}
 use Rattle.std.specs.Prelude.{nat_lt}
-use Rattle.std.proofs.lemmas.Bool.{le-ltb, lt-ltb}
+use Rattle.std.proofs.lemmas.Bool.{ltb-true}
 use Rattle.review_words.specs.declared.command.Command.TheVariants.{RecordBase}
 use Rattle.review_words.specs.declared.reply.Refusal.TheVariants.{NotAdmin, NoProject, CommitKnown, Limit}
-use Rattle.review_words.specs.History.{is_project, is_base, base_count}
-use Rattle.review_account_decisions.proofs.Decided.{admin_is, project_is, base_is, refused_pair, base_decided, base_refused}
+use Rattle.review_words.specs.History.{is_project, is_base, bases, base_count}
+use Rattle.review_rows.specs.declared.rows.Counted.TheVariants.{BasesOf}
+use Rattle.review_rows.specs.declared.rows.Want.TheVariants as want
+use Rattle.review_rows.specs.Known.{known, is_so, number_of}
+use Rattle.review_account_decisions.proofs.Told.{project_told, base_told, room_told, place_told}
+use Rattle.review_account_decisions.proofs.Decided.{admin_is, asked_beside, refused_pair, base_decided, base_refused}
+use Rattle.review_branch_decisions.proofs.Asked.{branch_within}
 use Rattle.review_branch_decisions.proofs.branches.record_base.Goals as goal
 
 pub returns-then-not-admin-clause-decided : goal.returns-then-not-admin-clause-decided
@@ -16,53 +21,59 @@ returns-then-not-admin-clause-decided c = λ h known l.
     (base_refused h a.caller a.project.now a.branch.now a.commit.now true false (is_project h a.project.now) (is_base h a.project.now a.branch.now a.commit.now) (nat_lt (base_count h a.project.now) 100000)
     known admin refl refl refl)
 
-pub returns-then-not-rows-clause-decided : goal.returns-then-not-rows-clause-decided
-returns-then-not-rows-clause-decided c = λ h known l.
+pub returns-then-not-has_project-clause-decided : goal.returns-then-not-has_project-clause-decided
+returns-then-not-has_project-clause-decided c = λ h known l.
     let a = c.args in
     let command = RecordBase a.project.now a.branch.now a.commit.now in
+    let all = asked_beside h a.caller command a.rows.now l in
     let admin = sym (admin_is h a.caller command a.rows.now l) ∙ (sym c.in_ok-admin.ensures ∙ c.if-not-admin.false) in
-    let absent = sym (project_is h a.project.now) ∙ (sym l.picked.project ∙ c.if-not-rows.true) in
-    refused_pair h a.caller command c.refused-then-not-rows.result NoProject c.refused-then-not-rows.ensures.empty c.refused-then-not-rows.ensures.reply
+    let absent = sym (project_told h a.rows.now a.project.now l.agree all.0) ∙ (sym c.has_project.ensures ∙ c.if-not-has_project.true) in
+    refused_pair h a.caller command c.refused-then-not-has_project.result NoProject c.refused-then-not-has_project.ensures.empty c.refused-then-not-has_project.ensures.reply
     (base_refused h a.caller a.project.now a.branch.now a.commit.now true true false (is_base h a.project.now a.branch.now a.commit.now) (nat_lt (base_count h a.project.now) 100000)
     known admin absent refl refl)
 
-pub returns-then-rows-clause-decided : goal.returns-then-rows-clause-decided
-returns-then-rows-clause-decided c = λ h known l.
+pub returns-then-has_base-clause-decided : goal.returns-then-has_base-clause-decided
+returns-then-has_base-clause-decided c = λ h known l.
     let a = c.args in
     let command = RecordBase a.project.now a.branch.now a.commit.now in
+    let all = asked_beside h a.caller command a.rows.now l in
     let admin = sym (admin_is h a.caller command a.rows.now l) ∙ (sym c.in_ok-admin.ensures ∙ c.if-not-admin.false) in
-    let there = sym (project_is h a.project.now) ∙ (sym l.picked.project ∙ c.if-not-rows.false) in
-    let known_base = sym (base_is h a.project.now a.branch.now a.commit.now) ∙ (sym l.picked.base.there ∙ c.if-rows.true) in
-    refused_pair h a.caller command c.refused-then-rows.result CommitKnown c.refused-then-rows.ensures.empty c.refused-then-rows.ensures.reply
+    let there = sym (project_told h a.rows.now a.project.now l.agree all.0) ∙ (sym c.has_project.ensures ∙ c.if-not-has_project.false) in
+    let asked = ap (λ k. is_so (known a.rows.now (want.Base k))) c.in_ok-base.ensures in
+    let known_base = sym (base_told h a.rows.now (record { project = a.project.now; branch = a.branch.now; commit = a.commit.now }) l.agree all.1.0) ∙ (sym asked ∙ (sym c.has_base.ensures ∙ c.if-has_base.true)) in
+    refused_pair h a.caller command c.refused-then-has_base.result CommitKnown c.refused-then-has_base.ensures.empty c.refused-then-has_base.ensures.reply
     (base_refused h a.caller a.project.now a.branch.now a.commit.now true true true true (nat_lt (base_count h a.project.now) 100000) known admin there known_base refl)
 
-pub returns-then-rows-ge-MOST_BASES-clause-decided : goal.returns-then-rows-ge-MOST_BASES-clause-decided
-returns-then-rows-ge-MOST_BASES-clause-decided c = λ h known l.
+pub returns-then-not-has_room_for_bases-clause-decided : goal.returns-then-not-has_room_for_bases-clause-decided
+returns-then-not-has_room_for_bases-clause-decided c = λ h known l.
     let a = c.args in
     let command = RecordBase a.project.now a.branch.now a.commit.now in
+    let all = asked_beside h a.caller command a.rows.now l in
     let admin = sym (admin_is h a.caller command a.rows.now l) ∙ (sym c.in_ok-admin.ensures ∙ c.if-not-admin.false) in
-    let there = sym (project_is h a.project.now) ∙ (sym l.picked.project ∙ c.if-not-rows.false) in
-    let free = sym (base_is h a.project.now a.branch.now a.commit.now) ∙ (sym l.picked.base.there ∙ c.if-rows.false) in
-    let count : a.rows.now.base_count ≡ base_count h a.project.now = l.picked.base.counted in
-    let most = c.if-rows-ge-MOST_BASES.true in
-    refused_pair h a.caller command c.refused-then-rows-ge-MOST_BASES.result Limit c.refused-then-rows-ge-MOST_BASES.ensures.empty c.refused-then-rows-ge-MOST_BASES.ensures.reply
-    (base_refused h a.caller a.project.now a.branch.now a.commit.now true true true false false known admin there free (le-ltb (base_count h a.project.now) 100000 (omega arith)))
+    let there = sym (project_told h a.rows.now a.project.now l.agree all.0) ∙ (sym c.has_project.ensures ∙ c.if-not-has_project.false) in
+    let asked = ap (λ k. is_so (known a.rows.now (want.Base k))) c.in_ok-base.ensures in
+    let free = sym (base_told h a.rows.now (record { project = a.project.now; branch = a.branch.now; commit = a.commit.now }) l.agree all.1.0) ∙ (sym asked ∙ (sym c.has_base.ensures ∙ c.if-has_base.false)) in
+    let full = sym (room_told h a.rows.now (BasesOf a.project.now) l.agree all.1.1.0) ∙ (sym c.has_room_for_bases.ensures ∙ c.if-not-has_room_for_bases.true) in
+    refused_pair h a.caller command c.refused-then-not-has_room_for_bases.result Limit c.refused-then-not-has_room_for_bases.ensures.empty c.refused-then-not-has_room_for_bases.ensures.reply
+    (base_refused h a.caller a.project.now a.branch.now a.commit.now true true true false false known admin there free full)
 
 pub returns-clause-decided : goal.returns-clause-decided
 returns-clause-decided c = λ h known l.
     let a = c.args in
-    let admin = sym (admin_is h a.caller (RecordBase a.project.now a.branch.now a.commit.now) a.rows.now l) ∙ (sym c.in_ok-admin.ensures ∙ c.if-not-admin.false) in
-    let there = sym (project_is h a.project.now) ∙ (sym l.picked.project ∙ c.if-not-rows.false) in
-    let free = sym (base_is h a.project.now a.branch.now a.commit.now) ∙ (sym l.picked.base.there ∙ c.if-rows.false) in
-    let count : a.rows.now.base_count ≡ base_count h a.project.now = l.picked.base.counted in
-    let most = c.if-rows-ge-MOST_BASES.false in
+    let command = RecordBase a.project.now a.branch.now a.commit.now in
+    let all = asked_beside h a.caller command a.rows.now l in
+    let admin = sym (admin_is h a.caller command a.rows.now l) ∙ (sym c.in_ok-admin.ensures ∙ c.if-not-admin.false) in
+    let there = sym (project_told h a.rows.now a.project.now l.agree all.0) ∙ (sym c.has_project.ensures ∙ c.if-not-has_project.false) in
+    let asked = ap (λ k. is_so (known a.rows.now (want.Base k))) c.in_ok-base.ensures in
+    let free = sym (base_told h a.rows.now (record { project = a.project.now; branch = a.branch.now; commit = a.commit.now }) l.agree all.1.0) ∙ (sym asked ∙ (sym c.has_base.ensures ∙ c.if-has_base.false)) in
+    let room = sym (room_told h a.rows.now (BasesOf a.project.now) l.agree all.1.1.0) ∙ (sym c.has_room_for_bases.ensures ∙ c.if-not-has_room_for_bases.false) in
+    let last : c.last_place.result ≡ length (bases h a.project.now a.branch.now) =
+    c.last_place.ensures ∙ (ap (λ k. number_of (known a.rows.now (want.LastPlace k))) c.in_ok-key.ensures
+    ∙ place_told h a.rows.now (record { project = a.project.now; branch = a.branch.now }) l.agree all.1.1.1.0) in
+    let below = ltb-true (base_count h a.project.now) 100000 room in
+    let within = branch_within h a.project.now a.branch.now in
+    let place : c.saturating_add-place.result ≡ length (bases h a.project.now a.branch.now) + 1 = let e = c.saturating_add-place.ensures in omega arith in
     let empty = c.nothing-delta.ensures in
-    base_decided h a.caller a.project.now a.branch.now a.commit.now
-    (record {
-      accounts = c.nothing-delta.result.accounts;
-      members = c.nothing-delta.result.members;
-      file = c.nothing-delta.result.file;
-      base = Some (record { project = c.in_ok-copy.field-0; branch = c.in_ok-copy-2.field-0; commit = c.in_ok-copy-3.field-0 });
-    })
-    known admin there free (lt-ltb (base_count h a.project.now) 100000 (omega arith)) empty.accounts empty.members empty.file
-    (λ i. Some (record { project = c.in_ok-copy.ensures i; branch = c.in_ok-copy-2.ensures i; commit = c.in_ok-copy-3.ensures i }))
+    base_decided h a.caller a.project.now a.branch.now a.commit.now c.saturating_add-place.result _ place
+    known admin there free room empty.accounts empty.members empty.file
+    (λ i. Some (record { project = (c.in_ok-key.ensures i).project; branch = (c.in_ok-key.ensures i).branch; place = c.saturating_add-place.result; commit = (c.in_ok-base.ensures i).commit }))

@@ -1,0 +1,66 @@
+-- Rows that are gathered step by step.
+use Rattle.std.proofs.Common.{◌≡◌, ◌⊎◌, inl, inr, ℕ, ◌<◌, List, [], ◌∷◌, Option, Some, None, refl, sym, ◌∙◌, subst}
+use Rattle.std.specs.Option.{option_or}
+use Rattle.std.specs.List.{All}
+use Rattle.review_rows.specs.declared.rows.Want.{Want}
+use Rattle.review_rows.specs.declared.rows.Rows.{Rows}
+use Rattle.review_rows.specs.declared.rows.Need.{Need}
+use Rattle.review_rows.specs.declared.shelf.ShelfFault.{ShelfFault}
+use Rattle.review_rows.specs.declared.shelf.ShelfFault.TheVariants as fault
+use Rattle.review_rows.specs.Rows.{Tables}
+use Rattle.review_rows.specs.Known.{Found, IsFound, known, IsKnown, Agrees, AreAdded}
+use Rattle.review_rows.specs.Steps.{Topic, next, left, unless_none, wants_in}
+use Rattle.review_rows.specs.Shelf.{Shows, LeavesBy, Blames, cause_of}
+use Rattle.review_rows.proofs.Asked.{asking_lowers, asks_first}
+
+-- a step that loads what is asked next leaves less to ask
+pub step_lowers : (rows more both : Rows) (caller : ℕ) (topic : Topic) (ws : List Want) → Some ws ≡ unless_none (next rows caller topic) → All (IsKnown more) ws →
+    AreAdded rows more both → left both caller topic < left rows caller topic
+step_lowers rows more both caller topic ws is all added = at (next rows caller topic) refl is
+  where
+    at : (asked : List Want) → next rows caller topic ≡ asked → Some ws ≡ unless_none asked → left both caller topic < left rows caller topic
+    at [] here is = absurd (cc)
+    at (w ∷ vs) here is =
+        let same : ws ≡ w ∷ vs = cc in
+        asking_lowers rows more both caller topic w vs here (subst (All (IsKnown more)) same all) added
+
+-- where nothing is asked, nothing is left
+pub none_asked : (rows : Rows) (caller : ℕ) (topic : Topic) → None ≡ unless_none (next rows caller topic) → next rows caller topic ≡ []
+none_asked rows caller topic is = at (next rows caller topic) is
+  where
+    at : (asked : List Want) → None ≡ unless_none asked → asked ≡ []
+    at [] is = refl
+    at (w ∷ ws) is = absurd (cc)
+
+or_found : (t : Tables) (w : Want) (a b : Option Found) (f : Found) → ((f : Found) → a ≡ Some f → IsFound t w f) → ((f : Found) → b ≡ Some f → IsFound t w f) → option_or a b ≡ Some f → IsFound t w f
+or_found t w None b f one two is = two f is
+or_found t w (Some x) b f one two is = one f is
+
+-- what two rows know is so where it is so in each
+agrees_added : (t : Tables) (rows more both : Rows) → Agrees t rows → Agrees t more → AreAdded rows more both → Agrees t both
+agrees_added t rows more both one two added w f is = or_found t w (known rows w) (known more w) f (one w) (two w) (sym (added w) ∙ is)
+
+or_nothing : {X : Type 0} (a b c : Option X) → c ≡ option_or a b → a ≡ None → c ≡ b
+or_nothing None b c is none = is
+or_nothing (Some x) b c is none = absurd (cc)
+
+-- what was gathered so far: nothing, or what is so in the tables
+abbrev pub IsSoFar : Option Tables → Rows → Type 0
+IsSoFar tables rows = ((w : Want) → known rows w ≡ None) ⊎ Shows tables (λ t. Agrees t rows)
+
+pub so_far_added : (tables : Option Tables) (rows more both : Rows) → IsSoFar tables rows → Shows tables (λ t. Agrees t more) → AreAdded rows more both → IsSoFar tables both
+so_far_added None rows more both so found added = absurd found
+so_far_added (Some t) rows more both (inl nothing) found added = inr (λ w f is. found w f (sym (or_nothing (known rows w) (known more w) (known both w) (added w) (nothing w)) ∙ is))
+so_far_added (Some t) rows more both (inr agree) found added = inr (agrees_added t rows more both agree found added)
+
+-- once nothing is left to ask, the rows agree with the tables
+pub so_far_shown : (tables : Option Tables) (rows : Rows) (caller : ℕ) (topic : Topic) → IsSoFar tables rows → next rows caller topic ≡ [] → Shows tables (λ t. Agrees t rows)
+so_far_shown tables rows caller topic (inl nothing) left = absurd (asks_first rows caller topic nothing left)
+so_far_shown tables rows caller topic (inr agree) left = agree
+
+-- a fault leaves or blames the tables that stood before
+pub left_before : (f : ShelfFault) (old mid new : Option Tables) → mid ≡ old → LeavesBy (cause_of f) mid new → LeavesBy (cause_of f) old new
+left_before f old mid new same leaves = subst (λ (t : Option Tables). LeavesBy (cause_of f) t new) same leaves
+
+pub blamed_before : (f : ShelfFault) (old mid : Option Tables) → mid ≡ old → Blames f mid → Blames f old
+blamed_before f old mid same blames = subst (Blames f) same blames

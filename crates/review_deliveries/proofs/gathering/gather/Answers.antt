@@ -1,0 +1,34 @@
+use Rattle.std.proofs.Common.{◌≡◌, ◌∙◌, refl, sym, subst, inl}
+use Rattle.review_rows.specs.Steps.{topic_of}
+use Rattle.review_deliveries.proofs.Gathered.{step_lowers, none_asked, so_far_added, so_far_shown, left_before, blamed_before}
+use Rattle.review_rows.specs.Known.{Agrees}
+use Rattle.review_rows.specs.Shelf.{Shows}
+use Rattle.review_deliveries.proofs.gathering.gather.Goals as goal
+
+pub loop-rows-init : goal.loop-rows-init
+loop-rows-init g c = record {
+  honest = λ h. h;
+  found = λ h. inl c.new-rows.ensures;
+  tables = λ h. refl;
+  stops = λ h t x. x;
+  counted = refl;
+}
+
+pub loop-rows-smaller : goal.loop-rows-smaller
+loop-rows-smaller g c =
+    step_lowers c.loop-rows.rows c.in_ok-more.more c.add.new.self c.args.caller (topic_of c.args.matter) c.in-Some.need.wants.items
+    (c.in_ok-need.ensures) c.in_ok-more.ensures.asked.all c.in_ok-add.ensures
+
+pub loop-rows-preserved : goal.loop-rows-preserved
+loop-rows-preserved g c =
+    let l = c.loop-rows in
+    let i = l.invariant in
+    let x = c.in_ok-more.ensures in
+    record {
+      honest = λ h. i.honest (x.honest h);
+      found = λ h. so_far_added (g.S.Shelf.state c.args.shelf.now).tables l.rows c.in_ok-more.more c.add.new.self (i.found (x.honest h))
+          (subst (λ t. Shows t (λ u. Agrees u c.in_ok-more.more)) (i.tables (x.honest h)) (x.found h)) c.in_ok-add.ensures;
+      tables = λ h. x.tables h ∙ i.tables (x.honest h);
+      stops = λ h t s. i.stops (x.honest h) t (x.stops h t s);
+      counted = x.counted ∙ i.counted;
+    }

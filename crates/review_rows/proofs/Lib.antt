@@ -1,0 +1,4 @@
+pub mod Asked
+pub mod Learning
+pub mod Adding
+pub mod Placing

@@ -1,0 +1,23 @@
+use Rattle.review_rows.specs.declared.rows.Rows.{Rows}
+use Rattle.review_rows.proofs.Adding.{added_known}
+use Rattle.review_rows.proofs.rows.Rows.add.Goals as goal
+
+pub returns : goal.returns
+returns c =
+    let new : Rows = record {
+      requests = c.or-self.result;
+      accounts = c.add_all.new.rows;
+      named = c.add_all-2.new.rows;
+      last_account = c.or-self-2.result;
+      members = c.add_all-3.new.rows;
+      groups = c.add_all-4.new.rows;
+      files = c.add_all-5.new.rows;
+      projects = c.add_all-6.new.rows;
+      room_for_projects = c.or-self-3.result;
+      room_for_bases = c.add_all-7.new.rows;
+      known_bases = c.add_all-8.new.rows;
+      last_places = c.add_all-9.new.rows;
+      bases = c.add_all-10.new.rows;
+    } in
+    added_known c.args.self.now c.args.more new c.or-self.ensures c.in_ok-add_all.ensures c.in_ok-add_all-2.ensures c.or-self-2.ensures c.in_ok-add_all-3.ensures c.in_ok-add_all-4.ensures
+    c.in_ok-add_all-5.ensures c.in_ok-add_all-6.ensures c.or-self-3.ensures c.in_ok-add_all-7.ensures c.in_ok-add_all-8.ensures c.in_ok-add_all-9.ensures c.in_ok-add_all-10.ensures

@@ -1,0 +1,162 @@
+-- What a look-up finds in tables, and what rows know.
+use Rattle.std.specs.Prelude.{ℕ, zero, suc, ◌<◌, ◌≡◌, ◌⊎◌, List, [], ◌∷◌, Option, Some, None, IsSome, Bool, true, false, is_some, nat_lt, option_map, if◌then◌else◌}
+use Rattle.std.specs.Option.{option_or}
+use Rattle.std.specs.List.{All, Contains}
+use Rattle.std.specs.Ordering.{nat_cmp}
+use Rattle.std.specs.Cmp.Lexicographic.{slice_cmp}
+use Rattle.review_table.specs.Rows.{row_in, rows_of}
+use Rattle.review_rows.specs.declared.rows.BranchKey.{BranchKey as Branch}
+use Rattle.review_rows.specs.declared.rows.Base.{Base}
+use Rattle.review_rows.specs.declared.rows.Counted.{Counted}
+use Rattle.review_rows.specs.declared.rows.Counted.TheVariants as counted
+use Rattle.review_rows.specs.declared.rows.Want.{Want}
+use Rattle.review_rows.specs.declared.rows.Want.TheVariants as want
+use Rattle.review_rows.specs.declared.rows.Rows.{Rows}
+use Rattle.review_rows.specs.Limits.{most_projects, most_bases}
+use Rattle.review_rows.specs.Rows.{Key, AccountKey, MemberKey, FileKey, BaseKey, Row, AccountRow, MemberRow, FileRow, BaseRow, Count, Projects, BasesOf, Tables, member_cmp, branch_cmp, base_cmp, member_row}
+
+-- what a look-up finds, by its kind: a number, an account's name, the account of a name, whether something is so, the members of a group, a project's text, the bases of a branch
+pub data Found : Type 0 where
+  Number : ℕ → Found
+  Name : Option (List ℕ) → Found
+  Holder : Option ℕ → Found
+  IsSo : Bool → Found
+  Members : List (ℕ × Unit {0}) → Found
+  Text : Option (List ℕ) → Found
+  Commits : List (List ℕ) → Found
+
+-- the account of a number has the name
+abbrev pub IsNamed : (Key → Option Row) → List ℕ → ℕ → Type 0
+IsNamed row name number = row (AccountKey number) ≡ Some (AccountRow name)
+
+-- the account that has the name, or none where no account has it
+abbrev pub IsFoundByName : (Key → Option Row) → List ℕ → Option ℕ → Type 0
+IsFoundByName row name (Some number) = IsNamed row name number
+IsFoundByName row name None = (number : ℕ) → IsNamed row name number → ⊥
+
+-- the greatest number whose key has a row, or 0 where none has one
+pub record IsLast (key : ℕ → Key) (row : Key → Option Row) (last : ℕ) : Type 0 where
+  pub above : (number : ℕ) → last < number → row (key number) ≡ None
+  pub there : (last ≡ 0) ⊎ IsSome (row (key last))
+
+-- the row of the member at each key of a group is as listed
+abbrev pub HasMembers : (Key → Option Row) → List ℕ → List (ℕ × Unit {0}) → Type 0
+HasMembers row group members = (account : ℕ) → row (MemberKey group account) ≡ member_row (row_in nat_cmp members account)
+
+-- whether the commit stands at some place of the branch
+abbrev pub IsBaseOrNot : (Key → Option Row) → Base → Bool → Type 0
+IsBaseOrNot row base true = (place : ℕ) × (row (BaseKey base.project base.branch place) ≡ Some (BaseRow base.commit))
+IsBaseOrNot row base false = (place : ℕ) → row (BaseKey base.project base.branch place) ≡ Some (BaseRow base.commit) → ⊥
+
+-- what stands at a place of a list, which is counted from 1
+abbrev pub at_place : {X : Type 0} → List X → ℕ → Option X
+at_place [] n = None
+at_place (x ∷ xs) zero = None
+at_place (x ∷ xs) (suc zero) = Some x
+at_place (x ∷ xs) (suc (suc n)) = at_place xs (suc n)
+
+-- the bases of a branch are these, each at its place
+abbrev pub HasBases : (Key → Option Row) → Branch → List (List ℕ) → Type 0
+HasBases row key commits = (place : ℕ) → row (BaseKey key.project key.branch place) ≡ option_map BaseRow (at_place commits place)
+
+-- what is counted, as tables do
+abbrev pub count_of : Counted → Count
+count_of counted.Projects = Projects
+count_of (counted.BasesOf project) = BasesOf project
+
+-- the limit of a count
+abbrev pub most : Count → ℕ
+most Projects = most_projects
+most (BasesOf project) = most_bases
+
+-- it is of this kind, with a value for which this holds
+abbrev pub Finds : {X : Type 0} → (X → Found) → (X → Type 0) → Found → Type 0
+Finds {X} kind IsRight found = (x : X) × (found ≡ kind x) × IsRight x
+
+-- What a look-up in tables finds.
+abbrev pub IsFound : Tables → Want → Found → Type 0
+IsFound t want.Requests = Finds Number (λ n. n ≡ t.requests)
+IsFound t (want.Account number) = Finds Name (λ name. t.row (AccountKey number) ≡ option_map AccountRow name)
+IsFound t (want.AccountNamed name) = Finds Holder (IsFoundByName t.row name)
+IsFound t want.LastAccount = Finds Number (IsLast AccountKey t.row)
+IsFound t (want.Member m) = Finds IsSo (λ is. t.row (MemberKey m.group m.account) ≡ (if is then Some MemberRow else None))
+IsFound t (want.Group group) = Finds Members (HasMembers t.row group)
+IsFound t (want.File project) = Finds Text (λ text. t.row (FileKey project) ≡ option_map FileRow text)
+IsFound t (want.Project project) = Finds IsSo (λ is. is_some (t.row (FileKey project)) ≡ is)
+IsFound t (want.Room counted) = Finds IsSo (λ is. nat_lt (t.count (count_of counted)) (most (count_of counted)) ≡ is)
+IsFound t (want.Base base) = Finds IsSo (IsBaseOrNot t.row base)
+IsFound t (want.LastPlace key) = Finds Number (IsLast (BaseKey key.project key.branch) t.row)
+IsFound t (want.Bases key) = Finds Commits (HasBases t.row key)
+
+-- What rows know of a look-up: nothing where it wasn't made, and otherwise what it found.
+abbrev pub known : Rows → Want → Option Found
+known rows want.Requests = option_map Number rows.requests
+known rows (want.Account number) = option_map Name (row_in nat_cmp (rows_of rows.accounts) number)
+known rows (want.AccountNamed name) = option_map Holder (row_in (slice_cmp nat_cmp) (rows_of rows.named) name)
+known rows want.LastAccount = option_map Number rows.last_account
+known rows (want.Member m) = option_map IsSo (row_in member_cmp (rows_of rows.members) m)
+known rows (want.Group group) = option_map (λ t. Members (rows_of t)) (row_in (slice_cmp nat_cmp) (rows_of rows.groups) group)
+known rows (want.File project) = option_map Text (row_in (slice_cmp nat_cmp) (rows_of rows.files) project)
+known rows (want.Project project) = option_map IsSo (row_in (slice_cmp nat_cmp) (rows_of rows.projects) project)
+known rows (want.Room counted.Projects) = option_map IsSo rows.room_for_projects
+known rows (want.Room (counted.BasesOf project)) = option_map IsSo (row_in (slice_cmp nat_cmp) (rows_of rows.room_for_bases) project)
+known rows (want.Base base) = option_map IsSo (row_in base_cmp (rows_of rows.known_bases) base)
+known rows (want.LastPlace key) = option_map Number (row_in branch_cmp (rows_of rows.last_places) key)
+known rows (want.Bases key) = option_map Commits (row_in branch_cmp (rows_of rows.bases) key)
+
+-- what rows know is so in these tables
+abbrev pub Agrees : Tables → Rows → Type 0
+Agrees t rows = (w : Want) (found : Found) → known rows w ≡ Some found → IsFound t w found
+
+-- a look-up was made
+abbrev pub IsKnown : Rows → Want → Type 0
+IsKnown rows w = is_some (known rows w) ≡ true
+
+-- the rows know of these look-ups, and of no others
+pub record AreAsked (wants : List Want) (rows : Rows) : Type 0 where
+  pub all : All (IsKnown rows) wants
+  pub only : (w : Want) → IsKnown rows w → Contains wants w
+
+-- what two rows know together
+abbrev pub AreAdded : Rows → Rows → Rows → Type 0
+AreAdded rows more both = (w : Want) → known both w ≡ option_or (known rows w) (known more w)
+
+-- it is found that it is so
+abbrev pub is_so : Option Found → Bool
+is_so (Some (IsSo is)) = is
+is_so found = false
+
+-- an account is found
+abbrev pub is_there : Option Found → Bool
+is_there (Some (Name name)) = is_some name
+is_there found = false
+
+-- the number that is found, or 0
+abbrev pub number_of : Option Found → ℕ
+number_of (Some (Number n)) = n
+number_of found = 0
+
+-- the account that is found by its name
+abbrev pub holder_of : Option Found → Option ℕ
+holder_of (Some (Holder holder)) = holder
+holder_of found = None
+
+-- the members of a group that are found
+abbrev pub members_of : Option Found → List (ℕ × Unit {0})
+members_of (Some (Members members)) = members
+members_of found = []
+
+-- the text of a file that is found
+abbrev pub text_of : Option Found → Option (List ℕ)
+text_of (Some (Text text)) = text
+text_of found = None
+
+-- the bases of a branch that are found
+abbrev pub commits_of : Option Found → List (List ℕ)
+commits_of (Some (Commits commits)) = commits
+commits_of found = []
+
+-- rows know one look-up more, or anew, and of each other one what they knew
+pub record Learns (want : Want) (found : Found) (old new : Rows) : Type 0 where
+  pub here : known new want ≡ Some found
+  pub others : (w : Want) → (known new w ≡ known old w) ⊎ ((w ≡ want) × (known new w ≡ Some found))

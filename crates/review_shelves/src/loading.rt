@@ -1,0 +1,281 @@
+//! What look-ups find in tables in memory.
+ghost use Rattle.std.specs.Prelude.{◌≡◌, ℕ, Some, None, IfOk, IfErr, OnOk, MatchOption, is_some, nat_lt, option_copied};
+ghost use Rattle.std.specs.Ordering.{nat_cmp};
+ghost use Rattle.std.specs.Cmp.Lexicographic.{slice_cmp};
+ghost use Rattle.review_table.specs.Rows.{row_in, rows_of};
+ghost use Rattle.review_rows.specs.declared.rows.Want.TheVariants as want;
+ghost use Rattle.review_rows.specs.declared.rows.Counted.TheVariants as counted;
+ghost use Rattle.review_rows.specs.Rows.{AccountKey, member_cmp};
+ghost use Rattle.review_rows.specs.Known.{Agrees, AreAsked, IsLast, HasMembers};
+ghost use Rattle.review_shelves.specs.Desk.{tables_of, desk_of, row_of, IsIndexed, IsNumbered};
+ghost use Rattle.review_shelves.specs.Loads.{Looks, IsUnread};
+
+use crate::branches::BasesFault;
+use crate::keys::NameKey;
+use crate::tables::MemoryTables;
+use review_rows::{Base, BranchKey, Counted, MemberKey, Need, Rows, ShelfFault, Want};
+use review_table::{Key, Table};
+use review_words::{AccountName, AccountNo, FileText, GroupName, ProjectName};
+use std::alloc::{AllocError, Global};
+
+/// The most projects of a desk.
+const MOST_PROJECTS: u64 = 1_000;
+
+/// The most bases of a project, over all its branches.
+const MOST_BASES: u64 = 100_000;
+
+impl From<BasesFault> for ShelfFault {
+    ghost use Rattle.std.specs.Prelude.{◌≡◌};
+    ghost use Rattle.review_shelves.specs.Loads.{fault_of};
+
+    ghost from_gives = { λ f e. e ≡ fault_of f };
+
+    fn from(fault: BasesFault) -> ShelfFault {
+        match fault {
+            BasesFault::Memory => ShelfFault::Memory,
+            BasesFault::Gap => ShelfFault::Damaged,
+        }
+    }
+}
+
+impl MemoryTables {
+    /// What the look-ups of a need find, and of no others. Damaged where the bases of a branch that is asked for have a gap, which no
+    /// history's have.
+    pub fn load(&self, alloc: Global, need: &Need) -> Result<Rows, ShelfFault>
+        requires indexed { IsIndexed (rows_of self.now.accounts) (rows_of self.now.names) }
+        requires numbered { IsNumbered (rows_of self.now.members) }
+        ensures asked { IfOk result (AreAsked need.now.wants.items) }
+        ensures found { IfOk result (Agrees (tables_of (desk_of self.now))) }
+        ensures fault { IfErr result (IsUnread (tables_of (desk_of self.now))) }
+    {
+        let mut rows = Rows::new(alloc);
+        for want in &need.wants {
+            self.find(alloc, want, &mut rows)?;
+        }
+        Ok(rows)
+    }
+
+    fn find(&self, alloc: Global, want: &Want, rows: &mut Rows) -> Result<(), ShelfFault>
+        requires indexed { IsIndexed (rows_of self.now.accounts) (rows_of self.now.names) }
+        requires numbered { IsNumbered (rows_of self.now.members) }
+        ensures found { OnOk result (Looks (tables_of (desk_of self.now)) want.now rows.old rows.new) }
+        ensures fault { IfErr result (IsUnread (tables_of (desk_of self.now))) }
+    {
+        match want {
+            Want::Requests => self.find_requests(rows),
+            Want::Account(number) => self.find_account(alloc, *number, rows)?,
+            Want::AccountNamed(name) => self.find_holder(alloc, name, rows)?,
+            Want::LastAccount => self.find_last_account(rows),
+            Want::Member(member) => self.find_member(alloc, member, rows)?,
+            Want::Group(group) => self.find_group(alloc, group, rows)?,
+            Want::File(project) => self.find_file(alloc, project, rows)?,
+            Want::Project(project) => self.find_project(alloc, project, rows)?,
+            Want::Room(Counted::Projects) => self.find_room_for_projects(rows),
+            Want::Room(Counted::BasesOf(project)) => {
+                self.find_room_for_bases(alloc, project, rows)?
+            }
+            Want::Base(base) => self.find_base(alloc, base, rows)?,
+            Want::LastPlace(branch) => self.find_last_place(alloc, branch, rows)?,
+            Want::Bases(branch) => return self.find_bases(alloc, branch, rows),
+        }
+        Ok(())
+    }
+
+    fn find_requests(&self, rows: &mut Rows)
+        ensures { Looks (tables_of (desk_of self.now)) want.Requests rows.old rows.new }
+    {
+        rows.learn_requests(self.requests);
+    }
+
+    fn find_account(
+        &self,
+        alloc: Global,
+        number: AccountNo,
+        rows: &mut Rows,
+    ) -> Result<(), AllocError>
+        ensures { OnOk result (Looks (tables_of (desk_of self.now)) (want.Account number) rows.old rows.new) }
+    {
+        let name = match self.accounts.get(&number) {
+            Some(name) => Some(name.copy(alloc)?),
+            None => None,
+        };
+        rows.learn_account(number, name)
+    }
+
+    fn find_holder(
+        &self,
+        alloc: Global,
+        name: &AccountName,
+        rows: &mut Rows,
+    ) -> Result<(), AllocError>
+        requires { IsIndexed (rows_of self.now.accounts) (rows_of self.now.names) }
+        ensures { OnOk result (Looks (tables_of (desk_of self.now)) (want.AccountNamed name.now) rows.old rows.new) }
+    {
+        let holder = self.named(alloc, name)?;
+        rows.learn_holder(name.copy(alloc)?, holder)
+    }
+
+    fn find_last_account(&self, rows: &mut Rows)
+        ensures { Looks (tables_of (desk_of self.now)) want.LastAccount rows.old rows.new }
+    {
+        rows.learn_last_account(self.last_account());
+    }
+
+    fn find_member(
+        &self,
+        alloc: Global,
+        member: &MemberKey,
+        rows: &mut Rows,
+    ) -> Result<(), AllocError>
+        ensures { OnOk result (Looks (tables_of (desk_of self.now)) (want.Member member.now) rows.old rows.new) }
+    {
+        let is = self.members.get(member).is_some();
+        rows.learn_member(member.copy(alloc)?, is)
+    }
+
+    fn find_group(
+        &self,
+        alloc: Global,
+        group: &GroupName,
+        rows: &mut Rows,
+    ) -> Result<(), AllocError>
+        requires { IsNumbered (rows_of self.now.members) }
+        ensures { OnOk result (Looks (tables_of (desk_of self.now)) (want.Group group.now) rows.old rows.new) }
+    {
+        let members = self.members_of(alloc, group)?;
+        rows.learn_group(group.copy(alloc)?, members)
+    }
+
+    fn find_file(
+        &self,
+        alloc: Global,
+        project: &ProjectName,
+        rows: &mut Rows,
+    ) -> Result<(), AllocError>
+        ensures { OnOk result (Looks (tables_of (desk_of self.now)) (want.File project.now) rows.old rows.new) }
+    {
+        let file = match self.files.get(project) {
+            Some(file) => Some(file.copy(alloc)?),
+            None => None,
+        };
+        rows.learn_file(project.copy(alloc)?, file)
+    }
+
+    fn find_project(
+        &self,
+        alloc: Global,
+        project: &ProjectName,
+        rows: &mut Rows,
+    ) -> Result<(), AllocError>
+        ensures { OnOk result (Looks (tables_of (desk_of self.now)) (want.Project project.now) rows.old rows.new) }
+    {
+        let is = self.files.get(project).is_some();
+        rows.learn_project(project.copy(alloc)?, is)
+    }
+
+    fn find_room_for_projects(&self, rows: &mut Rows)
+        ensures { Looks (tables_of (desk_of self.now)) (want.Room counted.Projects) rows.old rows.new }
+    {
+        rows.learn_room_for_projects(self.projects < MOST_PROJECTS);
+    }
+
+    fn find_room_for_bases(
+        &self,
+        alloc: Global,
+        project: &ProjectName,
+        rows: &mut Rows,
+    ) -> Result<(), AllocError>
+        ensures { OnOk result (Looks (tables_of (desk_of self.now)) (want.Room (counted.BasesOf project.now)) rows.old rows.new) }
+    {
+        let is = self.branches.total(project) < MOST_BASES;
+        rows.learn_room_for_bases(project.copy(alloc)?, is)
+    }
+
+    fn find_base(&self, alloc: Global, base: &Base, rows: &mut Rows) -> Result<(), AllocError>
+        ensures { OnOk result (Looks (tables_of (desk_of self.now)) (want.Base base.now) rows.old rows.new) }
+    {
+        let is = self.branches.has(alloc, base)?;
+        rows.learn_base(base.copy(alloc)?, is)
+    }
+
+    fn find_last_place(
+        &self,
+        alloc: Global,
+        branch: &BranchKey,
+        rows: &mut Rows,
+    ) -> Result<(), AllocError>
+        ensures { OnOk result (Looks (tables_of (desk_of self.now)) (want.LastPlace branch.now) rows.old rows.new) }
+    {
+        let last = self.branches.last_place(branch);
+        rows.learn_last_place(branch.copy(alloc)?, last)
+    }
+
+    fn find_bases(
+        &self,
+        alloc: Global,
+        branch: &BranchKey,
+        rows: &mut Rows,
+    ) -> Result<(), ShelfFault>
+        ensures found { OnOk result (Looks (tables_of (desk_of self.now)) (want.Bases branch.now) rows.old rows.new) }
+        ensures fault { IfErr result (IsUnread (tables_of (desk_of self.now))) }
+    {
+        let bases = self.branches.bases_of(alloc, branch)?;
+        rows.learn_bases(branch.copy(alloc)?, bases)?;
+        Ok(())
+    }
+
+    /// All members of a group.
+    fn members_of(
+        &self,
+        alloc: Global,
+        group: &GroupName,
+    ) -> Result<Table<AccountNo, ()>, AllocError>
+        requires { IsNumbered (rows_of self.now.members) }
+        ensures { IfOk result (λ members. HasMembers (row_of (desk_of self.now)) group.now (rows_of members)) }
+    {
+        let from = MemberKey {
+            group: group.copy(alloc)?,
+            account: AccountNo::first(),
+        };
+        let to = MemberKey {
+            group: group.copy(alloc)?,
+            account: AccountNo::last(),
+        };
+        let mut members = Table::new(alloc);
+        for (key, _) in self.members.select(alloc, from, to)? {
+            members.put(key.account, ())?;
+        }
+        Ok(members)
+    }
+
+    /// The account that has a name.
+    fn named(&self, alloc: Global, name: &AccountName) -> Result<Option<AccountNo>, AllocError>
+        requires { IsIndexed (rows_of self.now.accounts) (rows_of self.now.names) }
+        ensures { IfOk result (λ found. MatchOption found ((n : ℕ) → row_in nat_cmp (rows_of self.now.accounts) n ≡ Some name.now → ⊥) (λ n. row_in nat_cmp (rows_of self.now.accounts) n ≡ Some name.now)) }
+    {
+        let from = NameKey {
+            name: name.copy(alloc)?,
+            account: AccountNo::first(),
+        };
+        let to = NameKey {
+            name: name.copy(alloc)?,
+            account: AccountNo::last(),
+        };
+        for (key, _) in self.names.select(alloc, from, to)? {
+            if self.has_name(key.account, name) {
+                return Ok(Some(key.account));
+            }
+        }
+        Ok(None)
+    }
+
+    /// The greatest number of an account, or 0 where there is none.
+    fn last_account(&self) -> u32
+        ensures { IsLast AccountKey (row_of (desk_of self.now)) result }
+    {
+        match self.accounts.last_key() {
+            Some(number) => number.get(),
+            None => 0,
+        }
+    }
+}
