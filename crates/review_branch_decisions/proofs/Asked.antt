@@ -1,6 +1,7 @@
 -- What the loaded rows tell of the history, for a question.
-use Rattle.std.proofs.Common.{◌≡◌, ℕ, ◌≤◌, ◌+◌, arith, length-append, List, [], ◌∷◌, ◌++◌, length, Option, Some, None, Bool, true, false, cond, ◌&&◌, refl, sym, ap, ◌∙◌}
-use Rattle.std.specs.Prelude.{nat_le}
+use Rattle.std.proofs.Common.{◌≡◌, ℕ, ◌≤◌, ◌+◌, arith, length-append, List, [], ◌∷◌, ◌++◌, length, map, take, get_or, not, ◌<◌, Option, Some, None, Bool, true, false, cond, ◌&&◌, refl, sym, ap, ◌∙◌}
+use Rattle.std.specs.Prelude.{is_some, nat_le}
+use Rattle.std.proofs.lemmas.List.{take_more, map-append}
 use Rattle.std.proofs.lemmas.Bool.Decides.{nat_tests}
 use Rattle.review_words.specs.declared.command.Query.{Query}
 use Rattle.review_words.specs.declared.command.Query.TheVariants as asked
@@ -13,9 +14,10 @@ use Rattle.review_words.specs.declared.command.Command.TheVariants.{CreateAccoun
 use Rattle.review_words.specs.History.{Entry, accepted, is_account, is_project, is_branch, bases, base_count, with_base, base_counted}
 use Rattle.std.specs.Str.{bytes_eq}
 use Rattle.review_rows.specs.declared.rows.Rows.{Rows}
+use Rattle.review_rows.specs.declared.rows.Want.{Want}
 use Rattle.review_rows.specs.declared.rows.Want.TheVariants as want
 use Rattle.review_rows.specs.Known.{known, is_so, is_there, commits_of}
-use Rattle.review_rows.specs.Steps.{OfQuery}
+use Rattle.review_rows.specs.Steps.{OfQuery, unknown}
 use Rattle.review_rows.specs.Answer.{query_answer, refused_or}
 use Rattle.review_rows.specs.View.{AreEnough}
 use Rattle.review_rows.proofs.Asked.{all_asked}
@@ -75,3 +77,30 @@ branch_within (e ∷ h) project branch = step (accepted e) (bases h project bran
     step (Some (PutGroup group members)) bs n le = le
     step (Some (PutProject p file)) bs n le = le
     step None bs n le = le
+
+-- one account more
+pub accounts_more : (numbers : List ℕ) (i : ℕ) (n : ℕ) → i < length numbers → n ≡ get_or numbers i n → map want.Account (take (i + 1) numbers) ≡ map want.Account (take i numbers) ++ want.Account n ∷ []
+accounts_more numbers i n below is =
+    ap (map want.Account) (take_more numbers i n below ∙ ap (λ x. take i numbers ++ x ∷ []) (sym is)) ∙ map-append want.Account (take i numbers) (n ∷ [])
+
+-- the first look-up of the rest
+in_front : (b : Bool) (w : Want) (ws : List Want) → cond b (w ∷ ws) ws ≡ cond b (w ∷ []) [] ++ ws
+in_front true w ws = refl
+in_front false w ws = refl
+
+assoc : (xs ys zs : List Want) → (xs ++ ys) ++ zs ≡ xs ++ (ys ++ zs)
+assoc [] ys zs = refl
+assoc (x ∷ xs) ys zs = ap (λ l. x ∷ l) (assoc xs ys zs)
+
+pub unknown_first : (rows : Rows) (old new left rest : List Want) (w : Want) → left ≡ w ∷ rest → new ≡ old ++ unknown rows (w ∷ []) → new ++ unknown rows rest ≡ old ++ unknown rows left
+unknown_first rows old new left rest w is one =
+    ap (λ l. l ++ unknown rows rest) one
+    ∙ (assoc old (unknown rows (w ∷ [])) (unknown rows rest)
+    ∙ ap (λ l. old ++ l) (sym (in_front (not (is_some (known rows w))) w (unknown rows rest)) ∙ ap (unknown rows) (sym is)))
+
+pub unknown_none : (rows : Rows) (old left : List Want) → left ≡ [] → old ++ unknown rows left ≡ old
+unknown_none rows old left is = ap (λ l. old ++ unknown rows l) is ∙ end old
+  where
+    end : (xs : List Want) → xs ++ [] ≡ xs
+    end [] = refl
+    end (x ∷ xs) = ap (λ l. x ∷ l) (end xs)

@@ -1,5 +1,5 @@
 //! What deliveries ask of the tables.
-ghost use Rattle.std.specs.Prelude.{◌≡◌, ◌++◌, IfOk, OnOk, map};
+ghost use Rattle.std.specs.Prelude.{◌≡◌, ◌++◌, ◌∷◌, [], IfOk, OnOk, map};
 ghost use Rattle.review_words.specs.declared.command.Command.TheVariants.{RecordBase};
 ghost use Rattle.review_rows.specs.declared.rows.Want.TheVariants as want;
 ghost use Rattle.review_rows.specs.Steps.{caller_wants, command_wants, query_wants, first_wants, unknown, unless_none, wants_in, next, topic_of};
@@ -20,7 +20,7 @@ pub fn next_need(
     caller: AccountNo,
     matter: Matter<'_>,
 ) -> Result<Option<Need>, AllocError>
-    ensures { IfOk result (λ need. wants_in need ≡ unless_none (next rows.now caller (topic_of matter))) }
+    ensures { IfOk result (λ need. wants_in need ≡ unless_none (next rows.now caller (topic_of matter.entry))) }
 {
     let wants = first_wants(alloc, caller, matter)?;
     let wants = unknown(alloc, rows, wants)?;
@@ -35,7 +35,7 @@ fn first_wants(
     caller: AccountNo,
     matter: Matter<'_>,
 ) -> Result<Vec<Want>, AllocError>
-    ensures { IfOk result (λ wants. wants.items ≡ first_wants caller (topic_of matter)) }
+    ensures { IfOk result (λ wants. wants.items ≡ first_wants caller (topic_of matter.entry)) }
 {
     match matter {
         Matter::Command(command) => command_wants(alloc, caller, command),
@@ -49,11 +49,18 @@ fn unknown(alloc: Global, rows: &Rows, wants: Vec<Want>) -> Result<Vec<Want>, Al
 {
     let mut left = Vec::new(alloc);
     for want in wants {
-        if !rows.knows(&want) {
-            left.push(want)?;
-        }
+        push_unknown(&mut left, rows, want)?;
     }
     Ok(left)
+}
+
+fn push_unknown(left: &mut Vec<Want>, rows: &Rows, want: Want) -> Result<(), AllocError>
+    ensures { OnOk result (left.new.items ≡ left.old.items ++ unknown rows.now (want ∷ [])) }
+{
+    if !rows.knows(&want) {
+        left.push(want)?;
+    }
+    Ok(())
 }
 
 // How many requests are stored, and whether the caller is an account and an administrator.
@@ -100,6 +107,7 @@ fn command_wants(
     Ok(wants)
 }
 
+#[tactic(auto, using(crate::proofs::Asked::accounts_more))]
 fn push_accounts(wants: &mut Vec<Want>, numbers: &[AccountNo]) -> Result<(), AllocError>
     ensures { OnOk result (wants.new.items ≡ wants.old.items ++ map want.Account numbers.now) }
 {

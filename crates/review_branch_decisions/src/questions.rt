@@ -4,12 +4,14 @@ ghost use Rattle.review_words.specs.History.{Entry, is_account};
 ghost use Rattle.review_words.specs.declared.command.Query.TheVariants.{Branch};
 ghost use Rattle.review_words.specs.declared.reply.NotTaken.TheVariants.{Memory};
 ghost use Rattle.review_rows.specs.Answer.{query_answer};
+ghost use Rattle.review_rows.specs.declared.rows.Want.TheVariants as want;
+ghost use Rattle.review_rows.specs.Known.{known, commits_of};
 ghost use Rattle.review_rows.specs.Steps.{OfQuery};
 ghost use Rattle.review_rows.specs.View.{AreEnough};
 ghost use Rattle.review_rows.specs.Decisions.{IsDoneOrRefused};
 
 use crate::keys::branch_of;
-use review_rows::Rows;
+use review_rows::{BranchKey, Rows};
 use review_words::{AccountNo, Answer, Bases, BranchName, NotTaken, ProjectName, Query, Refusal, Reply};
 use std::alloc::{AllocError, Global};
 
@@ -51,12 +53,19 @@ fn show_branch(
         return Ok(Reply::Refused(Refusal::NoProject));
     }
     let key = branch_of(alloc, project, branch)?;
-    let bases = match rows.bases(&key) {
-        Some(bases) => bases.copy(alloc)?,
-        None => Bases::new(alloc),
-    };
+    let bases = known_bases(alloc, rows, &key)?;
     if bases.is_empty() {
         return Ok(Reply::Refused(Refusal::NoBranch));
     }
     Ok(Reply::Done(Answer::Branch(bases)))
+}
+
+// The bases of a branch, as they are known.
+fn known_bases(alloc: Global, rows: &Rows, branch: &BranchKey) -> Result<Bases, AllocError>
+    ensures { IfOk result (λ b. b ≡ commits_of (known rows.now (want.Bases branch.now))) }
+{
+    match rows.bases(branch) {
+        Some(bases) => bases.copy(alloc),
+        None => Ok(Bases::new(alloc)),
+    }
 }

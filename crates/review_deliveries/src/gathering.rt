@@ -19,7 +19,7 @@ pub fn gather<S: Shelf, R: Rules>(
     matter: Matter<'_>,
 ) -> Result<Rows, ShelfFault>
     ensures honest { (S.state shelf.new).is_honest → (S.state shelf.old).is_honest }
-    ensures enough { IfOk result (λ rows. next rows caller (topic_of matter) ≡ []) }
+    ensures enough { IfOk result (λ rows. next rows caller (topic_of matter.entry) ≡ []) }
     ensures found { (S.state shelf.new).is_honest → IfOk result (λ rows. Shows (S.state shelf.old).tables (λ t. Agrees t rows)) }
     ensures tables { (S.state shelf.new).is_honest → KeepsTables result (S.state shelf.old).tables (S.state shelf.new).tables }
     ensures damaged { (S.state shelf.new).is_honest → BlamesTables result (S.state shelf.old).tables }

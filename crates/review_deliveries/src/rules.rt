@@ -24,7 +24,7 @@ pub trait Rules {
         caller: AccountNo,
         matter: Matter<'_>,
     ) -> Result<Option<Need>, AllocError>
-        ensures { IfOk result (λ need. wants_in need ≡ unless_none (next rows.now caller (topic_of matter))) };
+        ensures { IfOk result (λ need. wants_in need ≡ unless_none (next rows.now caller (topic_of matter.entry))) };
 
     /// The reply to a command and what it changes.
     fn decide(

@@ -1,5 +1,5 @@
 -- Bases of branches, after one more is put at its place.
-use Rattle.std.proofs.Common.{◌≡◌, ℕ, ◌+◌, ◌<◌, ◌≤◌, ◌==◌, Bool, true, false, cond, ◌&&◌, List, [], ◌∷◌, Option, Some, None, ap, sym, ◌∙◌, refl, subst, ⊎_elim, ◌⊎◌, inl, inr, arith}
+use Rattle.std.proofs.Common.{◌≡◌, ℕ, ◌+◌, ◌<◌, ◌≤◌, ◌==◌, Bool, true, false, cond, ◌&&◌, List, [], ◌∷◌, Option, Some, None, ap, sym, ◌∙◌, refl, subst, ⊎_elim, ◌⊎◌, inl, inr, eqb-true, arith}
 use Rattle.std.specs.Option.{is_some, IsSome, unwrap_or}
 use Rattle.std.specs.declared.cmp.Ordering.{Ordering}
 use Rattle.std.specs.declared.cmp.Ordering.TheVariants.{Less, Equal, Greater}
@@ -8,7 +8,7 @@ use Rattle.std.specs.Cmp.{unsigned_tied, IsTotalOrder}
 use Rattle.std.specs.Cmp.Lexicographic.{slice_cmp}
 use Rattle.std.specs.Str.{bytes_eq}
 use Rattle.std.specs.BTreeMap.{is_at}
-use Rattle.std.proofs.lemmas.Bool.{cases_Bool, and_parts, cases_lt}
+use Rattle.std.proofs.lemmas.Bool.{cases_Bool, and_parts, cases_lt, eqb-false}
 use Rattle.std.proofs.lemmas.Slice.Eq.{bytes_eq-Decides}
 use Rattle.std.proofs.lemmas.Map.Text.{is_eq-slice_cmp}
 use Rattle.std.proofs.lemmas.Cmp.{then_total, on_total, nat_cmp_total, nat_list_cmp_total, tied_itself}
@@ -74,8 +74,8 @@ with_row R old new key row is q = is q ∙ at (is_at (R key) q)
     at true = refl
     at false = refl
 
-kept_there : {K X : Type 0} {R : K → K → Ordering} (old new : List (K × Unit {0})) (key q : K) → WithRow R old key tt new → row_in R old q ≡ Some tt → row_in R new q ≡ Some tt
-kept_there {R = R} old new key q with there =
+kept_there : {K : Type 0} (R : K → K → Ordering) (old new : List (K × Unit {0})) (key q : K) → WithRow R old key tt new → row_in R old q ≡ Some tt → row_in R new q ≡ Some tt
+kept_there R old new key q with there =
     with q ∙ (ap (cond (is_at (R key) q) (Some tt)) there ∙ elim (is_at (R key) q) as (λ b. cond {A = Option (Unit {0})} b (Some tt) (Some tt) ≡ Some tt) [ true ↦ refl | false ↦ refl ])
 
 -- the index has the base that is put
@@ -92,7 +92,7 @@ listed_more base commits after old new fits all listed put k commit is =
     ∙ ap (λ b. cond b (Some tt) (row_in commit_cmp commits (commit_at (place_of base) base.commit))) (ap is_eq (tied_itself commit_total (commit_at (place_of base) base.commit))))))
     (λ (f : is_at (place_cmp (place_of base)) k ≡ false).
     let was = all k commit (sym (put k ∙ ap (λ b. cond b (Some base.commit) (row_in place_cmp old k)) f) ∙ is) in
-    (was.0, kept_there commits after (commit_at (place_of base) base.commit) (commit_at k commit) listed was.1))
+    (was.0, kept_there commit_cmp commits after (commit_at (place_of base) base.commit) (commit_at k commit) listed was.1))
     (cases_Bool (is_at (place_cmp (place_of base)) k))
 
 -- the greater of two numbers
@@ -149,12 +149,20 @@ last_more base last lasts after old new all greater ended put p b =
         on n = λ i. both.0 i && (both.1 i && (base.place == n))
 
         ne : (m n : ℕ) → m < n → (m == n) ≡ false
-        ne m n lt = grind (arith, unsigned_tied)
+        ne m n lt = ⊎_elim (λ (t : (m == n) ≡ true). let e = eqb-true m n t in absurd (omega arith)) (λ f. f) (cases_Bool (m == n))
 
         beyond : (n : ℕ) → last < n → last_in lasts base.project base.branch ≡ last_in lasts p b → base_at new p b n ≡ None
         beyond n lt was =
             let g = greater in
             now_at n false (on n ∙ ne base.place n (let a = g.1 in omega arith)) ∙ (all p b).above n (let a = g.0 in omega arith)
+
+        still : (c : Bool) → (base.place == last) ≡ c → IsSome (base_at old p b last) → IsSome (base_at new p b last)
+        still true e s = subst IsSome (sym (now_at last true (on last ∙ e))) refl
+        still false e s = subst IsSome (sym (now_at last false (on last ∙ e))) s
+
+        put_here : (c : Bool) → (base.place == last) ≡ c → last ≡ base.place → IsSome (base_at new p b last)
+        put_here true e same = subst IsSome (sym (now_at last true (on last ∙ e))) refl
+        put_here false e same = absurd (eqb-false base.place last e (sym same))
 
         reached : last_in lasts base.project base.branch ≡ last_in lasts p b → (last ≡ 0) ⊎ IsSome (base_at new p b last)
         reached was =
@@ -166,17 +174,6 @@ last_more base last lasts after old new all greater ended put p b =
             (λ (same : last ≡ base.place). inr (put_here (base.place == last) refl same))
             greater.2
 
-        still : (c : Bool) → (base.place == last) ≡ c → IsSome (base_at old p b last) → IsSome (base_at new p b last)
-        still true e s = subst IsSome (sym (now_at last true (on last ∙ e))) refl
-        still false e s = subst IsSome (sym (now_at last false (on last ∙ e))) s
-
-        put_here : (c : Bool) → (base.place == last) ≡ c → last ≡ base.place → IsSome (base_at new p b last)
-        put_here true e same = subst IsSome (sym (now_at last true (on last ∙ e))) refl
-        put_here false e same = absurd (ne_self base.place last e same)
-          where
-            ne_self : (m n : ℕ) → (m == n) ≡ false → n ≡ m → ⊥
-            ne_self m n e same = grind (arith, unsigned_tied)
-
 -- how many bases projects have, once one is put
 pub total_more : (base : BaseRow) (known : Bool) (total : ℕ) (old new : List (List ℕ × ℕ)) → total ≡ cond known (total_in old base.project) (total_in old base.project + 1) →
     WithRow (slice_cmp nat_cmp) old base.project total new →
@@ -187,3 +184,38 @@ total_more base known total old new is with p =
     at : (t : Bool) → bytes_eq base.project p ≡ t → unwrap_or (cond t (Some total) (row_in (slice_cmp nat_cmp) old p)) 0 ≡ cond t (cond known (total_in old p) (total_in old p + 1)) (total_in old p)
     at true t = is ∙ ap (λ x. cond known (total_in old x) (total_in old x + 1)) ((bytes_eq-Decides base.project p).0 t)
     at false t = refl
+
+-- what stands at a place of a branch, asked by copies of its parts
+pub seen_at : (inside rows : List (PlaceKey × List ℕ)) (p b project branch : List ℕ) (n : ℕ) → inside ≡ rows → p ≡ project → b ≡ branch →
+    base_at rows project branch n ≡ row_in place_cmp inside (record { project = p; branch = b; place = n })
+seen_at inside rows p b project branch n same pp bb = λ i. row_in place_cmp (sym same i) (record { project = sym pp i; branch = sym bb i; place = n })
+
+pub none_of : {X : Type 0} (o : Option X) → is_some o ≡ false → o ≡ None
+none_of None e = refl
+none_of (Some x) e = absurd (cc)
+
+not_above : (rows : List (PlaceKey × List ℕ)) (p b : List ℕ) (m n : ℕ) → IsLastPlace rows p b m → IsLastPlace rows p b n → n ≤ m
+not_above rows p b m n one other =
+    ⊎_elim
+    (λ (lt : m < n).
+    ⊎_elim
+    (λ (z : n ≡ 0). absurd (omega arith))
+    (λ (s : is_some (base_at rows p b n) ≡ true). let bad : false ≡ true = sym (ap is_some (one.above n lt)) ∙ s in absurd (cc))
+    other.there)
+    (λ (ge : n ≤ m). ge)
+    (cases_lt m n)
+
+-- a branch has one last place
+pub last_unique : (rows : List (PlaceKey × List ℕ)) (p b : List ℕ) (m n : ℕ) → IsLastPlace rows p b m → IsLastPlace rows p b n → m ≡ n
+last_unique rows p b m n one other =
+    let low = not_above rows p b n m other one in
+    let high = not_above rows p b m n one other in
+    omega arith
+
+-- what is listed of tables that have the same rows
+pub still_listed : (commits commits_after : List (CommitKey × Unit {0})) (bases after : List (PlaceKey × List ℕ)) (lasts lasts_after : List (BranchKey × ℕ)) → commits ≡ commits_after → bases ≡ after → lasts ≡ lasts_after →
+    AreListed commits bases × AreLast lasts bases → AreListed commits_after after × AreLast lasts_after after
+still_listed commits commits_after bases after lasts lasts_after c b l both = (
+  subst (λ xs. AreListed xs after) c (subst (AreListed commits) b both.0),
+  subst (λ xs. AreLast xs after) l (subst (AreLast lasts) b both.1),
+)

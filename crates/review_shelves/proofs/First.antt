@@ -12,7 +12,7 @@ use Rattle.std.proofs.lemmas.Map.Views.{tells_apart}
 use Rattle.review_table.specs.Rows.{row_in}
 use Rattle.review_names.specs.Names.{administrators, admin_name}
 use Rattle.review_rows.specs.declared.rows.MemberKey.{MemberKey as Member}
-use Rattle.review_rows.specs.Rows.{Key, AccountKey, MemberKey, FileKey, BranchKey, OddKey, AccountRow, MemberRow, Count, Projects, BasesOf, member_cmp, member_row}
+use Rattle.review_rows.specs.Rows.{Key, AccountKey, MemberKey, FileKey, BaseKey, OddKey, AccountRow, MemberRow, Count, Projects, BasesOf, member_cmp, member_row}
 use Rattle.review_rows.specs.View.{IsView, fact, counted}
 use Rattle.review_shelves.specs.declared.keys.NameKey.{NameKey}
 use Rattle.review_shelves.specs.Desk.{Desk, tables_of, row_of, count_of, name_cmp, IsNumber, IsIndexed, IsNumbered}
@@ -70,7 +70,7 @@ first_row accounts members account member (MemberKey group number) =
     ap member_row (member (record { group = group; account = number }) ∙ ap (λ b. cond b (Some tt) None) (at_member first_member (record { group = group; account = number })))
     ∙ member_fact (bytes_eq administrators group) (1 == number) (λ m. m == number) refl
 first_row accounts members account member (FileKey project) = refl
-first_row accounts members account member (BranchKey project branch) = refl
+first_row accounts members account member (BaseKey project branch place) = refl
 first_row accounts members account member (OddKey o) = refl
 
 pub first_view : (accounts : List (ℕ × List ℕ)) (members : List (Member × Unit {0})) (d : Desk) → HasAccount accounts → HasMember members → d ≡ first_desk accounts members → IsView [] (tables_of d)

@@ -6,5 +6,6 @@ pub mod Applied
 pub mod First
 pub mod Based
 pub mod Placed
+pub mod Looked
 pub mod Lengths
 pub mod Turns

@@ -14,7 +14,7 @@ use Rattle.std.proofs.lemmas.Map.Text.{is_eq-slice_cmp}
 use Rattle.review_table.specs.Rows.{row_in}
 use Rattle.review_table.proofs.Places.{exact_by_parts}
 use Rattle.review_rows.specs.declared.rows.MemberKey.{MemberKey}
-use Rattle.review_rows.specs.Rows.{member_cmp, is_member_key}
+use Rattle.review_rows.specs.Rows.{member_cmp}
 use Rattle.review_shelves.specs.declared.keys.NameKey.{NameKey}
 use Rattle.review_shelves.specs.declared.keys.AnswerKey.{AnswerKey}
 use Rattle.review_shelves.specs.Desk.{name_cmp, answer_cmp, IsNumber}
@@ -45,7 +45,7 @@ is_eq-then Greater b = refl
 pub at_account : (a b : ℕ) → is_at (nat_cmp a) b ≡ (a == b)
 at_account a b = sym (unsigned_ties a b)
 
-pub at_member : (a b : MemberKey) → is_at (member_cmp a) b ≡ is_member_key b.group b.account a
+pub at_member : (a b : MemberKey) → is_at (member_cmp a) b ≡ (bytes_eq a.group b.group && (a.account == b.account))
 at_member a b = is_eq-then (slice_cmp nat_cmp a.group b.group) (nat_cmp a.account b.account) ∙ (λ i. is_eq-slice_cmp a.group b.group i && at_account a.account b.account i)
 
 pub at_answer : (a b : AnswerKey) → is_at (answer_cmp a) b ≡ ((a.caller == b.caller) && bytes_eq a.id b.id)

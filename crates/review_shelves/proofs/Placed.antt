@@ -20,7 +20,7 @@ use Rattle.review_shelves.specs.declared.keys.CommitKey.{CommitKey}
 use Rattle.review_shelves.specs.Branches.{base_at, commit_cmp, AreBases, IsLastPlace, greatest_place}
 use Rattle.review_shelves.specs.Desk.{Desk, tables_of}
 
-based_from : (o p : Option (List ℕ)) → option_map BaseRow o ≡ option_map BaseRow p → o ≡ p
+pub based_from : (o p : Option (List ℕ)) → option_map BaseRow o ≡ option_map BaseRow p → o ≡ p
 based_from None None e = refl
 based_from None (Some y) e = absurd (cc)
 based_from (Some x) None e = absurd (cc)

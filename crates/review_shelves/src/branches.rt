@@ -90,8 +90,8 @@ impl Branches {
             return Err(BasesFault::Gap);
         }
         let mut bases = Bases::new(alloc);
-        for place in 1..=self.last_place(branch) {
-            key.place = place;
+        for before in 0..self.last_place(branch) {
+            key.place = before + 1;
             let Some(commit) = self.bases.get(&key) else {
                 return Err(BasesFault::Gap);
             };
@@ -123,10 +123,7 @@ impl Branches {
             branch: base.branch.copy(alloc)?,
             place,
         };
-        match self.bases.get(&key) {
-            Some(commit) => Ok(commit.as_str() == base.commit.as_str()),
-            None => Ok(false),
-        }
+        Ok(is_there(&self.bases, &key, &base.commit))
     }
 
     /// How many bases a project has, over all its branches.
@@ -182,6 +179,16 @@ impl Branches {
     {
         let key = place_of(alloc, base)?;
         Ok(self.bases.get(&key).is_some())
+    }
+}
+
+// Whether a commit stands at a place.
+fn is_there(bases: &Table<PlaceKey, CommitName>, key: &PlaceKey, commit: &CommitName) -> bool
+    ensures { IsTrue result ↔ (row_in place_cmp (rows_of bases.now) key.now ≡ Some commit.now) }
+{
+    match bases.get(key) {
+        Some(there) => there.as_str() == commit.as_str(),
+        None => false,
     }
 }
 

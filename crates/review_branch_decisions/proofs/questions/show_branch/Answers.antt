@@ -1,5 +1,4 @@
-use Rattle.std.proofs.Common.{◌≡◌, ◌∙◌, [], Some, None, true, false, refl, sym, ap}
-use Rattle.std.specs.Option.{option_copied, unwrap_or}
+use Rattle.std.proofs.Common.{◌≡◌, ◌∙◌, true, false, refl, sym, ap}
 use Rattle.review_words.specs.declared.reply.Reply.TheVariants.{Done}
 use Rattle.review_words.specs.declared.reply.Answer.TheVariants as made
 use Rattle.review_words.specs.History.{bases, is_branch}
@@ -9,7 +8,25 @@ use Rattle.review_branch_decisions.proofs.Asked.{project_asked, bases_asked, non
 use Rattle.review_branch_decisions.proofs.questions.show_branch.Goals as goal
 
 pub returns-then-not-has_project-clause-shown : goal.returns-then-not-has_project-clause-shown
-returns-then-not-has_project-clause-shown c = λ h known l.
+returns-then-not-has_project-clause-shown c = λ h there_is l.
     let a = c.args in
     let absent = sym (project_asked h a.caller a.project.now a.branch.now a.rows.now l) ∙ (sym c.has_project.ensures ∙ c.if-not-has_project.true) in
-    sym (branch_answer h a.caller a.project.now a.branch.now true false (is_branch h a.project.now a.branch.now) known absent refl)
+    sym (branch_answer h a.caller a.project.now a.branch.now true false (is_branch h a.project.now a.branch.now) there_is absent refl)
+
+pub returns-then-is_empty-clause-shown : goal.returns-then-is_empty-clause-shown
+returns-then-is_empty-clause-shown c = λ h there_is l.
+    let a = c.args in
+    let there = sym (project_asked h a.caller a.project.now a.branch.now a.rows.now l) ∙ (sym c.has_project.ensures ∙ c.if-not-has_project.false) in
+    let all = c.in_ok-bases.ensures ∙ (ap (λ k. commits_of (known a.rows.now (want.Bases k))) c.in_ok-key.ensures ∙ bases_asked h a.caller a.project.now a.branch.now a.rows.now l) in
+    let none = sym all ∙ c.is_empty.ensures.0 c.if-is_empty.true in
+    sym (branch_answer h a.caller a.project.now a.branch.now true true false there_is there (none_there (bases h a.project.now a.branch.now) none))
+
+pub returns-clause-shown : goal.returns-clause-shown
+returns-clause-shown c = λ h there_is l.
+    let a = c.args in
+    let there = sym (project_asked h a.caller a.project.now a.branch.now a.rows.now l) ∙ (sym c.has_project.ensures ∙ c.if-not-has_project.false) in
+    let all = c.in_ok-bases.ensures ∙ (ap (λ k. commits_of (known a.rows.now (want.Bases k))) c.in_ok-key.ensures ∙ bases_asked h a.caller a.project.now a.branch.now a.rows.now l) in
+    let empty = c.if-is_empty.false in
+    ap (λ bs. Done (made.Branch bs)) all
+    ∙ sym (branch_answer h a.caller a.project.now a.branch.now true true true there_is there
+    (some_there (bases h a.project.now a.branch.now) (λ e. let t = c.is_empty.ensures.1 (all ∙ e) in absurd (cc))))

@@ -1,4 +1,4 @@
-use Rattle.std.proofs.Common.{◌≡◌, ◌∙◌, ◌+◌, ◌<◌, ap, subst, arith, length, inl, inr, ⊎_elim}
+use Rattle.std.proofs.Common.{◌≡◌, ◌∙◌, ◌+◌, ◌<◌, ◌≤◌, ap, subst, arith, length, inl, inr, ⊎_elim}
 use Rattle.std.specs.String.{string_bytes}
 use Rattle.review_words.specs.declared.command.Delivery.TheVariants.{Write}
 use Rattle.review_words.specs.declared.reply.NotTaken.TheVariants.{Memory, Full}
@@ -13,7 +13,7 @@ use Rattle.review_deliveries.specs.Replies.{entry_of, IsServed, KeepsUntaken, Co
 use Rattle.review_deliveries.proofs.Histories.{history_length, enough_shown}
 use Rattle.review_deliveries.proofs.Served.{undecided_lawful, undecided_keeps, undecided_counts, first_served, not_taken_served, fault_served, after_read, views_stay, effect, err_reply}
 use Rattle.review_words.specs.History.{Identity}
-use Rattle.review_deliveries.proofs.Effects.{stores_once, stored_shown}
+use Rattle.review_deliveries.proofs.Effects.{stores_once, stored_shown, full_keeps}
 use Rattle.review_deliveries.proofs.deliveries.first_arrival.Goals as goal
 
 pub returns-then-requests-ge-MOST_REQUESTS-clause-served : goal.returns-then-requests-ge-MOST_REQUESTS-clause-served
@@ -22,7 +22,7 @@ returns-then-requests-ge-MOST_REQUESTS-clause-served g c = λ honest h hist v fr
     let old = g.S.Shelf.state c.args.shelf.now in
     let new = g.S.Shelf.state c.gather.new.shelf in
     let has = enough_shown h old.tables c.args.caller (OfCommand c.args.command.now) c.in_ok-rows.rows v (x.found honest) x.enough in
-    let many : c.requests.result ≡ length h = c.requests.ensures ∙ requests_are (view h) c.in_ok-rows.rows c.args.caller c.args.command.now has.agree has.nothing_left in
+    let many : c.requests-requests.result ≡ length h = c.requests-requests.ensures ∙ requests_are (view h) c.in_ok-rows.rows c.args.caller c.args.command.now has.agree has.nothing_left in
     let long : length h ≡ most_requests = let a = history_length h hist in let b = many in omega arith in
     not_taken_served h (Write c.args.caller c.args.id.now c.args.command.now) Full old new hist (views_stay h old.tables new.tables (x.tables honest) v) (fresh, long, x.counted) (λ t y. inl (x.stops honest t y))
 
@@ -37,10 +37,10 @@ returns-clause-served g c = λ honest h hist v fresh.
     let between = y.honest honest in
     let has = enough_shown h old.tables a.caller (OfCommand a.command.now) c.in_ok-rows.rows v (x.found between) x.enough in
     let d = c.in_ok-delta.ensures.decided h has in
-    let many : c.requests.result ≡ length h = c.requests.ensures ∙ requests_are (view h) c.in_ok-rows.rows a.caller a.command.now has.agree has.nothing_left in
-    let number : c.requests.result + 1 ≡ length h + 1 = ap (λ n. n + 1) many in
+    let many : c.requests-requests.result ≡ length h = c.requests-requests.ensures ∙ requests_are (view h) c.in_ok-rows.rows a.caller a.command.now has.agree has.nothing_left in
+    let number : c.requests-requests.result + 1 ≡ length h + 1 = ap (λ n. n + 1) many in
     let room : length h < most_requests = let p = c.if-requests-ge-MOST_REQUESTS.false in let q = many in omega arith in
-    let row : AnswerRow = record { identity = record { caller = a.caller; id = c.in_ok-id.id }; request = c.requests.result + 1; content = string_bytes a.content; reply = string_bytes c.in_ok-text.text } in
+    let row : AnswerRow = record { identity = record { caller = a.caller; id = c.in_ok-id.id }; request = c.requests-requests.result + 1; content = string_bytes a.content; reply = string_bytes c.in_ok-text.text } in
     let is : row ≡ answer_row (entry_of a.caller a.id.now a.command.now c.in_ok-delta.reply) (length h + 1) =
     λ i. record { identity = record { caller = a.caller; id = c.in_ok-id.ensures i }; request = number i; content = c.requires i; reply = c.in_ok-text.ensures i } in
     let view = views_stay h old.tables mid.tables (x.tables between) v in
@@ -62,10 +62,10 @@ returns-in_err-commit-clause-served g c = λ honest h hist v fresh.
     let between = y.honest honest in
     let has = enough_shown h old.tables a.caller (OfCommand a.command.now) c.in_ok-rows.rows v (x.found between) x.enough in
     let d = c.in_ok-delta.ensures.decided h has in
-    let many : c.requests.result ≡ length h = c.requests.ensures ∙ requests_are (view h) c.in_ok-rows.rows a.caller a.command.now has.agree has.nothing_left in
-    let number : c.requests.result + 1 ≡ length h + 1 = ap (λ n. n + 1) many in
+    let many : c.requests-requests.result ≡ length h = c.requests-requests.ensures ∙ requests_are (view h) c.in_ok-rows.rows a.caller a.command.now has.agree has.nothing_left in
+    let number : c.requests-requests.result + 1 ≡ length h + 1 = ap (λ n. n + 1) many in
     let room : length h < most_requests = let p = c.if-requests-ge-MOST_REQUESTS.false in let q = many in omega arith in
-    let row : AnswerRow = record { identity = record { caller = a.caller; id = c.in_ok-id.id }; request = c.requests.result + 1; content = string_bytes a.content; reply = string_bytes c.in_ok-text.text } in
+    let row : AnswerRow = record { identity = record { caller = a.caller; id = c.in_ok-id.id }; request = c.requests-requests.result + 1; content = string_bytes a.content; reply = string_bytes c.in_ok-text.text } in
     let is : row ≡ answer_row (entry_of a.caller a.id.now a.command.now c.in_ok-delta.reply) (length h + 1) =
     λ i. record { identity = record { caller = a.caller; id = c.in_ok-id.ensures i }; request = number i; content = c.requires i; reply = c.in_ok-text.ensures i } in
     let view = views_stay h old.tables mid.tables (x.tables between) v in
@@ -85,7 +85,7 @@ returns-clause-once g c = λ honest none.
     (stored_shown i a.command.now c.in_ok-delta.reply c.in_ok-delta.delta c.in_ok-rows.rows _
     (g.S.Shelf.state a.shelf.now).tables (g.S.Shelf.state c.gather.new.shelf).tables (g.S.Shelf.state c.commit.new.self).tables
     (c.in_ok-rows.ensures.tables (y.honest honest)) none (c.in_ok-rows.ensures.found (y.honest honest)) c.in_ok-rows.ensures.enough c.in_ok-delta.ensures.refused (y.done honest)
-    (λ n e k. record { identity = record { caller = a.caller; id = c.in_ok-id.ensures k }; request = (c.requests.ensures ∙ e) k + 1; content = c.requires k; reply = c.in_ok-text.ensures k }))
+    (λ n e k. record { identity = record { caller = a.caller; id = c.in_ok-id.ensures k }; request = (c.requests-requests.ensures ∙ e) k + 1; content = c.requires k; reply = c.in_ok-text.ensures k }))
 
 pub returns-in_err-delta-clause-served : goal.returns-in_err-delta-clause-served
 returns-in_err-delta-clause-served g c = λ honest h hist v fresh.
@@ -126,3 +126,19 @@ returns-in_err-text-clause-served g c = λ honest h hist v fresh.
     let new = g.S.Shelf.state c.gather.new.shelf in
     subst (λ r. IsServed h (Write a.caller a.id.now a.command.now) r old new) (err_reply c.from_residual-in_err-text.result Memory c.from_residual-in_err-text.ensures)
     (not_taken_served h (Write a.caller a.id.now a.command.now) Memory old new hist (views_stay h old.tables new.tables (x.tables honest) v) x.counted (λ t y. inl (x.stops honest t y)))
+
+pub returns-in_err-id-clause-served : goal.returns-in_err-id-clause-served
+returns-in_err-id-clause-served g c = λ honest h hist v fresh.
+    let x = c.in_ok-rows.ensures in
+    let a = c.args in
+    let old = g.S.Shelf.state a.shelf.now in
+    let new = g.S.Shelf.state c.gather.new.shelf in
+    subst (λ r. IsServed h (Write a.caller a.id.now a.command.now) r old new) (err_reply c.from_residual-in_err-id.result Memory c.from_residual-in_err-id.ensures)
+    (not_taken_served h (Write a.caller a.id.now a.command.now) Memory old new hist (views_stay h old.tables new.tables (x.tables honest) v) x.counted (λ t y. inl (x.stops honest t y)))
+
+pub returns-then-requests-ge-MOST_REQUESTS-clause-unchanged : goal.returns-then-requests-ge-MOST_REQUESTS-clause-unchanged
+returns-then-requests-ge-MOST_REQUESTS-clause-unchanged g c = λ honest none.
+    let x = c.in_ok-rows.ensures in
+    let a = c.args in
+    full_keeps a.caller a.id.now a.command.now c.in_ok-rows.rows (g.S.Shelf.state a.shelf.now).tables (g.S.Shelf.state c.gather.new.shelf).tables
+    none (x.found honest) x.enough (subst (λ n. most_requests ≤ n) c.requests-requests.ensures c.if-requests-ge-MOST_REQUESTS.true) (x.tables honest)

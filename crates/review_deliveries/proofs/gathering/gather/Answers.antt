@@ -1,5 +1,5 @@
-use Rattle.std.proofs.Common.{◌≡◌, ◌∙◌, refl, sym, subst, inl}
-use Rattle.review_rows.specs.Steps.{topic_of}
+use Rattle.std.proofs.Common.{◌≡◌, ◌∙◌, ap, refl, sym, subst, inl}
+use Rattle.review_rows.specs.Steps.{topic_of, wants_in}
 use Rattle.review_deliveries.proofs.Gathered.{step_lowers, none_asked, so_far_added, so_far_shown, left_before, blamed_before}
 use Rattle.review_rows.specs.Known.{Agrees}
 use Rattle.review_rows.specs.Shelf.{Shows}
@@ -17,7 +17,7 @@ loop-rows-init g c = record {
 pub loop-rows-smaller : goal.loop-rows-smaller
 loop-rows-smaller g c =
     step_lowers c.loop-rows.rows c.in_ok-more.more c.add.new.self c.args.caller (topic_of c.args.matter) c.in-Some.need.wants.items
-    (c.in_ok-need.ensures) c.in_ok-more.ensures.asked.all c.in_ok-add.ensures
+    (ap wants_in (sym c.in-Some.is) ∙ c.in_ok-need.ensures) c.in_ok-more.ensures.asked.all c.in_ok-add.ensures
 
 pub loop-rows-preserved : goal.loop-rows-preserved
 loop-rows-preserved g c =
@@ -32,3 +32,8 @@ loop-rows-preserved g c =
       stops = λ h t s. i.stops (x.honest h) t (x.stops h t s);
       counted = x.counted ∙ i.counted;
     }
+
+pub returns-clause-found : goal.returns-clause-found
+returns-clause-found g c = λ h.
+    so_far_shown (g.S.Shelf.state c.args.shelf.now).tables c.loop-rows.rows c.args.caller (topic_of c.args.matter) (c.loop-rows.invariant.found h)
+    (none_asked c.loop-rows.rows c.args.caller (topic_of c.args.matter) (ap wants_in (sym c.in_default.is) ∙ c.in_ok-need.ensures))

@@ -5,10 +5,10 @@ use Rattle.review_shelves.proofs.tables.MemoryTables.make.Goals as goal
 
 pub apply-requires-clause-room : goal.apply-requires-clause-room
 apply-requires-clause-room c =
-    subst (λ t. HasRoom t c.args.changes) (sym c.add_base.ensures.rest)
-    (room_beside c.reserve.new.self c.add_base.new.self.branches c.args.changes c.in_ok-reserve.ensures.room)
+    subst (λ t. HasRoom t c.args.changes) (sym c.put_base.ensures.rest)
+    (room_beside c.reserve.new.self c.put_base.new.self.branches c.args.changes c.in_ok-reserve.ensures.room)
 
 pub returns-clause-done : goal.returns-clause-done
 returns-clause-done c =
-    applied_from c.args.self.now c.reserve.new.self c.add_base.new.self.branches c.args.changes c.args.projects (desk_of c.apply.new.self) c.reserve.ensures.same
-    (subst (λ t. AreApplied (desk_of t) c.args.changes c.args.projects (desk_of c.apply.new.self)) c.add_base.ensures.rest c.apply.ensures.done)
+    applied_from c.args.self.now c.reserve.new.self c.put_base.new.self.branches c.args.changes c.args.projects (desk_of c.apply.new.self) c.reserve.ensures.same
+    (subst (λ t. AreApplied (desk_of t) c.args.changes c.args.projects (desk_of c.apply.new.self)) c.put_base.ensures.rest c.apply.ensures.done)

@@ -1,0 +1,11 @@
+use Rattle.std.proofs.Common.{◌≡◌, None}
+use Rattle.review_shelves.specs.Branches.{base_at}
+use Rattle.review_shelves.proofs.Placed.{AreUpTo}
+use Rattle.review_shelves.proofs.branches.Branches.bases_of.Given as goal
+
+abbrev pub invariant-loop-before : goal.invariant-loop-before
+invariant-loop-before l = record {
+  project : l.key.project ≡ l.branch.project;
+  branch : l.key.branch ≡ l.branch.branch;
+  up : AreUpTo l.self.bases l.branch l.before l.bases;
+}
