@@ -23,7 +23,6 @@ use Rattle.review_rows.specs.declared.rows.Kept.{Kept}
 use Rattle.review_rows.specs.declared.rows.BaseRow.{BaseRow as PlacedBase}
 use Rattle.review_rows.specs.declared.rows.ProjectRow.{ProjectRow}
 use Rattle.review_rows.specs.Rows.{Key, AccountKey, MemberKey, FileKey, BaseKey, OddKey, Row, AccountRow, FileRow, BaseRow, Count, Projects, BasesOf, AnswerRow, Answered, Tables, member_cmp, member_row, member_change, account_change, file_after, base_after, projects_after, bases_after, after, count_after, kept_row}
-use Rattle.review_rows.specs.View.{tables_version}
 use Rattle.review_rows.specs.Shelf.{IsCommitted}
 use Rattle.review_shelves.specs.declared.changes.Changes.{Changes}
 use Rattle.review_shelves.specs.declared.keys.AnswerKey.{AnswerKey}
@@ -31,7 +30,7 @@ use Rattle.review_shelves.specs.declared.keys.NameKey.{NameKey}
 use Rattle.review_shelves.specs.declared.keys.StoredAnswer.{StoredAnswer}
 use Rattle.review_shelves.specs.declared.tables.MemoryTables.{MemoryTables}
 use Rattle.review_shelves.specs.Desk.{Desk, desk_of, tables_of, row_of, count_of, stored_row, file_changes, answer_cmp, name_cmp, IsNumber, IsIndexed, IsNumbered, IsBounded, IsSound, IsGiven, IsHeld, AreIndexed, KeepsNames, AreChangesOf, AreApplied, IsWithBase, HasRoom, with_branches}
-use Rattle.review_shelves.specs.Branches.{BranchesView, IsPut, place_cmp, base_at, total_in, place_of}
+use Rattle.review_shelves.specs.Branches.{BranchesView, place_cmp, base_at, total_in, place_of}
 use Rattle.review_shelves.specs.declared.keys.PlaceKey.{PlaceKey}
 use Rattle.review_shelves.proofs.Based.{at_place_of}
 use Rattle.review_shelves.proofs.Orders.{exact_member, exact_answer, at_answer}

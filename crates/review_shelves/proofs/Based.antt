@@ -1,5 +1,7 @@
 -- Bases of branches, after one more is put at its place.
-use Rattle.std.proofs.Common.{◌≡◌, ℕ, ◌+◌, ◌<◌, ◌≤◌, ◌==◌, Bool, true, false, cond, ◌&&◌, List, [], ◌∷◌, Option, Some, None, ap, sym, ◌∙◌, refl, subst, ⊎_elim, ◌⊎◌, inl, inr, eqb-true, arith}
+use Rattle.std.specs.Prelude.{max}
+use Rattle.std.specs.Int.{from_bool}
+use Rattle.std.proofs.Common.{zero, suc, ◌≡◌, ℕ, ◌+◌, ◌<◌, ◌≤◌, ◌==◌, Bool, true, false, cond, not, ◌&&◌, List, [], ◌∷◌, Option, Some, None, ap, sym, ◌∙◌, refl, subst, ⊎_elim, ◌⊎◌, inl, inr, eqb-true, arith}
 use Rattle.std.specs.Option.{is_some, IsSome, unwrap_or}
 use Rattle.std.specs.declared.cmp.Ordering.{Ordering}
 use Rattle.std.specs.declared.cmp.Ordering.TheVariants.{Less, Equal, Greater}
@@ -14,11 +16,12 @@ use Rattle.std.proofs.lemmas.Map.Text.{is_eq-slice_cmp}
 use Rattle.std.proofs.lemmas.Cmp.{then_total, on_total, nat_cmp_total, nat_list_cmp_total, tied_itself}
 use Rattle.std.proofs.lemmas.Map.Lookups.{CmpEqualImpliesEq, exact_unsigned, exact_bytes}
 use Rattle.std.proofs.lemmas.Map.Views.{tells_apart}
-use Rattle.review_table.specs.Rows.{row_in, after_change, changed}
+use Rattle.review_table.specs.Rows.{row_in, after_change, changed, HasNoEmptyPlace, HasEmptyOnly}
+use Rattle.std.specs.List.{All}
+use Rattle.review_table.specs.declared.table.Change.{Change}
 use Rattle.review_rows.specs.declared.rows.BranchKey.{BranchKey}
 use Rattle.review_rows.specs.declared.rows.BaseRow.{BaseRow}
 use Rattle.review_rows.specs.Rows.{branch_cmp}
-use Rattle.review_rows.proofs.Learning.{branch_total, exact_branch}
 use Rattle.review_shelves.specs.declared.keys.PlaceKey.{PlaceKey}
 use Rattle.review_shelves.specs.declared.keys.CommitKey.{CommitKey}
 use Rattle.review_shelves.specs.Branches.{place_cmp, commit_cmp, base_at, total_in, last_in, commit_at, place_of, greatest_place, AreListed, AreLast, IsLastPlace}
@@ -86,18 +89,23 @@ listed_more base commits after old new fits all listed put k commit is =
     (λ (t : is_at (place_cmp (place_of base)) k ≡ true).
     let same = tells_apart exact_place (place_of base) k t in
     let given : Some base.commit ≡ Some commit = sym (put k ∙ ap (λ b. cond b (Some base.commit) (row_in place_cmp old k)) t) ∙ is in
-    let text : base.commit ≡ commit = cc in
-    (subst (λ (q : PlaceKey). q.place ≤ greatest_place) same fits, subst (λ (q : CommitKey). row_in commit_cmp after q ≡ Some tt) (λ i. commit_at (same i) (text i))
-    (listed (commit_at (place_of base) base.commit)
-    ∙ ap (λ b. cond b (Some tt) (row_in commit_cmp commits (commit_at (place_of base) base.commit))) (ap is_eq (tied_itself commit_total (commit_at (place_of base) base.commit))))))
+    let text : base.commit ≡ commit = cc in (
+      subst (λ (q : PlaceKey). q.place ≤ greatest_place) same fits,
+      subst (λ (q : CommitKey). row_in commit_cmp after q ≡ Some tt) (λ i. commit_at (same i) (text i))
+          (listed (commit_at (place_of base) base.commit)
+          ∙ ap (λ b. cond b (Some tt) (row_in commit_cmp commits (commit_at (place_of base) base.commit))) (ap is_eq (tied_itself commit_total (commit_at (place_of base) base.commit)))),
+    ))
     (λ (f : is_at (place_cmp (place_of base)) k ≡ false).
     let was = all k commit (sym (put k ∙ ap (λ b. cond b (Some base.commit) (row_in place_cmp old k)) f) ∙ is) in
     (was.0, kept_there commit_cmp commits after (commit_at (place_of base) base.commit) (commit_at k commit) listed was.1))
     (cases_Bool (is_at (place_cmp (place_of base)) k))
 
 -- the greater of two numbers
-abbrev IsGreater : ℕ → ℕ → ℕ → Type 0
+abbrev pub IsGreater : ℕ → ℕ → ℕ → Type 0
 IsGreater a b c = (a ≤ c) × (b ≤ c) × ((c ≡ a) ⊎ (c ≡ b))
+
+pub greater_of : (a b c : ℕ) → c ≡ max a b → IsGreater a b c
+greater_of a b c is = (omega arith, omega arith, ⊎_elim (λ (lt : a < b). inr (omega arith)) (λ (ge : b ≤ a). inl (omega arith)) (cases_lt a b))
 
 at_branch : (base : BaseRow) (p b : List ℕ) → is_at (branch_cmp (record { project = base.project; branch = base.branch })) (record { project = p; branch = b }) ≡ (bytes_eq base.project p && bytes_eq base.branch b)
 at_branch base p b =
@@ -219,3 +227,17 @@ still_listed commits commits_after bases after lasts lasts_after c b l both = (
   subst (λ xs. AreListed xs after) c (subst (AreListed commits) b both.0),
   subst (λ xs. AreLast xs after) l (subst (AreLast lasts) b both.1),
 )
+
+-- the total of a project that gets a base
+pub total_is : (k known : Bool) (t f old : ℕ) → known ≡ k → f ≡ from_bool (not known) → t ≡ old → t + f ≡ cond k old (old + 1)
+total_is true known t f old kk ff tt = let z : f ≡ 0 = ff ∙ ap (λ b. from_bool (not b)) kk in omega arith
+total_is false known t f old kk ff tt = let z : f ≡ 1 = ff ∙ ap (λ b. from_bool (not b)) kk in omega arith
+
+-- where each place has a row, none is spare
+pub none_spare : {K X : Type 0} (R : K → K → Ordering) (test : K → Bool) (t : List (K × Option X)) → HasNoEmptyPlace R t → HasEmptyOnly R test t
+none_spare R test t full q e = absurd (full q e)
+
+-- one change that gives a row
+pub one_has : {K X : Type 0} (key : K) (row : X) → All (λ (c : Change K X). IsSome c.row) (record { key = key; row = Some row } ∷ [])
+one_has key row zero d lt = refl
+one_has key row (suc i) d lt = absurd (omega arith)

@@ -1,10 +1,11 @@
 -- What look-ups in tables in memory find.
 use Rattle.std.proofs.Common.{◌≡◌, ℕ, ◌+◌, ◌<◌, List, [], ◌∷◌, ◌++◌, Option, Some, None, Bool, true, false, cond, Result, Ok, Err, length, get_or, take, refl, sym, ap, ◌∙◌, subst, ⊎_elim, inl, inr, Bor}
-use Rattle.std.specs.Option.{is_some, IsSome, option_map, option_copied}
-use Rattle.std.specs.Prelude.{OnOk, MatchOption}
+use Rattle.std.specs.Option.{is_some, option_map, option_copied}
+use Rattle.std.specs.Prelude.{OnOk, IfErr, MatchOption}
+use Rattle.std.specs.Result.{IsErr, IsErrAnd}
 use Rattle.std.specs.Ordering.{nat_cmp}
 use Rattle.std.specs.Cmp.Lexicographic.{slice_cmp}
-use Rattle.std.specs.List.{All, Contains}
+use Rattle.std.specs.List.{Contains}
 use Rattle.std.proofs.lemmas.Option.{same_Some}
 use Rattle.std.proofs.lemmas.List.{take_more}
 use Rattle.std.proofs.lemmas.List.Elements.{Contains-append_left, Contains-push}
@@ -15,8 +16,8 @@ use Rattle.review_rows.specs.declared.rows.Base.{Base}
 use Rattle.review_rows.specs.declared.rows.Rows.{Rows}
 use Rattle.review_rows.specs.declared.rows.Want.{Want}
 use Rattle.review_rows.specs.declared.rows.Want.TheVariants as want
-use Rattle.review_rows.specs.Rows.{Key, AccountKey, MemberKey, FileKey, BaseKey, AccountRow, MemberRow, FileRow, BaseRow, Tables, member_cmp, member_row}
-use Rattle.review_rows.specs.Known.{Found, Number, Name, Holder, IsSo, Members, Text, Commits, IsFound, IsFoundByName, IsLast, IsBaseOrNot, IsKnown, AreAsked, Agrees, Learns, known}
+use Rattle.review_rows.specs.Rows.{AccountRow, MemberRow, FileRow, BaseRow, Tables, member_cmp, member_row}
+use Rattle.review_rows.specs.Known.{Found, Number, Name, Holder, IsSo, Text, Commits, IsFound, IsFoundByName, IsBaseOrNot, IsKnown, AreAsked, Agrees, Learns}
 use Rattle.review_shelves.specs.declared.branches.BasesFault.{BasesFault}
 use Rattle.review_shelves.specs.declared.branches.BasesFault.TheVariants as bases
 use Rattle.review_rows.specs.declared.shelf.ShelfFault.{ShelfFault}
@@ -76,10 +77,14 @@ pub found_base : (d : Desk) (base : Base) (is : Bool) → IsCommitThere d.branch
 found_base d base is there = (is, refl, there_or_not d base is there)
 
 pub found_last_place : (d : Desk) (key : BranchKey) (last : ℕ) → IsLastPlace d.branches.bases key.project key.branch last → IsFound (tables_of d) (want.LastPlace key) (Number last)
-found_last_place d key last l = (last, refl, record {
-  above = λ n lt. ap (option_map BaseRow) (l.above n lt);
-  there = ⊎_elim (λ z. inl z) (λ s. inr (some_mapped BaseRow (base_at d.branches.bases key.project key.branch last) s)) l.there;
-})
+found_last_place d key last l = (
+  last,
+  refl,
+  record {
+    above = λ n lt. ap (option_map BaseRow) (l.above n lt);
+    there = ⊎_elim (λ z. inl z) (λ s. inr (some_mapped BaseRow (base_at d.branches.bases key.project key.branch last) s)) l.there;
+  },
+)
 
 pub found_bases : (d : Desk) (key : BranchKey) (commits : List (List ℕ)) → AreBases d.branches.bases key commits → IsFound (tables_of d) (want.Bases key) (Commits commits)
 found_bases d key commits are = (commits, refl, λ n. ap (option_map BaseRow) (are n))
@@ -88,6 +93,10 @@ found_bases d key commits are = (commits, refl, λ n. ap (option_map BaseRow) (a
 pub unread : (d : Desk) (key : BranchKey) (f : BasesFault) (e : ShelfFault) → e ≡ fault_of f → IsUnlisted d.branches.bases key f → IsUnread (tables_of d) e
 unread d key bases.Memory e is none = subst (IsUnread (tables_of d)) (sym is) tt
 unread d key bases.Gap e is none = subst (IsUnread (tables_of d)) (sym is) (unlisted_damaged d key none)
+
+pub unread_residual : {X : Type 0} (d : Desk) (key : BranchKey) (f : BasesFault) (r : Result X ShelfFault) → IsErr r × IsErrAnd r (λ e. e ≡ fault_of f) → IsUnlisted d.branches.bases key f → IfErr r (IsUnread (tables_of d))
+unread_residual d key f (Ok x) e none = tt
+unread_residual d key f (Err x) e none = unread d key f x e.1 none
 
 known_still : (w : Want) (f : Found) (old new : Rows) → Learns w f old new → (x : Want) → IsKnown old x → IsKnown new x
 known_still w f old new learns x there = ⊎_elim (λ same. ap is_some same ∙ there) (λ now. ap is_some now.1) (learns.others x)

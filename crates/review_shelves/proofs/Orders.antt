@@ -71,5 +71,3 @@ pub row_between_numbers : {X : Type 0} (a b : List ℕ) (n : ℕ) (row : Option 
     → cond (is_le (ordering_then (slice_cmp nat_cmp a b) (nat_cmp 1 n)) && not (is_lt (ordering_then (slice_cmp nat_cmp a b) (nat_cmp 1000000 n)))) row None ≡ cond (bytes_eq a b) row None
 row_between_numbers a b n row h =
     between_of (slice_cmp nat_cmp a b) (nat_cmp 1 n) (nat_cmp 1000000 n) row (λ x is. numbered n (h x is)) ∙ ap (λ t. cond t row None) (is_eq-slice_cmp a b)
-
--- the bounds of a range are in order

@@ -1,22 +1,17 @@
 -- The places of a branch: as a list, and found by a commit.
-use Rattle.std.proofs.Common.{◌≡◌, ℕ, ◌+◌, ◌-◌, ◌<◌, ◌≤◌, ◌==◌, zero, suc, Bool, true, false, cond, ◌&&◌, not, List, [], ◌∷◌, ◌++◌, length, Option, Some, None, ap, sym, ◌∙◌, refl, subst, ⊎_elim, eqb-true, eq-eqb, arith, length-append}
+use Rattle.std.proofs.Common.{◌≡◌, ℕ, ◌+◌, ◌<◌, ◌≤◌, ◌==◌, zero, suc, Bool, true, false, cond, ◌&&◌, not, List, [], ◌∷◌, ◌++◌, length, Option, Some, None, ap, sym, ◌∙◌, refl, ⊎_elim, eqb-true, eq-eqb, arith, length-append}
 use Rattle.std.specs.Option.{is_some, IsSome, option_map}
-use Rattle.std.specs.declared.cmp.Ordering.{Ordering}
 use Rattle.std.specs.Ordering.{is_le, is_lt, nat_cmp, ordering_then}
 use Rattle.std.specs.Cmp.{unsigned_ties}
-use Rattle.std.specs.Cmp.Lexicographic.{slice_cmp}
 use Rattle.std.proofs.lemmas.Cmp.{nat_list_cmp_total, tied_itself}
 use Rattle.std.proofs.lemmas.Bool.{cases_lt}
 use Rattle.review_rows.specs.declared.rows.BranchKey.{BranchKey}
-use Rattle.review_rows.specs.Rows.{Key, BaseKey, BaseRow, Tables}
+use Rattle.review_rows.specs.Rows.{BaseKey, BaseRow}
 use Rattle.review_rows.specs.Known.{at_place}
 use Rattle.review_rows.proofs.Placing.{nothing_at_zero, past_end, some_at, placed_more}
-use Rattle.review_words.specs.History.{Entry, bases}
-use Rattle.review_rows.specs.Answer.{IsHistory}
-use Rattle.review_rows.specs.View.{IsView}
+use Rattle.review_words.specs.History.{bases}
 use Rattle.review_rows.specs.Shelf.{IsDamaged}
 use Rattle.review_shelves.specs.declared.keys.PlaceKey.{PlaceKey}
-use Rattle.review_shelves.specs.declared.keys.CommitKey.{CommitKey}
 use Rattle.review_shelves.specs.Branches.{base_at, commit_cmp, AreBases, IsLastPlace, greatest_place}
 use Rattle.review_shelves.specs.Desk.{Desk, tables_of}
 

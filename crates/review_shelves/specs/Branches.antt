@@ -5,7 +5,7 @@ use Rattle.std.specs.Ordering.{nat_cmp, ordering_then}
 use Rattle.std.specs.Cmp.Lexicographic.{slice_cmp}
 use Rattle.std.specs.BTreeMap.{is_at}
 use Rattle.std.specs.Str.{bytes_eq}
-use Rattle.review_table.specs.Rows.{row_in}
+use Rattle.review_table.specs.Rows.{row_in, is_named, HasNoEmptyPlace, HasEmptyOnly}
 use Rattle.review_rows.specs.declared.rows.BranchKey.{BranchKey}
 use Rattle.review_rows.specs.declared.rows.BaseRow.{BaseRow}
 use Rattle.review_rows.specs.declared.rows.Base.{Base}
@@ -94,3 +94,17 @@ pub record PutsBase (base : BaseRow) (branch : BranchKey) (last total : ℕ) (ch
   pub listed : changes.listed.items ≡ record { key = commit_at (place_of base) base.commit; row = Some tt } ∷ []
   pub ended : changes.ended.items ≡ record { key = branch; row = Some last } ∷ []
   pub counted : changes.counted.items ≡ record { key = base.project; row = Some total } ∷ []
+
+-- every place of the tables has a row
+pub record HasNoSpare (bases : List (PlaceKey × Option (List ℕ))) (commits : List (CommitKey × Option (Unit {0}))) (lasts : List (BranchKey × Option ℕ)) (totals : List (List ℕ × Option ℕ)) : Type 0 where
+  pub bases_full : HasNoEmptyPlace place_cmp bases
+  pub commits_full : HasNoEmptyPlace commit_cmp commits
+  pub lasts_full : HasNoEmptyPlace branch_cmp lasts
+  pub totals_full : HasNoEmptyPlace (slice_cmp nat_cmp) totals
+
+-- every place of the tables has a row, but for those that the changes name
+pub record HasSpareOnly (changes : BaseChanges) (bases : List (PlaceKey × Option (List ℕ))) (commits : List (CommitKey × Option (Unit {0}))) (lasts : List (BranchKey × Option ℕ)) (totals : List (List ℕ × Option ℕ)) : Type 0 where
+  pub bases_spare : HasEmptyOnly place_cmp (is_named place_cmp changes.placed.items) bases
+  pub commits_spare : HasEmptyOnly commit_cmp (is_named commit_cmp changes.listed.items) commits
+  pub lasts_spare : HasEmptyOnly branch_cmp (is_named branch_cmp changes.ended.items) lasts
+  pub totals_spare : HasEmptyOnly (slice_cmp nat_cmp) (is_named (slice_cmp nat_cmp) changes.counted.items) totals

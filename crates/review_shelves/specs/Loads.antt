@@ -1,5 +1,4 @@
 -- What a look-up in tables in memory does to rows, and why it fails.
-use Rattle.std.specs.Prelude.{◌≡◌}
 use Rattle.review_rows.specs.declared.rows.Rows.{Rows}
 use Rattle.review_rows.specs.declared.rows.Want.{Want}
 use Rattle.review_rows.specs.declared.shelf.ShelfFault.{ShelfFault}

@@ -4,7 +4,7 @@ ghost use Rattle.std.specs.Ordering.{nat_cmp};
 ghost use Rattle.std.specs.Cmp.Lexicographic.{slice_cmp};
 ghost use Rattle.review_table.specs.Rows.{rows_of, row_in, HavePlaces};
 ghost use Rattle.review_rows.specs.Rows.{branch_cmp};
-ghost use Rattle.review_shelves.specs.Branches.{place_cmp, commit_cmp, base_at, total_in, IsLastPlace, IsPut, place_of, commit_at, AreBases, IsCommitThere, IsUnlisted, PutsBase};
+ghost use Rattle.review_shelves.specs.Branches.{place_cmp, commit_cmp, base_at, total_in, IsLastPlace, IsPut, place_of, commit_at, AreBases, IsCommitThere, IsUnlisted, PutsBase, HasNoSpare, HasSpareOnly};
 
 use crate::keys::{CommitKey, PlaceKey};
 use review_rows::{Base, BaseRow, BranchKey};
@@ -44,13 +44,13 @@ impl From<AllocError> for BasesFault {
 
 impl Model for Branches {
     ghost use Rattle.review_table.specs.Rows.{rows_of};
-    ghost use Rattle.review_shelves.specs.Branches.{BranchesView, AreListed, AreLast};
+    ghost use Rattle.review_shelves.specs.Branches.{BranchesView, AreListed, AreLast, HasNoSpare};
 
     ghost Value = { BranchesView };
 
     ghost view = { λ t. record { bases = rows_of t.bases; totals = rows_of t.totals } };
 
-    ghost invariant = { λ t. AreListed (rows_of t.commits) (rows_of t.bases) × AreLast (rows_of t.lasts) (rows_of t.bases) };
+    ghost invariant = { λ t. AreListed (rows_of t.commits) (rows_of t.bases) × AreLast (rows_of t.lasts) (rows_of t.bases) × HasNoSpare t.bases t.commits t.lasts t.totals };
 }
 
 impl Branches {
@@ -260,6 +260,7 @@ fn reserve(
     ensures listed { OnOk result (HavePlaces commit_cmp commits.new changes.now.listed.items) }
     ensures ended { OnOk result (HavePlaces branch_cmp lasts.new changes.now.ended.items) }
     ensures counted { OnOk result (HavePlaces (slice_cmp nat_cmp) totals.new changes.now.counted.items) }
+    ensures spare { HasNoSpare bases.old commits.old lasts.old totals.old → HasSpareOnly changes.now bases.new commits.new lasts.new totals.new }
 {
     bases.reserve_all(alloc, &changes.placed)?;
     commits.reserve_all(alloc, &changes.listed)?;

@@ -1,5 +1,4 @@
-use Rattle.std.proofs.Common.{◌≡◌, None}
-use Rattle.review_shelves.specs.Branches.{base_at}
+use Rattle.std.proofs.Common.{◌≡◌}
 use Rattle.review_shelves.proofs.Placed.{AreUpTo}
 use Rattle.review_shelves.proofs.branches.Branches.bases_of.Given as goal
 

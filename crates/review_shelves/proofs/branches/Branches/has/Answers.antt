@@ -1,4 +1,5 @@
-use Rattle.std.proofs.Common.{◌≡◌, ◌∙◌, ap, sym, cond, Option, Some, None, map, not, ◌&&◌}
+use Rattle.std.proofs.Common.{◌≡◌, ◌∙◌, ap, cond, Option, Some, None, map, not, ◌&&◌, [], arith}
+use Rattle.std.proofs.lemmas.Grind.{common_steps}
 use Rattle.std.specs.Map.Iter.{deref_pair}
 use Rattle.std.specs.Ordering.{is_le, is_lt}
 use Rattle.review_table.specs.Rows.{row_in, rows_of}
@@ -21,8 +22,14 @@ loop-key-init c = λ n is.
     ∙ ap (λ b. cond b all None) (between_places base.project base.branch base.commit n listed.0)
     ∙ listed.1
 
+nothing : (o : Option (Unit {0})) → o ≡ None → o ≡ Some tt → ⊥
+nothing None none there = absurd (cc)
+nothing (Some u) none there = absurd (cc)
+
 pub returns : goal.returns
 returns c = λ n is.
     let base = c.args.base.now in
     let q : CommitKey = record { project = base.project; branch = base.branch; commit = base.commit; place = n } in
-    let none : None {A = Unit {0}} ≡ Some tt = ap (λ xs. row_in commit_cmp (map deref_pair xs) q) (sym c.in-None.ensures.steps.0) ∙ c.loop-key.invariant n is in absurd (cc)
+    let s = c.in-None.ensures.steps in
+    let empty : c.loop-key.key-iterator.rest.items ≡ [] = grind (arith, common_steps) in
+    nothing (row_in commit_cmp (map deref_pair c.loop-key.key-iterator.rest.items) q) (ap (λ xs. row_in commit_cmp (map deref_pair xs) q) empty) (c.loop-key.invariant n is)
