@@ -12,7 +12,9 @@ ghost use Rattle.review_rows.specs.Decisions.{IsDoneOrRefused};
 
 use crate::keys::branch_of;
 use review_rows::{BranchKey, Rows};
-use review_words::{AccountNo, Answer, Bases, BranchName, NotTaken, ProjectName, Query, Refusal, Reply};
+use review_words::{
+    AccountNo, Answer, Bases, BranchName, NotTaken, ProjectName, Query, Refusal, Reply,
+};
 use std::alloc::{AllocError, Global};
 
 /// The answer to a question: the first check that fails refuses, in the order of the question's checks. It changes

@@ -108,13 +108,7 @@ fn refusal_by(covered: Option<bool>, has_room: bool) -> Option<Refusal>
     match covered {
         Some(true) => None,
         Some(false) => Some(Refusal::LabelNarrowed),
-        None => {
-            if has_room {
-                None
-            } else {
-                Some(Refusal::Limit)
-            }
-        }
+        None => { if has_room { None } else { Some(Refusal::Limit) } }
     }
 }
 

@@ -18,7 +18,7 @@ use Rattle.review_rows.specs.Rows.{member_cmp, branch_cmp, base_cmp}
 use Rattle.review_rows.specs.Known.{Found, Number, Name, Holder, IsSo, Members, Text, Commits, known, AreAdded}
 
 -- rows without entries know nothing
-pub nothing_known : (rows : Rows) → rows.requests ≡ None → rows.accounts ≡ [] → rows.named ≡ [] → rows.last_account ≡ None → rows.members ≡ [] → rows.groups ≡ [] → rows.files ≡ [] → rows.projects ≡ [] → rows.room_for_projects ≡ None → rows.room_for_bases ≡ [] → rows.known_bases ≡ [] → rows.last_places ≡ [] → rows.bases ≡ [] → 
+pub nothing_known : (rows : Rows) → rows.requests ≡ None → rows.accounts ≡ [] → rows.named ≡ [] → rows.last_account ≡ None → rows.members ≡ [] → rows.groups ≡ [] → rows.files ≡ [] → rows.projects ≡ [] → rows.room_for_projects ≡ None → rows.room_for_bases ≡ [] → rows.known_bases ≡ [] → rows.last_places ≡ [] → rows.bases ≡ [] →
     (w : Want) → known rows w ≡ None
 nothing_known rows e0 e1 e2 e3 e4 e5 e6 e7 e8 e9 e10 e11 e12 want.Requests = ap (option_map Number) e0
 nothing_known rows e0 e1 e2 e3 e4 e5 e6 e7 e8 e9 e10 e11 e12 (want.Account q) = ap (λ t. option_map Name (row_in nat_cmp (rows_of t) q)) e1
@@ -43,7 +43,7 @@ abbrev pub AreJoined : {K X : Type 0} → (K → K → Ordering) → List (K × 
 AreJoined {K} R old more new = (q : K) → row_in R (rows_of new) q ≡ option_or (row_in R (rows_of old) q) (row_in R (rows_of more) q)
 
 -- what two rows know together, table by table
-pub added_known : (rows more both : Rows) → both.requests ≡ option_or rows.requests more.requests → AreJoined nat_cmp rows.accounts more.accounts both.accounts → AreJoined (slice_cmp nat_cmp) rows.named more.named both.named → both.last_account ≡ option_or rows.last_account more.last_account → AreJoined member_cmp rows.members more.members both.members → AreJoined (slice_cmp nat_cmp) rows.groups more.groups both.groups → AreJoined (slice_cmp nat_cmp) rows.files more.files both.files → AreJoined (slice_cmp nat_cmp) rows.projects more.projects both.projects → both.room_for_projects ≡ option_or rows.room_for_projects more.room_for_projects → AreJoined (slice_cmp nat_cmp) rows.room_for_bases more.room_for_bases both.room_for_bases → AreJoined base_cmp rows.known_bases more.known_bases both.known_bases → AreJoined branch_cmp rows.last_places more.last_places both.last_places → AreJoined branch_cmp rows.bases more.bases both.bases → 
+pub added_known : (rows more both : Rows) → both.requests ≡ option_or rows.requests more.requests → AreJoined nat_cmp rows.accounts more.accounts both.accounts → AreJoined (slice_cmp nat_cmp) rows.named more.named both.named → both.last_account ≡ option_or rows.last_account more.last_account → AreJoined member_cmp rows.members more.members both.members → AreJoined (slice_cmp nat_cmp) rows.groups more.groups both.groups → AreJoined (slice_cmp nat_cmp) rows.files more.files both.files → AreJoined (slice_cmp nat_cmp) rows.projects more.projects both.projects → both.room_for_projects ≡ option_or rows.room_for_projects more.room_for_projects → AreJoined (slice_cmp nat_cmp) rows.room_for_bases more.room_for_bases both.room_for_bases → AreJoined base_cmp rows.known_bases more.known_bases both.known_bases → AreJoined branch_cmp rows.last_places more.last_places both.last_places → AreJoined branch_cmp rows.bases more.bases both.bases →
     AreAdded rows more both
 added_known rows more both e0 e1 e2 e3 e4 e5 e6 e7 e8 e9 e10 e11 e12 want.Requests = ap (option_map Number) e0 ∙ mapped_or Number rows.requests more.requests
 added_known rows more both e0 e1 e2 e3 e4 e5 e6 e7 e8 e9 e10 e11 e12 (want.Account q) = ap (option_map Name) (e1 q) ∙ mapped_or Name (row_in nat_cmp (rows_of rows.accounts) q) (row_in nat_cmp (rows_of more.accounts) q)

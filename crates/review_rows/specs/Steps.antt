@@ -96,4 +96,4 @@ left rows caller topic = left_of rows (steps rows caller topic)
 -- where something is asked next, rows that know it have fewer steps left
 abbrev pub AskingLowers : Type 0
 AskingLowers = (rows more both : Rows) (caller : ℕ) (topic : Topic) (w : Want) (ws : List Want) →
-  next rows caller topic ≡ w ∷ ws → All (IsKnown more) (w ∷ ws) → AreAdded rows more both → left both caller topic < left rows caller topic
+    next rows caller topic ≡ w ∷ ws → All (IsKnown more) (w ∷ ws) → AreAdded rows more both → left both caller topic < left rows caller topic

@@ -97,11 +97,7 @@ impl Rows {
     }
 
     /// Whether there is room for one more base of a project.
-    pub fn learn_room_for_bases(
-        &mut self,
-        project: ProjectName,
-        is: bool,
-    ) -> Result<(), AllocError>
+    pub fn learn_room_for_bases(&mut self, project: ProjectName, is: bool) -> Result<(), AllocError>
         ensures { OnOk result (Learns (want.Room (counted.BasesOf project)) (IsSo is) self.old self.new) }
     {
         self.room_for_bases.put(project, is)?;
