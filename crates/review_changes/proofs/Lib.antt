@@ -1,0 +1,5 @@
+mod Within
+mod Order
+mod Voters
+mod Eligible
+mod Stays

@@ -1,0 +1,5 @@
+pub mod Votes
+pub mod Change
+pub mod Seen
+pub mod Parts
+pub mod Sound
