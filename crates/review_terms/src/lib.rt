@@ -5,6 +5,7 @@ pub mod pattern;
 pub mod terms;
 
 pub use pattern::{Pattern, PatternFault};
+pub use review_names::ChangeKind;
 pub use terms::{
-    ChangeKind, Comparison, CopyTerm, Count, LabelTerm, RequirementTerm, VoteValue, Voters,
+    Comparison, CopyTerm, Count, LabelTerm, RequirementTerm, VoteValue, Voters,
 };

@@ -1,4 +1,5 @@
 pub mod Faults
+pub mod Reviews
 pub mod Texts
 pub mod Shown
 pub mod Cutting
