@@ -1,5 +1,5 @@
-mod Within
+pub mod Within
 mod Order
 mod Voters
 mod Eligible
-mod Stays
+pub mod Stays

@@ -3,3 +3,4 @@ pub mod Change
 pub mod Seen
 pub mod Parts
 pub mod Sound
+pub mod Status

@@ -3,7 +3,7 @@
 use review_words::{AccountNo, NewPatch, Reason, Review, Role};
 
 /// A request that names a change. Submission isn't among them: it concerns several changes at once.
-#[derive(Debug, Drop)]
+#[derive(Drop)]
 pub enum ChangeCommand {
     /// A new patch set.
     Upload(NewPatch),

@@ -16,6 +16,7 @@ pub mod laws;
 pub mod rows;
 
 pub use commands::ChangeCommand;
+pub use laws::{begins_sound, joins_sound, stays_sound, voters_are_eligible};
 pub use rows::{
     Called, ChangeRows, CommentRow, Header, PatchRow, Post, State, Status, Vote, VoteKey, Why,
 };

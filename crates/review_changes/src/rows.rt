@@ -1,5 +1,5 @@
 //! The rows of one change.
-ghost use Rattle.std.specs.Prelude.{◌≡◌, IfOk, Some, None, if◌then◌else◌};
+ghost use Rattle.std.specs.Prelude.{◌≡◌, IfOk, Some, None, true, if◌then◌else◌};
 ghost use Rattle.review_changes.specs.Votes.{voted};
 
 use review_names::ChangeKind;
@@ -29,7 +29,7 @@ pub enum Status {
 }
 
 /// What there is once of a change.
-#[derive(Debug, Drop)]
+#[derive(Drop)]
 pub struct Header {
     pub project: ProjectName,
     pub branch: BranchName,
@@ -45,7 +45,7 @@ pub struct Header {
 }
 
 /// A patch set. Its number is its place among the change's patch sets, from 1.
-#[derive(Debug, Drop)]
+#[derive(Drop)]
 pub struct PatchRow {
     pub commit: CommitName,
     pub parent: CommitName,
@@ -74,7 +74,7 @@ impl Key for VoteKey {
 }
 
 /// The value of a vote, which is never 0. Contracts see the value.
-#[derive(Clone, Copy, Debug)]
+#[derive(Clone, Copy)]
 pub struct Vote {
     value: i8,
 }
@@ -103,16 +103,17 @@ impl Vote {
         Some(Vote { value })
     }
 
-    /// The value.
+    /// The value, which isn't 0.
     pub fn get(self) -> i8
-        ensures { result ≡ self }
+        ensures value { result ≡ self }
+        ensures voted { voted self ≡ true }
     {
         self.value
     }
 }
 
 /// A comment. Its number is its place among the change's comments, from 1.
-#[derive(Debug, Drop)]
+#[derive(Drop)]
 pub struct CommentRow {
     pub patch: PatchNo,
     pub path: Place,
@@ -128,7 +129,7 @@ pub struct CommentRow {
 
 /// What a thread has of a comment: who wrote it, the number of the thread's first comment, and whether it leaves the thread
 /// unresolved.
-#[derive(Clone, Copy, Debug)]
+#[derive(Clone, Copy)]
 pub struct Post {
     pub author: AccountNo,
     pub root: u64,
@@ -136,7 +137,7 @@ pub struct Post {
 }
 
 /// Why an account is called to a change.
-#[derive(Debug, Drop)]
+#[derive(Drop)]
 pub enum Why {
     /// It was added as a reviewer.
     Added,
@@ -155,7 +156,7 @@ pub enum Why {
 }
 
 /// That an account is in the attention set, and since which request.
-#[derive(Debug, Drop)]
+#[derive(Drop)]
 pub struct Called {
     pub reason: Reason,
     pub request: u64,
