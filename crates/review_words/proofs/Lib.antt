@@ -1,5 +1,0 @@
-mod Cutting
-mod Splitting
-mod Commands
-mod Replies
-pub mod Fields
