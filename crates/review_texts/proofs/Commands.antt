@@ -16,7 +16,7 @@ use Rattle.review_words.specs.declared.changes.Given.{Given}
 use Rattle.review_words.specs.declared.changes.NewChange.{NewChange}
 use Rattle.review_words.specs.declared.changes.NewComment.{NewComment}
 use Rattle.review_words.specs.declared.changes.NewPatch.{NewPatch}
-use Rattle.review_words.specs.declared.changes.Review as record_of_review
+use Rattle.review_words.specs.declared.changes.Review.{Review}
 use Rattle.review_words.specs.declared.command.Command.{Command}
 use Rattle.review_words.specs.declared.command.Command.TheVariants.{CreateAccount, PutGroup, PutProject, RecordBase, CreateChange, Upload}
 use Rattle.review_words.specs.declared.command.Command.TheVariants as command
@@ -70,7 +70,7 @@ members_at member size (suc n) fields = member fields ∷ members_at member size
 abbrev pub comments_of : List (List ℕ) → List NewComment
 comments_of fields = members_at comment_of 5 (value (at fields 0)) (drop 1 fields)
 
-abbrev pub review_of : List (List ℕ) → record_of_review.Review
+abbrev pub review_of : List (List ℕ) → Review
 review_of fields = let n = value (at fields 2) in
     record { patch = patch_of (at fields 0); message = at fields 1; labels = members_at given_of 2 n (drop 3 fields); comments = comments_of (drop (2 * n) (drop 3 fields)) }
 
@@ -177,7 +177,7 @@ comments_back cs =
     ap (λ m. members_at comment_of 5 m (flat_map comment_fields cs)) (value_numeral (length cs))
     ∙ (ap (members_at comment_of 5 (length cs)) (sym (append-nil (flat_map comment_fields cs))) ∙ members_back comment_of comment_fields 5 (λ c r. (comment_back c r, refl)) cs [])
 
-review_back : (change : ℕ) (r : record_of_review.Review) → command_of (command_fields (command.Review change r)) ≡ command.Review change r
+review_back : (change : ℕ) (r : Review) → command_of (command_fields (command.Review change r)) ≡ command.Review change r
 review_back change r =
     let behind = numeral (length r.comments) ∷ flat_map comment_fields r.comments in
     let count = value_numeral (length r.labels) in

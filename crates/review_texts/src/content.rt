@@ -3,7 +3,7 @@ ghost use Rattle.std.specs.Prelude.{◌≡◌, ◌++◌, ℕ, List, flat_map, ma
 ghost use Rattle.review_names.specs.Numerals.{numeral};
 ghost use Rattle.review_words.specs.Texts.{comment_fields, command_fields, content_text, given_fields, shown_flag, shown_link, shown_patch, shown_truth};
 ghost use Rattle.review_words.specs.declared.command.Command.TheVariants.{CreateChange, PutGroup, Upload};
-ghost use Rattle.review_words.specs.declared.command.Command.TheVariants as command;
+ghost use Rattle.review_words.specs.declared.command.Command.TheVariants as of_command;
 ghost use Rattle.review_texts.specs.Shown.{shown};
 
 use crate::pieces::{Piece, joined};
@@ -133,7 +133,7 @@ fn upload_text(alloc: Global, change: ChangeNo, new: &NewPatch) -> Result<String
 }
 
 fn review_text(alloc: Global, change: ChangeNo, review: &Review) -> Result<String, AllocError>
-    ensures { IfOk result (λ t. string_bytes t ≡ content_text (command.Review change review.now)) }
+    ensures { IfOk result (λ t. string_bytes t ≡ content_text (of_command.Review change review.now)) }
 {
     let labels = review.labels.as_slice();
     let comments = review.comments.as_slice();
