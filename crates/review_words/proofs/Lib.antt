@@ -1,5 +1,1 @@
-mod Cutting
-mod Splitting
-mod Commands
-mod Replies
-pub mod Fields
+mod Labels
