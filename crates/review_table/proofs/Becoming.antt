@@ -46,17 +46,16 @@ module _ {K X : Type 0} {R : K → K → Ordering} (o : IsTotalOrder R) where
   none_later k q e (r ∷ rows) s = let h : is_at (R q) r.0 ≡ false = ap is_eq (o.congr q k r.0 (tied (R q k) e) ∙ s.0) in rw h (none_later k q e rows s.1)
 
 -- what is changed at a key, by its row now and its row before
-put_change : {X : Type 0} → (X → X → Bool) → Option X → Option X → Option (Option X)
+abbrev put_change : {X : Type 0} → (X → X → Bool) → Option X → Option X → Option (Option X)
 put_change same None was = None
 put_change same (Some v) was = if has_row same was v then None else Some (Some v)
 
-take_change : {X : Type 0} → Option X → Option X → Option (Option X)
+abbrev take_change : {X : Type 0} → Option X → Option X → Option (Option X)
 take_change None now = None
 take_change (Some w) now = if is_some now then None else Some None
 
 put_step : {X : Type 0} (same : X → X → Bool) (b d h : Bool) (cs : Option (Option X)) (v : X) (rest was : Option X) → d ≡ h → (h ≡ true → b ≡ has_row same was v) → (h ≡ true → rest ≡ None) →
     cs ≡ put_change same rest was → (if b then cs else (if d then Some (Some v) else cs)) ≡ put_change same (if h then Some v else rest) was
-unfolding put_change
 put_step same true true true cs v rest was e told none ih = let t = told refl in ih ∙ (ap (λ r. put_change same r was) (none refl) ∙ (λ i. if t i then None else Some (Some v)))
 put_step same false true true cs v rest was e told none ih = let t = told refl in λ i. if t i then None else Some (Some v)
 put_step same b true false cs v rest was e told none ih = absurd (let f : true ≡ false = e in cc)
@@ -66,7 +65,6 @@ put_step same false false false cs v rest was e told none ih = ih
 
 take_step : {X : Type 0} (b d h : Bool) (cs : Option (Option X)) (w : X) (rest now : Option X) → d ≡ h → (h ≡ true → b ≡ is_some now) → (h ≡ true → rest ≡ None) →
     cs ≡ take_change rest now → (if b then cs else (if d then Some None else cs)) ≡ take_change (if h then Some w else rest) now
-unfolding take_change
 take_step true true true cs w rest now e told none ih = let t = told refl in ih ∙ (ap (λ r. take_change r now) (none refl) ∙ (λ i. if t i then None else Some None))
 take_step false true true cs w rest now e told none ih = let t = told refl in λ i. if t i then None else Some None
 take_step b true false cs w rest now e told none ih = absurd (let f : true ≡ false = e in cc)
@@ -80,7 +78,7 @@ change_if R false c cs q = refl
 
 module _ {K X : Type 0} {R : K → K → Ordering} (o : IsTotalOrder R) where
   puts_at : (same : X → X → Bool) (old new : List (K × X)) → IsStrictlySortedBy R (keys_of new) → (q : K) → change_of R (puts R same old new) q ≡ put_change same (row_in R new q) (row_in R old q)
-  unfolding IsStrictlySortedBy, put_change
+  unfolding IsStrictlySortedBy
   puts_at same old [] s q = refl
   puts_at same old (e ∷ es) s q =
       change_if R (has_row same (row_in R old e.0) e.1) (record { key = e.0; row = Some e.1 }) (puts R same old es) q
@@ -91,7 +89,7 @@ module _ {K X : Type 0} {R : K → K → Ordering} (o : IsTotalOrder R) where
       (puts_at same old es s.1 q)
 
   takes_at : (old new : List (K × X)) → IsStrictlySortedBy R (keys_of old) → (q : K) → change_of R (takes R new old) q ≡ take_change (row_in R old q) (row_in R new q)
-  unfolding IsStrictlySortedBy, take_change
+  unfolding IsStrictlySortedBy
   takes_at [] new s q = refl
   takes_at (e ∷ es) new s q =
       change_if R (is_some (row_in R new e.0)) (record { key = e.0; row = None }) (takes R new es) q
@@ -101,23 +99,20 @@ module _ {K X : Type 0} {R : K → K → Ordering} (o : IsTotalOrder R) where
       (λ h. none_later o e.0 q h es s.0)
       (takes_at es new s.1 q)
 
-or_change : {X : Type 0} → Option X → Option X → Option X
+abbrev or_change : {X : Type 0} → Option X → Option X → Option X
 or_change None other = other
 or_change (Some x) other = Some x
 
 or_where : {X : Type 0} (b : Bool) (x : X) (o other : Option X) → or_change (if b then Some x else o) other ≡ (if b then Some x else or_change o other)
-unfolding or_change
 or_where true x o other = refl
 or_where false x o other = refl
 
 change_append : {K X : Type 0} (R : K → K → Ordering) (xs ys : List (Change K X)) (q : K) → change_of R (xs ++ ys) q ≡ or_change (change_of R xs q) (change_of R ys q)
-unfolding or_change
 change_append R [] ys q = refl
 change_append R (c ∷ xs) ys q = ap (λ r. if is_at (R c.key) q then Some c.row else r) (change_append R xs ys q) ∙ sym (or_where (is_at (R c.key) q) c.row (change_of R xs q) (change_of R ys q))
 
 -- the row now, by what is changed
 became : {X : Type 0} (same : X → X → Bool) → ((a b : X) → Decides (same a b) (a ≡ b)) → (now was : Option X) → after_change (or_change (put_change same now was) (take_change was now)) was ≡ now
-unfolding or_change, put_change, take_change
 became same tells None None = refl
 became same tells None (Some w) = refl
 became same tells (Some v) None = refl

@@ -2,7 +2,7 @@ use Rattle.std.proofs.Common.{◌≡◌, ◌++◌, map}
 use Rattle.std.specs.Map.Iter.{deref_pair}
 use Rattle.review_table.specs.Rows.{rows_of}
 use Rattle.review_table.specs.Differences.{takes}
-use Rattle.review_table.proofs.difference.add_takes.Given as goal
+use Rattle.review_table.proofs.differences.add_takes.Given as goal
 
 abbrev pub invariant-loop-key : goal.invariant-loop-key
 invariant-loop-key g l =

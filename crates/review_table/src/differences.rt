@@ -1,29 +1,13 @@
 //! What has to change in one table to make it another.
-ghost use Rattle.std.specs.Prelude.{◌≡◌, ◌++◌, Bool, IfOk, OnOk, map};
+ghost use Rattle.std.specs.Prelude.{◌≡◌, ◌++◌, IfOk, OnOk, map};
 ghost use Rattle.std.specs.List.{All};
 ghost use Rattle.std.specs.Map.Iter.{deref_pair};
-ghost use Rattle.std.specs.Bool.{Decides};
 ghost use Rattle.review_table.specs.Rows.{changed, row_in, rows_of};
 ghost use Rattle.review_table.specs.Differences.{has_row, puts, takes};
 
 use crate::table::{Change, Table};
-use review_key::Key;
+use review_key::{Key, Row};
 use std::alloc::{AllocError, Global};
-
-/// A row that can be compared and copied exactly.
-pub trait Row: Drop + Sized {
-    ghost same: { Self → Self → Bool };
-
-    /// Whether two rows are the same.
-    fn is_same(&self, other: &Self) -> bool
-        ensures { result ≡ same self.now other.now };
-
-    /// The same row once more. An error where there was no memory for it.
-    fn copy(&self, alloc: Global) -> Result<Self, AllocError>
-        ensures { IfOk result (λ r. r ≡ self.now) };
-
-    ghost tells: { (a b : Self) → Decides (same a b) (a ≡ b) };
-}
 
 fn has_row<K: Key, V: Row>(table: &Table<K, V>, key: &K, row: &V) -> bool
     ensures { result ≡ has_row V.same (row_in K.cmp (rows_of table.now) key.now) row.now }
@@ -41,12 +25,12 @@ fn add_puts<K: Key, V: Row>(
     old: &Table<K, V>,
     rows: Vec<(&K, &V)>,
 ) -> Result<(), AllocError>
-    ensures { OnOk result (changes.new.items ≡ changes.old.items ++ puts K.cmp V.same (rows_of old.now) (map deref_pair rows.items)) }
+    ensures { OnOk result (changes.new.items ≡ changes.old.items ++ puts K.cmp V.same (rows_of old.now) (map deref_pair rows.entry.items)) }
 {
     for (key, row) in rows {
         if !has_row(old, key, row) {
             let key = key.copy(alloc)?;
-            let row = Some(row.copy(alloc)?);
+            let row = Some(row.copied(alloc)?);
             changes.push(Change { key, row })?;
         }
     }
@@ -60,7 +44,7 @@ fn add_takes<K: Key, V: Row>(
     new: &Table<K, V>,
     rows: Vec<(&K, &V)>,
 ) -> Result<(), AllocError>
-    ensures { OnOk result (changes.new.items ≡ changes.old.items ++ takes K.cmp (rows_of new.now) (map deref_pair rows.items)) }
+    ensures { OnOk result (changes.new.items ≡ changes.old.items ++ takes K.cmp (rows_of new.now) (map deref_pair rows.entry.items)) }
 {
     for (key, _) in rows {
         if new.get(key).is_none() {
