@@ -1,5 +1,5 @@
 //! What is said of changes: new ones, new patch sets, reviews.
-ghost use Rattle.std.specs.Prelude.{◌≡◌, ◌==◌, [], ℕ, IsTrue, IfErr, IfOk, false, true, map};
+ghost use Rattle.std.specs.Prelude.{◌≡◌, ◌==◌, IfErr, IfOk, false, true, length, nat_le};
 ghost use Rattle.std.specs.Cmp.Lexicographic.{pointwise, slice_cmp, nat_list_eq_equiv};
 ghost use Rattle.std.specs.Cmp as Cmp;
 ghost use Rattle.std.specs.List.Sorted.{IsStrictlySortedBy};
@@ -142,13 +142,17 @@ impl Model for Comments {
     ghost invariant = { λ c. IsTrue (all_written c.comments.items) };
 }
 
+fn is_written(comment: &NewComment) -> bool
+    ensures { result ≡ nat_le 1 (length comment.now.message) }
+{
+    1 <= comment.message.as_str().len()
+}
+
 /// Whether each comment says something.
 fn all_written(comments: &[NewComment]) -> bool
     ensures { result ≡ all_written comments.now }
 {
-    comments
-        .iter()
-        .all(|comment| !comment.message.as_str().is_empty())
+    comments.iter().all(|comment| is_written(comment))
 }
 
 impl Comments {
