@@ -198,7 +198,7 @@ fn is_slashed_name(text: &str) -> bool
 
 /// The place of comments on a patch set as a whole, `/PATCHSET_LEVEL`. An error where there was no
 /// memory for it.
-#[tactic(auto, unfolding(crate::specs::Forms::is_place))]
+#[tactic(auto, unfolding(crate::specs::Forms::is_place, crate::specs::Forms::is_path, crate::specs::Forms::is_path_step))]
 pub fn patch_set_level(alloc: Global) -> Result<Place, AllocError>
     ensures { IfOk result (λ p. p ≡ patch_set_level) }
 {

@@ -1,8 +1,9 @@
 //! What is said of changes: new ones, new patch sets, reviews.
-ghost use Rattle.std.specs.Prelude.{◌≡◌, ◌==◌, [], ℕ, IsTrue, IfErr, IfOk, false, true, map};
+ghost use Rattle.std.specs.Prelude.{◌≡◌, ◌==◌, IfErr, IfOk, false, true, length, map, nat_le};
 ghost use Rattle.std.specs.Cmp.Lexicographic.{pointwise, slice_cmp, nat_list_eq_equiv};
 ghost use Rattle.std.specs.Cmp as Cmp;
 ghost use Rattle.std.specs.List.Sorted.{IsStrictlySortedBy};
+ghost use Rattle.std.specs.Map.{keys_of};
 ghost use Rattle.std.specs.Ordering.{nat_cmp};
 ghost use Rattle.review_words.specs.Reviews.{all_written, by_label, label_set, names_of};
 
@@ -75,13 +76,26 @@ impl Model for Labels {
 
 /// The values of a list by the names of their labels.
 fn by_label(alloc: Global, given: Vec<Given>) -> Result<BTreeMap<LabelName, i8>, AllocError>
-    ensures { IfOk result (λ m. m.entries ≡ by_label given.items) }
+    ensures values { IfOk result (λ m. m.entries ≡ by_label given.items) }
+    ensures ordered { IfOk result (λ m. IsStrictlySortedBy (slice_cmp nat_cmp) (keys_of m.entries)) }
 {
     let mut values = BTreeMap::new(alloc);
     for one in given {
         values.insert(one.label, one.value)?;
     }
+    // Gives the proof that the names are in order.
+    let _len = values.len();
     Ok(values)
+}
+
+fn in_order(alloc: Global, values: BTreeMap<LabelName, i8>) -> Result<Vec<Given>, AllocError>
+    ensures { IfOk result (λ v. v.items ≡ map (λ e. record { label = e.0; value = e.1 }) values.entries) }
+{
+    let mut given = Vec::new(alloc);
+    for (label, value) in values {
+        given.push(Given { label, value })?;
+    }
+    Ok(given)
 }
 
 impl Labels {
@@ -91,11 +105,8 @@ impl Labels {
         ensures { IfOk result (λ l. l ≡ label_set given.items) }
     {
         let values = by_label(alloc, given)?;
-        let mut sorted = Vec::new(alloc);
-        for (label, value) in values {
-            sorted.push(Given { label, value })?;
-        }
-        Ok(Labels { given: sorted })
+        let given = in_order(alloc, values)?;
+        Ok(Labels { given })
     }
 
     /// The values in the order of the labels' names, each label once.
@@ -142,13 +153,17 @@ impl Model for Comments {
     ghost invariant = { λ c. IsTrue (all_written c.comments.items) };
 }
 
+fn is_written(comment: &NewComment) -> bool
+    ensures { result ≡ nat_le 1 (length comment.now.message) }
+{
+    1 <= comment.message.as_str().len()
+}
+
 /// Whether each comment says something.
 fn all_written(comments: &[NewComment]) -> bool
     ensures { result ≡ all_written comments.now }
 {
-    comments
-        .iter()
-        .all(|comment| !comment.message.as_str().is_empty())
+    comments.iter().all(|comment| is_written(comment))
 }
 
 impl Comments {
