@@ -24,8 +24,8 @@ given_before (g ∷ gs) l v none h =
     go (bytes_eq g.label l) p.0 (given_before gs l (if bytes_eq g.label l then g.value else v) p.1 h)
   where
     go : (b : Bool) → voted g.value ≡ false → voted (if b then g.value else v) ≡ true → voted v ≡ true
-    go true zero yes = absurd (let e : true ≡ false = sym yes ∙ zero in cc)
-    go false zero yes = yes
+    go true zero set = absurd (let e : true ≡ false = sym set ∙ zero in cc)
+    go false zero set = set
 
 -- who writes a review that leaves him a vote has a role
 pub writer_has : (gives says : Bool) (was : Option Role) (after before : ℤ) → (gives ≡ false → voted after ≡ true → voted before ≡ true) → (voted before ≡ true → is_some was ≡ true) → voted after ≡ true →
