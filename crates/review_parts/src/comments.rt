@@ -4,9 +4,7 @@ ghost use Rattle.review_changes.specs.Change as change;
 ghost use Rattle.review_changes.specs.Change.{answered, message_of, said, stored_as};
 
 use review_changes::CommentRow;
-use review_words::{
-    AccountNo, CommentNo, Message, NewComment, PatchNo, Review, patch_set_level,
-};
+use review_words::{AccountNo, CommentNo, Message, NewComment, PatchNo, Review, patch_set_level};
 use std::alloc::{AllocError, Global};
 
 /// The item of a number, counted from 1.
