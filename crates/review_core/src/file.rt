@@ -9,13 +9,9 @@ ghost use Rattle.review_changes.specs.declared.commands.ChangeCommand.TheVariant
 ghost use Rattle.review_core.specs.Faults.{IsRefused};
 ghost use Rattle.review_parts.specs.Copies.{AreMany};
 
-use crate::attending;
-use crate::beginning;
-use crate::reviewing;
-use crate::roles;
 use crate::sound::{are_all, are_counted, are_eligible, are_in_order, are_in_place};
-use crate::states;
 use crate::uploading::{self, Copied};
+use crate::{attending, beginning, reviewing, roles, states};
 use review_changes::{ChangeRows, begins_sound, joins_sound, stays_sound};
 use review_file::ProjectFile;
 use review_words::{AccountNo, Groups, NewChange, NewPatch, Reason, Review, Role};
@@ -67,12 +63,13 @@ impl ChangeFile {
     pub fn from_rows(alloc: Global, rows: ChangeRows) -> Result<ChangeFile, RowsFault>
         ensures { MatchResult result (λ file. file.rows ≡ rows) (IsRefused rows) }
     {
+        let owner = roles::owner_of(&rows.header);
         rows.votes.once();
         rows.attention.once();
         let current = rows.patches.len();
-        let uploader = roles::last_uploader(rows.header.owner, &rows.patches);
+        let uploader = roles::uploader_of(&rows.header, &rows.patches);
         let votes = are_in_place(alloc, &rows.votes, current, &rows.roles)?;
-        let called = are_eligible(alloc, rows.header.owner, uploader, &rows.roles, &rows.attention)?;
+        let called = are_eligible(alloc, owner, uploader, &rows.roles, &rows.attention)?;
         let counted = are_counted(&rows.patches, &rows.comments);
         let ordered = are_in_order(&rows.comments, current);
         if !are_all(counted, ordered, votes, called) {
@@ -122,8 +119,9 @@ impl ChangeFile {
         ensures outdated { IfOk result (λ r. AreMany (λ l u. is_lost (copying (record { file = file.now; groups = groups }) (Upload patch) caller (seen self.rows)) (seen self.rows) u l) r.1.outdated) }
     {
         stays_sound();
-        let (rows, counts) =
-            uploading::with_patch_set(alloc, self.rows, patch, caller, file, groups, request)?;
+        let (rows, counts) = uploading::with_patch_set(
+            alloc, self.rows, patch, caller, file, groups, request,
+        )?;
         Ok((ChangeFile { rows }, counts))
     }
 

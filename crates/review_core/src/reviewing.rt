@@ -44,10 +44,13 @@ pub fn with_review(
     ensures { IfOk result (λ new. seen new ≡ after_plain (ReviewOf review.now) caller request (seen rows)) }
 {
     let mut rows = rows;
+    let state = rows.header.state;
+    let wip = rows.header.wip;
+    let who = who_for(&rows.header, &rows.patches, caller);
     let patch = reviewed_patch(&rows.patches, review);
     let labels = review.labels.as_slice();
     give(alloc, &mut rows.votes, patch, caller, labels)?;
-    review_roles(&mut rows.roles, review, rows.header.owner, caller)?;
+    review_roles(&mut rows.roles, review, who.owner, caller)?;
     let origin = Origin {
         patch,
         author: caller,
@@ -55,9 +58,8 @@ pub fn with_review(
     };
     let mut new = new_comments(alloc, &rows.comments, &origin, review)?;
     let stored = posts(alloc, &rows.comments)?;
-    let who = who_for(&rows.header, &rows.patches, caller);
     let rule = WhenReviewed {
-        is_open: is_open(rows.header.state),
+        is_open: is_open(state),
         stored: &stored,
         given: review.comments.as_slice(),
         new: &new,
@@ -65,7 +67,7 @@ pub fn with_review(
         owner: who.owner,
         uploader: who.uploader,
     };
-    let is_gone = leaves(rows.header.state, rows.header.wip);
+    let is_gone = leaves(state, wip);
     drop_called(&mut rows.attention, caller, is_gone);
     call_eligible(
         alloc,

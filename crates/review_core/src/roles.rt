@@ -23,6 +23,19 @@ pub fn last_uploader(owner: AccountNo, patches: &[PatchRow]) -> AccountNo
     last
 }
 
+/// Who sent the current patch set.
+pub fn uploader_of(header: &Header, patches: &[PatchRow]) -> AccountNo
+    ensures { result ≡ last_uploader header.now.owner patches.now }
+{
+    last_uploader(header.owner, patches)
+}
+
+pub fn owner_of(header: &Header) -> AccountNo
+    ensures { result ≡ header.now.owner }
+{
+    header.owner
+}
+
 /// Who has to do with a change, for a request of this caller.
 pub fn who_for(header: &Header, patches: &[PatchRow], caller: AccountNo) -> Who
     ensures { result ≡ record { owner = header.now.owner; uploader = last_uploader header.now.owner patches.now; caller = caller; wip = header.now.wip } }
@@ -109,12 +122,12 @@ pub fn without_reviewer(
     ensures { IfOk result (λ new. seen new ≡ after_plain (RemoveReviewer account) caller request (seen rows)) }
 {
     let mut rows = rows;
-    let patch = current_patch(&rows.patches);
-    rows.votes = drop_votes(alloc, rows.votes, patch, account)?;
-    set_role(&mut rows.roles, account, None)?;
     rows.header.updated = request;
-    let uploader = last_uploader(rows.header.owner, &rows.patches);
-    let is_gone = is_other(account, rows.header.owner, uploader);
+    let who = who_for(&rows.header, &rows.patches, caller);
+    let patch = current_patch(&rows.patches);
+    set_role(&mut rows.roles, account, None)?;
+    let is_gone = is_other(account, who.owner, who.uploader);
     drop_called(&mut rows.attention, account, is_gone);
+    rows.votes = drop_votes(alloc, rows.votes, patch, account)?;
     Ok(rows)
 }

@@ -8,7 +8,7 @@ ghost use Rattle.review_changes.specs.Votes.{voted};
 ghost use Rattle.review_changes.specs.declared.commands.ChangeCommand.TheVariants.{Upload};
 ghost use Rattle.review_parts.specs.Copies.{AreMany};
 
-use crate::roles::{current_patch, last_uploader, who_for};
+use crate::roles::{current_patch, uploader_of, who_for};
 use review_changes::{ChangeRows, PatchRow};
 use review_file::ProjectFile;
 use review_judging::{ValueRange, VoteFacts};
@@ -113,7 +113,7 @@ pub fn with_patch_set(
     let mut rows = rows;
     let now = current_patch(&rows.patches);
     let next = next_patch(now);
-    let former = last_uploader(rows.header.owner, &rows.patches);
+    let former = uploader_of(&rows.header, &rows.patches);
     let facts = upload_facts(&rows.patches, &patch, caller, groups);
     let parted = part_votes(alloc, &rows.votes, file, facts, now, next)?;
     let Parted { copied, lost } = parted;

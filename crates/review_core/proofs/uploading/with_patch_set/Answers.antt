@@ -38,7 +38,7 @@ returns c =
     let F = copies_by file c.upload_facts-facts.result in
     let sorted = c.in_ok-parted.ensures.sorted in
     let parted = c.in_ok-parted.ensures.parted in
-    let former : c.last_uploader-former.result ≡ last_uploader owner ps = c.last_uploader-former.ensures ∙ ap (last_uploader owner) c.deref-2.ensures.value in
+    let former : c.uploader_of-former.result ≡ last_uploader owner ps = c.uploader_of-former.ensures ∙ ap (last_uploader owner) c.deref-2.ensures.value in
     let row : PatchRow = record { commit = p.commit; parent = p.parent; kind = p.kind; uploader = caller; paths = p.paths } in
     let pushed = c.in_ok-push.ensures.items ∙ ap (λ x. ps ++ x ∷ []) c.sent_by.ensures in
     let whole : Who = record { owner = owner; uploader = last_uploader owner (ps ++ row ∷ []); caller = caller; wip = rows.header.wip } in
@@ -52,7 +52,7 @@ returns c =
             ∙ (λ j. if next j == k then (if copies_by file (facts j) l u (vote_in rows.votes (n j) l u) then vote_in rows.votes (n j) l u else pos 0) else vote_in rows.votes k l u)) i;
         attention = λ u. (c.in_ok-call_eligible.ensures u ∙ (λ j.
             kept_or ((c.drop_called.ensures u
-            ∙ (ap (λ b. if (c.last_uploader-former.result == u) && not b then None else of_account rows.attention u) c.is_eligible.ensures
+            ∙ (ap (λ b. if (c.uploader_of-former.result == u) && not b then None else of_account rows.attention u) c.is_eligible.ensures
             ∙ (λ x. if (former x == u) && not (((who x).owner == former x) || (((who x).uploader == former x) || is_some (of_account rows.roles (former x)))) then None else of_account rows.attention u))) j)
             (if (((who j).owner == u) || (((who j).uploader == u) || is_some (of_account rows.roles u))) && (not ((who j).caller == u) && not (who j).wip)
             then option_map NotCopied (find
