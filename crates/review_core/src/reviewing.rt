@@ -1,17 +1,18 @@
 //! A review: its votes, the role of its writer, its comments, and who is called.
-ghost use Rattle.std.specs.Prelude.{◌≡◌, ◌||◌, not, true, length, unwrap_or, IfOk};
+ghost use Rattle.std.specs.Prelude.{◌≡◌, ◌==◌, ◌&&◌, ◌||◌, not, ℕ, true, None, is_some, length, unwrap_or, IfOk, OnOk, if◌then◌else◌};
 ghost use Rattle.review_names.specs.Forms.{is_within, most_patches};
-ghost use Rattle.review_changes.specs.Change.{after_plain, current, is_open};
-ghost use Rattle.review_changes.specs.Seen.{seen};
+ghost use Rattle.review_changes.specs.Change.{after_plain, current, is_open, kept_or, why_commented, why_replied};
+ghost use Rattle.review_changes.specs.Seen.{of_account, seen};
 ghost use Rattle.review_changes.specs.declared.commands.ChangeCommand.TheVariants.{Review as ReviewOf};
 
 use crate::roles::{current_patch, who_for};
 use crate::states::is_open;
-use review_changes::{ChangeRows, PatchRow, State};
+use review_changes::{Called, ChangeRows, PatchRow, State};
 use review_parts::{
-    Origin, WhenReviewed, call_eligible, drop_called, give, new_comments, posts, review_roles,
+    Origin, WhenReviewed, Who, call_eligible, drop_called, give, new_comments, posts, review_roles,
 };
-use review_words::{AccountNo, PatchNo, Review};
+use review_table::Table;
+use review_words::{AccountNo, PatchNo, Review, Role};
 use std::alloc::{AllocError, Global};
 
 /// Whether who writes a review leaves the attention set.
@@ -19,6 +20,23 @@ fn leaves(state: State, wip: bool) -> bool
     ensures { result ≡ (not (is_open state) || not wip) }
 {
     !is_open(state) || !wip
+}
+
+/// Takes the writer out, where he is to go, and calls those whom the review calls.
+fn call_reviewed(
+    alloc: Global,
+    attention: &mut Table<AccountNo, Called>,
+    roles: &Table<AccountNo, Role>,
+    who: &Who,
+    rule: &WhenReviewed<'_>,
+    is_gone: bool,
+    request: u64,
+) -> Result<(), AllocError>
+    ensures { OnOk result ((u : ℕ) → of_account attention.new u ≡ kept_or (if (who.now.caller == u) && is_gone then None else of_account attention.old u) (if ((who.now.owner == u) || ((who.now.uploader == u) || is_some (of_account roles.now u))) && (not (who.now.caller == u) && not who.now.wip) then (if rule.now.is_open then why_replied rule.now.stored.now rule.now.given.now rule.now.caller rule.now.owner rule.now.uploader u else why_commented rule.now.new.now rule.now.caller rule.now.owner u) else None) request) }
+{
+    drop_called(attention, who.caller, is_gone);
+    call_eligible(alloc, attention, roles, who, rule, request)?;
+    Ok(())
 }
 
 /// The patch set that is reviewed.
@@ -68,13 +86,13 @@ pub fn with_review(
         uploader: who.uploader,
     };
     let is_gone = leaves(state, wip);
-    drop_called(&mut rows.attention, caller, is_gone);
-    call_eligible(
+    call_reviewed(
         alloc,
         &mut rows.attention,
         &rows.roles,
         &who,
         &rule,
+        is_gone,
         request,
     )?;
     rows.comments.append(&mut new)?;

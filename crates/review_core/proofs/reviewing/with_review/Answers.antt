@@ -23,8 +23,8 @@ returns c =
       vote = λ m l a. (c.in_ok-give.ensures m l a ∙ (λ j. if (n j == m) && (caller == a) then given_or (c.as_slice-labels.ensures.given j) l (vote_in rows.votes m l a) else vote_in rows.votes m l a)) i;
       role = λ u. role u i;
       comments = (c.in_ok-append.ensures.items ∙ ap (λ xs. rows.comments.items ++ xs) new) i;
-      attention = λ u. (c.in_ok-call_eligible.ensures u ∙ (λ j.
-          kept_or ((c.drop_called.ensures u ∙ ap (λ b. if (caller == u) && b then None else of_account rows.attention u) c.leaves-is_gone.ensures) j)
+      attention = λ u. (c.in_ok-call_reviewed.ensures u ∙ (λ j.
+          kept_or (if ((who j).caller == u) && c.leaves-is_gone.ensures j then None else of_account rows.attention u)
           (if (((who j).owner == u) || (((who j).uploader == u) || is_some (role u j))) && (not ((who j).caller == u) && not (who j).wip)
           then (if c.is_open.ensures j
           then why_replied (stored j) (c.as_slice.ensures.comments j) caller (who j).owner (who j).uploader u

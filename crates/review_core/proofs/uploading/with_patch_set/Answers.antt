@@ -52,7 +52,7 @@ returns c =
             ∙ (λ j. if next j == k then (if copies_by file (facts j) l u (vote_in rows.votes (n j) l u) then vote_in rows.votes (n j) l u else pos 0) else vote_in rows.votes k l u)) i;
         attention = λ u. (c.in_ok-call_eligible.ensures u ∙ (λ j.
             kept_or ((c.drop_called.ensures u
-            ∙ (ap (λ b. if (c.uploader_of-former.result == u) && not b then None else of_account rows.attention u) c.is_eligible.ensures
+            ∙ (ap (λ b. if (c.uploader_of-former.result == u) && not b then None else of_account rows.attention u) c.is_eligible-is_gone.ensures
             ∙ (λ x. if (former x == u) && not (((who x).owner == former x) || (((who x).uploader == former x) || is_some (of_account rows.roles (former x)))) then None else of_account rows.attention u))) j)
             (if (((who j).owner == u) || (((who j).uploader == u) || is_some (of_account rows.roles u))) && (not ((who j).caller == u) && not (who j).wip)
             then option_map NotCopied (find
