@@ -7,12 +7,12 @@ ghost use Rattle.review_changes.specs.declared.commands.ChangeCommand.TheVariant
 
 use crate::roles::{current_patch, who_for};
 use crate::states::is_open;
-use review_changes::{Called, ChangeRows, PatchRow, State};
+use review_changes::{Called, ChangeRows, CommentRow, PatchRow, Post, State};
 use review_parts::{
     Origin, WhenReviewed, Who, call_eligible, drop_called, give, new_comments, posts, review_roles,
 };
 use review_table::Table;
-use review_words::{AccountNo, PatchNo, Review, Role};
+use review_words::{AccountNo, NewComment, PatchNo, Review, Role};
 use std::alloc::{AllocError, Global};
 
 /// Whether who writes a review leaves the attention set.
@@ -22,20 +22,33 @@ fn leaves(state: State, wip: bool) -> bool
     !is_open(state) || !wip
 }
 
-/// Takes the writer out, where he is to go, and calls those whom the review calls.
+/// Takes the writer out, where he is to go, and calls those whom the review calls: among the stored comments, by those that are
+/// given, or by the new ones.
 fn call_reviewed(
     alloc: Global,
     attention: &mut Table<AccountNo, Called>,
     roles: &Table<AccountNo, Role>,
     who: &Who,
-    rule: &WhenReviewed<'_>,
-    is_gone: bool,
+    state: State,
+    stored: &[Post],
+    given: &[NewComment],
+    new: &[CommentRow],
     request: u64,
 ) -> Result<(), AllocError>
-    ensures { OnOk result ((u : ℕ) → of_account attention.new u ≡ kept_or (if (who.now.caller == u) && is_gone then None else of_account attention.old u) (if ((who.now.owner == u) || ((who.now.uploader == u) || is_some (of_account roles.now u))) && (not (who.now.caller == u) && not who.now.wip) then (if rule.now.is_open then why_replied rule.now.stored.now rule.now.given.now rule.now.caller rule.now.owner rule.now.uploader u else why_commented rule.now.new.now rule.now.caller rule.now.owner u) else None) request) }
+    ensures { OnOk result ((u : ℕ) → of_account attention.new u ≡ kept_or (if (who.now.caller == u) && (not (is_open state) || not who.now.wip) then None else of_account attention.old u) (if ((who.now.owner == u) || ((who.now.uploader == u) || is_some (of_account roles.now u))) && (not (who.now.caller == u) && not who.now.wip) then (if is_open state then why_replied stored.now given.now who.now.caller who.now.owner who.now.uploader u else why_commented new.now who.now.caller who.now.owner u) else None) request) }
 {
+    let rule = WhenReviewed {
+        is_open: is_open(state),
+        stored,
+        given,
+        new,
+        caller: who.caller,
+        owner: who.owner,
+        uploader: who.uploader,
+    };
+    let is_gone = leaves(state, who.wip);
     drop_called(attention, who.caller, is_gone);
-    call_eligible(alloc, attention, roles, who, rule, request)?;
+    call_eligible(alloc, attention, roles, who, &rule, request)?;
     Ok(())
 }
 
@@ -63,7 +76,6 @@ pub fn with_review(
 {
     let mut rows = rows;
     let state = rows.header.state;
-    let wip = rows.header.wip;
     let who = who_for(&rows.header, &rows.patches, caller);
     let patch = reviewed_patch(&rows.patches, review);
     let labels = review.labels.as_slice();
@@ -76,23 +88,16 @@ pub fn with_review(
     };
     let mut new = new_comments(alloc, &rows.comments, &origin, review)?;
     let stored = posts(alloc, &rows.comments)?;
-    let rule = WhenReviewed {
-        is_open: is_open(state),
-        stored: &stored,
-        given: review.comments.as_slice(),
-        new: &new,
-        caller,
-        owner: who.owner,
-        uploader: who.uploader,
-    };
-    let is_gone = leaves(state, wip);
+    let given = review.comments.as_slice();
     call_reviewed(
         alloc,
         &mut rows.attention,
         &rows.roles,
         &who,
-        &rule,
-        is_gone,
+        state,
+        &stored,
+        given,
+        &new,
         request,
     )?;
     rows.comments.append(&mut new)?;

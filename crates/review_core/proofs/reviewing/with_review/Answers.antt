@@ -1,6 +1,6 @@
 use Rattle.std.proofs.Common.{◌≡◌, ℕ, ◌==◌, ◌&&◌, ◌||◌, ◌++◌, not, ◌∙◌, ap, length, map, None}
 use Rattle.std.specs.Prelude.{if◌then◌else◌, unwrap_or, is_some}
-use Rattle.review_changes.specs.Change.{last_uploader, reviewed, given_or, stored_as, said, new_comments, posts, kept_or, why_replied, why_commented, writer_role}
+use Rattle.review_changes.specs.Change.{last_uploader, reviewed, given_or, stored_as, said, new_comments, posts, kept_or, why_replied, why_commented, writer_role, is_open}
 use Rattle.review_changes.specs.Seen.{seen, vote_in, of_account}
 use Rattle.review_parts.specs.declared.attention.Who.{Who}
 use Rattle.review_core.proofs.reviewing.with_review.Goals as goal
@@ -24,11 +24,11 @@ returns c =
       role = λ u. role u i;
       comments = (c.in_ok-append.ensures.items ∙ ap (λ xs. rows.comments.items ++ xs) new) i;
       attention = λ u. (c.in_ok-call_reviewed.ensures u ∙ (λ j.
-          kept_or (if ((who j).caller == u) && c.leaves-is_gone.ensures j then None else of_account rows.attention u)
+          kept_or (if ((who j).caller == u) && (not (is_open rows.header.state) || not (who j).wip) then None else of_account rows.attention u)
           (if (((who j).owner == u) || (((who j).uploader == u) || is_some (role u j))) && (not ((who j).caller == u) && not (who j).wip)
-          then (if c.is_open.ensures j
-          then why_replied (stored j) (c.as_slice.ensures.comments j) caller (who j).owner (who j).uploader u
-          else why_commented (new j) caller (who j).owner u)
+          then (if is_open rows.header.state
+          then why_replied ((c.deref-5.ensures.value ∙ stored) j) (c.as_slice-given.ensures.comments j) (who j).caller (who j).owner (who j).uploader u
+          else why_commented ((c.deref-6.ensures.value ∙ new) j) (who j).caller (who j).owner u)
           else None)
           c.args.request)) i;
     }
