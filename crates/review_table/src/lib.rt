@@ -1,9 +1,7 @@
 //! Keyed tables. Places for changes are made first, which changes no row; then all changes are made, and that can't fail.
 #![tactic(auto)]
 
-pub mod differences;
 pub mod table;
 
-pub use differences::difference;
 pub use review_key::{Key, Row};
 pub use table::{BadRows, Change, Table};
