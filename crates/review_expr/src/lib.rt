@@ -24,3 +24,4 @@ pub use expression::Expression;
 pub use fault::ParseFault;
 pub use review_words::{ExprCode, ExprFault};
 pub use spelled::Spelled;
+pub use words::opens_at;

@@ -75,7 +75,7 @@ fn push_word<T: Spelled>(
 }
 
 /// Whether the first piece is an opening parenthesis at a place.
-fn opens_at(pieces: &[Piece], place: usize) -> bool
+pub fn opens_at(pieces: &[Piece], place: usize) -> bool
     ensures { (text : List ℕ) → opens_at place (lexemes text pieces.now) ≡ result }
 {
     match pieces {

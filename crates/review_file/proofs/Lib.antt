@@ -1,4 +1,6 @@
 pub mod InTurn
+pub mod Patterns
+pub mod Search
 pub mod SoundLabels
 pub mod Ends
 pub mod KeysInOrder

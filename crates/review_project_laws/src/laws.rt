@@ -19,6 +19,11 @@ pub fn refused_has_pattern()
     ensures { (text : List ℕ) → IsReadFault text Pattern → HasPattern text }
 {}
 
+/// A text that spells a file has no fault.
+pub fn never_both()
+    ensures { (text : List ℕ) (f : FileView Expr) (fault : FileFault) → IsRead text f → IsFileFault text fault → ⊥ }
+{}
+
 /// A text that spells a file has no fault but a bad value of an expression, where a pattern in it
 /// nests deeper than the engine reads.
 pub fn read_or_fault()

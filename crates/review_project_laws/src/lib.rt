@@ -4,4 +4,4 @@
 
 pub mod laws;
 
-pub use laws::{one_fault, one_file, place_within, read_or_fault, refused_has_pattern};
+pub use laws::{never_both, one_fault, one_file, place_within, read_or_fault, refused_has_pattern};

@@ -62,3 +62,21 @@ after_change (Some now) was = now
 -- what a key has after changes
 abbrev pub changed : {K X : Type 0} → (K → K → Ordering) → List (Change K X) → K → Option X → Option X
 changed cmp changes q was = after_change (change_of cmp changes q) was
+
+-- ---- places without a row
+
+-- the place of a key: none, or one with a row or none
+abbrev pub place_at : {K X : Type 0} → (K → K → Ordering) → List (K × Option X) → K → Option (Option X)
+place_at cmp t k = lookup (is_at (cmp k)) t
+
+-- whether one of these changes names the key
+abbrev pub is_named : {K X : Type 0} → (K → K → Ordering) → List (Change K X) → K → Bool
+is_named cmp changes q = is_some (change_of cmp changes q)
+
+-- Every place has a row.
+abbrev pub HasNoEmptyPlace : {K X : Type 0} → (K → K → Ordering) → List (K × Option X) → Type 0
+HasNoEmptyPlace {K = K} cmp t = (q : K) → IsEmptyPlace cmp t q → ⊥
+
+-- Every place has a row, but for keys that pass the test.
+abbrev pub HasEmptyOnly : {K X : Type 0} → (K → K → Ordering) → (K → Bool) → List (K × Option X) → Type 0
+HasEmptyOnly {K = K} cmp test t = (q : K) → IsEmptyPlace cmp t q → test q ≡ true

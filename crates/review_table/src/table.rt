@@ -1,4 +1,4 @@
-ghost use Rattle.std.specs.Prelude.{◌≡◌, ◌++◌, ◌&&◌, List, Option, Some, None, [], IfOk, IfErr, IfSome, IsNone, OnOk, OnErr, ◌↔◌, map, length, option_copied, if◌then◌else◌, Result, Ok, Err, IsSome, false};
+ghost use Rattle.std.specs.Prelude.{◌≡◌, ◌++◌, ◌&&◌, List, Option, Some, None, [], IfOk, IfErr, IfSome, IsNone, OnOk, OnErr, ◌↔◌, map, length, option_copied, option_map, if◌then◌else◌, Result, Ok, Err, IsSome, false};
 ghost use Rattle.std.specs.Ordering.{eq_by_cmp};
 ghost use Rattle.std.specs.List.{All, IsDistinct, filter};
 ghost use Rattle.std.specs.List.Sorted.{IsStrictlySortedBy};
@@ -8,7 +8,7 @@ ghost use Rattle.std.specs.BTreeMap.{is_at};
 ghost use Rattle.std.specs.BTreeMap.Range.{IsLeBy, range_contains};
 ghost use Rattle.std.specs.declared.ops.Bound.TheVariants.{Included};
 ghost use Rattle.std.specs.declared.cmp.Ordering.TheVariants.{Less};
-ghost use Rattle.review_table.specs.Rows.{row_at, row_in, rows_of, HasPlace, HavePlaces, IsEmptyPlace, changed, has_place, placed};
+ghost use Rattle.review_table.specs.Rows.{row_at, row_in, rows_of, HasEmptyOnly, HasNoEmptyPlace, HasPlace, HavePlaces, IsEmptyPlace, changed, has_place, is_named, place_at, placed};
 ghost use Rattle.review_table.specs.declared.table.BadRows.TheVariants.{Double};
 
 use review_key::Key;
@@ -72,10 +72,12 @@ impl<K: Key, V: Drop> Table<K, V> {
         }
     }
 
-    /// Each key stands once, in order, so the row at a key is the one that the rows have.
+    /// Each key stands once, in order, so the row at a key is the one that the rows have. Where every
+    /// place has a row, there are as many places as rows.
     pub fn once(&self)
         ensures sorted { IsStrictlySortedBy K.cmp (keys_of (rows_of self.now)) }
         ensures rows { (q : K) → row_at K.cmp self.now q ≡ row_in K.cmp (rows_of self.now) q }
+        ensures bounded { HasNoEmptyPlace K.cmp self.now → length self.now ≡ length (rows_of self.now) }
     {
         let _ = self.places.len();
     }
@@ -87,6 +89,9 @@ impl<K: Key, V: Drop> Table<K, V> {
         ensures rows { (q : K) → row_at K.cmp self.new q ≡ row_at K.cmp self.old q }
         ensures stay { (q : K) → HasPlace K.cmp self.old q → HasPlace K.cmp self.new q }
         ensures ok { OnOk result (HasPlace K.cmp self.new key) }
+        ensures each { OnOk result ((q : K) → place_at K.cmp self.new q ≡ (if is_at (K.cmp key) q then Some (row_at K.cmp self.old q) else place_at K.cmp self.old q)) }
+        ensures err { OnErr result (self.new ≡ self.old) }
+        ensures only { HasNoEmptyPlace K.cmp self.old → HasEmptyOnly K.cmp (is_at (K.cmp key)) self.new }
     {
         if !self.places.contains_key(&key) {
             self.places.insert(key, None)?;
@@ -98,6 +103,7 @@ impl<K: Key, V: Drop> Table<K, V> {
     fn set(&mut self, key: K, row: Option<V>)
         ensures rows { (q : K) → row_at K.cmp self.new q ≡ (if has_place K.cmp self.old key && is_at (K.cmp key) q then row else row_at K.cmp self.old q) }
         ensures stay { (q : K) → has_place K.cmp self.new q ≡ has_place K.cmp self.old q }
+        ensures each { (q : K) → place_at K.cmp self.new q ≡ option_map (λ was. if is_at (K.cmp key) q then row else was) (place_at K.cmp self.old q) }
     {
         if self.places.contains_key(&key) {
             self.set_place(key, row);
@@ -109,6 +115,7 @@ impl<K: Key, V: Drop> Table<K, V> {
         requires { HasPlace K.cmp self.old key }
         ensures rows { (q : K) → row_at K.cmp self.new q ≡ (if is_at (K.cmp key) q then row else row_at K.cmp self.old q) }
         ensures stay { (q : K) → has_place K.cmp self.new q ≡ has_place K.cmp self.old q }
+        ensures each { (q : K) → place_at K.cmp self.new q ≡ (if is_at (K.cmp key) q then Some row else place_at K.cmp self.old q) }
     {
         let _ = self.places.insert(key, row);
     }
@@ -117,6 +124,7 @@ impl<K: Key, V: Drop> Table<K, V> {
     fn add(&mut self, key: K, row: V) -> Result<(), BadRows>
         ensures ok { OnOk result ((row_at K.cmp self.old key ≡ None) × ((q : K) → row_at K.cmp self.new q ≡ (if is_at (K.cmp key) q then Some row else row_at K.cmp self.old q))) }
         ensures double { IfErr result (λ e. e ≡ Double → IsSome (row_at K.cmp self.old key)) }
+        ensures kept { HasNoEmptyPlace K.cmp self.old → HasNoEmptyPlace K.cmp self.new }
     {
         if self.at(&key).is_some() {
             return Err(BadRows::Double);
@@ -133,6 +141,9 @@ impl<K: Key, V: Drop> Table<K, V> {
         ensures rows { (q : K) → row_at K.cmp self.new q ≡ row_at K.cmp self.old q }
         ensures stay { (q : K) → HasPlace K.cmp self.old q → HasPlace K.cmp self.new q }
         ensures ok { OnOk result (HavePlaces K.cmp self.new changes.now) }
+        ensures each { OnOk result ((q : K) → place_at K.cmp self.new q ≡ (if is_named K.cmp changes.now q then Some (row_at K.cmp self.old q) else place_at K.cmp self.old q)) }
+        ensures others { (q : K) → is_named K.cmp changes.now q ≡ false → place_at K.cmp self.new q ≡ place_at K.cmp self.old q }
+        ensures only { HasNoEmptyPlace K.cmp self.old → HasEmptyOnly K.cmp (is_named K.cmp changes.now) self.new }
     {
         for change in changes {
             let key = change.key.copy(alloc)?;
@@ -145,6 +156,9 @@ impl<K: Key, V: Drop> Table<K, V> {
     pub fn apply(&mut self, changes: Vec<Change<K, V>>)
         ensures placed { (q : K) → row_in K.cmp (rows_of self.new) q ≡ changed K.cmp (placed K.cmp self.old changes.items) q (row_in K.cmp (rows_of self.old) q) }
         ensures all { HavePlaces K.cmp self.old changes.items → (q : K) → row_in K.cmp (rows_of self.new) q ≡ changed K.cmp changes.items q (row_in K.cmp (rows_of self.old) q) }
+        ensures each { (q : K) → place_at K.cmp self.new q ≡ option_map (changed K.cmp changes.items q) (place_at K.cmp self.old q) }
+        ensures only { HasEmptyOnly K.cmp (is_named K.cmp changes.items) self.old → HasEmptyOnly K.cmp (is_named K.cmp changes.items) self.new }
+        ensures mended { All (λ c. IsSome c.row) changes.items → HasEmptyOnly K.cmp (is_named K.cmp changes.items) self.old → HasNoEmptyPlace K.cmp self.new }
     {
         self.once();
         self.set_all(changes);
@@ -155,6 +169,9 @@ impl<K: Key, V: Drop> Table<K, V> {
     pub fn put(&mut self, key: K, row: V) -> Result<(), AllocError>
         ensures ok { OnOk result ((q : K) → row_in K.cmp (rows_of self.new) q ≡ (if is_at (K.cmp key) q then Some row else row_in K.cmp (rows_of self.old) q)) }
         ensures err { OnErr result (rows_of self.new ≡ rows_of self.old) }
+        ensures each { OnOk result ((q : K) → place_at K.cmp self.new q ≡ (if is_at (K.cmp key) q then Some (Some row) else place_at K.cmp self.old q)) }
+        ensures same { OnErr result (self.new ≡ self.old) }
+        ensures kept { HasNoEmptyPlace K.cmp self.old → HasNoEmptyPlace K.cmp self.new }
     {
         self.once();
         self.put_place(key, row)?;
@@ -164,6 +181,7 @@ impl<K: Key, V: Drop> Table<K, V> {
 
     fn put_place(&mut self, key: K, row: V) -> Result<(), AllocError>
         ensures ok { OnOk result ((q : K) → row_at K.cmp self.new q ≡ (if is_at (K.cmp key) q then Some row else row_at K.cmp self.old q)) }
+        ensures each { OnOk result ((q : K) → place_at K.cmp self.new q ≡ (if is_at (K.cmp key) q then Some (Some row) else place_at K.cmp self.old q)) }
         ensures err { OnErr result (self.new ≡ self.old) }
     {
         self.places.insert(key, Some(row))?;
@@ -174,6 +192,8 @@ impl<K: Key, V: Drop> Table<K, V> {
     pub fn remove(&mut self, key: &K)
         ensures rows { (q : K) → row_in K.cmp (rows_of self.new) q ≡ (if is_at (K.cmp key.now) q then None else row_in K.cmp (rows_of self.old) q) }
         ensures places { (q : K) → has_place K.cmp self.new q ≡ (if is_at (K.cmp key.now) q then false else has_place K.cmp self.old q) }
+        ensures each { (q : K) → place_at K.cmp self.new q ≡ (if is_at (K.cmp key.now) q then None else place_at K.cmp self.old q) }
+        ensures mended { HasEmptyOnly K.cmp (is_at (K.cmp key.now)) self.old → HasNoEmptyPlace K.cmp self.new }
     {
         self.once();
         self.remove_place(key);
@@ -183,6 +203,7 @@ impl<K: Key, V: Drop> Table<K, V> {
     fn remove_place(&mut self, key: &K)
         ensures rows { (q : K) → row_at K.cmp self.new q ≡ (if is_at (K.cmp key.now) q then None else row_at K.cmp self.old q) }
         ensures places { (q : K) → has_place K.cmp self.new q ≡ (if is_at (K.cmp key.now) q then false else has_place K.cmp self.old q) }
+        ensures each { (q : K) → place_at K.cmp self.new q ≡ (if is_at (K.cmp key.now) q then None else place_at K.cmp self.old q) }
     {
         let _ = self.places.remove(key);
     }
@@ -192,6 +213,8 @@ impl<K: Key, V: Drop> Table<K, V> {
         ensures row { result ≡ row_in K.cmp (rows_of self.old) key }
         ensures rows { (q : K) → row_in K.cmp (rows_of self.new) q ≡ (if is_at (K.cmp key) q then None else row_in K.cmp (rows_of self.old) q) }
         ensures stay { (q : K) → has_place K.cmp self.new q ≡ has_place K.cmp self.old q }
+        ensures each { (q : K) → place_at K.cmp self.new q ≡ option_map (λ was. if is_at (K.cmp key) q then None else was) (place_at K.cmp self.old q) }
+        ensures only { HasEmptyOnly K.cmp (is_at (K.cmp key)) self.old → HasEmptyOnly K.cmp (is_at (K.cmp key)) self.new }
     {
         self.once();
         let row = self.take_place(key);
@@ -203,6 +226,7 @@ impl<K: Key, V: Drop> Table<K, V> {
         ensures row { result ≡ row_at K.cmp self.old key }
         ensures rows { (q : K) → row_at K.cmp self.new q ≡ (if is_at (K.cmp key) q then None else row_at K.cmp self.old q) }
         ensures stay { (q : K) → has_place K.cmp self.new q ≡ has_place K.cmp self.old q }
+        ensures each { (q : K) → place_at K.cmp self.new q ≡ option_map (λ was. if is_at (K.cmp key) q then None else was) (place_at K.cmp self.old q) }
     {
         if !self.places.contains_key(&key) {
             return None;
@@ -217,6 +241,8 @@ impl<K: Key, V: Drop> Table<K, V> {
     pub fn restore(&mut self, key: K, row: V)
         ensures rows { (q : K) → row_in K.cmp (rows_of self.new) q ≡ (if has_place K.cmp self.old key && is_at (K.cmp key) q then Some row else row_in K.cmp (rows_of self.old) q) }
         ensures stay { (q : K) → has_place K.cmp self.new q ≡ has_place K.cmp self.old q }
+        ensures each { (q : K) → place_at K.cmp self.new q ≡ option_map (λ was. if is_at (K.cmp key) q then Some row else was) (place_at K.cmp self.old q) }
+        ensures mended { HasEmptyOnly K.cmp (is_at (K.cmp key)) self.old → HasNoEmptyPlace K.cmp self.new }
     {
         self.once();
         self.set(key, Some(row));
@@ -228,6 +254,8 @@ impl<K: Key, V: Drop> Table<K, V> {
         ensures same { rows_of self.new ≡ rows_of self.old }
         ensures gone { All (λ c. IsEmptyPlace K.cmp self.new c.key → ⊥) changes.now }
         ensures no_more { (q : K) → IsEmptyPlace K.cmp self.new q → IsEmptyPlace K.cmp self.old q }
+        ensures each { (q : K) → place_at K.cmp self.new q ≡ (if is_named K.cmp changes.now q then option_map Some (row_at K.cmp self.old q) else place_at K.cmp self.old q) }
+        ensures mended { HasEmptyOnly K.cmp (is_named K.cmp changes.now) self.old → HasNoEmptyPlace K.cmp self.new }
     {
         for change in changes {
             self.release_one(&change.key);
@@ -239,6 +267,8 @@ impl<K: Key, V: Drop> Table<K, V> {
         ensures same { rows_of self.new ≡ rows_of self.old }
         ensures gone { IsEmptyPlace K.cmp self.new key.now → ⊥ }
         ensures no_more { (q : K) → IsEmptyPlace K.cmp self.new q → IsEmptyPlace K.cmp self.old q }
+        ensures each { (q : K) → place_at K.cmp self.new q ≡ (if is_at (K.cmp key.now) q then option_map Some (row_at K.cmp self.old q) else place_at K.cmp self.old q) }
+        ensures mended { HasEmptyOnly K.cmp (is_at (K.cmp key.now)) self.old → HasNoEmptyPlace K.cmp self.new }
     {
         if let Some(None) = self.places.get(key) {
             let _ = self.places.remove(key);
@@ -246,7 +276,8 @@ impl<K: Key, V: Drop> Table<K, V> {
     }
 
     fn set_all(&mut self, changes: Vec<Change<K, V>>)
-        ensures { (q : K) → row_at K.cmp self.new q ≡ changed K.cmp (placed K.cmp self.old changes.items) q (row_at K.cmp self.old q) }
+        ensures rows { (q : K) → row_at K.cmp self.new q ≡ changed K.cmp (placed K.cmp self.old changes.items) q (row_at K.cmp self.old q) }
+        ensures each { (q : K) → place_at K.cmp self.new q ≡ option_map (changed K.cmp changes.items q) (place_at K.cmp self.old q) }
     {
         let mut left = changes;
         while let Some(change) = left.pop() {
@@ -258,6 +289,7 @@ impl<K: Key, V: Drop> Table<K, V> {
     pub fn from_vec(alloc: Global, rows: Vec<(K, V)>) -> Result<Table<K, V>, BadRows>
         ensures ok { IfOk result (λ t. IsDistinct (eq_by_cmp K.cmp) (keys_of rows.items) × ((q : K) → row_at K.cmp t q ≡ lookup (is_at (K.cmp q)) rows.items)) }
         ensures double { IfErr result (λ e. e ≡ Double → IsDistinct (eq_by_cmp K.cmp) (keys_of rows.items) → ⊥) }
+        ensures full { IfOk result (λ t. HasNoEmptyPlace K.cmp t) }
     {
         let mut table = Table::new(alloc);
         let mut left = rows;

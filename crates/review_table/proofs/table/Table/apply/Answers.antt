@@ -1,6 +1,7 @@
 use Rattle.std.proofs.Common.{◌∙◌, ap, sym}
-use Rattle.review_table.specs.Rows.{row_at, changed}
+use Rattle.review_table.specs.Rows.{row_at, change_of, changed, place_at}
 use Rattle.review_table.proofs.Places.{all_placed}
+use Rattle.review_table.proofs.Empty.{applied, full_applied}
 use Rattle.review_table.proofs.table.Table.apply.Goals as goal
 
 pub returns-clause-all : goal.returns-clause-all
@@ -8,6 +9,16 @@ returns-clause-all g c = λ places q.
     let R = g.K.Ord.cmp in
     let old = c.args.self.now in
     let changes = c.args.changes.items in
-    sym (c.once-2.ensures.rows q) ∙ (c.set_all.ensures q
+    sym (c.once-2.ensures.rows q) ∙ (c.set_all.ensures.rows q
     ∙ (ap (λ cs. changed R cs q (row_at R old q)) (all_placed R old changes places)
     ∙ ap (changed R changes q) (c.once.ensures.rows q)))
+
+pub returns-clause-only : goal.returns-clause-only
+returns-clause-only g c = λ only q.
+    let R = g.K.Ord.cmp in
+    applied (change_of R c.args.changes.items q) (place_at R c.args.self.now q) (place_at R c.set_all.new.self q) (c.set_all.ensures.each q) (only q)
+
+pub returns-clause-mended : goal.returns-clause-mended
+returns-clause-mended g c = λ rows only q.
+    let R = g.K.Ord.cmp in
+    full_applied R c.args.changes.items q (place_at R c.args.self.now q) (place_at R c.set_all.new.self q) rows (c.set_all.ensures.each q) (only q)

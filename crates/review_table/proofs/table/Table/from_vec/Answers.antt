@@ -5,13 +5,13 @@ use Rattle.std.specs.Option.{IsSome}
 use Rattle.std.specs.Ordering.{eq_by_cmp}
 use Rattle.std.specs.BTreeMap.{is_at}
 use Rattle.std.specs.Cmp.{eq_by_cmp_equiv}
-use Rattle.review_table.specs.Rows.{row_at}
+use Rattle.review_table.specs.Rows.{row_at, place_at}
 use Rattle.review_table.proofs.Places.{distinct_with, none_twice}
 use Rattle.review_table.proofs.table.Table.from_vec.Goals as goal
 
 pub loop-key-init : goal.loop-key-init
 unfolding IsDistinct
-loop-key-init g c = ([], append-nil c.args.rows.items, tt, λ q. ap (λ t. row_at g.K.Ord.cmp t q) c.new-table.ensures)
+loop-key-init g c = ([], append-nil c.args.rows.items, tt, λ q. ap (λ t. row_at g.K.Ord.cmp t q) c.new-table.ensures, λ q empty. let none = sym (ap (λ t. place_at g.K.Ord.cmp t q) c.new-table.ensures) ∙ empty in cc)
 
 pub loop-key-preserved : goal.loop-key-preserved
 loop-key-preserved g c =
@@ -25,6 +25,7 @@ loop-key-preserved g c =
       distinct_with R key row inv.0 (sym (inv.3 key) ∙ c.in-Ok.ensures.ok.0) inv.2,
       λ q. c.in-Ok.ensures.ok.1 q ∙ (ap (λ o. cond (is_at (R key) q) (Some row) o) (inv.3 q)
           ∙ ap (λ b. cond b (Some row) (lookup (is_at (R q)) inv.0)) ((eq_by_cmp_equiv g.met.K.Ord.total).symm key q)),
+      c.in-Ok.ensures.kept inv.4,
     )
 
 pub returns-in-Err-clause-double : goal.returns-in-Err-clause-double

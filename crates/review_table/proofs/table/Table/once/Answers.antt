@@ -3,6 +3,7 @@ use Rattle.std.specs.Map.{keys_of}
 use Rattle.std.specs.List.Sorted.{IsStrictlySortedBy}
 use Rattle.std.proofs.lemmas.Map.Keys.{IsDistinct-from_sorted}
 use Rattle.review_table.proofs.Places.{row_among, rows_sorted}
+use Rattle.review_table.proofs.Empty.{as_many}
 use Rattle.review_table.proofs.table.Table.once.Goals as goal
 
 pub returns : goal.returns
@@ -12,4 +13,5 @@ returns g c =
     record {
       sorted = rows_sorted R c.args.self.now o;
       rows = row_among g.met.K.Ord.total c.args.self.now (IsDistinct-from_sorted R (keys_of c.args.self.now) o);
+      bounded = as_many g.met.K.Ord.total c.args.self.now (IsDistinct-from_sorted R (keys_of c.args.self.now) o);
     }

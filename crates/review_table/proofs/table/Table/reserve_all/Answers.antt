@@ -1,7 +1,9 @@
-use Rattle.std.proofs.Common.{◌∙◌, subst, sym, take, arith}
+use Rattle.std.proofs.Common.{◌∙◌, ap, cond, Some, subst, sym, take, arith}
+use Rattle.std.specs.BTreeMap.{is_at}
 use Rattle.std.proofs.lemmas.List.Elements.{All-more, All-weaker, All-same}
 use Rattle.std.proofs.lemmas.List.{take_all}
-use Rattle.review_table.specs.Rows.{HasPlace}
+use Rattle.review_table.specs.Rows.{HasPlace, is_named, place_at, row_at}
+use Rattle.review_table.proofs.Empty.{named_more, named_whole, reserve_more, reserved, unnamed_front}
 use Rattle.review_table.proofs.table.Table.reserve_all.Goals as goal
 
 pub loop-change-preserved : goal.loop-change-preserved
@@ -16,7 +18,18 @@ loop-change-preserved g c =
       places = All-more (λ ch. HasPlace R c.reserve.new.self ch.key) xs c.loop-change.change-index item (omega arith)
           (All-weaker (λ ch. HasPlace R c.loop-change.self ch.key) (λ ch. HasPlace R c.reserve.new.self ch.key) (λ ch. c.reserve.ensures.stay ch.key) (take c.loop-change.change-index xs) c.loop-change.invariant.places)
           (subst (λ ch. HasPlace R c.reserve.new.self ch.key) c.change-item.is (subst (HasPlace R c.reserve.new.self) c.in_ok-key.ensures c.in_ok-reserve.ensures.ok));
+      each = λ q. c.in_ok-reserve.ensures.each q
+          ∙ (ap (λ k. cond (is_at (R k) q) (Some (row_at R c.loop-change.self q)) (place_at R c.loop-change.self q)) c.in_ok-key.ensures
+          ∙ (reserve_more (is_named R (take c.loop-change.change-index xs) q) (is_at (R item.key) q) (place_at R c.args.self.now q) (place_at R c.loop-change.self q) (c.loop-change.invariant.each q)
+          ∙ ap (λ b. cond b (Some (row_at R c.args.self.now q)) (place_at R c.args.self.now q)) (sym (named_more R xs c.loop-change.change-index item item q (omega arith) (sym c.change-item.is)))));
     }
 
 pub returns-clause-ok : goal.returns-clause-ok
 returns-clause-ok g c = let R = g.K.Ord.cmp in All-same (λ ch. HasPlace R c.loop-change.self ch.key) c.args.changes.now (take c.loop-change.change-index c.args.changes.now) (sym (take_all c.loop-change.change-index c.args.changes.now c.loop-change-test.false)) c.loop-change.invariant.places
+
+pub returns-clause-each : goal.returns-clause-each
+returns-clause-each g c = λ q.
+    let R = g.K.Ord.cmp in
+    let old = c.args.self.now in
+    c.loop-change.invariant.each q
+    ∙ ap (λ cs. cond (is_named R cs q) (Some (row_at R old q)) (place_at R old q)) (take_all c.loop-change.change-index c.args.changes.now c.loop-change-test.false)
