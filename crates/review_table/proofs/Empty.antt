@@ -153,7 +153,7 @@ applied None (Some o) now is only empty = only (sym is ∙ empty)
 
 change_rows : {K X : Type 0} (cmp : K → K → Ordering) (cs : List (Change K X)) (q : K) → All (λ c. IsSome c.row) cs → IfSome (change_of cmp cs q) (λ row. IsSome row)
 change_rows cmp [] q all = tt
-change_rows cmp (c ∷ cs) q all = first (is_at (cmp c.key) q) c.row (change_of cmp cs q) (All-head (λ d. IsSome d.row) c cs all) (change_rows cmp cs q (All-tail (λ d. IsSome d.row) c cs all))
+change_rows {X = X} cmp (c ∷ cs) q all = first (is_at (cmp c.key) q) c.row (change_of cmp cs q) (All-head (λ d. IsSome d.row) c cs all) (change_rows cmp cs q (All-tail (λ d. IsSome d.row) c cs all))
   where
     first : (b : Bool) (row : Option X) (o : Option (Option X)) → IsSome row → IfSome o (λ r. IsSome r) → IfSome (cond b (Some row) o) (λ r. IsSome r)
     first true row o here later = here

@@ -33,3 +33,34 @@ returns-clause-each g c = λ q.
     let old = c.args.self.now in
     c.loop-change.invariant.each q
     ∙ ap (λ cs. cond (is_named R cs q) (Some (row_at R old q)) (place_at R old q)) (take_all c.loop-change.change-index c.args.changes.now c.loop-change-test.false)
+
+pub returns-in_err-key-clause-others : goal.returns-in_err-key-clause-others
+returns-in_err-key-clause-others g c = λ q none.
+    let R = g.K.Ord.cmp in
+    let old = c.args.self.now in
+    c.loop-change.invariant.each q
+    ∙ ap (λ b. cond b (Some (row_at R old q)) (place_at R old q)) (unnamed_front R c.args.changes.now c.loop-change.change-index q none)
+
+pub returns-in_err-key-clause-only : goal.returns-in_err-key-clause-only
+returns-in_err-key-clause-only g c = λ full q empty.
+    let R = g.K.Ord.cmp in
+    let xs = c.args.changes.now in
+    let i = c.loop-change.change-index in
+    let old = c.args.self.now in
+    named_whole R xs i q (reserved (is_named R (take i xs) q) (row_at R old q) (place_at R old q) (place_at R c.loop-change.self q) (c.loop-change.invariant.each q) (full q) empty)
+
+pub returns-in_err-reserve-clause-others : goal.returns-in_err-reserve-clause-others
+returns-in_err-reserve-clause-others g c = λ q none.
+    let R = g.K.Ord.cmp in
+    let old = c.args.self.now in
+    ap (λ t. place_at R t q) c.in_err-reserve.ensures.err ∙ (c.loop-change.invariant.each q
+    ∙ ap (λ b. cond b (Some (row_at R old q)) (place_at R old q)) (unnamed_front R c.args.changes.now c.loop-change.change-index q none))
+
+pub returns-in_err-reserve-clause-only : goal.returns-in_err-reserve-clause-only
+returns-in_err-reserve-clause-only g c = λ full q empty.
+    let R = g.K.Ord.cmp in
+    let xs = c.args.changes.now in
+    let i = c.loop-change.change-index in
+    let old = c.args.self.now in
+    named_whole R xs i q (reserved (is_named R (take i xs) q) (row_at R old q) (place_at R old q) (place_at R c.loop-change.self q) (c.loop-change.invariant.each q) (full q)
+    (sym (ap (λ t. place_at R t q) c.in_err-reserve.ensures.err) ∙ empty))
