@@ -6,7 +6,7 @@ use Rattle.review_words.specs.Texts.{command_fields, content_text, reply_fields,
 use Rattle.review_texts.specs.Reading.{reply_of}
 use Rattle.review_texts.proofs.Cutting.{text_of-injective}
 use Rattle.review_texts.proofs.Commands.{command_of, command_back}
-use Rattle.review_texts.proofs.Replies.{reply_back}
+use Rattle.review_texts.proofs.Told.{reply_back}
 
 pub content_text-injective : (c d : Command) → content_text c ≡ content_text d → c ≡ d
 content_text-injective c d e = sym (command_back c) ∙ (ap command_of (text_of-injective (command_fields c) (command_fields d) e) ∙ command_back d)

@@ -2,5 +2,5 @@ mod Cutting
 mod Splitting
 pub mod Signed
 mod Commands
-mod Replies
+mod Told
 pub mod Fields

@@ -1,13 +1,13 @@
 //! The texts of commands.
-ghost use Rattle.std.specs.Prelude.{◌≡◌, ◌++◌, ℕ, List, flat_map, map, IfOk, OnOk, string_bytes};
+ghost use Rattle.std.specs.Prelude.{◌≡◌, ◌++◌, ◌∷◌, [], flat_map, map, IfOk, OnOk, string_bytes};
 ghost use Rattle.review_names.specs.Numerals.{numeral};
-ghost use Rattle.review_words.specs.Texts.{comment_fields, command_fields, content_text, given_fields, shown_flag, shown_link, shown_patch, shown_truth};
-ghost use Rattle.review_words.specs.declared.command.Command.TheVariants.{CreateChange, PutGroup, Upload};
+ghost use Rattle.review_words.specs.Texts.{comment_fields, content_text, given_fields, shown_flag, shown_link, shown_patch, shown_truth};
+ghost use Rattle.review_words.specs.declared.command.Command.TheVariants.{CreateAccount, CreateChange, PutGroup, Upload};
 ghost use Rattle.review_words.specs.declared.command.Command.TheVariants as of_command;
 ghost use Rattle.review_texts.specs.Shown.{shown};
 
 use crate::pieces::{Piece, joined};
-use review_names::{AccountNo, ChangeNo, CommentNo, GroupName, Members, PatchNo, Path};
+use review_names::{AccountName, AccountNo, ChangeNo, CommentNo, GroupName, Members, PatchNo, Path};
 use review_words::{Command, Given, NewChange, NewComment, NewPatch, Review};
 use std::alloc::{AllocError, Global};
 
@@ -26,6 +26,18 @@ fn add_paths<'a>(out: &mut Vec<Piece<'a>>, paths: &'a [Path]) -> Result<(), Allo
     for path in paths {
         out.push(Piece::Text(path.as_str()))?;
     }
+    Ok(())
+}
+
+fn add_paths_and_truth<'a>(
+    out: &mut Vec<Piece<'a>>,
+    paths: &'a [Path],
+    truth: bool,
+) -> Result<(), AllocError>
+    ensures { OnOk result (map shown out.new.items ≡ map shown out.old.items ++ (paths.now ++ shown_truth truth ∷ [])) }
+{
+    add_paths(out, paths)?;
+    out.push(truth_piece(truth))?;
     Ok(())
 }
 
@@ -85,6 +97,13 @@ fn add_comments<'a>(out: &mut Vec<Piece<'a>>, comments: &'a [NewComment]) -> Res
     Ok(())
 }
 
+fn account_text(alloc: Global, name: &AccountName) -> Result<String, AllocError>
+    ensures { IfOk result (λ t. string_bytes t ≡ content_text (CreateAccount name.now)) }
+{
+    let pieces = [Piece::Text("CreateAccount"), Piece::Text(name.as_str())];
+    joined(alloc, &pieces)
+}
+
 fn group_text(alloc: Global, group: &GroupName, members: &Members) -> Result<String, AllocError>
     ensures { IfOk result (λ t. string_bytes t ≡ content_text (PutGroup group.now members.now)) }
 {
@@ -111,8 +130,7 @@ fn change_text(alloc: Global, new: &NewChange) -> Result<String, AllocError>
         Piece::Text(new.parent.as_str()),
         Piece::Number(paths.len() as u64),
     ]?;
-    add_paths(&mut out, paths)?;
-    out.push(truth_piece(new.wip))?;
+    add_paths_and_truth(&mut out, paths, new.wip)?;
     joined(alloc, &out)
 }
 
@@ -157,10 +175,7 @@ pub fn content_text(alloc: Global, command: &Command) -> Result<String, AllocErr
     ensures { IfOk result (λ t. string_bytes t ≡ content_text command.now) }
 {
     match command {
-        Command::CreateAccount { name } => {
-            let pieces = [Piece::Text("CreateAccount"), Piece::Text(name.as_str())];
-            joined(alloc, &pieces)
-        }
+        Command::CreateAccount { name } => account_text(alloc, name),
         Command::PutGroup { group, members } => group_text(alloc, group, members),
         Command::PutProject { project, file } => {
             let pieces = [

@@ -6,7 +6,7 @@ ghost use Rattle.review_names.specs.Forms.{most_changes, most_comments, most_pat
 ghost use Rattle.review_words.specs.Texts.{reply_text, IsCommentNumber, IsStored, IsStoredAnswer};
 ghost use Rattle.review_words.specs.declared.reply.Answer.TheVariants.{Reviewed};
 ghost use Rattle.review_words.specs.declared.reply.Reply.{Reply};
-ghost use Rattle.review_texts.specs.Reading.{comments_of, expr_fault_of, file_fault_of, new_change_of, new_patch_of, number_within, plain_reply_of, refusal_of, reply_of, Gives};
+ghost use Rattle.review_texts.specs.Reading.{comments_of, expr_fault_of, file_fault_of, new_change_of, new_patch_of, number_within, numbers_in, plain_reply_of, refusal_of, reply_of, Gives};
 ghost use Rattle.review_texts.specs.declared.reading.BadReply.TheVariants.{Form};
 
 use crate::pieces::{cut, field_at};
@@ -181,6 +181,20 @@ fn fields_from<'a, 'b>(fields: &'b [&'a [u8]], first: usize) -> &'b [&'a [u8]]
     }
 }
 
+/// The numbers of comments that fields tell.
+fn read_numbers(alloc: Global, fields: &[&[u8]]) -> Result<CommentNumbers, BadReply>
+    ensures { Gives result (numbers_in (map (λ f. f.now) fields.now)) }
+{
+    let mut numbers = Vec::new(alloc);
+    for field in fields {
+        let Some(number) = read_comment(field) else {
+            return Err(BadReply::Form);
+        };
+        numbers.push(number)?;
+    }
+    Ok(CommentNumbers::from_vec(numbers))
+}
+
 /// The numbers of comments that fields tell, at most 10,000.
 #[tactic(auto, unfolding(crate::specs::Reading::comments_of))]
 fn read_comments(alloc: Global, fields: &[&[u8]]) -> Result<CommentNumbers, BadReply>
@@ -190,14 +204,7 @@ fn read_comments(alloc: Global, fields: &[&[u8]]) -> Result<CommentNumbers, BadR
     if fields.len() > 10_000 {
         return Err(BadReply::Form);
     }
-    let mut numbers = Vec::new(alloc);
-    for field in fields {
-        let Some(number) = read_comment(field) else {
-            return Err(BadReply::Form);
-        };
-        numbers.push(number)?;
-    }
-    Ok(CommentNumbers::from_vec(numbers))
+    read_numbers(alloc, fields)
 }
 
 #[tactic(auto, unfolding(crate::specs::Reading::reply_of))]

@@ -1,16 +1,17 @@
 //! The texts of replies.
 ghost use Rattle.std.specs.Prelude.{◌≡◌, ◌++◌, map, IfOk, OnOk, string_bytes};
 ghost use Rattle.review_names.specs.Numerals.{numeral};
-ghost use Rattle.review_words.specs.Texts.{fault_fields, reply_fields, reply_text};
+ghost use Rattle.review_words.specs.Texts.{fault_fields, reply_text};
+ghost use Rattle.review_words.specs.declared.reply.Answer.TheVariants.{Reviewed};
 ghost use Rattle.review_words.specs.declared.reply.Reply.TheVariants.{Done, Refused};
 ghost use Rattle.review_texts.specs.Shown.{shown};
 
 use crate::pieces::{Piece, joined};
 use review_names::CommentNo;
-use review_words::{Answer, FileFault, Refusal, Reply};
+use review_words::{Answer, CommentNumbers, FileFault, Refusal, Reply};
 use std::alloc::{AllocError, Global};
 
-fn add_comments(out: &mut Vec<Piece<'static>>, comments: &[CommentNo]) -> Result<(), AllocError>
+fn add_comments(out: &mut Vec<Piece<'_>>, comments: &[CommentNo]) -> Result<(), AllocError>
     ensures { OnOk result (map shown out.new.items ≡ map shown out.old.items ++ map numeral comments.now) }
 {
     for comment in comments {
@@ -19,53 +20,60 @@ fn add_comments(out: &mut Vec<Piece<'static>>, comments: &[CommentNo]) -> Result
     Ok(())
 }
 
-fn answer_pieces(alloc: Global, answer: &Answer) -> Result<Vec<Piece<'static>>, AllocError>
-    ensures { IfOk result (λ v. map shown v.items ≡ reply_fields (Done answer.now)) }
+fn reviewed_text(alloc: Global, numbers: &CommentNumbers) -> Result<String, AllocError>
+    ensures { IfOk result (λ t. string_bytes t ≡ reply_text (Done (Reviewed numbers.now))) }
+{
+    let comments = numbers.as_slice();
+    let mut pieces = vec![in alloc;
+        Piece::Text("Reviewed"),
+        Piece::Number(comments.len() as u64),
+    ]?;
+    add_comments(&mut pieces, comments)?;
+    joined(alloc, &pieces)
+}
+
+#[tactic(auto, unfolding(review_words::specs::Texts::text_of))]
+fn answer_text(alloc: Global, answer: &Answer) -> Result<String, AllocError>
+    ensures { IfOk result (λ t. string_bytes t ≡ reply_text (Done answer.now)) }
 {
     match answer {
-        Answer::Account(account) => Ok(vec![in alloc;
-            Piece::Text("Account"),
-            Piece::Number(account.get() as u64),
-        ]?),
-        Answer::Nothing => Ok(vec![in alloc; Piece::Text("Nothing")]?),
-        Answer::Change { change, patch } => Ok(vec![in alloc;
-            Piece::Text("Change"),
-            Piece::Number(change.get() as u64),
-            Piece::Number(patch.get() as u64),
-        ]?),
+        Answer::Account(account) => {
+            let pieces = [
+                Piece::Text("Account"),
+                Piece::Number(account.get() as u64),
+            ];
+            joined(alloc, &pieces)
+        }
+        Answer::Nothing => joined(alloc, &[Piece::Text("Nothing")]),
+        Answer::Change { change, patch } => {
+            let pieces = [
+                Piece::Text("Change"),
+                Piece::Number(change.get() as u64),
+                Piece::Number(patch.get() as u64),
+            ];
+            joined(alloc, &pieces)
+        }
         Answer::Patch {
             change,
             patch,
             copied,
             outdated,
-        } => Ok(vec![in alloc;
-            Piece::Text("Patch"),
-            Piece::Number(change.get() as u64),
-            Piece::Number(patch.get() as u64),
-            Piece::Number(*copied),
-            Piece::Number(*outdated),
-        ]?),
-        Answer::Reviewed(numbers) => {
-            let comments = numbers.as_slice();
-            let mut out = vec![in alloc;
-                Piece::Text("Reviewed"),
-                Piece::Number(comments.len() as u64),
-            ]?;
-            add_comments(&mut out, comments)?;
-            Ok(out)
+        } => {
+            let pieces = [
+                Piece::Text("Patch"),
+                Piece::Number(change.get() as u64),
+                Piece::Number(patch.get() as u64),
+                Piece::Number(*copied),
+                Piece::Number(*outdated),
+            ];
+            joined(alloc, &pieces)
         }
-        Answer::Branch(_) => Ok(Vec::new(alloc)),
+        Answer::Reviewed(numbers) => reviewed_text(alloc, numbers),
+        Answer::Branch(_) => Ok(String::new(alloc)),
     }
 }
 
-fn answer_text(alloc: Global, answer: &Answer) -> Result<String, AllocError>
-    ensures { IfOk result (λ t. string_bytes t ≡ reply_text (Done answer.now)) }
-{
-    let pieces = answer_pieces(alloc, answer)?;
-    joined(alloc, &pieces)
-}
-
-fn add_fault(out: &mut Vec<Piece<'static>>, fault: FileFault) -> Result<(), AllocError>
+fn add_fault(out: &mut Vec<Piece<'_>>, fault: FileFault) -> Result<(), AllocError>
     ensures { OnOk result (map shown out.new.items ≡ map shown out.old.items ++ fault_fields fault) }
 {
     out.push(Piece::Number(fault.number() as u64))?;

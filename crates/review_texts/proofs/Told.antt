@@ -1,6 +1,6 @@
 -- A stored reply is what its fields are read as.
 use Rattle.std.proofs.Common.{◌≡◌, ℕ, ◌<◌, ◌≤◌, ◌+◌, List, [], ◌∷◌, length, refl, sym, ap, ◌∙◌, subst, arith, cond, Option, Some, None, Bool, true, false}
-use Rattle.std.specs.Prelude.{option_map, nat_le, ◌&&◌, if◌then◌else◌, codes, map, Result, Ok, Err}
+use Rattle.std.specs.Prelude.{option_map, nat_le, ◌&&◌, if◌then◌else◌, codes, map, Result, Ok, Err, IfOk}
 use Rattle.std.specs.Str.{bytes_eq}
 use Rattle.std.proofs.lemmas.Slice.Eq.{bytes_eq-Decides}
 use Rattle.std.proofs.lemmas.Bool.Decides.{nat_tests}
@@ -251,8 +251,12 @@ numbers_told (f ∷ fs) ns e =
       subst (AllByRecursion IsCommentNumber) whole (within_told most_comments head.0 f head.1, rest.1),
     )
 
-pub comments_stored : (fs : List (List ℕ)) (ns : List ℕ) → length fs ≤ most_comments → numbers_in fs ≡ Some ns → IsStoredAnswer (Reviewed ns)
+comments_stored : (fs : List (List ℕ)) (ns : List ℕ) → length fs ≤ most_comments → numbers_in fs ≡ Some ns → IsStoredAnswer (Reviewed ns)
 comments_stored fs ns few e = let told = numbers_told fs ns e in let same = told.0 in (omega (arith, few, same), told.1)
+
+pub gives_stored : (r : Result (List ℕ) BadReply) (fs : List (List ℕ)) → length fs ≤ most_comments → Gives r (numbers_in fs) → IfOk r (λ ns. IsStoredAnswer (Reviewed ns))
+gives_stored (Ok ns) fs few gives = comments_stored fs ns few gives
+gives_stored (Err e) fs few gives = tt
 
 -- What the fields of a stored reply are cut to, read as and written as.
 pub never_uncut : {A : Type 0} (view : A → List (List ℕ)) (o : Option A) (fs : List (List ℕ)) → o ≡ None → option_map view o ≡ Some fs → ⊥
