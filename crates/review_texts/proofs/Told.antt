@@ -9,7 +9,6 @@ use Rattle.std.proofs.lemmas.Int.Digits.{length-digits_of-le}
 use Rattle.std.proofs.lemmas.List.{length-map}
 use Rattle.std.specs.List.{AllByRecursion}
 use Rattle.review_names.specs.Forms.{is_within, most_changes, most_comments, most_patches}
-use Rattle.review_names.specs.Names.{is_account_number}
 use Rattle.review_words.specs.Faults.{code_number, file_fault_number}
 use Rattle.review_words.specs.Refusals.{refusal_number}
 use Rattle.review_names.specs.Numerals.{shown_digits, numeral}
@@ -17,7 +16,7 @@ use Rattle.review_words.specs.Texts.{expr_fields, fault_fields, refusal_fields, 
 use Rattle.review_texts.specs.declared.reading.BadReply.{BadReply}
 use Rattle.review_texts.specs.declared.reading.BadReply.TheVariants.{Form, Memory}
 use Rattle.review_texts.specs.Cutting.{AreShort}
-use Rattle.review_names.specs.Numerals.{◌>>=◌, number_of, account_of}
+use Rattle.review_names.specs.Numerals.{◌>>=◌, number_of}
 use Rattle.review_texts.specs.Reading.{comments_of, expr_fault_of, file_fault_of, new_change_of, new_patch_of, number_within, numbers_in, plain_reply_of, refusal_of, reply_of, Gives}
 use Rattle.review_words.specs.declared.reply.Reply.{Reply}
 use Rattle.review_words.specs.declared.reply.Reply.TheVariants.{Done, Refused, IdentityReused, NotTaken}
