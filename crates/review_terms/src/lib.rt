@@ -6,6 +6,4 @@ pub mod terms;
 
 pub use pattern::{Pattern, PatternFault};
 pub use review_names::ChangeKind;
-pub use terms::{
-    Comparison, CopyTerm, Count, LabelTerm, RequirementTerm, VoteValue, Voters,
-};
+pub use terms::{Comparison, CopyTerm, Count, LabelTerm, RequirementTerm, VoteValue, Voters};

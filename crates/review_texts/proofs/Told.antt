@@ -244,8 +244,7 @@ numbers_told (f ∷ fs) ns e =
     let tail = told_first (numbers_in fs) (λ rest. Some (head.0 ∷ rest)) ns head.2 in
     let whole : head.0 ∷ tail.0 ≡ ns = cc in
     let rest = numbers_told fs tail.0 tail.1 in
-    let long : length (head.0 ∷ tail.0) ≡ length (f ∷ fs) = let same = rest.0 in omega arith in
-    (
+    let long : length (head.0 ∷ tail.0) ≡ length (f ∷ fs) = let same = rest.0 in omega arith in (
       sym (ap length whole) ∙ long,
       subst (AllByRecursion IsCommentNumber) whole (within_told most_comments head.0 f head.1, rest.1),
     )

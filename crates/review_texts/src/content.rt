@@ -7,7 +7,9 @@ ghost use Rattle.review_words.specs.declared.command.Command.TheVariants as of_c
 ghost use Rattle.review_texts.specs.Shown.{shown};
 
 use crate::pieces::{Piece, joined};
-use review_names::{AccountName, AccountNo, ChangeNo, CommentNo, GroupName, Members, PatchNo, Path};
+use review_names::{
+    AccountName, AccountNo, ChangeNo, CommentNo, GroupName, Members, PatchNo, Path,
+};
 use review_words::{Command, Given, NewChange, NewComment, NewPatch, Review};
 use std::alloc::{AllocError, Global};
 

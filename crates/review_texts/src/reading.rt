@@ -12,9 +12,7 @@ ghost use Rattle.review_texts.specs.declared.reading.BadReply.TheVariants.{Form}
 use crate::pieces::{cut, field_at};
 use crate::replies::reply_text;
 use review_names::{ChangeNo, CommentNo, PatchNo, read_account, read_number};
-use review_words::{
-    Answer, CommentNumbers, ExprCode, ExprFault, FileFault, Refusal, Reply,
-};
+use review_words::{Answer, CommentNumbers, ExprCode, ExprFault, FileFault, Refusal, Reply};
 use std::alloc::{AllocError, AllocFailed, Global};
 
 /// Why a text was not read as a reply.

@@ -38,10 +38,7 @@ fn answer_text(alloc: Global, answer: &Answer) -> Result<String, AllocError>
 {
     match answer {
         Answer::Account(account) => {
-            let pieces = [
-                Piece::Text("Account"),
-                Piece::Number(account.get() as u64),
-            ];
+            let pieces = [Piece::Text("Account"), Piece::Number(account.get() as u64)];
             joined(alloc, &pieces)
         }
         Answer::Nothing => joined(alloc, &[Piece::Text("Nothing")]),

@@ -13,6 +13,6 @@ returns c =
     let behind = c.as_slice-paths.result.now ++ shown_truth new.wip ∷ [] in
     let head = ap (λ pieces. map shown pieces ++ behind) c.in_ok-out.ensures.items in
     let fields : map shown c.deref.result.now ≡ command_fields (CreateChange new) =
-        ap (map shown) c.deref.ensures.value ∙ (c.in_ok-add_paths_and_truth.ensures ∙ (head ∙ (λ i. codes "CreateChange" ∷ c.as_str.ensures.text i ∷ c.as_str-2.ensures.text i ∷ c.as_str-3.ensures.text i
-            ∷ c.as_str-4.ensures.text i ∷ c.as_str-5.ensures.text i ∷ numeral (length (paths i)) ∷ (paths i ++ shown_truth new.wip ∷ [])))) in
+    ap (map shown) c.deref.ensures.value ∙ (c.in_ok-add_paths_and_truth.ensures ∙ (head ∙ (λ i. codes "CreateChange" ∷ c.as_str.ensures.text i ∷ c.as_str-2.ensures.text i ∷ c.as_str-3.ensures.text i
+    ∷ c.as_str-4.ensures.text i ∷ c.as_str-5.ensures.text i ∷ numeral (length (paths i)) ∷ (paths i ++ shown_truth new.wip ∷ [])))) in
     subst (λ fields. IfOk c.joined.result (λ t. string_bytes t ≡ text_of fields)) fields c.joined.ensures

@@ -18,9 +18,9 @@ returns-in_err-reply-clause-form c =
     let read = c.in_ok-fields.ensures in
     let exit = err_from_is_err_and c.from_residual-in_err-reply.result c.from_residual-in_err-reply.ensures.1 in
     rw (exit.1, exit.2) (λ e r stored text.
-      let cut = cut_to (λ v. map now v.items) c.in_ok-fields.field-0 c.in-Some.fields (reply_fields r) c.in-Some.is (read (reply_fields r) (short_reply r stored) (text ∙ sym c.as_bytes.ensures.value)) in
-      let fields = ap (map now) c.deref.ensures.value ∙ cut in
-      never_unread r (map now c.deref.result.now) stored fields (gives_none c.in_err-reply.field-0.0 _ e c.in_err-reply.ensures.reply))
+    let cut = cut_to (λ v. map now v.items) c.in_ok-fields.field-0 c.in-Some.fields (reply_fields r) c.in-Some.is (read (reply_fields r) (short_reply r stored) (text ∙ sym c.as_bytes.ensures.value)) in
+    let fields = ap (map now) c.deref.ensures.value ∙ cut in
+    never_unread r (map now c.deref.result.now) stored fields (gives_none c.in_err-reply.field-0.0 _ e c.in_err-reply.ensures.reply))
 
 pub returns-clause-form : goal.returns-clause-form
 returns-clause-form c = λ e r stored text.
