@@ -1,6 +1,5 @@
 //! Texts of replies, read.
-ghost use Rattle.std.specs.Prelude.{◌≡◌, ◌≤◌, ℕ, List, drop, map, IfOk, IfErr, IfSome, length};
-ghost use Rattle.std.specs.List.{AllByRecursion};
+ghost use Rattle.std.specs.Prelude.{◌≡◌, ◌≤◌, drop, map, IfOk, IfErr, IfSome};
 ghost use Rattle.std.specs.Str.{bytes_eq};
 ghost use Rattle.review_names.specs.Forms.{most_changes, most_comments, most_patches};
 ghost use Rattle.review_words.specs.Texts.{reply_text, IsCommentNumber, IsStored, IsStoredAnswer};
