@@ -6,7 +6,7 @@ use Rattle.std.specs.Str.{bytes_eq}
 use Rattle.std.proofs.lemmas.Bool.{cases_Bool}
 use Rattle.std.proofs.lemmas.Slice.Eq.{bytes_eq-Decides}
 use Rattle.review_words.specs.Texts.{content_text, reply_text, IsStored}
-use Rattle.review_words.proofs.Fields.{content_text-injective, reply_text-injective}
+use Rattle.review_texts.proofs.Fields.{content_text-injective, reply_text-injective}
 use Rattle.review_words.specs.declared.command.Command.{Command}
 use Rattle.review_words.specs.declared.command.Delivery.{Delivery}
 use Rattle.review_words.specs.declared.command.Delivery.TheVariants.{Write, Read}

@@ -11,10 +11,8 @@ ghost use Rattle.review_deliveries.specs.Replies.{IsServed, IsToldAgain, KeepsUn
 use crate::gathering::gather;
 use crate::rules::Rules;
 use review_rows::{Kept, Matter, Shelf};
-use review_words::{
-    AccountNo, BadReply, Command, Delivery, NotTaken, Query, Reply, RequestId, content_text,
-    read_reply, reply_text,
-};
+use review_texts::{BadReply, content_text, read_reply, reply_text};
+use review_words::{AccountNo, Command, Delivery, NotTaken, Query, Reply, RequestId};
 use std::alloc::Global;
 
 /// The last number of a request.

@@ -2,7 +2,7 @@
 use Rattle.std.specs.Prelude.{ℕ, List, map, codes}
 use Rattle.serde_json.specs.Data.{Data, number, unsigned, string, array, object, Items, no_items, no_members, member}
 use Rattle.serde_json.specs.View.{items_of}
-use Rattle.review_words.specs.Texts.{refusal_number, refusal_name}
+use Rattle.review_words.specs.Refusals.{refusal_number, refusal_name}
 use Rattle.review_words.specs.Faults.{code_name, file_fault_name}
 use Rattle.review_words.specs.declared.reply.Reply.{Reply}
 use Rattle.review_words.specs.declared.reply.Reply.TheVariants.{Done, Refused, IdentityReused, NotTaken}

@@ -21,8 +21,8 @@ use Rattle.review_terms.specs.declared.terms.Voters.TheVariants as voters
 use Rattle.review_terms.specs.declared.terms.Count.{Count}
 use Rattle.review_terms.specs.declared.terms.Count.TheVariants as count
 use Rattle.review_terms.specs.declared.terms.LabelTerm.{LabelTerm}
-use Rattle.review_terms.specs.declared.terms.ChangeKind.{ChangeKind}
-use Rattle.review_terms.specs.declared.terms.ChangeKind.TheVariants as kind
+use Rattle.review_names.specs.declared.kinds.ChangeKind.{ChangeKind}
+use Rattle.review_names.specs.declared.kinds.ChangeKind.TheVariants as kind
 use Rattle.review_terms.specs.declared.terms.RequirementTerm.{RequirementTerm}
 use Rattle.review_terms.specs.declared.terms.RequirementTerm.TheVariants as requirement
 use Rattle.review_terms.specs.declared.terms.CopyTerm.{CopyTerm}

@@ -1,4 +1,4 @@
--- The forms of the names of labels, projects, branches, commits and paths, and of the numbers of changes and patch sets.
+-- The forms of the names of labels, projects, branches, commits and paths, of subjects and messages, and of the numbers of changes, patch sets and comments.
 use Rattle.std.specs.Prelude.{ℕ, List, [], ◌∷◌, Bool, true, false, not, ◌&&◌, ◌||◌, ◌==◌, nat_le, if◌then◌else◌, length, codes}
 use Rattle.std.specs.List.{list_all}
 use Rattle.std.specs.Char.{is_ascii_alphabetic, is_ascii_alphanumeric, is_ascii_control}
@@ -52,6 +52,26 @@ is_path_step s = nat_le 1 (length s) && list_all (λ c. not (is_ascii_control c)
 unfoldable pub is_path : List ℕ → Bool
 is_path s = nat_le (length s) 512 && list_all is_path_step (components s)
 
+-- the place of comments on a change's message
+abbrev pub commit_message : List ℕ
+commit_message = codes "/COMMIT_MSG"
+
+-- the place of comments on a patch set as a whole
+abbrev pub patch_set_level : List ℕ
+patch_set_level = codes "/PATCHSET_LEVEL"
+
+-- the place of a comment: a path, the change's message or the patch set as a whole
+unfoldable pub is_place : List ℕ → Bool
+is_place s = is_path s || bytes_eq s commit_message || bytes_eq s patch_set_level
+
+-- a line of text: 1 to 512 bytes, and no control character of ASCII
+unfoldable pub is_line : List ℕ → Bool
+is_line s = nat_le 1 (length s) && nat_le (length s) 512 && list_all (λ c. not (is_ascii_control c)) s
+
+-- a message: at most 8,192 bytes, and no U+0000
+unfoldable pub is_message : List ℕ → Bool
+is_message s = nat_le (length s) 8192 && list_all (λ c. not (c == 0)) s
+
 -- a number from 1 to the greatest one
 unfoldable pub is_within : ℕ → ℕ → Bool
 is_within most n = nat_le 1 n && nat_le n most
@@ -72,3 +92,7 @@ most_changes = 1000000000
 -- the greatest number of a patch set
 abbrev pub most_patches : ℕ
 most_patches = 1000
+
+-- the greatest number of a comment
+abbrev pub most_comments : ℕ
+most_comments = 10000

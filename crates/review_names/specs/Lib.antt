@@ -2,4 +2,5 @@ pub mod Names
 pub mod Forms
 pub mod Groups
 pub mod Numerals
+pub mod Kinds
 pub mod Laws

@@ -1,6 +1,6 @@
-//! The numbers of changes and patch sets. Contracts see the number.
+//! The numbers of changes, patch sets and comments. Contracts see the number.
 ghost use Rattle.std.specs.Prelude.{◌≡◌, ◌≤◌, ◌<◌, ◌^◌, ℕ, Some, None, true, IfOk, IfErr, if◌then◌else◌};
-ghost use Rattle.review_names.specs.Forms.{is_within, most_changes, most_patches};
+ghost use Rattle.review_names.specs.Forms.{is_within, most_changes, most_comments, most_patches};
 ghost use Rattle.review_names.specs.Numerals.{numeral};
 
 use crate::names::BadName;
@@ -115,6 +115,61 @@ impl PatchNo {
         ensures most { self ≤ most_patches }
     {
         self.patch
+    }
+}
+
+/// The number of a comment on a change, from 1 to 10,000.
+#[derive(Clone, Copy, Debug, PartialEq, Eq, PartialOrd, Ord)]
+pub struct CommentNo {
+    comment: u32,
+}
+
+impl Model for CommentNo {
+    ghost use Rattle.std.specs.Prelude.{ℕ, IsTrue};
+    ghost use Rattle.review_names.specs.Forms.{is_within, most_comments};
+
+    ghost Value = { ℕ };
+
+    ghost view = { λ c. c.comment };
+
+    ghost invariant = { λ c. IsTrue (is_within most_comments c.comment) };
+
+    ghost inverse = { λ n. record { comment = n } };
+}
+
+impl CommentNo {
+    /// The comment of a number, or none where the number is 0 or above 10,000.
+    #[tactic(auto, unfolding(crate::specs::Forms::is_within))]
+    pub fn from_number(number: u64) -> Option<CommentNo>
+        ensures { result ≡ (if is_within most_comments number then Some number else None) }
+    {
+        if number >= 1 && number <= 10_000 {
+            Some(CommentNo {
+                comment: number as u32,
+            })
+        } else {
+            None
+        }
+    }
+
+    /// The comment whose number a text is, in decimal without leading zeros, from 1 to 10,000.
+    /// Any other text is answered by Form. This takes no memory, so Memory is never answered.
+    pub fn read(text: &str) -> Result<CommentNo, BadName>
+        ensures ok { IfOk result (λ n. (numeral n ≡ text.now) × (is_within most_comments n ≡ true)) }
+        ensures form { IfErr result (λ e. (e ≡ BadName.Form) × ((n : ℕ) → is_within most_comments n ≡ true → numeral n ≡ text.now → ⊥)) }
+    {
+        let comment = read_within(text, 10_000)?;
+        Ok(CommentNo { comment })
+    }
+
+    /// The number, from 1 to 10,000.
+    #[tactic(auto, unfolding(crate::specs::Forms::is_within))]
+    pub fn get(self) -> u32
+        ensures value { result ≡ self }
+        ensures least { 1 ≤ self }
+        ensures most { self ≤ most_comments }
+    {
+        self.comment
     }
 }
 

@@ -1,11 +1,12 @@
-//! The names of labels, projects, branches and commits, and paths.
-ghost use Rattle.std.specs.Prelude.{◌≡◌, ◌==◌, ◌&&◌, not};
+//! The names of labels, projects, branches and commits, paths, and the places of comments.
+ghost use Rattle.std.specs.Prelude.{◌≡◌, ◌==◌, ◌&&◌, IfOk, not};
 ghost use Rattle.std.specs.List.{list_all};
 ghost use Rattle.std.specs.Char.{is_ascii_control};
-ghost use Rattle.review_names.specs.Forms.{components, goes_on, is_hexadecimal, is_label, is_slashed_name, is_step, is_commit, is_path, is_path_step};
+ghost use Rattle.review_names.specs.Forms.{components, goes_on, is_hexadecimal, is_label, is_slashed_name, is_step, is_commit, is_path, is_path_step, is_place, patch_set_level};
 
 use crate::forms::{Form, Name};
 use crate::names::is_all_plain;
+use std::alloc::{AllocError, Global};
 
 /// The form of a label's name: 1 to 40 of `A-Z a-z 0-9 -`, a letter first, each hyphen followed
 /// by a letter.
@@ -30,6 +31,10 @@ pub struct OfCommit;
 #[derive(Debug, Drop)]
 pub struct OfPath;
 
+/// The form of the place of a comment: a path, `/COMMIT_MSG` or `/PATCHSET_LEVEL`.
+#[derive(Debug, Drop)]
+pub struct OfPlace;
+
 /// A component of a project's or a branch's name.
 #[derive(Debug, Drop)]
 struct OfStep;
@@ -52,6 +57,10 @@ pub type CommitName = Name<OfCommit>;
 
 /// The path of a file.
 pub type Path = Name<OfPath>;
+
+/// The place of a comment: the path of a file, `/COMMIT_MSG` for the change's message, or
+/// `/PATCHSET_LEVEL` for the patch set as a whole.
+pub type Place = Name<OfPlace>;
 
 impl Form for OfLabel {
     ghost is_form = { is_label };
@@ -98,6 +107,15 @@ impl Form for OfPath {
     }
 }
 
+impl Form for OfPlace {
+    ghost is_form = { is_place };
+
+    #[tactic(auto, unfolding(crate::specs::Forms::is_place))]
+    fn is_met(text: &str) -> bool {
+        OfPath::is_met(text) || text == "/COMMIT_MSG" || text == "/PATCHSET_LEVEL"
+    }
+}
+
 impl Form for OfStep {
     ghost is_form = { is_step };
 
@@ -136,7 +154,7 @@ fn is_shown(byte: u8) -> bool
     !byte.is_ascii_control()
 }
 
-fn has_no_control(text: &str) -> bool
+pub(crate) fn has_no_control(text: &str) -> bool
     ensures { result ≡ list_all (λ c. not (is_ascii_control c)) text.now }
 {
     text.as_bytes().iter().all(|byte| is_shown(*byte))
@@ -176,4 +194,14 @@ fn is_slashed_name(text: &str) -> bool
     ensures { result ≡ is_slashed_name text.now }
 {
     text.len() <= 128 && has_components::<OfStep>(text)
+}
+
+/// The place of comments on a patch set as a whole, `/PATCHSET_LEVEL`. An error where there was no
+/// memory for it.
+#[tactic(auto, unfolding(crate::specs::Forms::is_place, crate::specs::Forms::is_path, crate::specs::Forms::is_path_step))]
+pub fn patch_set_level(alloc: Global) -> Result<Place, AllocError>
+    ensures { IfOk result (λ p. p ≡ patch_set_level) }
+{
+    let text = String::from_str(alloc, "/PATCHSET_LEVEL")?;
+    Ok(Name::of_form(text))
 }

@@ -7,8 +7,6 @@ use Rattle.review_terms.specs.declared.terms.VoteValue.{VoteValue}
 use Rattle.review_terms.specs.declared.terms.VoteValue.TheVariants as value
 use Rattle.review_terms.specs.declared.terms.Comparison.{Comparison}
 use Rattle.review_terms.specs.declared.terms.Comparison.TheVariants as comparison
-use Rattle.review_terms.specs.declared.terms.ChangeKind.{ChangeKind}
-use Rattle.review_terms.specs.declared.terms.ChangeKind.TheVariants as kind
 use Rattle.review_spelling.specs.Cuts.{behind}
 
 -- D: 0 to 99 in decimal, without leading zeros
@@ -65,23 +63,3 @@ is_met_by_zero (comparison.AtLeast n) = int_le n (pos 0)
 is_met_by_zero (comparison.Above n) = int_lt n (pos 0)
 is_met_by_zero (comparison.AtMost n) = int_le (pos 0) n
 is_met_by_zero (comparison.Below n) = int_lt (pos 0) n
-
--- the name of a kind of change
-abbrev pub kind_name : ChangeKind → List ℕ
-kind_name kind.NoChange = codes "NO_CHANGE"
-kind_name kind.NoCodeChange = codes "NO_CODE_CHANGE"
-kind_name kind.TrivialRebase = codes "TRIVIAL_REBASE"
-kind_name kind.TrivialRebaseWithMessageUpdate = codes "TRIVIAL_REBASE_WITH_MESSAGE_UPDATE"
-kind_name kind.MergeFirstParentUpdate = codes "MERGE_FIRST_PARENT_UPDATE"
-kind_name kind.Rework = codes "REWORK"
-
--- the kind of change that has a name
-unfoldable pub kind_named : List ℕ → Option ChangeKind
-kind_named name =
-    if bytes_eq name (codes "NO_CHANGE") then Some kind.NoChange
-    else if bytes_eq name (codes "NO_CODE_CHANGE") then Some kind.NoCodeChange
-    else if bytes_eq name (codes "TRIVIAL_REBASE") then Some kind.TrivialRebase
-    else if bytes_eq name (codes "TRIVIAL_REBASE_WITH_MESSAGE_UPDATE") then Some kind.TrivialRebaseWithMessageUpdate
-    else if bytes_eq name (codes "MERGE_FIRST_PARENT_UPDATE") then Some kind.MergeFirstParentUpdate
-    else if bytes_eq name (codes "REWORK") then Some kind.Rework
-    else None

@@ -11,7 +11,8 @@ use Rattle.review_terms.specs.declared.terms.RequirementTerm.TheVariants as requ
 use Rattle.review_terms.specs.declared.terms.CopyTerm.{CopyTerm}
 use Rattle.review_terms.specs.declared.terms.CopyTerm.TheVariants as copy
 use Rattle.review_spelling.specs.Cuts.{behind, cut_at, key_and_value}
-use Rattle.review_spelling.specs.Values.{vote_in, kind_named, is_met_by_zero}
+use Rattle.review_names.specs.Kinds.{kind_named}
+use Rattle.review_spelling.specs.Values.{vote_in, is_met_by_zero}
 use Rattle.review_spelling.specs.Labels.{label_in}
 use Rattle.review_spelling.specs.Readings.{◌>>=◌, in_term, in_value, unless_zero}
 use Rattle.review_spelling.specs.declared.keys.RequirementKey.{RequirementKey}

@@ -7,10 +7,10 @@ ghost use Rattle.review_spelling.specs.Words.{copy_reading, copy_value};
 use crate::cuts::key_and_value;
 use crate::keys::CopyKey;
 use crate::names::read_name;
-use crate::values::{is_met_by_zero, read_kind, read_vote};
+use crate::values::{is_met_by_zero, read_vote};
 use review_grammar::WordFault;
 use review_names::names::OfGroup;
-use review_terms::{Comparison, CopyTerm};
+use review_terms::{ChangeKind, Comparison, CopyTerm};
 use std::alloc::Global;
 
 #[tactic(auto, unfolding(crate::specs::Words::copy_value))]
@@ -32,7 +32,7 @@ fn read_changed(name: &str) -> Result<CopyTerm, WordFault>
     ensures term { IfOk result (λ t. copy_value of_copy.ChangeKind name.now ≡ Good t) }
     ensures fault { IfErr result (IsWordFault (copy_value of_copy.ChangeKind name.now) ⊥ ⊥) }
 {
-    let Some(kind) = read_kind(name) else {
+    let Some(kind) = ChangeKind::from_name(name) else {
         return Err(WordFault::BadValue);
     };
     Ok(CopyTerm::Kind(kind))

@@ -1,9 +1,9 @@
 //! Values that stand in words: numbers, votes, kinds of change.
 ghost use Rattle.std.specs.Prelude.{◌≡◌, ◌≤◌, ◌∷◌, [], ℕ, pos, IfSome};
-ghost use Rattle.review_spelling.specs.Values.{comparison_in, digits_in, is_met_by_zero, kind_named, negative, number_in, vote_in};
+ghost use Rattle.review_spelling.specs.Values.{comparison_in, digits_in, is_met_by_zero, negative, number_in, vote_in};
 
 use crate::cuts::behind;
-use review_terms::{ChangeKind, Comparison, VoteValue};
+use review_terms::{Comparison, VoteValue};
 
 #[tactic(auto, unfolding(crate::specs::Values::digits_in))]
 fn one_digit(digit: u8) -> Option<u8>
@@ -109,21 +109,5 @@ pub fn is_met_by_zero(asked: Comparison) -> bool
         Comparison::Above(number) => number < 0,
         Comparison::AtMost(number) => 0 <= number,
         Comparison::Below(number) => 0 < number,
-    }
-}
-
-/// The kind of change that has a name.
-#[tactic(auto, unfolding(crate::specs::Values::kind_named))]
-pub fn read_kind(name: &str) -> Option<ChangeKind>
-    ensures { result ≡ kind_named name.now }
-{
-    match name {
-        "NO_CHANGE" => Some(ChangeKind::NoChange),
-        "NO_CODE_CHANGE" => Some(ChangeKind::NoCodeChange),
-        "TRIVIAL_REBASE" => Some(ChangeKind::TrivialRebase),
-        "TRIVIAL_REBASE_WITH_MESSAGE_UPDATE" => Some(ChangeKind::TrivialRebaseWithMessageUpdate),
-        "MERGE_FIRST_PARENT_UPDATE" => Some(ChangeKind::MergeFirstParentUpdate),
-        "REWORK" => Some(ChangeKind::Rework),
-        _ => None,
     }
 }

@@ -5,6 +5,5 @@ pub mod pattern;
 pub mod terms;
 
 pub use pattern::{Pattern, PatternFault};
-pub use terms::{
-    ChangeKind, Comparison, CopyTerm, Count, LabelTerm, RequirementTerm, VoteValue, Voters,
-};
+pub use review_names::ChangeKind;
+pub use terms::{Comparison, CopyTerm, Count, LabelTerm, RequirementTerm, VoteValue, Voters};

@@ -1,7 +1,7 @@
 //! The terms of submit requirements and of copy conditions.
 
 use crate::pattern::Pattern;
-use review_names::{AccountNo, BranchName, GroupName, LabelName, Path};
+use review_names::{AccountNo, BranchName, ChangeKind, GroupName, LabelName, Path};
 
 /// The value that a vote is compared with.
 #[derive(Clone, Copy, Debug, PartialEq, Eq)]
@@ -94,23 +94,6 @@ pub enum RequirementTerm {
     File(Path),
     /// `has:unresolved`
     Unresolved,
-}
-
-/// What a new patch set changed.
-#[derive(Clone, Copy, Debug, PartialEq, Eq)]
-pub enum ChangeKind {
-    /// `NO_CHANGE`
-    NoChange,
-    /// `NO_CODE_CHANGE`
-    NoCodeChange,
-    /// `TRIVIAL_REBASE`
-    TrivialRebase,
-    /// `TRIVIAL_REBASE_WITH_MESSAGE_UPDATE`
-    TrivialRebaseWithMessageUpdate,
-    /// `MERGE_FIRST_PARENT_UPDATE`
-    MergeFirstParentUpdate,
-    /// `REWORK`
-    Rework,
 }
 
 /// A term of a copy condition.

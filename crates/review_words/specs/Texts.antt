@@ -1,17 +1,23 @@
 -- The text of a command and of a reply: fields, each its length, a colon, its bytes and a comma.
-use Rattle.std.specs.Prelude.{ℕ, List, [], ◌∷◌, ◌++◌, length, map, ◌+◌, ◌≤◌, ◌<◌, codes, flat_map}
+use Rattle.std.specs.Prelude.{ℕ, ℤ, pos, negsuc, List, [], ◌∷◌, ◌++◌, length, map, ◌+◌, ◌≤◌, ◌<◌, codes, flat_map, Bool, true, false, Option, Some, None}
+use Rattle.std.specs.List.{AllByRecursion}
+use Rattle.review_names.specs.Forms.{most_changes, most_comments, most_patches}
+use Rattle.review_names.specs.Kinds.{kind_name}
+use Rattle.review_names.specs.Numerals.{numeral}
+use Rattle.review_words.specs.declared.changes.Given.{Given}
+use Rattle.review_words.specs.declared.changes.NewComment.{NewComment}
 use Rattle.review_words.specs.declared.command.Command.{Command}
-use Rattle.review_words.specs.declared.command.Command.TheVariants.{CreateAccount, PutGroup, PutProject, RecordBase}
+use Rattle.review_words.specs.declared.command.Command.TheVariants.{CreateAccount, PutGroup, PutProject, RecordBase, CreateChange, Upload, Review}
 use Rattle.review_words.specs.declared.reply.Reply.{Reply}
 use Rattle.review_words.specs.declared.reply.Reply.TheVariants.{Done, Refused}
 use Rattle.review_words.specs.declared.reply.Answer.{Answer}
-use Rattle.review_words.specs.declared.reply.Answer.TheVariants.{Account, Nothing, Branch}
+use Rattle.review_words.specs.declared.reply.Answer.TheVariants.{Account, Nothing, Change, Patch, Reviewed, Branch}
 use Rattle.review_words.specs.declared.reply.Refusal.{Refusal}
-use Rattle.review_words.specs.declared.reply.Refusal.TheVariants.{UnknownCaller, NotAdmin, NoProject, NoBranch, NoAccount, CommitKnown, NameTaken, BadFile, LabelNarrowed, Limit}
+use Rattle.review_words.specs.declared.reply.Refusal.TheVariants.{BadFile}
 use Rattle.review_words.specs.declared.faults.FileFault.{FileFault}
 use Rattle.review_words.specs.declared.faults.FileFault.TheVariants.{Expr}
 use Rattle.review_words.specs.Faults.{code_number, file_fault_number}
-use Rattle.review_names.specs.Numerals.{numeral}
+use Rattle.review_words.specs.Refusals.{refusal_number}
 
 -- a field: its length in bytes, a colon, the bytes, a comma
 unfoldable pub field : List ℕ → List ℕ
@@ -21,55 +27,55 @@ field bytes = numeral (length bytes) ++ 58 ∷ (bytes ++ 44 ∷ [])
 unfoldable pub text_of : List (List ℕ) → List ℕ
 text_of fields = flat_map field fields
 
--- the name of a command, then its fields; a set is its count, then its members; a file is its text as it was sent
+-- a whole number in decimal, a minus in front of one below 0
+abbrev pub signed : ℤ → List ℕ
+signed (pos n) = numeral n
+signed (negsuc n) = 45 ∷ numeral (n + 1)
+
+-- a truth value
+abbrev pub shown_truth : Bool → List ℕ
+shown_truth true = codes "true"
+shown_truth false = codes "false"
+
+-- a truth value that may be left out
+abbrev pub shown_flag : Option Bool → List ℕ
+shown_flag (Some flag) = shown_truth flag
+shown_flag None = codes "absent"
+
+-- the number of a patch set, or the current one
+abbrev pub shown_patch : Option ℕ → List ℕ
+shown_patch (Some patch) = numeral patch
+shown_patch None = codes "current"
+
+-- the number of a comment that is answered, if one is
+abbrev pub shown_link : Option ℕ → List ℕ
+shown_link (Some comment) = numeral comment
+shown_link None = codes "absent"
+
+-- the fields of a value on a label
+abbrev pub given_fields : Given → List (List ℕ)
+given_fields given = given.label ∷ signed given.value ∷ []
+
+-- the fields of a comment
+abbrev pub comment_fields : NewComment → List (List ℕ)
+comment_fields comment = comment.path ∷ numeral comment.line ∷ comment.message ∷ shown_flag comment.unresolved ∷ shown_link comment.in_reply_to ∷ []
+
+-- the name of a command, then its fields; a set or a list is its count, then its members; a file is its text as it was sent
 abbrev pub command_fields : Command → List (List ℕ)
 command_fields (CreateAccount name) = codes "CreateAccount" ∷ name ∷ []
 command_fields (PutGroup group members) = codes "PutGroup" ∷ group ∷ numeral (length members) ∷ map numeral members
 command_fields (PutProject project file) = codes "PutProject" ∷ project ∷ file ∷ []
 command_fields (RecordBase project branch commit) = codes "RecordBase" ∷ project ∷ branch ∷ commit ∷ []
+command_fields (CreateChange new) =
+    codes "CreateChange" ∷ new.project ∷ new.branch ∷ new.subject ∷ new.commit ∷ new.parent ∷ numeral (length new.paths) ∷ (new.paths ++ shown_truth new.wip ∷ [])
+command_fields (Upload change new) = codes "Upload" ∷ numeral change ∷ new.commit ∷ new.parent ∷ kind_name new.kind ∷ numeral (length new.paths) ∷ new.paths
+command_fields (Review change review) =
+    codes "Review" ∷ numeral change ∷ shown_patch review.patch ∷ review.message ∷ numeral (length review.labels)
+    ∷ (flat_map given_fields review.labels ++ numeral (length review.comments) ∷ flat_map comment_fields review.comments)
 
 -- the content text of a command
 abbrev pub content_text : Command → List ℕ
 content_text command = text_of (command_fields command)
-
--- the number of a refusal
-abbrev pub refusal_number : Refusal → ℕ
-refusal_number UnknownCaller = 1
-refusal_number NotAdmin = 2
-refusal_number NoProject = 3
-refusal_number NoBranch = 4
-refusal_number NoAccount = 7
-refusal_number CommitKnown = 17
-refusal_number NameTaken = 25
-refusal_number (BadFile fault) = 26
-refusal_number LabelNarrowed = 27
-refusal_number Limit = 28
-
--- the name of a refusal
-abbrev pub refusal_name : Refusal → List ℕ
-refusal_name UnknownCaller = codes "UNKNOWN_CALLER"
-refusal_name NotAdmin = codes "NOT_ADMIN"
-refusal_name NoProject = codes "NO_PROJECT"
-refusal_name NoBranch = codes "NO_BRANCH"
-refusal_name NoAccount = codes "NO_ACCOUNT"
-refusal_name CommitKnown = codes "COMMIT_KNOWN"
-refusal_name NameTaken = codes "NAME_TAKEN"
-refusal_name (BadFile fault) = codes "BAD_FILE"
-refusal_name LabelNarrowed = codes "LABEL_NARROWED"
-refusal_name Limit = codes "LIMIT"
-
--- the HTTP status of a refusal
-abbrev pub refusal_status : Refusal → ℕ
-refusal_status UnknownCaller = 403
-refusal_status NotAdmin = 403
-refusal_status NoProject = 404
-refusal_status NoBranch = 404
-refusal_status NoAccount = 404
-refusal_status CommitKnown = 409
-refusal_status NameTaken = 409
-refusal_status (BadFile fault) = 400
-refusal_status LabelNarrowed = 409
-refusal_status Limit = 409
 
 -- what the fault of an expression adds: its code and its place
 abbrev pub expr_fields : FileFault → List (List ℕ)
@@ -89,6 +95,9 @@ refusal_fields _ = []
 abbrev pub reply_fields : Reply → List (List ℕ)
 reply_fields (Done (Account number)) = codes "Account" ∷ numeral number ∷ []
 reply_fields (Done Nothing) = codes "Nothing" ∷ []
+reply_fields (Done (Change change patch)) = codes "Change" ∷ numeral change ∷ numeral patch ∷ []
+reply_fields (Done (Patch change patch copied outdated)) = codes "Patch" ∷ numeral change ∷ numeral patch ∷ numeral copied ∷ numeral outdated ∷ []
+reply_fields (Done (Reviewed comments)) = codes "Reviewed" ∷ numeral (length comments) ∷ map numeral comments
 reply_fields (Refused refusal) = codes "Refused" ∷ numeral (refusal_number refusal) ∷ refusal_fields refusal
 reply_fields _ = []
 
@@ -96,10 +105,18 @@ reply_fields _ = []
 abbrev pub reply_text : Reply → List ℕ
 reply_text reply = text_of (reply_fields reply)
 
--- an answer that is stored, with numbers of their forms; a query's never is
+-- the number of a comment
+abbrev pub IsCommentNumber : ℕ → Type 0
+IsCommentNumber number = (1 ≤ number) × (number ≤ most_comments)
+
+-- an answer that is stored, with numbers of their forms, and counts below 2^64; a query's never is
 abbrev pub IsStoredAnswer : Answer → Type 0
 IsStoredAnswer (Account number) = (1 ≤ number) × (number ≤ 1000000)
 IsStoredAnswer Nothing = Unit {0}
+IsStoredAnswer (Change change patch) = (1 ≤ change) × (change ≤ most_changes) × (1 ≤ patch) × (patch ≤ most_patches)
+IsStoredAnswer (Patch change patch copied outdated) =
+    (1 ≤ change) × (change ≤ most_changes) × (1 ≤ patch) × (patch ≤ most_patches) × (copied < 18446744073709551616) × (outdated < 18446744073709551616)
+IsStoredAnswer (Reviewed comments) = (length comments ≤ most_comments) × AllByRecursion IsCommentNumber comments
 IsStoredAnswer (Branch bases) = ⊥
 
 -- a file's fault whose place, if it has one, is below 2^64

@@ -1,8 +1,10 @@
 //! What may be asked of the desk.
 
+use crate::changes::{NewChange, NewPatch, Review};
 use crate::files::FileText;
 use review_names::{
-    AccountName, AccountNo, BranchName, CommitName, GroupName, Members, ProjectName, RequestId,
+    AccountName, AccountNo, BranchName, ChangeNo, CommitName, GroupName, Members, ProjectName,
+    RequestId,
 };
 
 /// A change that a caller asks for.
@@ -27,6 +29,18 @@ pub enum Command {
         project: ProjectName,
         branch: BranchName,
         commit: CommitName,
+    },
+    /// A new change, with its first patch set; it gets the next number.
+    CreateChange(NewChange),
+    /// A new patch set of a change, which is its current one from then on.
+    Upload {
+        change: ChangeNo,
+        patch: NewPatch,
+    },
+    /// What the caller says of a patch set of a change: a message, values on labels, comments.
+    Review {
+        change: ChangeNo,
+        review: Review,
     },
 }
 

@@ -1,11 +1,11 @@
 //! What the desk answers.
 ghost use Rattle.std.specs.Prelude.{◌≡◌};
-ghost use Rattle.review_words.specs.Texts.{refusal_number, refusal_name, refusal_status};
-ghost use Rattle.review_words.specs.Reading.{refusal_of_number};
+ghost use Rattle.review_words.specs.Refusals.{refusal_number, refusal_name, refusal_of_number, refusal_status};
 
 use crate::branches::Bases;
+use crate::changes::CommentNumbers;
 use crate::faults::FileFault;
-use review_names::AccountNo;
+use review_names::{AccountNo, ChangeNo, PatchNo};
 use std::alloc::{AllocError, AllocFailed};
 
 /// What a command that was done gave, or what a query found.
@@ -14,6 +14,21 @@ pub enum Answer {
     /// The number of the new account.
     Account(AccountNo),
     Nothing,
+    /// The number of the new change, and that of its first patch set.
+    Change {
+        change: ChangeNo,
+        patch: PatchNo,
+    },
+    /// The change, the number of its new patch set, and how many votes of the patch set before were
+    /// copied to it and how many were not.
+    Patch {
+        change: ChangeNo,
+        patch: PatchNo,
+        copied: u64,
+        outdated: u64,
+    },
+    /// The numbers of the new comments.
+    Reviewed(CommentNumbers),
     /// The commits that were recorded as bases of the branch. It answers a query.
     Branch(Bases),
 }
@@ -29,10 +44,30 @@ pub enum Refusal {
     NoProject,
     /// The branch has no base.
     NoBranch,
+    /// The change isn't there.
+    NoChange,
+    /// The change has no such patch set.
+    NoPatchSet,
     /// An account that the command names isn't there.
     NoAccount,
-    /// The commit is a base of the branch already.
+    /// A comment that is answered isn't there.
+    NoComment,
+    /// The caller lacks the right.
+    NotAllowed,
+    /// The change is merged or abandoned.
+    Closed,
+    /// Values are given on a patch set that isn't the change's current one.
+    StalePatchSet,
+    /// The project's file has no such label.
+    NoLabel,
+    /// The value is none of the label's.
+    ValueOut,
+    /// The value is outside the caller's range on the label.
+    VoteRestricted,
+    /// The commit is known in the branch already.
     CommitKnown,
+    /// The parent isn't known in the branch.
+    UnknownParent,
     /// The name is in use, or may not be put.
     NameTaken,
     /// The text is no project file.
@@ -77,8 +112,18 @@ impl Refusal {
             Refusal::NotAdmin => RefusalRow::new(2, "NOT_ADMIN", 403),
             Refusal::NoProject => RefusalRow::new(3, "NO_PROJECT", 404),
             Refusal::NoBranch => RefusalRow::new(4, "NO_BRANCH", 404),
+            Refusal::NoChange => RefusalRow::new(5, "NO_CHANGE", 404),
+            Refusal::NoPatchSet => RefusalRow::new(6, "NO_PATCH_SET", 404),
             Refusal::NoAccount => RefusalRow::new(7, "NO_ACCOUNT", 404),
+            Refusal::NoComment => RefusalRow::new(8, "NO_COMMENT", 404),
+            Refusal::NotAllowed => RefusalRow::new(9, "NOT_ALLOWED", 403),
+            Refusal::Closed => RefusalRow::new(10, "CLOSED", 409),
+            Refusal::StalePatchSet => RefusalRow::new(13, "STALE_PATCH_SET", 409),
+            Refusal::NoLabel => RefusalRow::new(14, "NO_LABEL", 400),
+            Refusal::ValueOut => RefusalRow::new(15, "VALUE_OUT", 400),
+            Refusal::VoteRestricted => RefusalRow::new(16, "VOTE_RESTRICTED", 403),
             Refusal::CommitKnown => RefusalRow::new(17, "COMMIT_KNOWN", 409),
+            Refusal::UnknownParent => RefusalRow::new(18, "UNKNOWN_PARENT", 409),
             Refusal::NameTaken => RefusalRow::new(25, "NAME_TAKEN", 409),
             Refusal::BadFile(_) => RefusalRow::new(26, "BAD_FILE", 400),
             Refusal::LabelNarrowed => RefusalRow::new(27, "LABEL_NARROWED", 409),
@@ -109,7 +154,7 @@ impl Refusal {
 
     /// The refusal of a number that is told by its number alone, or none where no such refusal
     /// has it.
-    pub(crate) fn from_number(number: u64) -> Option<Refusal>
+    pub fn from_number(number: u64) -> Option<Refusal>
         ensures { result ≡ refusal_of_number number }
     {
         match number {
@@ -117,8 +162,18 @@ impl Refusal {
             2 => Some(Refusal::NotAdmin),
             3 => Some(Refusal::NoProject),
             4 => Some(Refusal::NoBranch),
+            5 => Some(Refusal::NoChange),
+            6 => Some(Refusal::NoPatchSet),
             7 => Some(Refusal::NoAccount),
+            8 => Some(Refusal::NoComment),
+            9 => Some(Refusal::NotAllowed),
+            10 => Some(Refusal::Closed),
+            13 => Some(Refusal::StalePatchSet),
+            14 => Some(Refusal::NoLabel),
+            15 => Some(Refusal::ValueOut),
+            16 => Some(Refusal::VoteRestricted),
             17 => Some(Refusal::CommitKnown),
+            18 => Some(Refusal::UnknownParent),
             25 => Some(Refusal::NameTaken),
             27 => Some(Refusal::LabelNarrowed),
             28 => Some(Refusal::Limit),

@@ -7,13 +7,14 @@ use Rattle.review_names.specs.Numerals as Steps
 use Rattle.review_grammar.specs.Words.{NoTerm, Reading, Good, Bad}
 use Rattle.review_terms.specs.declared.terms.VoteValue.{VoteValue}
 use Rattle.review_terms.specs.declared.terms.Comparison.TheVariants as comparison
-use Rattle.review_terms.specs.declared.terms.ChangeKind.{ChangeKind}
-use Rattle.review_terms.specs.declared.terms.ChangeKind.TheVariants as kind
+use Rattle.review_names.specs.declared.kinds.ChangeKind.{ChangeKind}
+use Rattle.review_names.specs.declared.kinds.ChangeKind.TheVariants as kind
 use Rattle.review_terms.specs.declared.terms.CopyTerm.{CopyTerm}
 use Rattle.review_terms.specs.declared.terms.CopyTerm.TheVariants as copy
 use Rattle.review_spelling.specs.Cuts.{cut_at, key_and_value, unquoted, with_first}
 use Rattle.review_spelling.specs.Readings.{◌>>=◌, in_term, in_value, unless_zero}
-use Rattle.review_spelling.specs.Values.{vote_in, kind_named, kind_name, is_met_by_zero}
+use Rattle.review_names.specs.Kinds.{kind_named, kind_name}
+use Rattle.review_spelling.specs.Values.{vote_in, is_met_by_zero}
 use Rattle.review_spelling.specs.Words.{copy_key, copy_value, copy_reading}
 use Rattle.review_writing.specs.Printed.{vote_text, word_of, copy_word, IsOneWord}
 use Rattle.review_spelling.specs.declared.keys.CopyKey.{CopyKey}

@@ -17,7 +17,7 @@ use Rattle.review_terms.specs.declared.terms.RequirementTerm.{RequirementTerm}
 use Rattle.review_terms.specs.declared.terms.RequirementTerm.TheVariants as requirement
 use Rattle.review_terms.specs.declared.terms.CopyTerm.{CopyTerm}
 use Rattle.review_terms.specs.declared.terms.CopyTerm.TheVariants as copy
-use Rattle.review_spelling.specs.Values.{kind_name}
+use Rattle.review_names.specs.Kinds.{kind_name}
 
 -- a number without a plus
 unfoldable pub number_text : ℤ → List ℕ

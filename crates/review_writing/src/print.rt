@@ -3,11 +3,10 @@ ghost use Rattle.std.specs.Prelude.{◌≡◌, ◌++◌, ℕ, List, codes, OnErr
 ghost use Rattle.std.specs.List.{list_any};
 ghost use Rattle.review_names.specs.Numerals.{numeral};
 ghost use Rattle.review_grammar.specs.Lexemes.{is_end};
-ghost use Rattle.review_spelling.specs.Values.{kind_name};
 ghost use Rattle.review_writing.specs.Printed.{comparison_text, copy_word, count_text, label_text, number_text, quoted, requirement_word, truth_text, vote_text, voters_text, word_of};
 
 use review_terms::{
-    ChangeKind, Comparison, CopyTerm, Count, LabelTerm, Pattern, RequirementTerm, VoteValue, Voters,
+    Comparison, CopyTerm, Count, LabelTerm, Pattern, RequirementTerm, VoteValue, Voters,
 };
 use std::alloc::AllocError;
 
@@ -203,19 +202,6 @@ pub fn push_requirement(text: &mut String, term: &RequirementTerm) -> Result<(),
     text.push_str(word.as_str())
 }
 
-fn kind_name(kind: ChangeKind) -> &'static str
-    ensures { result.now ≡ kind_name kind }
-{
-    match kind {
-        ChangeKind::NoChange => "NO_CHANGE",
-        ChangeKind::NoCodeChange => "NO_CODE_CHANGE",
-        ChangeKind::TrivialRebase => "TRIVIAL_REBASE",
-        ChangeKind::TrivialRebaseWithMessageUpdate => "TRIVIAL_REBASE_WITH_MESSAGE_UPDATE",
-        ChangeKind::MergeFirstParentUpdate => "MERGE_FIRST_PARENT_UPDATE",
-        ChangeKind::Rework => "REWORK",
-    }
-}
-
 /// The word of a vote's value.
 fn push_vote_word(text: &mut String, asked: VoteValue) -> Result<(), AllocError>
     ensures { OnOk result (string_bytes text.new ≡ string_bytes text.old ++ word_of (codes "is") (vote_text asked)) }
@@ -231,7 +217,7 @@ fn push_copy_word(text: &mut String, term: &CopyTerm) -> Result<(), AllocError>
 {
     match term {
         CopyTerm::Value(asked) => push_vote_word(text, *asked),
-        CopyTerm::Kind(kind) => push_word(text, "changekind", kind_name(*kind)),
+        CopyTerm::Kind(kind) => push_word(text, "changekind", kind.name()),
         CopyTerm::ApproverIn(group) => push_word(text, "approverin", group.as_str()),
         CopyTerm::UploaderIn(group) => push_word(text, "uploaderin", group.as_str()),
         CopyTerm::UnchangedFiles => push_word(text, "has", "unchanged-files"),

@@ -1,7 +1,8 @@
 //! What ends a transcript early.
 
 use review_json::BadBody;
-use review_words::{BadName, BadReply};
+use review_texts::BadReply;
+use review_words::BadName;
 use std::alloc::{AllocError, AllocFailed};
 use std::fmt::{Display, Formatter};
 use std::{fmt, io};

@@ -3,7 +3,8 @@
 use crate::fault::{Fault, spelled};
 use crate::texts::{on_a_line, with_byte};
 use review_json::delivery_of_line;
-use review_words::{AccountNo, Command, Delivery, Query, RequestId, content_text};
+use review_texts::content_text;
+use review_words::{AccountNo, Command, Delivery, Query, RequestId};
 use std::alloc::{AllocError, Global};
 
 fn write_text(

@@ -4,14 +4,18 @@
 //!
 //! - `### TEXT`, a heading, `== TEXT`, the name of what follows, `# TEXT`, a remark, or nothing;
 //! - a name or a number: `account-name TEXT`, `request-id TEXT`, `group TEXT`, `project TEXT`, `branch TEXT`, `commit TEXT`, `label TEXT`,
-//!   `path TEXT`, `account-number TEXT`, `change-number TEXT`, `patch-number TEXT`. The answer is the text of a copy of what was read, or
-//!   `no form`;
-//! - `account-of N`, `change-of N`, `patch-of N`, `account-after N`: the number of that count, or `none`;
-//! - `first-account`, `last-account`, `name-of-account-1`, `group-of-administrators`;
+//!   `path TEXT`, `place TEXT`, `subject TEXT`, `reason TEXT`, `message TEXT`, `account-number TEXT`, `change-number TEXT`,
+//!   `patch-number TEXT`, `comment-number TEXT`. The answer is the text of a copy of what was read, or `no form`; `kind TEXT` likewise;
+//! - `account-of N`, `change-of N`, `patch-of N`, `comment-of N`, `account-after N`: the number of that count, or `none`;
+//! - `first-account`, `last-account`, `name-of-account-1`, `group-of-administrators`, `place-of-patch-sets`;
 //! - `label-order NAME NAME`, `account-order NAME NAME`: how the first name stands to the second;
 //! - `members N,N,..`, `paths PATH,PATH,..`: the set of a list: how many, and the first 20 paths, or the accounts, if there are
 //!   more than 20 the least and the greatest; or `too many`. `member N N,N,..`: whether an account is in a set;
+//! - `labels LABEL=VALUE,..`: the values that a review gives;
 //! - `file TEXT`: the text of a copy of a file;
+//! - `create-change PROJECT BRANCH COMMIT PARENT PATH,.. WIP SUBJECT`, `upload CHANGE COMMIT PARENT KIND PATH,..`,
+//!   `review CHANGE PATCH-SET LABEL=VALUE,..|MESSAGE|COMMENT|..`, where a comment is `PLACE LINE UNRESOLVED ANSWERED MESSAGE`: the content
+//!   text of the command. An empty list is `-`, and what isn't said of a comment is `absent`. Or `no form`, for comments without a message;
 //! - `line LINE`: who asks for what by a line of JSON, under which id, and the content text of a command; or `no delivery`. In
 //!   `line-with-byte HEX LINE` each star of the line is the byte of two digits;
 //! - `reply TEXT`: the stored reply of a text: its JSON, the status of a refusal, and its text again; or `no stored reply`. Replies that
@@ -21,6 +25,7 @@
 //! brace is itself. In an answer `\n` is a line feed, and a text of more than 300 bytes is told by its length.
 #![tactic(auto)]
 
+mod commands;
 mod fault;
 mod lines;
 mod names;
@@ -59,6 +64,9 @@ fn answer(alloc: Global, line: &str) -> Result<String, Fault> {
         return Ok(answer);
     }
     if let Some(answer) = names::known(alloc, word)? {
+        return Ok(answer);
+    }
+    if let Some(answer) = commands::command(alloc, word, text.as_str())? {
         return Ok(answer);
     }
     if let Some(answer) = lines::line(alloc, word, text.as_str())? {

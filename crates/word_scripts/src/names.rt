@@ -3,8 +3,9 @@
 use crate::fault::{Fault, named};
 use crate::texts::on_a_line;
 use review_words::{
-    AccountName, AccountNo, BadName, BranchName, ChangeNo, CommitName, FileText, Form, GroupName,
-    LabelName, Name, PatchNo, Path, ProjectName, RequestId, admin_name, administrators,
+    AccountName, AccountNo, BadName, BranchName, ChangeKind, ChangeNo, CommentNo, CommitName,
+    FileText, Form, GroupName, LabelName, Message, Name, PatchNo, Path, Place, ProjectName, Reason,
+    RequestId, Subject, admin_name, administrators, patch_set_level,
 };
 use std::alloc::Global;
 use std::cmp::Ordering;
@@ -20,6 +21,11 @@ fn name_text<F: Form + Drop>(
     }
 }
 
+fn kind_text(alloc: Global, text: &str) -> Result<String, Fault> {
+    let name = ChangeKind::from_name(text).map_or("no form", |kind| kind.name());
+    Ok(String::from_str(alloc, name)?)
+}
+
 /// What a text is as a name, if a word asks that.
 pub fn name(alloc: Global, word: &str, text: &str) -> Result<Option<String>, Fault> {
     let answer = match word {
@@ -31,6 +37,11 @@ pub fn name(alloc: Global, word: &str, text: &str) -> Result<Option<String>, Fau
         "commit" => name_text(alloc, CommitName::read(alloc, text)),
         "label" => name_text(alloc, LabelName::read(alloc, text)),
         "path" => name_text(alloc, Path::read(alloc, text)),
+        "place" => name_text(alloc, Place::read(alloc, text)),
+        "subject" => name_text(alloc, Subject::read(alloc, text)),
+        "reason" => name_text(alloc, Reason::read(alloc, text)),
+        "message" => name_text(alloc, Message::read(alloc, text)),
+        "kind" => kind_text(alloc, text),
         _ => return Ok(None),
     };
     Ok(Some(answer?))
@@ -49,6 +60,7 @@ pub fn number(alloc: Global, word: &str, text: &str) -> Result<Option<String>, F
         "account-number" => named(AccountNo::read(text))?.map(AccountNo::get),
         "change-number" => named(ChangeNo::read(text))?.map(ChangeNo::get),
         "patch-number" => named(PatchNo::read(text))?.map(PatchNo::get),
+        "comment-number" => named(CommentNo::read(text))?.map(CommentNo::get),
         _ => return Ok(None),
     };
     Ok(Some(number_text(alloc, read, "no form")?))
@@ -61,6 +73,7 @@ pub fn counted(alloc: Global, word: &str, text: &str) -> Result<Option<String>, 
         "account-of" => AccountNo::from_number(count).map(AccountNo::get),
         "change-of" => ChangeNo::from_number(count).map(ChangeNo::get),
         "patch-of" => PatchNo::from_number(count).map(PatchNo::get),
+        "comment-of" => CommentNo::from_number(count).map(CommentNo::get),
         "account-after" => {
             let last = u32::try_from(count).map_err(|_| Fault::Form)?;
             AccountNo::after(last).map(AccountNo::get)
@@ -77,6 +90,7 @@ pub fn known(alloc: Global, word: &str) -> Result<Option<String>, Fault> {
         "last-account" => number_text(alloc, Some(AccountNo::last().get()), ""),
         "name-of-account-1" => on_a_line(alloc, admin_name(alloc)?.as_str()),
         "group-of-administrators" => on_a_line(alloc, administrators(alloc)?.as_str()),
+        "place-of-patch-sets" => on_a_line(alloc, patch_set_level(alloc)?.as_str()),
         _ => return Ok(None),
     };
     Ok(Some(text?))

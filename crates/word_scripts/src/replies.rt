@@ -2,7 +2,8 @@
 
 use crate::fault::{Fault, stored};
 use review_json::answer_text;
-use review_words::{Answer, Bases, CommitName, NotTaken, Reply, read_reply, reply_text};
+use review_texts::{read_reply, reply_text};
+use review_words::{Answer, Bases, CommitName, NotTaken, Reply};
 use std::alloc::Global;
 
 /// The status of a refusal, and what a reply is stored as.

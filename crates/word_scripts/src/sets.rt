@@ -1,7 +1,7 @@
 //! Sets of accounts and of paths.
 
 use crate::fault::{Fault, named};
-use review_words::{AccountNo, Members, Path, Paths};
+use review_words::{AccountNo, Given, LabelName, Labels, Members, Path, Paths};
 use std::alloc::{AllocError, Global};
 
 fn accounts(alloc: Global, text: &str) -> Result<Vec<AccountNo>, Fault> {
@@ -47,11 +47,46 @@ fn members(alloc: Global, text: &str) -> Result<String, Fault> {
     }
 }
 
-fn paths(alloc: Global, text: &str) -> Result<String, Fault> {
+/// The paths of a list.
+pub fn given_paths(alloc: Global, text: &str) -> Result<Vec<Path>, Fault> {
     let mut given = Vec::new(alloc);
+    if text == "-" {
+        return Ok(given);
+    }
     for path in text.split(",") {
         given.push(Path::read(alloc, path)?)?;
     }
+    Ok(given)
+}
+
+/// The values that a list gives on labels.
+pub fn labels(alloc: Global, text: &str) -> Result<Labels, Fault> {
+    let mut given = Vec::new(alloc);
+    if text == "-" {
+        return Ok(Labels::from_vec(alloc, given)?);
+    }
+    for part in text.split(",") {
+        let (label, value) = part.split_once("=").ok_or(Fault::Form)?;
+        let label = LabelName::read(alloc, label)?;
+        let value = value.parse::<i8>().map_err(|_| Fault::Form)?;
+        given.push(Given { label, value })?;
+    }
+    Ok(Labels::from_vec(alloc, given)?)
+}
+
+fn labels_text(alloc: Global, text: &str) -> Result<String, Fault> {
+    let labels = labels(alloc, text)?;
+    let mut list = String::new(alloc);
+    for given in labels.as_slice() {
+        let label = given.label.as_str();
+        let value = given.value;
+        list.push_str(format!(in alloc; "{label} {value};")?.as_str())?;
+    }
+    Ok(list)
+}
+
+fn paths(alloc: Global, text: &str) -> Result<String, Fault> {
+    let given = given_paths(alloc, text)?;
     match named(Paths::from_vec(alloc, given))? {
         Some(paths) => Ok(paths_text(alloc, &paths)?),
         None => Ok(String::from_str(alloc, "too many")?),
@@ -72,6 +107,7 @@ pub fn set(alloc: Global, word: &str, text: &str) -> Result<Option<String>, Faul
         "members" => members(alloc, text),
         "member" => is_member(alloc, text),
         "paths" => paths(alloc, text),
+        "labels" => labels_text(alloc, text),
         _ => return Ok(None),
     };
     Ok(Some(answer?))

@@ -1,6 +1,7 @@
 use review_table::Key;
+use review_texts::read_reply;
 use review_words::{
-    AccountNo, Answer, BadName, Bases, CommitName, Form, LabelName, Refusal, Reply, read_reply,
+    AccountNo, Answer, BadName, Bases, CommitName, Form, LabelName, Refusal, Reply,
 };
 use std::alloc::Global;
 use std::test::Fail;

@@ -1,0 +1,5 @@
+pub mod Within
+mod Order
+mod Voters
+mod Eligible
+pub mod Stays

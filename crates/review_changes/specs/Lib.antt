@@ -1,0 +1,6 @@
+pub mod Votes
+pub mod Change
+pub mod Seen
+pub mod Parts
+pub mod Sound
+pub mod Status

@@ -1,0 +1,17 @@
+-- The status of a submit requirement.
+use Rattle.std.specs.Prelude.{not, true, false, if◌then◌else◌}
+use Rattle.std.specs.Option.{option_map_or}
+use Rattle.review_expr.specs.declared.expr.Expr.{Expr}
+use Rattle.review_expr.specs.declared.expr.Facts.{Facts}
+use Rattle.review_expr.specs.Exprs.{holds_for}
+use Rattle.review_project.specs.View.{RequirementView}
+use Rattle.review_changes.specs.declared.rows.Status.{Status}
+use Rattle.review_changes.specs.declared.rows.Status.TheVariants.{NotApplicable, Overridden, Satisfied, Unsatisfied}
+
+-- the status of a requirement by the facts of a change: the first that fits
+abbrev pub status_of : RequirementView Expr → Facts → Status
+status_of q f =
+    if not (option_map_or (holds_for f) q.applicable_if true) then NotApplicable
+    else if option_map_or (holds_for f) q.override_if false then Overridden
+    else if holds_for f q.submittable_if then Satisfied
+    else Unsatisfied

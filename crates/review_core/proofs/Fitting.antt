@@ -1,0 +1,96 @@
+-- Rows that fit together, by tests of them one by one.
+use Rattle.std.proofs.Common.{◌≡◌, ℕ, ℤ, List, Option, Some, None, Bool, true, false, not, ◌&&◌, ◌||◌, refl, sym, ap, ◌∙◌, eq-eqb, eqb-true, ⊎_elim, length, nat_le}
+use Rattle.std.specs.Prelude.{◌==◌, is_some}
+use Rattle.std.specs.List.{list_all}
+use Rattle.std.specs.List.Sorted.{IsStrictlySortedBy}
+use Rattle.std.specs.Map.{keys_of}
+use Rattle.std.specs.Ordering.{nat_cmp}
+use Rattle.std.proofs.lemmas.Bool.{and_parts, and_from, cases_Bool}
+use Rattle.review_names.specs.Forms.{is_within, most_comments, most_patches}
+use Rattle.review_table.specs.Rows.{row_in, rows_of}
+use Rattle.review_changes.specs.declared.rows.Called.{Called}
+use Rattle.review_changes.specs.declared.rows.ChangeRows.{ChangeRows}
+use Rattle.review_changes.specs.declared.rows.VoteKey.{VoteKey}
+use Rattle.review_changes.specs.Change.{current, eligible, uploader}
+use Rattle.review_changes.specs.Seen.{of_account, seen, value_of, vote_cmp, vote_in}
+use Rattle.review_changes.specs.Sound.{IsSound, are_in_order}
+use Rattle.review_changes.specs.Votes.{voted}
+use Rattle.review_core.specs.Tests.{are_counted, is_called_in_place, is_in_place}
+use Rattle.review_core.proofs.Everywhere.{all_at, all_from}
+use Rattle.review_parts.proofs.Accounts.{accounts_tell}
+use Rattle.review_parts.proofs.VoteKeys.{vote_key, votes_tell}
+
+voted_row : (o : Option ℤ) → voted (value_of o) ≡ true → (v : ℤ) × (o ≡ Some v) × (voted v ≡ true)
+voted_row None h = absurd (let e : false ≡ true = h in cc)
+voted_row (Some v) h = (v, refl, h)
+
+some_row : {X : Type 0} (o : Option X) → is_some o ≡ true → (x : X) × (o ≡ Some x)
+some_row None h = absurd (let e : false ≡ true = h in cc)
+some_row (Some x) h = (x, refl)
+
+not_or : (a b : Bool) → a ≡ true → (not a || b) ≡ true → b ≡ true
+not_or true b e h = h
+not_or false b e h = absurd (let f : false ≡ true = e in cc)
+
+or_not : (a b : Bool) → (a ≡ true → b ≡ true) → (not a || b) ≡ true
+or_not true b f = f refl
+or_not false b f = refl
+
+abbrev pub place_test : ChangeRows → VoteKey × ℤ → Bool
+place_test rows = is_in_place (length rows.patches.items) (of_account rows.roles)
+
+abbrev pub call_test : ChangeRows → ℕ × Called → Bool
+call_test rows = is_called_in_place rows.header.owner (uploader (seen rows)) (of_account rows.roles)
+
+-- a vote that is there passes its test
+in_place : (rows : ChangeRows) → list_all (place_test rows) (rows_of rows.votes) ≡ true → (n : ℕ) (l : List ℕ) (a : ℕ) → voted (vote_in rows.votes n l a) ≡ true →
+    (is_within (current (seen rows)) n && (not (n == current (seen rows)) || is_some (of_account rows.roles a))) ≡ true
+in_place rows all n l a h =
+    let r = voted_row (row_in vote_cmp (rows_of rows.votes) (vote_key n l a)) h in
+    not_or (voted r.0) (is_within (current (seen rows)) n && (not (n == current (seen rows)) || is_some (of_account rows.roles a))) r.2
+    (all_at votes_tell (place_test rows) (rows_of rows.votes) all (vote_key n l a) r.0 r.1)
+
+-- rows that pass the tests fit together
+pub fitting : (rows : ChangeRows) → are_counted (length rows.patches.items) (length rows.comments.items) ≡ true → are_in_order (length rows.patches.items) 0 rows.comments.items ≡ true →
+    list_all (place_test rows) (rows_of rows.votes) ≡ true → list_all (call_test rows) (rows_of rows.attention) ≡ true → IsSound (seen rows)
+fitting rows counted ordered votes called =
+    let c = seen rows in
+    let p = and_parts (is_within most_patches (length rows.patches.items)) (nat_le (length rows.comments.items) most_comments) counted in
+    record {
+      patches = p.0;
+      comments = p.1;
+      on_patches = λ n l a h. (and_parts (is_within (current c) n) (not (n == current c) || is_some (c.role a)) (in_place rows votes n l a h)).0;
+      in_order = ordered;
+      voters = λ l a h.
+          not_or (current c == current c) (is_some (c.role a)) (eq-eqb (current c) (current c) refl)
+          (and_parts (is_within (current c) (current c)) (not (current c == current c) || is_some (c.role a)) (in_place rows votes (current c) l a h)).1;
+      attending = λ u h.
+          let r = some_row (of_account rows.attention u) h in
+          all_at accounts_tell (call_test rows) (rows_of rows.attention) called u r.0 r.1;
+    }
+
+-- and rows that fit together pass the tests
+place_passes : (rows : ChangeRows) → IsSound (seen rows) → (q : VoteKey) (x : ℤ) → row_in vote_cmp (rows_of rows.votes) q ≡ Some x → place_test rows (q, x) ≡ true
+place_passes rows s q x h =
+    let c = seen rows in
+    or_not (voted x) (is_within (current c) q.patch && (not (q.patch == current c) || is_some (c.role q.account))) (λ yes.
+    let there : voted (c.vote q.patch q.label q.account) ≡ true = ap (λ o. voted (value_of o)) h ∙ yes in
+    and_from (is_within (current c) q.patch) (not (q.patch == current c) || is_some (c.role q.account))
+    (s.on_patches q.patch q.label q.account there)
+    (or_not (q.patch == current c) (is_some (c.role q.account)) (λ same.
+    s.voters q.label q.account (ap (λ n. voted (c.vote n q.label q.account)) (sym (eqb-true q.patch (current c) same)) ∙ there))))
+
+call_passes : (rows : ChangeRows) → IsSound (seen rows) → (u : ℕ) (x : Called) → row_in nat_cmp (rows_of rows.attention) u ≡ Some x → call_test rows (u, x) ≡ true
+call_passes rows s u x h = s.attending u (ap is_some h)
+
+pub passing : (rows : ChangeRows) → IsStrictlySortedBy vote_cmp (keys_of (rows_of rows.votes)) → IsStrictlySortedBy nat_cmp (keys_of (rows_of rows.attention)) → IsSound (seen rows) →
+    (are_counted (length rows.patches.items) (length rows.comments.items)
+    && (are_in_order (length rows.patches.items) 0 rows.comments.items && (list_all (place_test rows) (rows_of rows.votes) && list_all (call_test rows) (rows_of rows.attention)))) ≡ true
+passing rows votes_sorted called_sorted s =
+    and_from (are_counted (length rows.patches.items) (length rows.comments.items))
+    (are_in_order (length rows.patches.items) 0 rows.comments.items && (list_all (place_test rows) (rows_of rows.votes) && list_all (call_test rows) (rows_of rows.attention)))
+    (and_from (is_within most_patches (length rows.patches.items)) (nat_le (length rows.comments.items) most_comments) s.patches s.comments)
+    (and_from (are_in_order (length rows.patches.items) 0 rows.comments.items) (list_all (place_test rows) (rows_of rows.votes) && list_all (call_test rows) (rows_of rows.attention)) s.in_order
+    (and_from (list_all (place_test rows) (rows_of rows.votes)) (list_all (call_test rows) (rows_of rows.attention))
+    (all_from votes_tell (place_test rows) (rows_of rows.votes) votes_sorted (place_passes rows s))
+    (all_from accounts_tell (call_test rows) (rows_of rows.attention) called_sorted (call_passes rows s))))

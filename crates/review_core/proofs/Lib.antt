@@ -1,0 +1,3 @@
+mod Everywhere
+mod Fitting
+mod Kept

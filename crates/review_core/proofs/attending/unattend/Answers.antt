@@ -1,0 +1,22 @@
+use Rattle.std.proofs.Common.{◌≡◌, ◌==◌, ◌&&◌, ◌∙◌, ap, not, None, Bool, true, false, refl}
+use Rattle.std.specs.Prelude.{if◌then◌else◌}
+use Rattle.review_changes.specs.Change.{eligible, no_copying, settled}
+use Rattle.review_changes.specs.declared.commands.ChangeCommand.TheVariants.{RemoveAttention}
+use Rattle.review_changes.specs.Seen.{of_account, seen}
+use Rattle.review_parts.proofs.Accounts.{kept_nothing}
+use Rattle.review_core.proofs.attending.unattend.Goals as goal
+
+and_true : (b : Bool) → (b && true) ≡ b
+and_true true = refl
+and_true false = refl
+
+pub returns : goal.returns
+returns c =
+    let rows = c.args.rows in
+    let v = c.args.account in
+    λ i. record (seen rows) {
+      updated = c.args.request;
+      attention = λ u. (c.drop_called.ensures u ∙ (ap (λ b. if b then None else of_account rows.attention u) (and_true (v == u))
+          ∙ kept_nothing (eligible (settled no_copying (RemoveAttention v c.args.reason.now) c.args.caller c.args.request (seen rows)) u && (not (c.args.caller == u) && not rows.header.wip))
+          (if v == u then None else of_account rows.attention u) c.args.request)) i;
+    }

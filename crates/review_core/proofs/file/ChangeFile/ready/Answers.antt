@@ -1,0 +1,11 @@
+use Rattle.std.proofs.Common.{refl}
+use Rattle.review_changes.specs.Change.{after_plain, begun, joined_at, no_copying}
+use Rattle.review_changes.specs.Seen.{seen}
+use Rattle.review_changes.specs.declared.commands.ChangeCommand.TheVariants.{SetReady}
+use Rattle.review_core.proofs.Kept.{sound_as}
+use Rattle.review_core.proofs.file.ChangeFile.ready.Goals as goal
+
+pub invariant_of-result : goal.invariant_of-result
+invariant_of-result c = record {
+  sound = sound_as (seen c.in_ok-rows.rows) (after_plain (SetReady) c.args.caller c.args.request (seen c.args.self.rows)) c.in_ok-rows.ensures (c.stays_sound.ensures no_copying (SetReady) c.args.caller c.args.request (seen c.args.self.rows) c.args.self.sound refl);
+}

@@ -1,0 +1,11 @@
+use Rattle.std.proofs.Common.{refl}
+use Rattle.review_changes.specs.Change.{after_plain, begun, joined_at, no_copying}
+use Rattle.review_changes.specs.Seen.{seen}
+use Rattle.review_changes.specs.declared.commands.ChangeCommand.TheVariants.{Restore}
+use Rattle.review_core.proofs.Kept.{sound_as}
+use Rattle.review_core.proofs.file.ChangeFile.restore.Goals as goal
+
+pub invariant_of-result : goal.invariant_of-result
+invariant_of-result c = record {
+  sound = sound_as (seen c.restore-rows.result) (after_plain (Restore) c.args.caller c.args.request (seen c.args.self.rows)) c.restore-rows.ensures (c.stays_sound.ensures no_copying (Restore) c.args.caller c.args.request (seen c.args.self.rows) c.args.self.sound refl);
+}

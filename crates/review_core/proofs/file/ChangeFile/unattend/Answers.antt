@@ -1,0 +1,11 @@
+use Rattle.std.proofs.Common.{refl}
+use Rattle.review_changes.specs.Change.{after_plain, begun, joined_at, no_copying}
+use Rattle.review_changes.specs.Seen.{seen}
+use Rattle.review_changes.specs.declared.commands.ChangeCommand.TheVariants.{RemoveAttention}
+use Rattle.review_core.proofs.Kept.{sound_as}
+use Rattle.review_core.proofs.file.ChangeFile.unattend.Goals as goal
+
+pub invariant_of-result : goal.invariant_of-result
+invariant_of-result c = record {
+  sound = sound_as (seen c.unattend-rows.result) (after_plain (RemoveAttention c.args.account c.args.reason.now) c.args.caller c.args.request (seen c.args.self.rows)) c.unattend-rows.ensures (c.stays_sound.ensures no_copying (RemoveAttention c.args.account c.args.reason.now) c.args.caller c.args.request (seen c.args.self.rows) c.args.self.sound refl);
+}

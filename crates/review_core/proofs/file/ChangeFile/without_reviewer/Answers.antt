@@ -1,0 +1,11 @@
+use Rattle.std.proofs.Common.{refl}
+use Rattle.review_changes.specs.Change.{after_plain, begun, joined_at, no_copying}
+use Rattle.review_changes.specs.Seen.{seen}
+use Rattle.review_changes.specs.declared.commands.ChangeCommand.TheVariants.{RemoveReviewer}
+use Rattle.review_core.proofs.Kept.{sound_as}
+use Rattle.review_core.proofs.file.ChangeFile.without_reviewer.Goals as goal
+
+pub invariant_of-result : goal.invariant_of-result
+invariant_of-result c = record {
+  sound = sound_as (seen c.in_ok-rows.rows) (after_plain (RemoveReviewer c.args.account) c.args.caller c.args.request (seen c.args.self.rows)) c.in_ok-rows.ensures (c.stays_sound.ensures no_copying (RemoveReviewer c.args.account) c.args.caller c.args.request (seen c.args.self.rows) c.args.self.sound refl);
+}

@@ -1,0 +1,11 @@
+-- Rows that are refused.
+use Rattle.review_changes.specs.declared.rows.ChangeRows.{ChangeRows}
+use Rattle.review_changes.specs.Seen.{seen}
+use Rattle.review_changes.specs.Sound.{IsSound}
+use Rattle.review_core.specs.declared.file.RowsFault.{RowsFault}
+use Rattle.review_core.specs.declared.file.RowsFault.TheVariants.{Broken, Memory}
+
+-- Broken is answered only where the rows don't fit together
+abbrev pub IsRefused : ChangeRows → RowsFault → Type 0
+IsRefused rows Broken = IsSound (seen rows) → ⊥
+IsRefused rows Memory = Unit {0}

@@ -1,0 +1,43 @@
+//! The attention set, changed by hand.
+ghost use Rattle.std.specs.Prelude.{◌≡◌, IfOk};
+ghost use Rattle.review_changes.specs.Change.{after_plain};
+ghost use Rattle.review_changes.specs.Seen.{seen};
+ghost use Rattle.review_changes.specs.declared.commands.ChangeCommand.TheVariants.{AddAttention, RemoveAttention};
+
+use review_changes::ChangeRows;
+use review_parts::{drop_called, tell};
+use review_words::{AccountNo, Reason};
+use std::alloc::{AllocError, Global};
+
+/// Called by hand.
+pub fn attend(
+    alloc: Global,
+    rows: ChangeRows,
+    account: AccountNo,
+    reason: &Reason,
+    caller: AccountNo,
+    request: u64,
+) -> Result<ChangeRows, AllocError>
+    ensures { IfOk result (λ new. seen new ≡ after_plain (AddAttention account reason.now) caller request (seen rows)) }
+{
+    let mut rows = rows;
+    rows.header.updated = request;
+    tell(alloc, &mut rows.attention, account, reason, request)?;
+    Ok(rows)
+}
+
+/// Called no more.
+pub fn unattend(
+    rows: ChangeRows,
+    account: AccountNo,
+    reason: &Reason,
+    caller: AccountNo,
+    request: u64,
+) -> ChangeRows
+    ensures { seen result ≡ after_plain (RemoveAttention account reason.now) caller request (seen rows) }
+{
+    let mut rows = rows;
+    rows.header.updated = request;
+    drop_called(&mut rows.attention, account, true);
+    rows
+}

@@ -1,0 +1,55 @@
+//! A new change.
+ghost use Rattle.std.specs.Prelude.{◌≡◌, IfOk};
+ghost use Rattle.review_changes.specs.Change.{begun};
+ghost use Rattle.review_changes.specs.Seen.{seen};
+
+use review_changes::{ChangeRows, Header, PatchRow, State};
+use review_table::Table;
+use review_words::{AccountNo, ChangeKind, NewChange};
+use std::alloc::{AllocError, Global};
+
+/// The rows of a new change.
+pub fn begun(
+    alloc: Global,
+    new: NewChange,
+    caller: AccountNo,
+    request: u64,
+) -> Result<ChangeRows, AllocError>
+    ensures { IfOk result (λ rows. seen rows ≡ begun new caller request) }
+{
+    let NewChange {
+        project,
+        branch,
+        subject,
+        commit,
+        parent,
+        paths,
+        wip,
+    } = new;
+    let mut patches = Vec::new(alloc);
+    patches.push(PatchRow {
+        commit,
+        parent,
+        kind: ChangeKind::Rework,
+        uploader: caller,
+        paths,
+    })?;
+    let header = Header {
+        project,
+        branch,
+        subject,
+        owner: caller,
+        state: State::New,
+        wip,
+        place: 0,
+        updated: request,
+    };
+    Ok(ChangeRows {
+        header,
+        patches,
+        votes: Table::new(alloc),
+        roles: Table::new(alloc),
+        comments: Vec::new(alloc),
+        attention: Table::new(alloc),
+    })
+}

@@ -1,0 +1,256 @@
+//! A change whose rows fit together, and what each request makes of it.
+ghost use Rattle.std.specs.Prelude.{◌≡◌, true, IfOk, MatchResult};
+ghost use Rattle.review_names.specs.declared.groups.Groups.{Groups};
+ghost use Rattle.review_changes.specs.Change.{after, after_plain, begun, carried, copying, eligible, is_lost, joined_at};
+ghost use Rattle.review_changes.specs.Seen.{seen};
+ghost use Rattle.review_changes.specs.Sound.{IsSound, fits};
+ghost use Rattle.review_changes.specs.Votes.{voted};
+ghost use Rattle.review_changes.specs.declared.commands.ChangeCommand.TheVariants.{Upload, Review as ReviewOf, AddReviewer, RemoveReviewer, SetWip, SetReady, Abandon, Restore, AddAttention, RemoveAttention};
+ghost use Rattle.review_core.specs.Faults.{IsRefused};
+ghost use Rattle.review_parts.specs.Copies.{AreMany};
+
+use crate::sound::{are_all, are_counted, are_eligible, are_in_order, are_in_place};
+use crate::uploading::{self, Copied};
+use crate::{attending, beginning, reviewing, roles, states};
+use review_changes::{ChangeRows, begins_sound, joins_sound, stays_sound};
+use review_file::ProjectFile;
+use review_words::{AccountNo, Groups, NewChange, NewPatch, Reason, Review, Role};
+use std::alloc::{AllocError, Global};
+
+/// The rows of one change, which fit together.
+#[derive(Drop)]
+pub struct ChangeFile {
+    rows: ChangeRows,
+    ghost sound: { IsSound (seen rows) },
+}
+
+/// Why rows make no change.
+#[derive(Clone, Copy, Debug, PartialEq, Eq)]
+pub enum RowsFault {
+    /// They don't fit together. They will not, however often it is tried.
+    Broken,
+    /// There was no memory to find out. It may be tried again.
+    Memory,
+}
+
+impl From<AllocError> for RowsFault {
+    ghost use Rattle.std.specs.Prelude.{◌≡◌};
+    ghost use Rattle.review_core.specs.declared.file.RowsFault.TheVariants.{Memory};
+
+    ghost from_gives = { λ _ e. e ≡ Memory };
+
+    fn from(_error: AllocError) -> RowsFault {
+        RowsFault::Memory
+    }
+}
+
+impl ChangeFile {
+    /// The change that a request makes, with its first patch set; its caller is the owner.
+    pub fn begin(
+        alloc: Global,
+        new: NewChange,
+        caller: AccountNo,
+        request: u64,
+    ) -> Result<ChangeFile, AllocError>
+        ensures { IfOk result (λ file. seen file.rows ≡ begun new caller request) }
+    {
+        begins_sound();
+        let rows = beginning::begun(alloc, new, caller, request)?;
+        Ok(ChangeFile { rows })
+    }
+
+    /// The change of stored rows. Broken exactly where they don't fit together; Memory where there was no memory to find out.
+    pub fn from_rows(alloc: Global, rows: ChangeRows) -> Result<ChangeFile, RowsFault>
+        ensures { MatchResult result (λ file. file.rows ≡ rows) (IsRefused rows) }
+    {
+        let owner = roles::owner_of(&rows.header);
+        rows.votes.once();
+        rows.attention.once();
+        let current = rows.patches.len();
+        let uploader = roles::uploader_of(&rows.header, &rows.patches);
+        let votes = are_in_place(alloc, &rows.votes, current, &rows.roles)?;
+        let called = are_eligible(alloc, owner, uploader, &rows.roles, &rows.attention)?;
+        let counted = are_counted(&rows.patches, &rows.comments);
+        let ordered = are_in_order(&rows.comments, current);
+        if !are_all(counted, ordered, votes, called) {
+            return Err(RowsFault::Broken);
+        }
+        Ok(ChangeFile { rows })
+    }
+
+    /// The rows.
+    pub fn rows(&self) -> &ChangeRows
+        ensures same { result.now ≡ self.now.rows }
+        ensures sound { IsSound (seen result.now) }
+    {
+        &self.rows
+    }
+
+    /// The rows, given up.
+    pub fn into_rows(self) -> ChangeRows
+        ensures { result ≡ self.rows }
+    {
+        self.rows
+    }
+
+    /// Whether an account is the owner, the current uploader, or has a role. This takes no memory.
+    pub fn eligible(&self, account: AccountNo) -> bool
+        ensures { result ≡ eligible (seen self.now.rows) account }
+    {
+        let rows = &self.rows;
+        let uploader = roles::last_uploader(rows.header.owner, &rows.patches);
+        review_parts::is_eligible(rows.header.owner, uploader, &rows.roles, account)
+    }
+
+    /// A new patch set, with the numbers of votes that were copied to it and that weren't. The file and the groups are those
+    /// before the request.
+    pub fn with_patch_set(
+        self,
+        alloc: Global,
+        patch: NewPatch,
+        caller: AccountNo,
+        file: &ProjectFile,
+        groups: Groups,
+        request: u64,
+    ) -> Result<(ChangeFile, Copied), AllocError>
+        requires { fits (Upload patch) (seen self.rows) ≡ true }
+        ensures change { IfOk result (λ r. seen r.0.rows ≡ after (record { file = file.now; groups = groups }) (Upload patch) caller request (seen self.rows)) }
+        ensures copied { IfOk result (λ r. AreMany (λ l u. voted (carried (copying (record { file = file.now; groups = groups }) (Upload patch) caller (seen self.rows)) (seen self.rows) l u)) r.1.copied) }
+        ensures outdated { IfOk result (λ r. AreMany (λ l u. is_lost (copying (record { file = file.now; groups = groups }) (Upload patch) caller (seen self.rows)) (seen self.rows) u l) r.1.outdated) }
+    {
+        stays_sound();
+        let (rows, counts) = uploading::with_patch_set(
+            alloc, self.rows, patch, caller, file, groups, request,
+        )?;
+        Ok((ChangeFile { rows }, counts))
+    }
+
+    /// A review: votes, a message, comments.
+    pub fn with_review(
+        self,
+        alloc: Global,
+        review: &Review,
+        caller: AccountNo,
+        request: u64,
+    ) -> Result<ChangeFile, AllocError>
+        requires { fits (ReviewOf review.now) (seen self.rows) ≡ true }
+        ensures { IfOk result (λ new. seen new.rows ≡ after_plain (ReviewOf review.now) caller request (seen self.rows)) }
+    {
+        stays_sound();
+        let rows = reviewing::with_review(alloc, self.rows, review, caller, request)?;
+        Ok(ChangeFile { rows })
+    }
+
+    /// A role for an account.
+    pub fn with_reviewer(
+        self,
+        alloc: Global,
+        account: AccountNo,
+        role: Role,
+        caller: AccountNo,
+        request: u64,
+    ) -> Result<ChangeFile, AllocError>
+        ensures { IfOk result (λ new. seen new.rows ≡ after_plain (AddReviewer account role) caller request (seen self.rows)) }
+    {
+        stays_sound();
+        let rows = roles::with_reviewer(alloc, self.rows, account, role, caller, request)?;
+        Ok(ChangeFile { rows })
+    }
+
+    /// No role for an account any more, and no votes on the current patch set.
+    pub fn without_reviewer(
+        self,
+        alloc: Global,
+        account: AccountNo,
+        caller: AccountNo,
+        request: u64,
+    ) -> Result<ChangeFile, AllocError>
+        ensures { IfOk result (λ new. seen new.rows ≡ after_plain (RemoveReviewer account) caller request (seen self.rows)) }
+    {
+        stays_sound();
+        let rows = roles::without_reviewer(alloc, self.rows, account, caller, request)?;
+        Ok(ChangeFile { rows })
+    }
+
+    /// In work in progress.
+    pub fn wip(self, alloc: Global, caller: AccountNo, request: u64) -> ChangeFile
+        ensures { seen result.rows ≡ after_plain SetWip caller request (seen self.rows) }
+    {
+        stays_sound();
+        let rows = states::wip(alloc, self.rows, caller, request);
+        ChangeFile { rows }
+    }
+
+    /// Ready for review.
+    pub fn ready(
+        self,
+        alloc: Global,
+        caller: AccountNo,
+        request: u64,
+    ) -> Result<ChangeFile, AllocError>
+        ensures { IfOk result (λ new. seen new.rows ≡ after_plain SetReady caller request (seen self.rows)) }
+    {
+        stays_sound();
+        let rows = states::ready(alloc, self.rows, caller, request)?;
+        Ok(ChangeFile { rows })
+    }
+
+    /// Abandoned.
+    pub fn abandon(self, alloc: Global, caller: AccountNo, request: u64) -> ChangeFile
+        ensures { seen result.rows ≡ after_plain Abandon caller request (seen self.rows) }
+    {
+        stays_sound();
+        let rows = states::abandon(alloc, self.rows, caller, request);
+        ChangeFile { rows }
+    }
+
+    /// Open again.
+    pub fn restore(self, caller: AccountNo, request: u64) -> ChangeFile
+        ensures { seen result.rows ≡ after_plain Restore caller request (seen self.rows) }
+    {
+        stays_sound();
+        let rows = states::restore(self.rows, caller, request);
+        ChangeFile { rows }
+    }
+
+    /// Joined to its branch at a place.
+    pub fn merged(self, alloc: Global, place: u32, request: u64) -> ChangeFile
+        ensures { seen result.rows ≡ joined_at place request (seen self.rows) }
+    {
+        joins_sound();
+        let rows = states::merged(alloc, self.rows, place, request);
+        ChangeFile { rows }
+    }
+
+    /// An account called by hand.
+    pub fn attend(
+        self,
+        alloc: Global,
+        account: AccountNo,
+        reason: &Reason,
+        caller: AccountNo,
+        request: u64,
+    ) -> Result<ChangeFile, AllocError>
+        requires { fits (AddAttention account reason.now) (seen self.rows) ≡ true }
+        ensures { IfOk result (λ new. seen new.rows ≡ after_plain (AddAttention account reason.now) caller request (seen self.rows)) }
+    {
+        stays_sound();
+        let rows = attending::attend(alloc, self.rows, account, reason, caller, request)?;
+        Ok(ChangeFile { rows })
+    }
+
+    /// An account called no more.
+    pub fn unattend(
+        self,
+        account: AccountNo,
+        reason: &Reason,
+        caller: AccountNo,
+        request: u64,
+    ) -> ChangeFile
+        ensures { seen result.rows ≡ after_plain (RemoveAttention account reason.now) caller request (seen self.rows) }
+    {
+        stays_sound();
+        let rows = attending::unattend(self.rows, account, reason, caller, request);
+        ChangeFile { rows }
+    }
+}

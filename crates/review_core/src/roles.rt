@@ -1,0 +1,133 @@
+//! Reviewers, CCs, and who has to do with a change.
+ghost use Rattle.std.specs.Prelude.{◌≡◌, ◌==◌, ◌&&◌, ◌||◌, not, true, length, unwrap_or, Some, IfOk};
+ghost use Rattle.review_names.specs.Forms.{is_within, most_patches};
+ghost use Rattle.review_changes.specs.Change.{after_plain, current, is_open, is_reviewer, last_uploader};
+ghost use Rattle.review_changes.specs.Seen.{seen};
+ghost use Rattle.review_changes.specs.declared.commands.ChangeCommand.TheVariants.{AddReviewer, RemoveReviewer};
+ghost use Rattle.review_parts.specs.declared.attention.Who.{Who};
+
+use crate::states::is_open;
+use review_changes::{ChangeRows, Header, PatchRow, State};
+use review_parts::{WhenAdded, Who, call_eligible, drop_called, drop_votes, set_role};
+use review_words::{AccountNo, PatchNo, Role};
+use std::alloc::{AllocError, Global};
+
+/// Who sent the last of some patch sets.
+pub fn last_uploader(owner: AccountNo, patches: &[PatchRow]) -> AccountNo
+    ensures { result ≡ last_uploader owner patches.now }
+{
+    let mut last = owner;
+    for patch in patches {
+        last = patch.uploader;
+    }
+    last
+}
+
+/// Who sent the current patch set.
+pub fn uploader_of(header: &Header, patches: &[PatchRow]) -> AccountNo
+    ensures { result ≡ last_uploader header.now.owner patches.now }
+{
+    last_uploader(header.owner, patches)
+}
+
+pub fn owner_of(header: &Header) -> AccountNo
+    ensures { result ≡ header.now.owner }
+{
+    header.owner
+}
+
+/// Who has to do with a change, for a request of this caller.
+pub fn who_for(header: &Header, patches: &[PatchRow], caller: AccountNo) -> Who
+    ensures { result ≡ record { owner = header.now.owner; uploader = last_uploader header.now.owner patches.now; caller = caller; wip = header.now.wip } }
+{
+    Who {
+        owner: header.owner,
+        uploader: last_uploader(header.owner, patches),
+        caller,
+        wip: header.wip,
+    }
+}
+
+/// The number of the current patch set.
+pub fn current_patch(patches: &[PatchRow]) -> PatchNo
+    requires { is_within most_patches (length patches.now) ≡ true }
+    ensures { result ≡ length patches.now }
+{
+    match PatchNo::from_number(patches.len() as u64) {
+        Some(patch) => patch,
+        None => unreachable!(),
+    }
+}
+
+fn is_reviewer(role: Role) -> bool
+    ensures { result ≡ is_reviewer (Some role) }
+{
+    match role {
+        Role::Reviewer => true,
+        Role::Cc => false,
+    }
+}
+
+fn calls_reviewer(role: Role, state: State) -> bool
+    ensures { result ≡ (is_reviewer (Some role) && is_open state) }
+{
+    is_reviewer(role) && is_open(state)
+}
+
+/// A role for an account.
+pub fn with_reviewer(
+    alloc: Global,
+    rows: ChangeRows,
+    account: AccountNo,
+    role: Role,
+    caller: AccountNo,
+    request: u64,
+) -> Result<ChangeRows, AllocError>
+    ensures { IfOk result (λ new. seen new ≡ after_plain (AddReviewer account role) caller request (seen rows)) }
+{
+    let mut rows = rows;
+    set_role(&mut rows.roles, account, Some(role))?;
+    rows.header.updated = request;
+    let who = who_for(&rows.header, &rows.patches, caller);
+    let rule = WhenAdded {
+        account,
+        is_called: calls_reviewer(role, rows.header.state),
+    };
+    call_eligible(
+        alloc,
+        &mut rows.attention,
+        &rows.roles,
+        &who,
+        &rule,
+        request,
+    )?;
+    Ok(rows)
+}
+
+fn is_other(account: AccountNo, owner: AccountNo, uploader: AccountNo) -> bool
+    ensures { result ≡ not ((owner == account) || (uploader == account)) }
+{
+    owner != account && uploader != account
+}
+
+/// No role for an account any more, and no votes on the current patch set.
+pub fn without_reviewer(
+    alloc: Global,
+    rows: ChangeRows,
+    account: AccountNo,
+    caller: AccountNo,
+    request: u64,
+) -> Result<ChangeRows, AllocError>
+    requires { is_within most_patches (current (seen rows)) ≡ true }
+    ensures { IfOk result (λ new. seen new ≡ after_plain (RemoveReviewer account) caller request (seen rows)) }
+{
+    let mut rows = rows;
+    rows.header.updated = request;
+    let who = who_for(&rows.header, &rows.patches, caller);
+    let patch = current_patch(&rows.patches);
+    set_role(&mut rows.roles, account, None)?;
+    let is_gone = is_other(account, who.owner, who.uploader);
+    drop_called(&mut rows.attention, account, is_gone);
+    rows.votes = drop_votes(alloc, rows.votes, patch, account)?;
+    Ok(rows)
+}

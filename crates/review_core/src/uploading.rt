@@ -1,0 +1,143 @@
+//! A new patch set: its votes, and who is called.
+ghost use Rattle.std.specs.Prelude.{◌≡◌, ◌+◌, ◌==◌, ℕ, List, [], pos, true, length, IfOk};
+ghost use Rattle.std.specs.Cmp.Lexicographic.{pointwise};
+ghost use Rattle.review_names.specs.Forms.{is_within, most_patches};
+ghost use Rattle.review_changes.specs.Change.{after, carried, copying, current, is_lost, last_paths};
+ghost use Rattle.review_changes.specs.Seen.{seen, vote_in};
+ghost use Rattle.review_changes.specs.Votes.{voted};
+ghost use Rattle.review_changes.specs.declared.commands.ChangeCommand.TheVariants.{Upload};
+ghost use Rattle.review_parts.specs.Copies.{AreMany};
+
+use crate::roles::{current_patch, uploader_of, who_for};
+use review_changes::{ChangeRows, PatchRow};
+use review_file::ProjectFile;
+use review_judging::{ValueRange, VoteFacts};
+use review_parts::{
+    Parted, WhenLost, call_eligible, drop_called, is_eligible, part_votes, put_all,
+};
+use review_words::{AccountNo, Groups, NewPatch, PatchNo, Path, Paths};
+use std::alloc::{AllocError, Global};
+
+/// How many votes a new patch set copies, and how many it doesn't.
+#[derive(Clone, Copy, Debug, PartialEq, Eq)]
+pub struct Copied {
+    pub copied: usize,
+    pub outdated: usize,
+}
+
+fn last_paths(patches: &[PatchRow]) -> &[Path]
+    ensures { result.now ≡ last_paths [] patches.now }
+{
+    let mut last: &[Path] = &[];
+    for patch in patches {
+        last = patch.paths.as_slice();
+    }
+    last
+}
+
+fn has_paths(patches: &[PatchRow], paths: &Paths) -> bool
+    ensures { result ≡ pointwise (pointwise ◌==◌) (last_paths [] patches.now) paths.now }
+{
+    last_paths(patches) == paths.as_slice()
+}
+
+/// The number after a patch set's.
+fn next_patch(patch: PatchNo) -> PatchNo
+    requires { is_within most_patches (patch + 1) ≡ true }
+    ensures { result ≡ patch + 1 }
+{
+    match PatchNo::from_number(patch.get() as u64 + 1) {
+        Some(next) => next,
+        None => unreachable!(),
+    }
+}
+
+/// What copy conditions ask of the change and of the new patch set; each vote is put in later.
+fn upload_facts(
+    patches: &[PatchRow],
+    patch: &NewPatch,
+    caller: AccountNo,
+    groups: Groups,
+) -> VoteFacts
+    ensures { result ≡ record { value = pos 0; voter = caller; range = record { least = pos 0; greatest = pos 0 }; kind = patch.now.kind; uploader = caller; unchanged_files = pointwise (pointwise ◌==◌) (last_paths [] patches.now) patch.now.paths; groups = groups } }
+{
+    VoteFacts {
+        value: 0,
+        voter: caller,
+        range: ValueRange {
+            least: 0,
+            greatest: 0,
+        },
+        kind: patch.kind,
+        uploader: caller,
+        unchanged_files: has_paths(patches, &patch.paths),
+        groups,
+    }
+}
+
+fn sent_by(patch: NewPatch, caller: AccountNo) -> PatchRow
+    ensures { result ≡ record { commit = patch.commit; parent = patch.parent; kind = patch.kind; uploader = caller; paths = patch.paths } }
+{
+    let NewPatch {
+        commit,
+        parent,
+        kind,
+        paths,
+    } = patch;
+    PatchRow {
+        commit,
+        parent,
+        kind,
+        uploader: caller,
+        paths,
+    }
+}
+
+/// The change after a new patch set, and how many votes were copied and lost.
+pub fn with_patch_set(
+    alloc: Global,
+    rows: ChangeRows,
+    patch: NewPatch,
+    caller: AccountNo,
+    file: &ProjectFile,
+    groups: Groups,
+    request: u64,
+) -> Result<(ChangeRows, Copied), AllocError>
+    requires now { is_within most_patches (current (seen rows)) ≡ true }
+    requires next { is_within most_patches (current (seen rows) + 1) ≡ true }
+    requires free { (l : List ℕ) (a : ℕ) → vote_in rows.votes (current (seen rows) + 1) l a ≡ pos 0 }
+    ensures rows { IfOk result (λ r. seen r.0 ≡ after (record { file = file.now; groups = groups }) (Upload patch) caller request (seen rows)) }
+    ensures copied { IfOk result (λ r. AreMany (λ l u. voted (carried (copying (record { file = file.now; groups = groups }) (Upload patch) caller (seen rows)) (seen rows) l u)) r.1.copied) }
+    ensures outdated { IfOk result (λ r. AreMany (λ l u. is_lost (copying (record { file = file.now; groups = groups }) (Upload patch) caller (seen rows)) (seen rows) u l) r.1.outdated) }
+{
+    let mut rows = rows;
+    let now = current_patch(&rows.patches);
+    let next = next_patch(now);
+    let former = uploader_of(&rows.header, &rows.patches);
+    let facts = upload_facts(&rows.patches, &patch, caller, groups);
+    let parted = part_votes(alloc, &rows.votes, file, facts, now, next)?;
+    let Parted { copied, lost } = parted;
+    let counts = Copied {
+        copied: copied.len(),
+        outdated: lost.len(),
+    };
+    put_all(&mut rows.votes, copied)?;
+    rows.patches.push(sent_by(patch, caller))?;
+    rows.header.updated = request;
+    let who = who_for(&rows.header, &rows.patches, caller);
+    let is_gone = !is_eligible(who.owner, who.uploader, &rows.roles, former);
+    drop_called(&mut rows.attention, former, is_gone);
+    let rule = WhenLost {
+        labels: file.labels(),
+        lost: &lost,
+    };
+    call_eligible(
+        alloc,
+        &mut rows.attention,
+        &rows.roles,
+        &who,
+        &rule,
+        request,
+    )?;
+    Ok((rows, counts))
+}

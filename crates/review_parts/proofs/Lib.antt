@@ -1,0 +1,6 @@
+pub mod InTurn
+pub mod VoteKeys
+pub mod Accounts
+pub mod Copied
+pub mod Counted
+mod Lines

@@ -1,0 +1,12 @@
+use Rattle.std.proofs.Common.{◌∙◌, ap, not}
+use Rattle.review_table.specs.Rows.{rows_of, row_in}
+use Rattle.std.specs.List.{filter}
+use Rattle.review_changes.specs.Seen.{vote_cmp}
+use Rattle.review_parts.specs.Tables.{put_in, is_of}
+use Rattle.review_parts.proofs.VoteKeys.{votes_dropped}
+use Rattle.review_parts.proofs.votes.drop_votes.Goals as goal
+
+pub returns : goal.returns
+returns c =
+    votes_dropped c.args.patch c.args.account c.args.votes c.put_all.new.votes c.once.ensures.sorted
+    (λ q. c.in_ok-put_all.ensures q ∙ (λ i. put_in vote_cmp ((c.in_ok-kept.ensures ∙ ap (filter (λ e. not (is_of c.args.patch c.args.account e.0))) c.in_ok-rows.ensures) i) q (row_in vote_cmp (rows_of (c.new-after.ensures i)) q)))

@@ -1,0 +1,60 @@
+-- The votes of a patch set that are copied to the next one, and the others.
+use Rattle.std.specs.Prelude.{◌≡◌, ℕ, ℤ, List, [], ◌∷◌, length, map, find, Option, option_map, Bool, false, not, ◌==◌, ◌&&◌, if◌then◌else◌}
+use Rattle.std.specs.List.{list_any}
+use Rattle.std.specs.Option.{option_map_or}
+use Rattle.std.specs.Str.{bytes_eq}
+use Rattle.review_judging.specs.declared.facts.VoteFacts.{VoteFacts}
+use Rattle.review_expr.specs.declared.expr.Expr.{Expr}
+use Rattle.review_project.specs.View.{FileView, LabelView}
+use Rattle.review_changes.specs.declared.rows.VoteKey.{VoteKey}
+use Rattle.review_changes.specs.declared.rows.Why.{Why}
+use Rattle.review_changes.specs.declared.rows.Why.TheVariants.{NotCopied}
+use Rattle.review_changes.specs.Change.{condition_holds, label_in, range_of}
+use Rattle.review_changes.specs.Votes.{voted}
+use Rattle.review_parts.specs.declared.copying.Parted.{Parted}
+
+-- whether a vote is copied: by its label, its account and its value
+abbrev pub Copies : Type 0
+Copies = List ℕ → ℕ → ℤ → Bool
+
+-- whether a file's copy conditions hold for a vote, where the rest of its facts are these
+abbrev pub copies_by : FileView Expr → VoteFacts → Copies
+copies_by file f l a v = option_map_or (λ label. condition_holds label.copy_condition (record f { value = v; voter = a; range = range_of label })) (label_in file l) false
+
+-- the votes on a patch set that are copied, on the next one
+abbrev pub copied_rows : Copies → ℕ → ℕ → List (VoteKey × ℤ) → List (VoteKey × ℤ)
+copied_rows f n next [] = []
+copied_rows f n next (e ∷ es) =
+    if ((e.0.patch == n) && voted e.1) && f e.0.label e.0.account e.1
+    then (record { patch = next; label = e.0.label; account = e.0.account }, e.1) ∷ copied_rows f n next es
+    else copied_rows f n next es
+
+-- the votes on a patch set that aren't copied
+abbrev pub lost_rows : Copies → ℕ → List (VoteKey × ℤ) → List VoteKey
+lost_rows f n [] = []
+lost_rows f n (e ∷ es) = if ((e.0.patch == n) && voted e.1) && not (f e.0.label e.0.account e.1) then e.0 ∷ lost_rows f n es else lost_rows f n es
+
+-- the votes of a patch set that are copied, and those that aren't
+pub record IsSplit (f : Copies) (n next : ℕ) (rows : List (VoteKey × ℤ)) (s : Parted) : Type 0 where
+  pub copied : s.copied.items ≡ copied_rows f n next rows
+  pub lost : s.lost.items ≡ lost_rows f n rows
+
+-- whether an account lost its vote on a label
+abbrev pub has_lost : List VoteKey → ℕ → List ℕ → Bool
+has_lost lost u l = list_any (λ k. bytes_eq k.label l && (k.account == u)) lost
+
+-- why an account is called that lost its vote on one of these labels: the first
+abbrev pub lost_label : List (LabelView Expr) → List VoteKey → ℕ → Option Why
+lost_label labels lost u = option_map NotCopied (find (has_lost lost u) (map (λ x. x.name) labels))
+
+-- no label and account stand twice
+abbrev pub AreApart : List VoteKey → Type 0
+AreApart [] = Unit {0}
+AreApart (k ∷ ks) = (has_lost ks k.account k.label ≡ false) × AreApart ks
+
+-- a test holds for just so many pairs of a label and an account
+pub record AreMany (test : List ℕ → ℕ → Bool) (n : ℕ) : Type 0 where
+  pub keys : List VoteKey
+  pub apart : AreApart keys
+  pub each : (l : List ℕ) (u : ℕ) → has_lost keys u l ≡ test l u
+  pub count : length keys ≡ n

@@ -1,0 +1,284 @@
+-- A stored reply is what its fields are read as.
+use Rattle.std.proofs.Common.{◌≡◌, ℕ, ◌<◌, ◌≤◌, ◌+◌, List, [], ◌∷◌, length, refl, sym, ap, ◌∙◌, subst, arith, cond, Option, Some, None, Bool, true, false}
+use Rattle.std.specs.Prelude.{option_map, nat_le, ◌&&◌, if◌then◌else◌, codes, map, Result, Ok, Err, IfOk}
+use Rattle.std.specs.Str.{bytes_eq}
+use Rattle.std.proofs.lemmas.Slice.Eq.{bytes_eq-Decides}
+use Rattle.std.proofs.lemmas.Bool.Decides.{nat_tests}
+use Rattle.std.specs.Int.Digits.{digits_of}
+use Rattle.std.proofs.lemmas.Int.Digits.{length-digits_of-le}
+use Rattle.std.proofs.lemmas.List.{length-map}
+use Rattle.std.specs.List.{AllByRecursion}
+use Rattle.review_names.specs.Forms.{is_within, most_changes, most_comments, most_patches}
+use Rattle.review_words.specs.Faults.{code_number, file_fault_number}
+use Rattle.review_words.specs.Refusals.{refusal_number}
+use Rattle.review_names.specs.Numerals.{shown_digits, numeral}
+use Rattle.review_words.specs.Texts.{expr_fields, fault_fields, refusal_fields, reply_fields, reply_text, IsCommentNumber, IsPlaced, IsRefusalOf, IsStored, IsStoredAnswer}
+use Rattle.review_texts.specs.declared.reading.BadReply.{BadReply}
+use Rattle.review_texts.specs.declared.reading.BadReply.TheVariants.{Form, Memory}
+use Rattle.review_texts.specs.Cutting.{AreShort}
+use Rattle.review_names.specs.Numerals.{◌>>=◌, number_of}
+use Rattle.review_texts.specs.Reading.{comments_of, expr_fault_of, file_fault_of, new_change_of, new_patch_of, number_within, numbers_in, plain_reply_of, refusal_of, reply_of, Gives}
+use Rattle.review_words.specs.declared.reply.Reply.{Reply}
+use Rattle.review_words.specs.declared.reply.Reply.TheVariants.{Done, Refused, IdentityReused, NotTaken}
+use Rattle.review_words.specs.declared.reply.Answer.TheVariants.{Account, Nothing, Change, Patch, Reviewed, Branch}
+use Rattle.review_words.specs.declared.reply.Refusal.{Refusal}
+use Rattle.review_words.specs.declared.reply.Refusal.TheVariants.{UnknownCaller, NotAdmin, NoProject, NoBranch, NoChange, NoPatchSet, NoAccount, NoComment, NotAllowed, Closed, StalePatchSet, NoLabel, ValueOut, VoteRestricted, CommitKnown, UnknownParent, NameTaken, BadFile, LabelNarrowed, Limit}
+use Rattle.review_words.specs.declared.faults.ExprCode.{ExprCode}
+use Rattle.review_words.specs.declared.faults.ExprCode.TheVariants as code
+use Rattle.review_words.specs.declared.faults.FileFault.{FileFault}
+use Rattle.review_words.specs.declared.faults.FileFault.TheVariants as file
+use Rattle.review_names.proofs.Numerals.{number_back}
+use Rattle.review_names.proofs.Accounts.{account_back}
+
+-- the fields of a fault, as they stand in a reply
+abbrev bad_file : List (List ℕ) → List (List ℕ)
+bad_file fields = codes "Refused" ∷ numeral 26 ∷ fields
+
+-- one line for each code
+expr_back : (c : ExprCode) (place : ℕ) → place < 18446744073709551616 → expr_fault_of (bad_file (numeral 7 ∷ numeral (code_number c) ∷ numeral place ∷ [])) ≡ Some (record { place = place; code = c })
+unfolding expr_fault_of
+expr_back code.Empty place low = rw (number_back 1 (omega arith), number_back place low) refl
+expr_back code.BadTerm place low = rw (number_back 2 (omega arith), number_back place low) refl
+expr_back code.Unbalanced place low = rw (number_back 3 (omega arith), number_back place low) refl
+expr_back code.Mixed place low = rw (number_back 4 (omega arith), number_back place low) refl
+expr_back code.BadValue place low = rw (number_back 5 (omega arith), number_back place low) refl
+expr_back code.Zero place low = rw (number_back 6 (omega arith), number_back place low) refl
+expr_back code.TooDeep place low = rw (number_back 7 (omega arith), number_back place low) refl
+expr_back code.TooLong place low = rw (number_back 8 (omega arith), number_back place low) refl
+
+-- one line for each fault of a file
+file_back : (f : FileFault) → IsPlaced f → file_fault_of (bad_file (fault_fields f)) ≡ Some f
+unfolding file_fault_of
+file_back file.Toml s = rw (number_back 1 (omega arith)) refl
+file_back file.UnknownKey s = rw (number_back 2 (omega arith)) refl
+file_back file.Missing s = rw (number_back 3 (omega arith)) refl
+file_back file.BadName s = rw (number_back 4 (omega arith)) refl
+file_back file.Twice s = rw (number_back 5 (omega arith)) refl
+file_back file.BadValues s = rw (number_back 6 (omega arith)) refl
+file_back (file.Expr e) s = rw (number_back 7 (omega arith), expr_back e.code e.place s) refl
+file_back file.UnknownLabel s = rw (number_back 8 (omega arith)) refl
+file_back file.Limit s = rw (number_back 9 (omega arith)) refl
+
+-- one line for each refusal
+refused_back : (r : Refusal) → IsRefusalOf r → reply_of (reply_fields (Refused r)) ≡ Some (Refused r)
+unfolding reply_of plain_reply_of refusal_of
+refused_back UnknownCaller s = rw (number_back 1 (omega arith)) refl
+refused_back NotAdmin s = rw (number_back 2 (omega arith)) refl
+refused_back NoProject s = rw (number_back 3 (omega arith)) refl
+refused_back NoBranch s = rw (number_back 4 (omega arith)) refl
+refused_back NoChange s = rw (number_back 5 (omega arith)) refl
+refused_back NoPatchSet s = rw (number_back 6 (omega arith)) refl
+refused_back NoAccount s = rw (number_back 7 (omega arith)) refl
+refused_back NoComment s = rw (number_back 8 (omega arith)) refl
+refused_back NotAllowed s = rw (number_back 9 (omega arith)) refl
+refused_back Closed s = rw (number_back 10 (omega arith)) refl
+refused_back StalePatchSet s = rw (number_back 13 (omega arith)) refl
+refused_back NoLabel s = rw (number_back 14 (omega arith)) refl
+refused_back ValueOut s = rw (number_back 15 (omega arith)) refl
+refused_back VoteRestricted s = rw (number_back 16 (omega arith)) refl
+refused_back CommitKnown s = rw (number_back 17 (omega arith)) refl
+refused_back UnknownParent s = rw (number_back 18 (omega arith)) refl
+refused_back NameTaken s = rw (number_back 25 (omega arith)) refl
+refused_back (BadFile f) s = rw (number_back 26 (omega arith), file_back f s) refl
+refused_back LabelNarrowed s = rw (number_back 27 (omega arith)) refl
+refused_back Limit s = rw (number_back 28 (omega arith)) refl
+
+-- numbers from 1 to the greatest one
+within_back : (most n : ℕ) → most < 18446744073709551616 → 1 ≤ n → n ≤ most → number_within most (numeral n) ≡ Some n
+unfolding number_within is_within
+within_back most n small low high =
+    let test : (nat_le 1 n && nat_le n most) ≡ true = grind (arith, nat_tests, low, high) in
+    rw (number_back n (omega (arith, small, high))) (ap (λ b. cond b (Some n) None) test)
+
+numbers_back : (ns : List ℕ) → AllByRecursion IsCommentNumber ns → numbers_in (map numeral ns) ≡ Some ns
+numbers_back [] s = refl
+numbers_back (n ∷ ns) s =
+    let head = within_back most_comments n (omega arith) s.0.0 s.0.1 in
+    let tail = numbers_back ns s.1 in
+    rw (head, tail) refl
+
+comments_back : (ns : List ℕ) → length ns ≤ most_comments → AllByRecursion IsCommentNumber ns → comments_of (map numeral ns) ≡ Some ns
+unfolding comments_of
+comments_back ns few s =
+    let same = length-map ns numeral in
+    let test : nat_le (length (map numeral ns)) most_comments ≡ true = grind (arith, nat_tests, few, same) in
+    ap (λ b. cond b (numbers_in (map numeral ns)) None) test ∙ numbers_back ns s
+
+-- one line for each answer
+pub reply_back : (r : Reply) → IsStored r → reply_of (reply_fields r) ≡ Some r
+unfolding reply_of plain_reply_of new_change_of new_patch_of
+reply_back (Done (Account n)) s = rw (account_back n s.0 s.1) refl
+reply_back (Done Nothing) s = refl
+reply_back (Done (Change change patch)) s = rw (within_back most_changes change (omega arith) s.0 s.1, within_back most_patches patch (omega arith) s.2 s.3) refl
+reply_back (Done (Patch change patch copied outdated)) s =
+    rw (within_back most_changes change (omega arith) s.0 s.1, within_back most_patches patch (omega arith) s.2 s.3, number_back copied s.4, number_back outdated s.5) refl
+reply_back (Done (Reviewed comments)) s = rw (comments_back comments s.0 s.1) refl
+reply_back (Done (Branch bases)) s = absurd s
+reply_back (Refused r) s = refused_back r s
+reply_back IdentityReused s = absurd s
+reply_back (NotTaken c) s = absurd s
+
+-- The fields of a stored reply are short.
+short_digits : (ds : List ℕ) → length ds ≤ 20 → length (shown_digits ds) < 1000000000
+short_digits [] h = omega arith
+short_digits (d ∷ ds) h = let same = length-map ds (λ x. 48 + x) in omega (arith, h, same)
+
+short_numeral : (n : ℕ) → n < 18446744073709551616 → length (numeral n) < 1000000000
+unfolding numeral
+short_numeral n h = short_digits (digits_of 10 n) (length-digits_of-le 10 20 n (omega arith) (omega (arith, h)))
+
+code_below : (c : ExprCode) → code_number c < 18446744073709551616
+code_below code.Empty = omega arith
+code_below code.BadTerm = omega arith
+code_below code.Unbalanced = omega arith
+code_below code.Mixed = omega arith
+code_below code.BadValue = omega arith
+code_below code.Zero = omega arith
+code_below code.TooDeep = omega arith
+code_below code.TooLong = omega arith
+
+fault_below : (f : FileFault) → file_fault_number f < 18446744073709551616
+fault_below file.Toml = omega arith
+fault_below file.UnknownKey = omega arith
+fault_below file.Missing = omega arith
+fault_below file.BadName = omega arith
+fault_below file.Twice = omega arith
+fault_below file.BadValues = omega arith
+fault_below (file.Expr e) = omega arith
+fault_below file.UnknownLabel = omega arith
+fault_below file.Limit = omega arith
+
+below : (r : Refusal) → refusal_number r < 18446744073709551616
+below UnknownCaller = omega arith
+below NotAdmin = omega arith
+below NoProject = omega arith
+below NoBranch = omega arith
+below NoChange = omega arith
+below NoPatchSet = omega arith
+below NoAccount = omega arith
+below NoComment = omega arith
+below NotAllowed = omega arith
+below Closed = omega arith
+below StalePatchSet = omega arith
+below NoLabel = omega arith
+below ValueOut = omega arith
+below VoteRestricted = omega arith
+below CommitKnown = omega arith
+below UnknownParent = omega arith
+below NameTaken = omega arith
+below (BadFile f) = omega arith
+below LabelNarrowed = omega arith
+below Limit = omega arith
+
+short_expr : (f : FileFault) → IsPlaced f → AreShort (expr_fields f)
+short_expr file.Toml s = tt
+short_expr file.UnknownKey s = tt
+short_expr file.Missing s = tt
+short_expr file.BadName s = tt
+short_expr file.Twice s = tt
+short_expr file.BadValues s = tt
+short_expr (file.Expr e) s = (short_numeral (code_number e.code) (code_below e.code), (short_numeral e.place s, tt))
+short_expr file.UnknownLabel s = tt
+short_expr file.Limit s = tt
+
+short_refusal : (r : Refusal) → IsRefusalOf r → AreShort (refusal_fields r)
+short_refusal UnknownCaller s = tt
+short_refusal NotAdmin s = tt
+short_refusal NoProject s = tt
+short_refusal NoBranch s = tt
+short_refusal NoChange s = tt
+short_refusal NoPatchSet s = tt
+short_refusal NoAccount s = tt
+short_refusal NoComment s = tt
+short_refusal NotAllowed s = tt
+short_refusal Closed s = tt
+short_refusal StalePatchSet s = tt
+short_refusal NoLabel s = tt
+short_refusal ValueOut s = tt
+short_refusal VoteRestricted s = tt
+short_refusal CommitKnown s = tt
+short_refusal UnknownParent s = tt
+short_refusal NameTaken s = tt
+short_refusal (BadFile f) s = (short_numeral (file_fault_number f) (fault_below f), short_expr f s)
+short_refusal LabelNarrowed s = tt
+short_refusal Limit s = tt
+
+short_numbers : (ns : List ℕ) → AllByRecursion IsCommentNumber ns → AreShort (map numeral ns)
+short_numbers [] s = tt
+short_numbers (n ∷ ns) s = let most = s.0.1 in (short_numeral n (omega (arith, most)), short_numbers ns s.1)
+
+pub short_reply : (r : Reply) → IsStored r → AreShort (reply_fields r)
+short_reply (Done (Account n)) s = (omega arith, (short_numeral n (omega (arith, s.1)), tt))
+short_reply (Done Nothing) s = (omega arith, tt)
+short_reply (Done (Change change patch)) s = (omega arith, (short_numeral change (omega (arith, s.1)), (short_numeral patch (omega (arith, s.3)), tt)))
+short_reply (Done (Patch change patch copied outdated)) s =
+    (omega arith, (short_numeral change (omega (arith, s.1)), (short_numeral patch (omega (arith, s.3)), (short_numeral copied s.4, (short_numeral outdated s.5, tt)))))
+short_reply (Done (Reviewed comments)) s = (omega arith, (short_numeral (length comments) (omega (arith, s.0)), short_numbers comments s.1))
+short_reply (Done (Branch bases)) s = absurd s
+short_reply (Refused r) s = (omega arith, (short_numeral (refusal_number r) (below r), short_refusal r s))
+short_reply IdentityReused s = absurd s
+short_reply (NotTaken c) s = absurd s
+
+-- What fields are read as is stored.
+told_first : {A B : Type 0} (o : Option A) (f : A → Option B) (b : B) → (o >>= f) ≡ Some b → (a : A) × (o ≡ Some a) × (f a ≡ Some b)
+told_first (Some a) f b e = (a, refl, e)
+told_first None f b e = absurd (cc)
+
+of_test : (b : Bool) (k n : ℕ) → cond b (Some k) None ≡ Some n → (b ≡ true) × (k ≡ n)
+of_test true k n e = (refl, cc)
+of_test false k n e = absurd (cc)
+
+within_told : (most n : ℕ) (text : List ℕ) → number_within most text ≡ Some n → (1 ≤ n) × (n ≤ most)
+unfolding number_within is_within
+within_told most n text e =
+    let first = told_first (number_of text) (λ k. if is_within most k then Some k else None) n e in
+    let test = of_test (is_within most first.0) first.0 n first.2 in
+    let range = subst (λ k. is_within most k ≡ true) test.1 test.0 in
+    (grind (arith, nat_tests, range), grind (arith, nat_tests, range))
+
+numbers_told : (fs : List (List ℕ)) (ns : List ℕ) → numbers_in fs ≡ Some ns → (length ns ≡ length fs) × AllByRecursion IsCommentNumber ns
+numbers_told [] [] e = (refl, tt)
+numbers_told [] (n ∷ ns) e = absurd (cc)
+numbers_told (f ∷ fs) ns e =
+    let head = told_first (number_within most_comments f) (λ n. numbers_in fs >>= λ rest. Some (n ∷ rest)) ns e in
+    let tail = told_first (numbers_in fs) (λ rest. Some (head.0 ∷ rest)) ns head.2 in
+    let whole : head.0 ∷ tail.0 ≡ ns = cc in
+    let rest = numbers_told fs tail.0 tail.1 in
+    let long : length (head.0 ∷ tail.0) ≡ length (f ∷ fs) = let same = rest.0 in omega arith in (
+      sym (ap length whole) ∙ long,
+      subst (AllByRecursion IsCommentNumber) whole (within_told most_comments head.0 f head.1, rest.1),
+    )
+
+comments_stored : (fs : List (List ℕ)) (ns : List ℕ) → length fs ≤ most_comments → numbers_in fs ≡ Some ns → IsStoredAnswer (Reviewed ns)
+comments_stored fs ns few e = let told = numbers_told fs ns e in let same = told.0 in (omega (arith, few, same), told.1)
+
+pub gives_stored : (r : Result (List ℕ) BadReply) (fs : List (List ℕ)) → length fs ≤ most_comments → Gives r (numbers_in fs) → IfOk r (λ ns. IsStoredAnswer (Reviewed ns))
+gives_stored (Ok ns) fs few gives = comments_stored fs ns few gives
+gives_stored (Err e) fs few gives = tt
+
+-- What the fields of a stored reply are cut to, read as and written as.
+pub never_uncut : {A : Type 0} (view : A → List (List ℕ)) (o : Option A) (fs : List (List ℕ)) → o ≡ None → option_map view o ≡ Some fs → ⊥
+never_uncut view o fs none e = let some : None ≡ Some fs = ap (option_map view) (sym none) ∙ e in cc
+
+pub cut_to : {A : Type 0} (view : A → List (List ℕ)) (o : Option A) (x : A) (fs : List (List ℕ)) → o ≡ Some x → option_map view o ≡ Some fs → view x ≡ fs
+cut_to view o x fs some e = let same : Some (view x) ≡ Some fs = ap (option_map view) (sym some) ∙ e in cc
+
+pub gives_none : (e : BadReply) (told : Option Reply) → e ≡ Form → Gives (Err e) told → told ≡ None
+gives_none Form told is gives = gives
+gives_none Memory told is gives = absurd (cc)
+
+pub never_unread : (r : Reply) (fs : List (List ℕ)) → IsStored r → fs ≡ reply_fields r → reply_of fs ≡ None → ⊥
+never_unread r fs s same none =
+    let some : Some r ≡ None = sym (reply_back r s) ∙ (ap reply_of (sym same) ∙ none) in
+    cc
+
+read_as : (r q : Reply) (fs : List (List ℕ)) → IsStored r → fs ≡ reply_fields r → reply_of fs ≡ Some q → q ≡ r
+read_as r q fs s same read =
+    let some : Some q ≡ Some r = sym read ∙ (ap reply_of same ∙ reply_back r s) in
+    cc
+
+pub never_changed : (r q : Reply) (fs : List (List ℕ)) (again text : List ℕ) → IsStored r → fs ≡ reply_fields r → reply_of fs ≡ Some q → again ≡ reply_text q → reply_text r ≡ text → bytes_eq again text ≡ false → ⊥
+never_changed r q fs again text s same read written e differs =
+    let back : again ≡ text = written ∙ (ap reply_text (read_as r q fs s same read) ∙ e) in
+    let equal : bytes_eq again text ≡ true = (bytes_eq-Decides again text).1 back in
+    cc
