@@ -4,3 +4,4 @@ pub mod Seen
 pub mod Parts
 pub mod Sound
 pub mod Status
+pub mod Counts

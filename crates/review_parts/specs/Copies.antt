@@ -1,6 +1,5 @@
 -- The votes of a patch set that are copied to the next one, and the others.
-use Rattle.std.specs.Prelude.{◌≡◌, ℕ, ℤ, List, [], ◌∷◌, length, map, find, Option, option_map, Bool, false, not, ◌==◌, ◌&&◌, if◌then◌else◌}
-use Rattle.std.specs.List.{list_any}
+use Rattle.std.specs.Prelude.{◌≡◌, ℕ, ℤ, List, [], ◌∷◌, map, find, Option, option_map, Bool, false, not, ◌==◌, ◌&&◌, if◌then◌else◌}
 use Rattle.std.specs.Option.{option_map_or}
 use Rattle.std.specs.Str.{bytes_eq}
 use Rattle.review_judging.specs.declared.facts.VoteFacts.{VoteFacts}
@@ -10,6 +9,7 @@ use Rattle.review_changes.specs.declared.rows.VoteKey.{VoteKey}
 use Rattle.review_changes.specs.declared.rows.Why.{Why}
 use Rattle.review_changes.specs.declared.rows.Why.TheVariants.{NotCopied}
 use Rattle.review_changes.specs.Change.{condition_holds, label_in, range_of}
+pub use Rattle.review_changes.specs.Counts.{has_vote, AreApart, AreMany}
 use Rattle.review_changes.specs.Votes.{voted}
 use Rattle.review_parts.specs.declared.copying.Parted.{Parted}
 
@@ -41,20 +41,8 @@ pub record IsSplit (f : Copies) (n next : ℕ) (rows : List (VoteKey × ℤ)) (s
 
 -- whether an account lost its vote on a label
 abbrev pub has_lost : List VoteKey → ℕ → List ℕ → Bool
-has_lost lost u l = list_any (λ k. bytes_eq k.label l && (k.account == u)) lost
+has_lost lost u l = has_vote lost u l
 
 -- why an account is called that lost its vote on one of these labels: the first
 abbrev pub lost_label : List (LabelView Expr) → List VoteKey → ℕ → Option Why
 lost_label labels lost u = option_map NotCopied (find (has_lost lost u) (map (λ x. x.name) labels))
-
--- no label and account stand twice
-abbrev pub AreApart : List VoteKey → Type 0
-AreApart [] = Unit {0}
-AreApart (k ∷ ks) = (has_lost ks k.account k.label ≡ false) × AreApart ks
-
--- a test holds for just so many pairs of a label and an account
-pub record AreMany (test : List ℕ → ℕ → Bool) (n : ℕ) : Type 0 where
-  pub keys : List VoteKey
-  pub apart : AreApart keys
-  pub each : (l : List ℕ) (u : ℕ) → has_lost keys u l ≡ test l u
-  pub count : length keys ≡ n

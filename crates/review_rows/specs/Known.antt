@@ -5,6 +5,11 @@ use Rattle.std.specs.List.{All, Contains}
 use Rattle.std.specs.Ordering.{nat_cmp}
 use Rattle.std.specs.Cmp.Lexicographic.{slice_cmp}
 use Rattle.review_table.specs.Rows.{row_in, rows_of}
+use Rattle.review_changes.specs.Change.{Change}
+use Rattle.review_changes.specs.Parts.{Part, TheHeader, PatchOf, PartRow, AHeader, APatch, part_row}
+use Rattle.review_changes.specs.Seen.{seen}
+use Rattle.review_changes.specs.declared.rows.Header.{Header}
+use Rattle.review_changes.specs.declared.rows.PatchRow.{PatchRow}
 use Rattle.review_rows.specs.declared.rows.BranchKey.{BranchKey as Branch}
 use Rattle.review_rows.specs.declared.rows.Base.{Base}
 use Rattle.review_rows.specs.declared.rows.Counted.{Counted}
@@ -13,9 +18,9 @@ use Rattle.review_rows.specs.declared.rows.Want.{Want}
 use Rattle.review_rows.specs.declared.rows.Want.TheVariants as want
 use Rattle.review_rows.specs.declared.rows.Rows.{Rows}
 use Rattle.review_rows.specs.Limits.{most_projects, most_bases}
-use Rattle.review_rows.specs.Rows.{Key, AccountKey, MemberKey, FileKey, BaseKey, Row, AccountRow, MemberRow, FileRow, BaseRow, Count, Projects, BasesOf, Tables, member_cmp, branch_cmp, base_cmp, member_row}
+use Rattle.review_rows.specs.Rows.{Key, AccountKey, MemberKey, FileKey, BaseKey, PartKey, APart, Row, AccountRow, MemberRow, FileRow, BaseRow, Count, Projects, BasesOf, Tables, member_cmp, branch_cmp, base_cmp, member_row}
 
--- what a look-up finds, by its kind: a number, an account's name, the account of a name, whether something is so, the members of a group, a project's text, the bases of a branch
+-- what a look-up finds, by its kind: a number, an account's name, the account or the change that was looked for, whether something is so, the members of a group, a project's text, the bases of a branch, a change
 pub data Found : Type 0 where
   Number : ℕ → Found
   Name : Option (List ℕ) → Found
@@ -24,6 +29,7 @@ pub data Found : Type 0 where
   Members : List (ℕ × Unit {0}) → Found
   Text : Option (List ℕ) → Found
   Commits : List (List ℕ) → Found
+  AChange : Option Change → Found
 
 -- the account of a number has the name
 abbrev pub IsNamed : (Key → Option Row) → List ℕ → ℕ → Type 0
@@ -59,6 +65,35 @@ at_place (x ∷ xs) (suc (suc n)) = at_place xs (suc n)
 abbrev pub HasBases : (Key → Option Row) → Branch → List (List ℕ) → Type 0
 HasBases row key commits = (place : ℕ) → row (BaseKey key.project key.branch place) ≡ option_map BaseRow (at_place commits place)
 
+-- the row of a change, where there is one
+abbrev pub part_of : Option Change → Part → Option PartRow
+part_of None part = None
+part_of (Some c) part = part_row c part
+
+-- the rows of a number are those of the change, where there is one
+abbrev pub HasChange : (Key → Option Row) → ℕ → Option Change → Type 0
+HasChange row n c = (part : Part) → row (PartKey n part) ≡ option_map APart (part_of c part)
+
+-- the change of a number is for the branch, and a patch set of it has the commit
+pub record IsSender (row : Key → Option Row) (base : Base) (n : ℕ) : Type 0 where
+  pub header : Header
+  pub stands : row (PartKey n TheHeader) ≡ Some (APart (AHeader header))
+  pub project : header.project ≡ base.project
+  pub branch : header.branch ≡ base.branch
+  pub number : ℕ
+  pub patch : PatchRow
+  pub sent : row (PartKey n (PatchOf number)) ≡ Some (APart (APatch patch))
+  pub commit : patch.commit ≡ base.commit
+
+-- a change for the branch that has a patch set of the commit, or none where none has
+abbrev pub IsSentBy : (Key → Option Row) → Base → Option ℕ → Type 0
+IsSentBy row base (Some n) = IsSender row base n
+IsSentBy row base None = (n : ℕ) → IsSender row base n → ⊥
+
+-- the key of a change's header
+abbrev pub header_key : ℕ → Key
+header_key n = PartKey n TheHeader
+
 -- what is counted, as tables do
 abbrev pub count_of : Counted → Count
 count_of counted.Projects = Projects
@@ -87,6 +122,9 @@ IsFound t (want.Room counted) = Finds IsSo (λ is. nat_lt (t.count (count_of cou
 IsFound t (want.Base base) = Finds IsSo (IsBaseOrNot t.row base)
 IsFound t (want.LastPlace key) = Finds Number (IsLast (BaseKey key.project key.branch) t.row)
 IsFound t (want.Bases key) = Finds Commits (HasBases t.row key)
+IsFound t (want.Change n) = Finds AChange (HasChange t.row n)
+IsFound t (want.ChangeOf base) = Finds Holder (IsSentBy t.row base)
+IsFound t want.LastChange = Finds Number (IsLast header_key t.row)
 
 -- What rows know of a look-up: nothing where it wasn't made, and otherwise what it found.
 abbrev pub known : Rows → Want → Option Found
@@ -103,6 +141,9 @@ known rows (want.Room (counted.BasesOf project)) = option_map IsSo (row_in (slic
 known rows (want.Base base) = option_map IsSo (row_in base_cmp (rows_of rows.known_bases) base)
 known rows (want.LastPlace key) = option_map Number (row_in branch_cmp (rows_of rows.last_places) key)
 known rows (want.Bases key) = option_map Commits (row_in branch_cmp (rows_of rows.bases) key)
+known rows (want.Change n) = option_map (λ c. AChange (option_map (λ r. seen r) c)) (row_in nat_cmp (rows_of rows.changes) n)
+known rows (want.ChangeOf base) = option_map Holder (row_in base_cmp (rows_of rows.senders) base)
+known rows want.LastChange = option_map Number rows.last_change
 
 -- what rows know is so in these tables
 abbrev pub Agrees : Tables → Rows → Type 0
@@ -136,7 +177,7 @@ abbrev pub number_of : Option Found → ℕ
 number_of (Some (Number n)) = n
 number_of found = 0
 
--- the account that is found by its name
+-- the account or the change that is found
 abbrev pub holder_of : Option Found → Option ℕ
 holder_of (Some (Holder holder)) = holder
 holder_of found = None
@@ -155,6 +196,11 @@ text_of found = None
 abbrev pub commits_of : Option Found → List (List ℕ)
 commits_of (Some (Commits commits)) = commits
 commits_of found = []
+
+-- the change that is found
+abbrev pub change_in : Option Found → Option Change
+change_in (Some (AChange c)) = c
+change_in found = None
 
 -- rows know one look-up more, or anew, and of each other one what they knew
 pub record Learns (want : Want) (found : Found) (old new : Rows) : Type 0 where

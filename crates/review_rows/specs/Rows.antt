@@ -5,6 +5,8 @@ use Rattle.std.specs.Ordering.{nat_cmp, ordering_then}
 use Rattle.std.specs.Cmp.Lexicographic.{slice_cmp}
 use Rattle.std.specs.Str.{bytes_eq}
 use Rattle.review_table.specs.Rows.{change_of, after_change}
+use Rattle.review_changes.specs.Parts.{Part, TheHeader, PatchOf, VoteOf, RoleOf, CommentOf, AttentionOf, PartRow, AHeader, APatch, AVote, ARole, AComment, ACall}
+use Rattle.review_changes.specs.Seen.{vote_cmp}
 use Rattle.review_words.specs.History.{Identity}
 use Rattle.review_words.specs.declared.reply.Reply.{Reply}
 use Rattle.review_words.specs.declared.reply.Reply.TheVariants.{Refused}
@@ -12,6 +14,7 @@ use Rattle.review_rows.specs.declared.rows.MemberKey.{MemberKey as Member}
 use Rattle.review_rows.specs.declared.rows.BranchKey.{BranchKey as Branch}
 use Rattle.review_rows.specs.declared.rows.Base.{Base}
 use Rattle.review_rows.specs.declared.rows.BaseRow.{BaseRow as PlacedBase}
+use Rattle.review_rows.specs.declared.rows.ChangeEdit.{ChangeEdit}
 use Rattle.review_rows.specs.declared.rows.ProjectRow.{ProjectRow}
 use Rattle.review_rows.specs.declared.rows.Delta.{Delta}
 use Rattle.review_rows.specs.declared.rows.Kept.{Kept}
@@ -22,14 +25,16 @@ pub data Key : Type 0 where
   MemberKey : List ℕ → ℕ → Key
   FileKey : List ℕ → Key
   BaseKey : List ℕ → List ℕ → ℕ → Key
+  PartKey : ℕ → Part → Key
   OddKey : List ℕ → Key
 
--- the rest of a row: an account's name, the text of a project's file, the commit of a base; a member has no more than its key, and an odd row is none of its table
+-- the rest of a row: an account's name, the text of a project's file, the commit of a base, the rest of a row of a change; a member has no more than its key, and an odd row is none of its table
 pub data Row : Type 0 where
   AccountRow : List ℕ → Row
   MemberRow : Row
   FileRow : List ℕ → Row
   BaseRow : List ℕ → Row
+  APart : PartRow → Row
   OddRow : Row
 
 -- what is counted: the projects, and the bases of a project over all its branches
@@ -95,12 +100,27 @@ base_after None project branch place was = was
 base_after (Some base) project branch place was =
     if bytes_eq base.project project && (bytes_eq base.branch branch && (base.place == place)) then Some (BaseRow base.commit) else was
 
+-- what an edit makes of a row of its change: none where it leaves it, and otherwise the new row or that there is none any more
+abbrev pub part_change : ChangeEdit → Part → Option (Option PartRow)
+part_change e TheHeader = Some (Some (AHeader e.header))
+part_change e (PatchOf n) = option_map (option_map APatch) (change_of nat_cmp e.patches.items n)
+part_change e (VoteOf n l a) = option_map (option_map AVote) (change_of vote_cmp e.votes.items (record { patch = n; label = l; account = a }))
+part_change e (RoleOf u) = option_map (option_map ARole) (change_of nat_cmp e.roles.items u)
+part_change e (CommentOf k) = option_map (option_map AComment) (change_of nat_cmp e.comments.items k)
+part_change e (AttentionOf u) = option_map (option_map ACall) (change_of nat_cmp e.attention.items u)
+
+-- what edits make of a row of a change: the first edit of the change decides
+abbrev pub edited : List ChangeEdit → ℕ → Part → Option (Option PartRow)
+edited [] n part = None
+edited (e ∷ es) n part = if e.change == n then part_change e part else edited es n part
+
 -- the row of a key after a delta, where it was this one before
 abbrev pub after : Delta → Key → Option Row → Option Row
 after delta (AccountKey number) was = after_change (account_change (change_of nat_cmp delta.accounts.items number)) was
 after delta (MemberKey group account) was = after_change (member_change (change_of member_cmp delta.members.items (record { group = group; account = account }))) was
 after delta (FileKey project) was = file_after delta.file project was
 after delta (BaseKey project branch place) was = base_after delta.base project branch place was
+after delta (PartKey n part) was = after_change (option_map (option_map APart) (edited delta.changes.items n part)) was
 after delta (OddKey o) was = was
 
 -- one project more, where the row of the project that gets a file was none

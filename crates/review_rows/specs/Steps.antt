@@ -1,9 +1,15 @@
 -- What a command or a question asks of the tables, in steps.
-use Rattle.std.specs.Prelude.{ℕ, ◌+◌, ◌<◌, ◌≡◌, Option, Some, None, List, [], ◌∷◌, ◌++◌, map, not, is_some, length, Bool, true, false, if◌then◌else◌}
+use Rattle.std.specs.Prelude.{ℕ, ◌+◌, ◌<◌, ◌≡◌, Option, Some, None, List, [], ◌∷◌, ◌++◌, map, flat_map, option_map, not, is_some, length, Bool, true, false, if◌then◌else◌}
 use Rattle.std.specs.List.{All, filter}
 use Rattle.review_names.specs.Names.{administrators}
 use Rattle.review_words.specs.declared.command.Command.{Command}
-use Rattle.review_words.specs.declared.command.Command.TheVariants.{CreateAccount, PutGroup, PutProject, RecordBase}
+use Rattle.review_words.specs.declared.command.Command.TheVariants.{CreateAccount, PutGroup, PutProject, RecordBase, CreateChange, Upload, Review}
+use Rattle.review_words.specs.declared.changes.Given.{Given}
+use Rattle.review_words.specs.declared.changes.NewPatch.{NewPatch}
+use Rattle.review_group_names.specs.Named.{copy_groups}
+use Rattle.review_project.specs.Rights.{grants_of}
+use Rattle.review_changes.specs.Change.{Change}
+use Rattle.review_rows.specs.Files.{File, IsRead}
 use Rattle.review_words.specs.declared.command.Query.{Query}
 use Rattle.review_words.specs.declared.command.Query.TheVariants as asked
 use Rattle.review_rows.specs.declared.rows.Counted.TheVariants as counted
@@ -13,7 +19,7 @@ use Rattle.review_rows.specs.declared.rows.Need.{Need}
 use Rattle.review_rows.specs.declared.rows.Rows.{Rows}
 use Rattle.review_rows.specs.declared.matter.Matter.{Matter}
 use Rattle.review_rows.specs.declared.matter.Matter.TheVariants as matter
-use Rattle.review_rows.specs.Known.{known, AreAdded, IsKnown}
+use Rattle.review_rows.specs.Known.{known, AreAdded, IsKnown, change_in, text_of}
 
 -- what is to be answered, as a value
 pub data Topic : Type 0 where
@@ -29,6 +35,15 @@ topic_of (matter.Query query) = OfQuery query.now
 abbrev pub caller_wants : ℕ → List Want
 caller_wants caller = want.Requests ∷ want.Account caller ∷ want.Member (record { group = administrators; account = caller }) ∷ []
 
+-- whether a commit is known in a branch: as a base, or as that of a patch set
+abbrev pub commit_wants : List ℕ → List ℕ → List ℕ → List Want
+commit_wants project branch commit =
+    want.Base (record { project = project; branch = branch; commit = commit }) ∷ want.ChangeOf (record { project = project; branch = branch; commit = commit }) ∷ []
+
+-- what a new patch set asks of the project and the branch that its change is for
+abbrev pub patch_wants : List ℕ → List ℕ → List ℕ → List ℕ → List Want
+patch_wants project branch commit parent = want.File project ∷ (commit_wants project branch commit ++ commit_wants project branch parent)
+
 -- what a command asks beside that
 abbrev pub command_wants : Command → List Want
 command_wants (CreateAccount name) = want.AccountNamed name ∷ want.LastAccount ∷ []
@@ -37,6 +52,10 @@ command_wants (PutProject project file) = want.File project ∷ want.Room counte
 command_wants (RecordBase project branch commit) =
     want.Project project ∷ want.Base (record { project = project; branch = branch; commit = commit }) ∷ want.Room (counted.BasesOf project)
     ∷ want.LastPlace (record { project = project; branch = branch }) ∷ []
+command_wants (CreateChange new) =
+    want.LastPlace (record { project = new.project; branch = new.branch }) ∷ want.LastChange ∷ patch_wants new.project new.branch new.commit new.parent
+command_wants (Upload change patch) = want.Change change ∷ []
+command_wants (Review change review) = want.Change change ∷ []
 
 -- what a question asks
 abbrev pub query_wants : ℕ → Query → List Want
@@ -47,9 +66,64 @@ abbrev pub first_wants : ℕ → Topic → List Want
 first_wants caller (OfCommand command) = caller_wants caller ++ command_wants command
 first_wants caller (OfQuery query) = query_wants caller query
 
--- The look-ups of a command or a question, step by step: what a step asks may depend on what the steps before it found.
-abbrev pub steps : Rows → ℕ → Topic → List (List Want)
-steps rows caller topic = first_wants caller topic ∷ []
+-- what a new patch set of a change asks
+abbrev pub sent_wants : NewPatch → Option Change → List Want
+sent_wants patch None = []
+sent_wants patch (Some c) = patch_wants c.project c.branch patch.commit patch.parent
+
+-- what values on labels of a change ask: its project's file; nothing where none are given
+abbrev pub given_wants : List Given → Option Change → List Want
+given_wants [] c = []
+given_wants (g ∷ gs) None = []
+given_wants (g ∷ gs) (Some c) = want.File c.project ∷ []
+
+-- what a command or a question asks next, by the change that it names
+abbrev pub change_wants : Rows → Topic → List Want
+change_wants rows (OfCommand (Upload change patch)) = sent_wants patch (change_in (known rows (want.Change change)))
+change_wants rows (OfCommand (Review change review)) = given_wants review.labels (change_in (known rows (want.Change change)))
+change_wants rows topic = []
+
+-- whether the caller is in these groups
+abbrev pub caller_in : ℕ → List (List ℕ) → List Want
+caller_in caller groups = map (λ group. want.Member (record { group = group; account = caller })) groups
+
+-- the groups that have a range of one of these labels
+abbrev pub granted_groups : File → List Given → List (List ℕ)
+granted_groups file given = flat_map (λ g. map (λ grant. grant.group) (grants_of file g.label)) given
+
+-- what is asked of groups, by the file that was read: whether the caller is in those of a right or of a range, and the members of those that copy conditions name
+abbrev pub file_wants : Option File → ℕ → Topic → List Want
+file_wants None caller topic = []
+file_wants (Some file) caller (OfCommand (CreateChange new)) = caller_in caller file.access.create
+file_wants (Some file) caller (OfCommand (Upload change patch)) = caller_in caller file.access.upload ++ map want.Group (copy_groups file)
+file_wants (Some file) caller (OfCommand (Review change review)) = caller_in caller (granted_groups file review.labels)
+file_wants (Some file) caller topic = []
+
+-- The look-ups of a command or a question, step by step, where this file was read: what a step asks may depend on what the steps before it found.
+abbrev pub steps : Option File → Rows → ℕ → Topic → List (List Want)
+steps file rows caller topic = first_wants caller topic ∷ change_wants rows topic ∷ file_wants file caller topic ∷ []
+
+-- the project by whose file a command or a question is judged, as rows know it
+abbrev pub project_of : Rows → Topic → Option (List ℕ)
+project_of rows (OfCommand (PutProject project text)) = Some project
+project_of rows (OfCommand (CreateChange new)) = Some new.project
+project_of rows (OfCommand (Upload change patch)) = option_map (λ c. c.project) (change_in (known rows (want.Change change)))
+project_of rows (OfCommand (Review change review)) = option_map (λ c. c.project) (change_in (known rows (want.Change change)))
+project_of rows topic = None
+
+-- the text of a project's file, as rows know it
+abbrev pub text_in : Rows → Option (List ℕ) → Option (List ℕ)
+text_in rows None = None
+text_in rows (Some project) = text_of (known rows (want.File project))
+
+-- the text of the file that is to be read
+abbrev pub text_for : Rows → Topic → Option (List ℕ)
+text_for rows topic = text_in rows (project_of rows topic)
+
+-- the file that is read, which is one that the text spells; none where there is no text
+abbrev pub HasFile : Option (List ℕ) → Option File → Type 0
+HasFile None file = file ≡ None
+HasFile (Some text) file = (f : File) × IsRead text f × (file ≡ Some f)
 
 -- those of some look-ups that weren't made
 abbrev pub unknown : Rows → List Want → List Want
@@ -66,8 +140,8 @@ next_of rows [] = []
 next_of rows (step ∷ later) = or_next (unknown rows step) (next_of rows later)
 
 -- what a command or a question asks next; nothing where the rows decide it
-abbrev pub next : Rows → ℕ → Topic → List Want
-next rows caller topic = next_of rows (steps rows caller topic)
+abbrev pub next : Option File → Rows → ℕ → Topic → List Want
+next file rows caller topic = next_of rows (steps file rows caller topic)
 
 -- the look-ups of a need, where there is one
 abbrev pub wants_in : Option Need → Option (List Want)
@@ -90,10 +164,10 @@ left_of rows [] = 0
 left_of rows (step ∷ later) = left_where (unknown rows step) (left_of rows later) (length later + 1)
 
 -- how many steps of a command or a question are left
-abbrev pub left : Rows → ℕ → Topic → ℕ
-left rows caller topic = left_of rows (steps rows caller topic)
+abbrev pub left : Option File → Rows → ℕ → Topic → ℕ
+left file rows caller topic = left_of rows (steps file rows caller topic)
 
 -- where something is asked next, rows that know it have fewer steps left
 abbrev pub AskingLowers : Type 0
-AskingLowers = (rows more both : Rows) (caller : ℕ) (topic : Topic) (w : Want) (ws : List Want) →
-    next rows caller topic ≡ w ∷ ws → All (IsKnown more) (w ∷ ws) → AreAdded rows more both → left both caller topic < left rows caller topic
+AskingLowers = (file : Option File) (rows more both : Rows) (caller : ℕ) (topic : Topic) (w : Want) (ws : List Want) →
+    next file rows caller topic ≡ w ∷ ws → All (IsKnown more) (w ∷ ws) → AreAdded rows more both → left file both caller topic < left file rows caller topic

@@ -1,15 +1,19 @@
 //! What rows know.
-ghost use Rattle.std.specs.Prelude.{◌≡◌, None, OnOk, false, ◌∷◌, [], is_some, option_copied, unwrap_or};
+ghost use Rattle.std.specs.Prelude.{◌≡◌, None, OnOk, false, ◌∷◌, [], is_some, option_copied, option_map, unwrap_or};
 ghost use Rattle.std.specs.Option.{option_map_or, option_or};
 ghost use Rattle.review_table.specs.Rows.{row_in, rows_of};
 ghost use Rattle.review_rows.specs.declared.rows.Want.{Want};
 ghost use Rattle.review_rows.specs.declared.rows.Want.TheVariants as want;
 ghost use Rattle.review_rows.specs.declared.rows.Counted.TheVariants as counted;
-ghost use Rattle.review_rows.specs.Known.{known, AreAdded, is_so, is_there, number_of, holder_of, members_of, text_of, commits_of};
+ghost use Rattle.review_rows.specs.Known.{known, AreAdded, is_so, is_there, number_of, holder_of, members_of, text_of, commits_of, change_in};
+ghost use Rattle.review_changes.specs.Seen.{seen};
 
 use crate::rows::{Base, BranchKey, Counted, MemberKey, Rows, Want};
+use review_changes::ChangeRows;
 use review_table::{Key, Table};
-use review_words::{AccountName, AccountNo, Bases, FileText, GroupName, ProjectName};
+use review_words::{
+    AccountName, AccountNo, Bases, ChangeNo, FileText, GroupName, ProjectName,
+};
 use std::alloc::{AllocError, Global};
 
 impl Rows {
@@ -31,6 +35,9 @@ impl Rows {
             known_bases: Table::new(alloc),
             last_places: Table::new(alloc),
             bases: Table::new(alloc),
+            changes: Table::new(alloc),
+            senders: Table::new(alloc),
+            last_change: None,
         }
     }
 
@@ -52,6 +59,9 @@ impl Rows {
             Want::Base(base) => self.known_bases.get(base).is_some(),
             Want::LastPlace(branch) => self.last_places.get(branch).is_some(),
             Want::Bases(branch) => self.bases.get(branch).is_some(),
+            Want::Change(number) => self.changes.get(number).is_some(),
+            Want::ChangeOf(commit) => self.senders.get(commit).is_some(),
+            Want::LastChange => self.last_change.is_some(),
         }
     }
 
@@ -62,6 +72,7 @@ impl Rows {
         self.requests = self.requests.or(more.requests);
         self.last_account = self.last_account.or(more.last_account);
         self.room_for_projects = self.room_for_projects.or(more.room_for_projects);
+        self.last_change = self.last_change.or(more.last_change);
         add_all(alloc, &mut self.accounts, more.accounts)?;
         add_all(alloc, &mut self.named, more.named)?;
         add_all(alloc, &mut self.members, more.members)?;
@@ -72,6 +83,8 @@ impl Rows {
         add_all(alloc, &mut self.known_bases, more.known_bases)?;
         add_all(alloc, &mut self.last_places, more.last_places)?;
         add_all(alloc, &mut self.bases, more.bases)?;
+        add_all(alloc, &mut self.changes, more.changes)?;
+        add_all(alloc, &mut self.senders, more.senders)?;
         Ok(())
     }
 
@@ -173,6 +186,33 @@ impl Rows {
         ensures { unwrap_or (option_copied result) [] ≡ commits_of (known self.now (want.Bases branch.now)) }
     {
         self.bases.get(branch)
+    }
+
+    /// A change, where it is known to be there.
+    pub fn change(&self, number: ChangeNo) -> Option<&ChangeRows>
+        ensures { option_map (λ c. seen c) (option_copied result) ≡ change_in (known self.now (want.Change number)) }
+    {
+        match self.changes.get(&number) {
+            Some(Some(rows)) => Some(rows),
+            Some(None) | None => None,
+        }
+    }
+
+    /// The change for a branch that is known to have a patch set of a commit.
+    pub fn change_of(&self, commit: &Base) -> Option<ChangeNo>
+        ensures { result ≡ holder_of (known self.now (want.ChangeOf commit.now)) }
+    {
+        match self.senders.get(commit) {
+            Some(change) => *change,
+            None => None,
+        }
+    }
+
+    /// The greatest number of a change; 0 where that is unknown.
+    pub fn last_change(&self) -> u32
+        ensures { result ≡ number_of (known self.now want.LastChange) }
+    {
+        self.last_change.unwrap_or(0)
     }
 }
 

@@ -1,13 +1,17 @@
 //! Rows learn what look-ups find.
-ghost use Rattle.std.specs.Prelude.{Some, OnOk};
+ghost use Rattle.std.specs.Prelude.{Some, OnOk, option_map};
 ghost use Rattle.review_table.specs.Rows.{rows_of};
 ghost use Rattle.review_rows.specs.declared.rows.Want.TheVariants as want;
 ghost use Rattle.review_rows.specs.declared.rows.Counted.TheVariants as counted;
-ghost use Rattle.review_rows.specs.Known.{Number, Name, Holder, IsSo, Members, Text, Commits, Learns};
+ghost use Rattle.review_rows.specs.Known.{Number, Name, Holder, IsSo, Members, Text, Commits, AChange, Learns};
+ghost use Rattle.review_changes.specs.Seen.{seen};
 
 use crate::rows::{Base, BranchKey, MemberKey, Rows};
+use review_changes::ChangeRows;
 use review_table::Table;
-use review_words::{AccountName, AccountNo, Bases, FileText, GroupName, ProjectName};
+use review_words::{
+    AccountName, AccountNo, Bases, ChangeNo, FileText, GroupName, ProjectName,
+};
 use std::alloc::AllocError;
 
 impl Rows {
@@ -126,5 +130,36 @@ impl Rows {
     {
         self.bases.put(branch, bases)?;
         Ok(())
+    }
+
+    /// A change with all its rows, or that there is no such change.
+    pub fn learn_change(
+        &mut self,
+        number: ChangeNo,
+        change: Option<ChangeRows>,
+    ) -> Result<(), AllocError>
+        ensures { OnOk result (Learns (want.Change number) (AChange (option_map (λ c. seen c) change)) self.old self.new) }
+    {
+        self.changes.put(number, change)?;
+        Ok(())
+    }
+
+    /// The change for a branch that has a patch set of a commit, or that none has.
+    pub fn learn_change_of(
+        &mut self,
+        commit: Base,
+        change: Option<ChangeNo>,
+    ) -> Result<(), AllocError>
+        ensures { OnOk result (Learns (want.ChangeOf commit) (Holder change) self.old self.new) }
+    {
+        self.senders.put(commit, change)?;
+        Ok(())
+    }
+
+    /// The greatest number of a change.
+    pub fn learn_last_change(&mut self, last: u32)
+        ensures { Learns want.LastChange (Number last) self.old self.new }
+    {
+        self.last_change = Some(last);
     }
 }

@@ -1,10 +1,11 @@
 //! Typed rows, what may be asked of tables, and what is known of them.
 ghost use Rattle.std.specs.Prelude.{◌≡◌, IfOk};
 
+use review_changes::{Called, ChangeRows, CommentRow, Header, PatchRow, Vote, VoteKey};
 use review_table::{Change, Key, Table};
 use review_words::{
-    AccountName, AccountNo, Bases, BranchName, CommitName, FileText, GroupName, ProjectName,
-    RequestId,
+    AccountName, AccountNo, Bases, BranchName, ChangeNo, CommentNo, CommitName, FileText,
+    GroupName, PatchNo, ProjectName, RequestId, Role,
 };
 use std::alloc::{AllocError, Global};
 
@@ -40,7 +41,7 @@ impl Key for BranchKey {
     }
 }
 
-/// A commit as a base of a branch.
+/// A commit in a branch.
 #[derive(Debug, PartialEq, Eq, PartialOrd, Ord, Drop)]
 pub struct Base {
     pub project: ProjectName,
@@ -75,6 +76,18 @@ pub struct BaseRow {
     pub branch: BranchName,
     pub place: u64,
     pub commit: CommitName,
+}
+
+/// What a request makes of a change, row by row: its header anew, and of its other rows those that are new, changed or gone.
+#[derive(Drop)]
+pub struct ChangeEdit {
+    pub change: ChangeNo,
+    pub header: Header,
+    pub patches: Vec<Change<PatchNo, PatchRow>>,
+    pub votes: Vec<Change<VoteKey, Vote>>,
+    pub roles: Vec<Change<AccountNo, Role>>,
+    pub comments: Vec<Change<CommentNo, CommentRow>>,
+    pub attention: Vec<Change<AccountNo, Called>>,
 }
 
 /// What is counted of a desk, up to a limit.
@@ -114,6 +127,12 @@ pub enum Want {
     LastPlace(BranchKey),
     /// The bases of a branch.
     Bases(BranchKey),
+    /// A change with all its rows.
+    Change(ChangeNo),
+    /// The change for a branch that has a patch set of a commit.
+    ChangeOf(Base),
+    /// The greatest number of a change.
+    LastChange,
 }
 
 /// What a load asks for.
@@ -140,15 +159,21 @@ pub struct Rows {
     /// The last place of each branch; 0 where it has no base.
     pub last_places: Table<BranchKey, u64>,
     pub bases: Table<BranchKey, Bases>,
+    pub changes: Table<ChangeNo, Option<ChangeRows>>,
+    pub senders: Table<Base, Option<ChangeNo>>,
+    /// The greatest number of a change; 0 where there is none.
+    pub last_change: Option<u32>,
 }
 
-/// What a request changes: for each key that it names a new row, or none; the file of a project, and a base of a branch.
+/// What a request changes: for each key that it names a new row, or none; the file of a project, a base of a branch, and the rows of
+/// changes.
 #[derive(Drop)]
 pub struct Delta {
     pub accounts: Vec<Change<AccountNo, AccountName>>,
     pub members: Vec<Change<MemberKey, ()>>,
     pub file: Option<ProjectRow>,
     pub base: Option<BaseRow>,
+    pub changes: Vec<ChangeEdit>,
 }
 
 /// A stored request, with the texts of its command and its reply.

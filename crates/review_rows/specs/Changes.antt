@@ -1,0 +1,110 @@
+-- The changes that a history makes.
+use Rattle.std.specs.Prelude.{ℕ, zero, suc, ◌+◌, ◌==◌, ◌&&◌, ◌||◌, Bool, false, List, [], ◌∷◌, Option, Some, None, if◌then◌else◌, is_some, unwrap_or, option_map, length}
+use Rattle.std.specs.BTreeMap.{insert_entry}
+use Rattle.std.specs.Cmp.Lexicographic.{slice_cmp}
+use Rattle.std.specs.Layout.BTreeMap.{btree_map}
+use Rattle.std.specs.List.{list_any}
+use Rattle.std.specs.Option.{option_map_or}
+use Rattle.std.specs.Ordering.{nat_cmp}
+use Rattle.std.specs.Str.{bytes_eq}
+use Rattle.review_names.specs.Names.{administrators}
+use Rattle.review_names.specs.declared.groups.Groups.{Groups}
+use Rattle.review_words.specs.History.{Entry, accepted, file_text, is_base}
+use Rattle.review_words.specs.declared.command.Command.{Command}
+use Rattle.review_words.specs.declared.command.Command.TheVariants as asked
+use Rattle.review_expr.specs.declared.expr.Expr.{Expr}
+use Rattle.review_project.specs.Reading.{IsRead}
+use Rattle.review_project.specs.View.{FileView}
+use Rattle.review_changes.specs.declared.commands.ChangeCommand.{ChangeCommand}
+use Rattle.review_changes.specs.declared.commands.ChangeCommand.TheVariants.{Upload, Review}
+use Rattle.review_changes.specs.Change.{Change, Setting, after, begun}
+
+-- what is read of each text that spells a project file
+abbrev pub Reading : Type 0
+Reading = List ℕ → FileView Expr
+
+-- the text that a command puts spells the file that is read
+abbrev pub IsReadRight : Reading → Option Command → Type 0
+IsReadRight reading (Some (asked.PutProject project text)) = IsRead text (reading text)
+IsReadRight reading _ = Unit {0}
+
+-- Each text that was put in the history spells the file that is read.
+abbrev pub Reads : Reading → List Entry → Type 0
+Reads reading [] = Unit {0}
+Reads reading (e ∷ h) = IsReadRight reading (accepted e) × Reads reading h
+
+-- the file of a project, as it is read
+abbrev pub file_of : Reading → List Entry → List ℕ → FileView Expr
+file_of reading h project = reading (unwrap_or (file_text h project) [])
+
+-- the groups with their members, once this command is done
+abbrev pub group_put : Option Command → List (List ℕ × List ℕ) → List (List ℕ × List ℕ)
+group_put (Some (asked.PutGroup group members)) before = insert_entry (slice_cmp nat_cmp) before group members
+group_put _ before = before
+
+-- the groups with their members: `Administrators` from the start, and those that were put
+abbrev pub group_list : List Entry → List (List ℕ × List ℕ)
+group_list [] = (administrators, 1 ∷ []) ∷ []
+group_list (e ∷ h) = group_put (accepted e) (group_list h)
+
+-- the groups after a history
+abbrev pub groups_of : List Entry → Groups
+groups_of h = record { 0 = btree_map (group_list h) (inl (record {})) }
+
+-- what the requests on a project's changes are judged by
+abbrev pub setting_of : Reading → List Entry → List ℕ → Setting
+setting_of reading h project = record { file = file_of reading h project; groups = groups_of h }
+
+-- how many changes there are, once this command is done
+abbrev pub change_counted : Option Command → ℕ → ℕ
+change_counted (Some (asked.CreateChange new)) n = n + 1
+change_counted _ n = n
+
+-- how many changes there are: each accepted CreateChange makes the next
+abbrev pub change_count : List Entry → ℕ
+change_count [] = 0
+change_count (e ∷ h) = change_counted (accepted e) (change_count h)
+
+-- what a command asks of a change, and of which
+abbrev pub asked_of : Command → Option (ℕ × ChangeCommand)
+asked_of (asked.Upload change patch) = Some (change, Upload patch)
+asked_of (asked.Review change review) = Some (change, Review review)
+asked_of _ = None
+
+-- a change after what is asked of one, by an account after a history
+abbrev pub change_after : Reading → List Entry → ℕ → Option (ℕ × ChangeCommand) → ℕ → Option Change → Option Change
+change_after reading h caller None n before = before
+change_after reading h caller (Some on) n before =
+    if on.0 == n then option_map (λ c. after (setting_of reading h c.project) on.1 caller (length h + 1) c) before else before
+
+-- the change of a number, once this command of an account is done
+abbrev pub change_by : Reading → List Entry → ℕ → Option Command → ℕ → Option Change → Option Change
+change_by reading h caller None n before = before
+change_by reading h caller (Some (asked.CreateChange new)) n before = if change_count h + 1 == n then Some (begun new caller (length h + 1)) else before
+change_by reading h caller (Some command) n before = change_after reading h caller (asked_of command) n before
+
+-- The change of a number: made by the accepted CreateChange of that number, and as each accepted request that names it leaves it.
+abbrev pub change : Reading → List Entry → ℕ → Option Change
+change reading [] n = None
+change reading (e ∷ h) n = change_by reading h e.identity.caller (accepted e) n (change reading h n)
+
+-- a change is for the branch
+abbrev pub is_for : List ℕ → List ℕ → Change → Bool
+is_for project branch c = bytes_eq c.project project && bytes_eq c.branch branch
+
+-- the commit is that of a patch set of the change
+abbrev pub has_commit : List ℕ → Change → Bool
+has_commit commit c = list_any (λ p. bytes_eq p.commit commit) c.patches
+
+-- one of the changes up to a number passes the test
+abbrev pub some_change : Reading → List Entry → (Change → Bool) → ℕ → Bool
+some_change reading h test zero = false
+some_change reading h test (suc n) = option_map_or test (change reading h (suc n)) false || some_change reading h test n
+
+-- the commit is that of a patch set of a change for the branch
+abbrev pub is_sent : Reading → List Entry → List ℕ → List ℕ → List ℕ → Bool
+is_sent reading h project branch commit = some_change reading h (λ c. is_for project branch c && has_commit commit c) (change_count h)
+
+-- A commit is known in a branch where it is a base, or that of a patch set of one of its changes.
+abbrev pub is_known : Reading → List Entry → List ℕ → List ℕ → List ℕ → Bool
+is_known reading h project branch commit = is_base h project branch commit || is_sent reading h project branch commit
