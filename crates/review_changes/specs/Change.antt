@@ -6,7 +6,7 @@ use Rattle.std.specs.Str.{bytes_eq}
 use Rattle.std.specs.Cmp.Lexicographic.{pointwise}
 use Rattle.review_names.specs.Forms.{patch_set_level}
 use Rattle.review_names.specs.Numerals.{numeral}
-use Rattle.review_names.specs.declared.groups.Groups.{Groups}
+use Rattle.review_names.specs.Groups.{GroupList}
 use Rattle.review_names.specs.declared.kinds.ChangeKind.TheVariants.{Rework}
 use Rattle.review_words.specs.declared.changes.Given.{Given}
 use Rattle.review_words.specs.declared.changes.NewChange.{NewChange}
@@ -53,7 +53,7 @@ pub record Change : Type 0 where
 -- the file of the change's project and the groups, before a request
 pub record Setting : Type 0 where
   pub file : FileView Expr
-  pub groups : Groups
+  pub groups : GroupList
 
 -- the item of a number, counted from 1
 abbrev pub of_number : {X : Type 0} → List X → ℕ → Option X

@@ -3,7 +3,7 @@ use Rattle.std.specs.Prelude.{ℕ, ◌≡◌, List, [], ◌∷◌, ◌++◌, fla
 use Rattle.std.specs.List.{AllByRecursion}
 use Rattle.std.specs.Option.{option_map_or}
 use Rattle.review_names.specs.Groups.{has_account}
-use Rattle.review_names.specs.declared.groups.Groups.{Groups}
+use Rattle.review_names.specs.Groups.{GroupList}
 use Rattle.review_grammar.specs.Grammar.{Tree, Term, Neg, All, Any, Trees, End, With}
 use Rattle.review_grammar.specs.Views.{view}
 use Rattle.review_terms.specs.declared.terms.CopyTerm.{CopyTerm}
@@ -56,9 +56,9 @@ abbrev pub copy_groups : FileView Expr → List (List ℕ)
 copy_groups file = flat_map (λ label. option_map_or groups_in label.copy_condition []) file.labels
 
 -- two lists of groups have the same accounts in a group
-abbrev pub SameIn : Groups → Groups → List ℕ → Type 0
-SameIn a b group = (account : ℕ) → has_account a.0 group account ≡ has_account b.0 group account
+abbrev pub SameIn : GroupList → GroupList → List ℕ → Type 0
+SameIn a b group = (account : ℕ) → has_account a group account ≡ has_account b group account
 
 -- two lists of groups have the same accounts in each of these groups
-abbrev pub SameInAll : Groups → Groups → List (List ℕ) → Type 0
+abbrev pub SameInAll : GroupList → GroupList → List (List ℕ) → Type 0
 SameInAll a b groups = AllByRecursion (SameIn a b) groups

@@ -71,7 +71,7 @@ is_voter f voters.Everyone account = true
 is_voter f voters.NonUploader account = not (account == f.uploader)
 is_voter f voters.Owner account = account == f.owner
 is_voter f (voters.Account asked) account = account == asked
-is_voter f (voters.Group group) account = has_account f.groups.0 group account
+is_voter f (voters.Group group) account = has_account f.groups group account
 
 -- as many accounts as asked; at least one where nothing is asked
 abbrev pub is_count : Option Count → ℕ → Bool
@@ -105,8 +105,8 @@ label_holds f t = is_count t.count (count_by (is_counted f t) (votes_of f t.labe
 abbrev pub requirement_holds : ChangeFacts → RequirementTerm → Bool
 requirement_holds f (requirement.Always b) = b
 requirement_holds f (requirement.Label t) = label_holds f t
-requirement_holds f (requirement.UploaderIn group) = has_account f.groups.0 group f.uploader
-requirement_holds f (requirement.OwnerIn group) = has_account f.groups.0 group f.owner
+requirement_holds f (requirement.UploaderIn group) = has_account f.groups group f.uploader
+requirement_holds f (requirement.OwnerIn group) = has_account f.groups group f.owner
 requirement_holds f (requirement.Branch name) = bytes_eq f.branch name
 requirement_holds f (requirement.BranchMatches re) = matches_whole re f.branch
 requirement_holds f (requirement.Path path) = list_any (λ p. bytes_eq p path) f.paths
@@ -132,6 +132,6 @@ kind_matches asked given = false
 abbrev pub copy_holds : VoteFacts → CopyTerm → Bool
 copy_holds f (copy.Value asked) = meets (Some f.range) (comparison.Is asked) f.value
 copy_holds f (copy.Kind asked) = kind_matches asked f.kind
-copy_holds f (copy.ApproverIn group) = has_account f.groups.0 group f.voter
-copy_holds f (copy.UploaderIn group) = has_account f.groups.0 group f.uploader
+copy_holds f (copy.ApproverIn group) = has_account f.groups group f.voter
+copy_holds f (copy.UploaderIn group) = has_account f.groups group f.uploader
 copy_holds f copy.UnchangedFiles = f.unchanged_files

@@ -12,15 +12,23 @@ use std::alloc::Global;
 use std::collections::{BTreeMap, BTreeSet};
 use std::marker::Model;
 
-/// The groups that were put, each with its members.
+/// The groups that were put, each with its members. Contracts see them in the order of their names' bytes.
 #[derive(Debug, Drop)]
 pub struct Groups(pub BTreeMap<GroupName, Members>);
+
+impl Model for Groups {
+    ghost use Rattle.review_names.specs.Groups.{GroupList};
+
+    ghost Value = { GroupList };
+
+    ghost view = { λ g. g.0.entries };
+}
 
 impl Groups {
     /// Whether an account is in a group. Every account is in `Registered-Users`; a group that was
     /// never put is empty. This takes no memory.
     pub fn has(&self, group: &GroupName, account: AccountNo) -> bool
-        ensures { result ≡ has_account self.now.0 group.now account }
+        ensures { result ≡ has_account self.now group.now account }
     {
         if group.as_str() == "Registered-Users" {
             return true;

@@ -13,7 +13,7 @@ use review_words::{AccountNo, Groups, LabelName};
 
 /// Whether an account is in one of the groups that have a right. This takes no memory.
 pub fn may(file: &ProjectFile, right: Right, account: AccountNo, groups: &Groups) -> bool
-    ensures { result ≡ may file.now right account groups.now.0 }
+    ensures { result ≡ may file.now right account groups.now }
 {
     file.groups(right)
         .iter()
@@ -30,7 +30,7 @@ fn grants_of<'f>(file: &'f ProjectFile, label: &LabelName) -> &'f [Grant]
 }
 
 fn least_of(grants: &[Grant], account: AccountNo, groups: &Groups) -> i8
-    ensures { result ≡ least_of (filter (λ g. has_account groups.now.0 g.group account) grants.now) }
+    ensures { result ≡ least_of (filter (λ g. has_account groups.now g.group account) grants.now) }
 {
     let mut least = 0;
     for grant in grants {
@@ -42,7 +42,7 @@ fn least_of(grants: &[Grant], account: AccountNo, groups: &Groups) -> i8
 }
 
 fn greatest_of(grants: &[Grant], account: AccountNo, groups: &Groups) -> i8
-    ensures { result ≡ greatest_of (filter (λ g. has_account groups.now.0 g.group account) grants.now) }
+    ensures { result ≡ greatest_of (filter (λ g. has_account groups.now g.group account) grants.now) }
 {
     let mut greatest = 0;
     for grant in grants {
@@ -62,8 +62,8 @@ pub fn range_of(
     account: AccountNo,
     groups: &Groups,
 ) -> (i8, i8)
-    ensures least { result.0 ≡ least_of (granted file.now label.now account groups.now.0) }
-    ensures greatest { result.1 ≡ greatest_of (granted file.now label.now account groups.now.0) }
+    ensures least { result.0 ≡ least_of (granted file.now label.now account groups.now) }
+    ensures greatest { result.1 ≡ greatest_of (granted file.now label.now account groups.now) }
     ensures values { IfSome (find (λ l. bytes_eq l.name label.now) file.now.labels) (λ l. (is_value l.values result.0 ≡ true) × (is_value l.values result.1 ≡ true)) }
 {
     file.facts();

@@ -1,5 +1,5 @@
 -- Rows that know nothing, and rows that are added.
-use Rattle.std.proofs.Common.{◌≡◌, ℕ, List, [], ◌∷◌, ◌++◌, Option, Some, None, Bool, true, false, cond, refl, sym, ap, ◌∙◌, ⊎_elim}
+use Rattle.std.proofs.Common.{◌≡◌, List, [], ◌∷◌, Option, Some, None, Bool, true, false, cond, refl, sym, ap, ◌∙◌}
 use Rattle.std.specs.Prelude.{option_map}
 use Rattle.std.specs.Option.{option_or}
 use Rattle.std.specs.declared.cmp.Ordering.{Ordering}
@@ -7,32 +7,33 @@ use Rattle.std.specs.Ordering.{nat_cmp}
 use Rattle.std.specs.Cmp.Lexicographic.{slice_cmp}
 use Rattle.std.specs.BTreeMap.{is_at}
 use Rattle.review_table.specs.Rows.{row_in, rows_of}
-use Rattle.review_rows.specs.declared.rows.MemberKey.{MemberKey as Member}
-use Rattle.review_rows.specs.declared.rows.BranchKey.{BranchKey as Branch}
-use Rattle.review_rows.specs.declared.rows.Base.{Base}
 use Rattle.review_rows.specs.declared.rows.Counted.TheVariants as counted
 use Rattle.review_rows.specs.declared.rows.Want.{Want}
 use Rattle.review_rows.specs.declared.rows.Want.TheVariants as want
 use Rattle.review_rows.specs.declared.rows.Rows.{Rows}
 use Rattle.review_rows.specs.Rows.{member_cmp, branch_cmp, base_cmp}
-use Rattle.review_rows.specs.Known.{Found, Number, Name, Holder, IsSo, Members, Text, Commits, known, AreAdded}
+use Rattle.review_rows.specs.Known.{Number, Name, Holder, IsSo, Members, Text, Commits, known, AreAdded}
+use Rattle.review_rows.proofs.Learning.{found_change}
 
 -- rows without entries know nothing
-pub nothing_known : (rows : Rows) → rows.requests ≡ None → rows.accounts ≡ [] → rows.named ≡ [] → rows.last_account ≡ None → rows.members ≡ [] → rows.groups ≡ [] → rows.files ≡ [] → rows.projects ≡ [] → rows.room_for_projects ≡ None → rows.room_for_bases ≡ [] → rows.known_bases ≡ [] → rows.last_places ≡ [] → rows.bases ≡ [] →
+pub nothing_known : (rows : Rows) → rows.requests ≡ None → rows.accounts ≡ [] → rows.named ≡ [] → rows.last_account ≡ None → rows.members ≡ [] → rows.groups ≡ [] → rows.files ≡ [] → rows.projects ≡ [] → rows.room_for_projects ≡ None → rows.room_for_bases ≡ [] → rows.known_bases ≡ [] → rows.last_places ≡ [] → rows.bases ≡ [] → rows.changes ≡ [] → rows.senders ≡ [] → rows.last_change ≡ None →
     (w : Want) → known rows w ≡ None
-nothing_known rows e0 e1 e2 e3 e4 e5 e6 e7 e8 e9 e10 e11 e12 want.Requests = ap (option_map Number) e0
-nothing_known rows e0 e1 e2 e3 e4 e5 e6 e7 e8 e9 e10 e11 e12 (want.Account q) = ap (λ t. option_map Name (row_in nat_cmp (rows_of t) q)) e1
-nothing_known rows e0 e1 e2 e3 e4 e5 e6 e7 e8 e9 e10 e11 e12 (want.AccountNamed q) = ap (λ t. option_map Holder (row_in (slice_cmp nat_cmp) (rows_of t) q)) e2
-nothing_known rows e0 e1 e2 e3 e4 e5 e6 e7 e8 e9 e10 e11 e12 want.LastAccount = ap (option_map Number) e3
-nothing_known rows e0 e1 e2 e3 e4 e5 e6 e7 e8 e9 e10 e11 e12 (want.Member q) = ap (λ t. option_map IsSo (row_in member_cmp (rows_of t) q)) e4
-nothing_known rows e0 e1 e2 e3 e4 e5 e6 e7 e8 e9 e10 e11 e12 (want.Group q) = ap (λ t. option_map (λ r. Members (rows_of r)) (row_in (slice_cmp nat_cmp) (rows_of t) q)) e5
-nothing_known rows e0 e1 e2 e3 e4 e5 e6 e7 e8 e9 e10 e11 e12 (want.File q) = ap (λ t. option_map Text (row_in (slice_cmp nat_cmp) (rows_of t) q)) e6
-nothing_known rows e0 e1 e2 e3 e4 e5 e6 e7 e8 e9 e10 e11 e12 (want.Project q) = ap (λ t. option_map IsSo (row_in (slice_cmp nat_cmp) (rows_of t) q)) e7
-nothing_known rows e0 e1 e2 e3 e4 e5 e6 e7 e8 e9 e10 e11 e12 (want.Room counted.Projects) = ap (option_map IsSo) e8
-nothing_known rows e0 e1 e2 e3 e4 e5 e6 e7 e8 e9 e10 e11 e12 (want.Room (counted.BasesOf q)) = ap (λ t. option_map IsSo (row_in (slice_cmp nat_cmp) (rows_of t) q)) e9
-nothing_known rows e0 e1 e2 e3 e4 e5 e6 e7 e8 e9 e10 e11 e12 (want.Base q) = ap (λ t. option_map IsSo (row_in base_cmp (rows_of t) q)) e10
-nothing_known rows e0 e1 e2 e3 e4 e5 e6 e7 e8 e9 e10 e11 e12 (want.LastPlace q) = ap (λ t. option_map Number (row_in branch_cmp (rows_of t) q)) e11
-nothing_known rows e0 e1 e2 e3 e4 e5 e6 e7 e8 e9 e10 e11 e12 (want.Bases q) = ap (λ t. option_map Commits (row_in branch_cmp (rows_of t) q)) e12
+nothing_known rows e0 e1 e2 e3 e4 e5 e6 e7 e8 e9 e10 e11 e12 e13 e14 e15 want.Requests = ap (option_map Number) e0
+nothing_known rows e0 e1 e2 e3 e4 e5 e6 e7 e8 e9 e10 e11 e12 e13 e14 e15 (want.Account q) = ap (λ t. option_map Name (row_in nat_cmp (rows_of t) q)) e1
+nothing_known rows e0 e1 e2 e3 e4 e5 e6 e7 e8 e9 e10 e11 e12 e13 e14 e15 (want.AccountNamed q) = ap (λ t. option_map Holder (row_in (slice_cmp nat_cmp) (rows_of t) q)) e2
+nothing_known rows e0 e1 e2 e3 e4 e5 e6 e7 e8 e9 e10 e11 e12 e13 e14 e15 want.LastAccount = ap (option_map Number) e3
+nothing_known rows e0 e1 e2 e3 e4 e5 e6 e7 e8 e9 e10 e11 e12 e13 e14 e15 (want.Member q) = ap (λ t. option_map IsSo (row_in member_cmp (rows_of t) q)) e4
+nothing_known rows e0 e1 e2 e3 e4 e5 e6 e7 e8 e9 e10 e11 e12 e13 e14 e15 (want.Group q) = ap (λ t. option_map (λ r. Members (rows_of r)) (row_in (slice_cmp nat_cmp) (rows_of t) q)) e5
+nothing_known rows e0 e1 e2 e3 e4 e5 e6 e7 e8 e9 e10 e11 e12 e13 e14 e15 (want.File q) = ap (λ t. option_map Text (row_in (slice_cmp nat_cmp) (rows_of t) q)) e6
+nothing_known rows e0 e1 e2 e3 e4 e5 e6 e7 e8 e9 e10 e11 e12 e13 e14 e15 (want.Project q) = ap (λ t. option_map IsSo (row_in (slice_cmp nat_cmp) (rows_of t) q)) e7
+nothing_known rows e0 e1 e2 e3 e4 e5 e6 e7 e8 e9 e10 e11 e12 e13 e14 e15 (want.Room counted.Projects) = ap (option_map IsSo) e8
+nothing_known rows e0 e1 e2 e3 e4 e5 e6 e7 e8 e9 e10 e11 e12 e13 e14 e15 (want.Room (counted.BasesOf q)) = ap (λ t. option_map IsSo (row_in (slice_cmp nat_cmp) (rows_of t) q)) e9
+nothing_known rows e0 e1 e2 e3 e4 e5 e6 e7 e8 e9 e10 e11 e12 e13 e14 e15 (want.Base q) = ap (λ t. option_map IsSo (row_in base_cmp (rows_of t) q)) e10
+nothing_known rows e0 e1 e2 e3 e4 e5 e6 e7 e8 e9 e10 e11 e12 e13 e14 e15 (want.LastPlace q) = ap (λ t. option_map Number (row_in branch_cmp (rows_of t) q)) e11
+nothing_known rows e0 e1 e2 e3 e4 e5 e6 e7 e8 e9 e10 e11 e12 e13 e14 e15 (want.Bases q) = ap (λ t. option_map Commits (row_in branch_cmp (rows_of t) q)) e12
+nothing_known rows e0 e1 e2 e3 e4 e5 e6 e7 e8 e9 e10 e11 e12 e13 e14 e15 (want.Change q) = ap (λ t. option_map found_change (row_in nat_cmp (rows_of t) q)) e13
+nothing_known rows e0 e1 e2 e3 e4 e5 e6 e7 e8 e9 e10 e11 e12 e13 e14 e15 (want.ChangeOf q) = ap (λ t. option_map Holder (row_in base_cmp (rows_of t) q)) e14
+nothing_known rows e0 e1 e2 e3 e4 e5 e6 e7 e8 e9 e10 e11 e12 e13 e14 e15 want.LastChange = ap (option_map Number) e15
 
 mapped_or : {X Y : Type 0} (f : X → Y) (a b : Option X) → option_map f (option_or a b) ≡ option_or (option_map f a) (option_map f b)
 mapped_or f None b = refl
@@ -43,21 +44,24 @@ abbrev pub AreJoined : {K X : Type 0} → (K → K → Ordering) → List (K × 
 AreJoined {K} R old more new = (q : K) → row_in R (rows_of new) q ≡ option_or (row_in R (rows_of old) q) (row_in R (rows_of more) q)
 
 -- what two rows know together, table by table
-pub added_known : (rows more both : Rows) → both.requests ≡ option_or rows.requests more.requests → AreJoined nat_cmp rows.accounts more.accounts both.accounts → AreJoined (slice_cmp nat_cmp) rows.named more.named both.named → both.last_account ≡ option_or rows.last_account more.last_account → AreJoined member_cmp rows.members more.members both.members → AreJoined (slice_cmp nat_cmp) rows.groups more.groups both.groups → AreJoined (slice_cmp nat_cmp) rows.files more.files both.files → AreJoined (slice_cmp nat_cmp) rows.projects more.projects both.projects → both.room_for_projects ≡ option_or rows.room_for_projects more.room_for_projects → AreJoined (slice_cmp nat_cmp) rows.room_for_bases more.room_for_bases both.room_for_bases → AreJoined base_cmp rows.known_bases more.known_bases both.known_bases → AreJoined branch_cmp rows.last_places more.last_places both.last_places → AreJoined branch_cmp rows.bases more.bases both.bases →
+pub added_known : (rows more both : Rows) → both.requests ≡ option_or rows.requests more.requests → AreJoined nat_cmp rows.accounts more.accounts both.accounts → AreJoined (slice_cmp nat_cmp) rows.named more.named both.named → both.last_account ≡ option_or rows.last_account more.last_account → AreJoined member_cmp rows.members more.members both.members → AreJoined (slice_cmp nat_cmp) rows.groups more.groups both.groups → AreJoined (slice_cmp nat_cmp) rows.files more.files both.files → AreJoined (slice_cmp nat_cmp) rows.projects more.projects both.projects → both.room_for_projects ≡ option_or rows.room_for_projects more.room_for_projects → AreJoined (slice_cmp nat_cmp) rows.room_for_bases more.room_for_bases both.room_for_bases → AreJoined base_cmp rows.known_bases more.known_bases both.known_bases → AreJoined branch_cmp rows.last_places more.last_places both.last_places → AreJoined branch_cmp rows.bases more.bases both.bases → AreJoined nat_cmp rows.changes more.changes both.changes → AreJoined base_cmp rows.senders more.senders both.senders → both.last_change ≡ option_or rows.last_change more.last_change →
     AreAdded rows more both
-added_known rows more both e0 e1 e2 e3 e4 e5 e6 e7 e8 e9 e10 e11 e12 want.Requests = ap (option_map Number) e0 ∙ mapped_or Number rows.requests more.requests
-added_known rows more both e0 e1 e2 e3 e4 e5 e6 e7 e8 e9 e10 e11 e12 (want.Account q) = ap (option_map Name) (e1 q) ∙ mapped_or Name (row_in nat_cmp (rows_of rows.accounts) q) (row_in nat_cmp (rows_of more.accounts) q)
-added_known rows more both e0 e1 e2 e3 e4 e5 e6 e7 e8 e9 e10 e11 e12 (want.AccountNamed q) = ap (option_map Holder) (e2 q) ∙ mapped_or Holder (row_in (slice_cmp nat_cmp) (rows_of rows.named) q) (row_in (slice_cmp nat_cmp) (rows_of more.named) q)
-added_known rows more both e0 e1 e2 e3 e4 e5 e6 e7 e8 e9 e10 e11 e12 want.LastAccount = ap (option_map Number) e3 ∙ mapped_or Number rows.last_account more.last_account
-added_known rows more both e0 e1 e2 e3 e4 e5 e6 e7 e8 e9 e10 e11 e12 (want.Member q) = ap (option_map IsSo) (e4 q) ∙ mapped_or IsSo (row_in member_cmp (rows_of rows.members) q) (row_in member_cmp (rows_of more.members) q)
-added_known rows more both e0 e1 e2 e3 e4 e5 e6 e7 e8 e9 e10 e11 e12 (want.Group q) = ap (option_map (λ r. Members (rows_of r))) (e5 q) ∙ mapped_or (λ r. Members (rows_of r)) (row_in (slice_cmp nat_cmp) (rows_of rows.groups) q) (row_in (slice_cmp nat_cmp) (rows_of more.groups) q)
-added_known rows more both e0 e1 e2 e3 e4 e5 e6 e7 e8 e9 e10 e11 e12 (want.File q) = ap (option_map Text) (e6 q) ∙ mapped_or Text (row_in (slice_cmp nat_cmp) (rows_of rows.files) q) (row_in (slice_cmp nat_cmp) (rows_of more.files) q)
-added_known rows more both e0 e1 e2 e3 e4 e5 e6 e7 e8 e9 e10 e11 e12 (want.Project q) = ap (option_map IsSo) (e7 q) ∙ mapped_or IsSo (row_in (slice_cmp nat_cmp) (rows_of rows.projects) q) (row_in (slice_cmp nat_cmp) (rows_of more.projects) q)
-added_known rows more both e0 e1 e2 e3 e4 e5 e6 e7 e8 e9 e10 e11 e12 (want.Room counted.Projects) = ap (option_map IsSo) e8 ∙ mapped_or IsSo rows.room_for_projects more.room_for_projects
-added_known rows more both e0 e1 e2 e3 e4 e5 e6 e7 e8 e9 e10 e11 e12 (want.Room (counted.BasesOf q)) = ap (option_map IsSo) (e9 q) ∙ mapped_or IsSo (row_in (slice_cmp nat_cmp) (rows_of rows.room_for_bases) q) (row_in (slice_cmp nat_cmp) (rows_of more.room_for_bases) q)
-added_known rows more both e0 e1 e2 e3 e4 e5 e6 e7 e8 e9 e10 e11 e12 (want.Base q) = ap (option_map IsSo) (e10 q) ∙ mapped_or IsSo (row_in base_cmp (rows_of rows.known_bases) q) (row_in base_cmp (rows_of more.known_bases) q)
-added_known rows more both e0 e1 e2 e3 e4 e5 e6 e7 e8 e9 e10 e11 e12 (want.LastPlace q) = ap (option_map Number) (e11 q) ∙ mapped_or Number (row_in branch_cmp (rows_of rows.last_places) q) (row_in branch_cmp (rows_of more.last_places) q)
-added_known rows more both e0 e1 e2 e3 e4 e5 e6 e7 e8 e9 e10 e11 e12 (want.Bases q) = ap (option_map Commits) (e12 q) ∙ mapped_or Commits (row_in branch_cmp (rows_of rows.bases) q) (row_in branch_cmp (rows_of more.bases) q)
+added_known rows more both e0 e1 e2 e3 e4 e5 e6 e7 e8 e9 e10 e11 e12 e13 e14 e15 want.Requests = ap (option_map Number) e0 ∙ mapped_or Number rows.requests more.requests
+added_known rows more both e0 e1 e2 e3 e4 e5 e6 e7 e8 e9 e10 e11 e12 e13 e14 e15 (want.Account q) = ap (option_map Name) (e1 q) ∙ mapped_or Name (row_in nat_cmp (rows_of rows.accounts) q) (row_in nat_cmp (rows_of more.accounts) q)
+added_known rows more both e0 e1 e2 e3 e4 e5 e6 e7 e8 e9 e10 e11 e12 e13 e14 e15 (want.AccountNamed q) = ap (option_map Holder) (e2 q) ∙ mapped_or Holder (row_in (slice_cmp nat_cmp) (rows_of rows.named) q) (row_in (slice_cmp nat_cmp) (rows_of more.named) q)
+added_known rows more both e0 e1 e2 e3 e4 e5 e6 e7 e8 e9 e10 e11 e12 e13 e14 e15 want.LastAccount = ap (option_map Number) e3 ∙ mapped_or Number rows.last_account more.last_account
+added_known rows more both e0 e1 e2 e3 e4 e5 e6 e7 e8 e9 e10 e11 e12 e13 e14 e15 (want.Member q) = ap (option_map IsSo) (e4 q) ∙ mapped_or IsSo (row_in member_cmp (rows_of rows.members) q) (row_in member_cmp (rows_of more.members) q)
+added_known rows more both e0 e1 e2 e3 e4 e5 e6 e7 e8 e9 e10 e11 e12 e13 e14 e15 (want.Group q) = ap (option_map (λ r. Members (rows_of r))) (e5 q) ∙ mapped_or (λ r. Members (rows_of r)) (row_in (slice_cmp nat_cmp) (rows_of rows.groups) q) (row_in (slice_cmp nat_cmp) (rows_of more.groups) q)
+added_known rows more both e0 e1 e2 e3 e4 e5 e6 e7 e8 e9 e10 e11 e12 e13 e14 e15 (want.File q) = ap (option_map Text) (e6 q) ∙ mapped_or Text (row_in (slice_cmp nat_cmp) (rows_of rows.files) q) (row_in (slice_cmp nat_cmp) (rows_of more.files) q)
+added_known rows more both e0 e1 e2 e3 e4 e5 e6 e7 e8 e9 e10 e11 e12 e13 e14 e15 (want.Project q) = ap (option_map IsSo) (e7 q) ∙ mapped_or IsSo (row_in (slice_cmp nat_cmp) (rows_of rows.projects) q) (row_in (slice_cmp nat_cmp) (rows_of more.projects) q)
+added_known rows more both e0 e1 e2 e3 e4 e5 e6 e7 e8 e9 e10 e11 e12 e13 e14 e15 (want.Room counted.Projects) = ap (option_map IsSo) e8 ∙ mapped_or IsSo rows.room_for_projects more.room_for_projects
+added_known rows more both e0 e1 e2 e3 e4 e5 e6 e7 e8 e9 e10 e11 e12 e13 e14 e15 (want.Room (counted.BasesOf q)) = ap (option_map IsSo) (e9 q) ∙ mapped_or IsSo (row_in (slice_cmp nat_cmp) (rows_of rows.room_for_bases) q) (row_in (slice_cmp nat_cmp) (rows_of more.room_for_bases) q)
+added_known rows more both e0 e1 e2 e3 e4 e5 e6 e7 e8 e9 e10 e11 e12 e13 e14 e15 (want.Base q) = ap (option_map IsSo) (e10 q) ∙ mapped_or IsSo (row_in base_cmp (rows_of rows.known_bases) q) (row_in base_cmp (rows_of more.known_bases) q)
+added_known rows more both e0 e1 e2 e3 e4 e5 e6 e7 e8 e9 e10 e11 e12 e13 e14 e15 (want.LastPlace q) = ap (option_map Number) (e11 q) ∙ mapped_or Number (row_in branch_cmp (rows_of rows.last_places) q) (row_in branch_cmp (rows_of more.last_places) q)
+added_known rows more both e0 e1 e2 e3 e4 e5 e6 e7 e8 e9 e10 e11 e12 e13 e14 e15 (want.Bases q) = ap (option_map Commits) (e12 q) ∙ mapped_or Commits (row_in branch_cmp (rows_of rows.bases) q) (row_in branch_cmp (rows_of more.bases) q)
+added_known rows more both e0 e1 e2 e3 e4 e5 e6 e7 e8 e9 e10 e11 e12 e13 e14 e15 (want.Change q) = ap (option_map found_change) (e13 q) ∙ mapped_or found_change (row_in nat_cmp (rows_of rows.changes) q) (row_in nat_cmp (rows_of more.changes) q)
+added_known rows more both e0 e1 e2 e3 e4 e5 e6 e7 e8 e9 e10 e11 e12 e13 e14 e15 (want.ChangeOf q) = ap (option_map Holder) (e14 q) ∙ mapped_or Holder (row_in base_cmp (rows_of rows.senders) q) (row_in base_cmp (rows_of more.senders) q)
+added_known rows more both e0 e1 e2 e3 e4 e5 e6 e7 e8 e9 e10 e11 e12 e13 e14 e15 want.LastChange = ap (option_map Number) e15 ∙ mapped_or Number rows.last_change more.last_change
 
 -- a row that is added where its key has none
 pub joined_one : {X : Type 0} (b : Bool) (was : Option X) (row : X) (now : Option X) → now ≡ cond b (Some row) was → (b ≡ true → was ≡ None) → now ≡ option_or was (cond b (Some row) None)

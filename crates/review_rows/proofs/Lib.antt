@@ -2,3 +2,4 @@ pub mod Asked
 pub mod Learning
 pub mod Adding
 pub mod Placing
+pub mod Readings

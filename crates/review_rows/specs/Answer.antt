@@ -1,35 +1,95 @@
 -- The answer to a command and to a question, and which lists of entries are histories.
-use Rattle.std.specs.Prelude.{ℕ, ◌+◌, ◌<◌, ◌≡◌, ◌⊎◌, List, [], ◌∷◌, Option, Some, None, Bool, true, not, nat_lt, ◌||◌, length, if◌then◌else◌, MatchOption}
+use Rattle.std.specs.Prelude.{ℕ, ◌+◌, ◌<◌, ◌≡◌, ◌⊎◌, ◌==◌, List, [], ◌∷◌, ◌++◌, Option, Some, None, Bool, true, false, not, is_some, nat_le, nat_lt, int_le, ◌&&◌, ◌||◌, length, option_map, if◌then◌else◌, MatchOption}
 use Rattle.std.specs.Option.{option_map_or}
+use Rattle.std.specs.Ordering.{int_eq}
 use Rattle.std.specs.Str.{bytes_eq}
-use Rattle.std.specs.List.{list_all}
+use Rattle.std.specs.List.{list_all, list_any}
+use Rattle.review_words.specs.declared.changes.Given.{Given}
+use Rattle.review_words.specs.declared.changes.NewPatch.{NewPatch}
+use Rattle.review_words.specs.declared.changes.Review.{Review as ReviewOf}
 use Rattle.review_words.specs.declared.command.Command.{Command}
-use Rattle.review_words.specs.declared.command.Command.TheVariants.{CreateAccount, PutGroup, PutProject, RecordBase}
+use Rattle.review_words.specs.declared.command.Command.TheVariants.{CreateAccount, PutGroup, PutProject, RecordBase, CreateChange, Upload, Review}
 use Rattle.review_words.specs.declared.command.Query.{Query}
 use Rattle.review_words.specs.declared.command.Query.TheVariants as asked
 use Rattle.review_words.specs.declared.reply.Reply.{Reply}
 use Rattle.review_words.specs.declared.reply.Reply.TheVariants.{Done, Refused}
 use Rattle.review_words.specs.declared.reply.Answer.{Answer}
-use Rattle.review_words.specs.declared.reply.Answer.TheVariants.{Account, Nothing, Branch}
+use Rattle.review_words.specs.declared.reply.Answer.TheVariants.{Account, Nothing, Change as AChange, Patch, Reviewed, Branch}
 use Rattle.review_words.specs.declared.reply.Refusal.{Refusal}
-use Rattle.review_words.specs.declared.reply.Refusal.TheVariants.{UnknownCaller, NotAdmin, NoProject, NoBranch, NoAccount, CommitKnown, NameTaken, BadFile, LabelNarrowed, Limit}
+use Rattle.review_words.specs.declared.reply.Refusal.TheVariants.{UnknownCaller, NotAdmin, NoProject, NoBranch, NoChange, NoPatchSet, NoAccount, NoComment, NotAllowed, Closed, StalePatchSet, NoLabel, ValueOut, VoteRestricted, CommitKnown, UnknownParent, NameTaken, BadFile, LabelNarrowed, Limit}
 use Rattle.review_words.specs.declared.faults.FileFault.{FileFault}
 use Rattle.review_words.specs.History.{Entry, stored, account_count, name_taken, is_account, is_admin, file_text, is_project, project_count, bases, base_count, is_branch, is_base}
+use Rattle.review_names.specs.Forms.{is_within, most_changes, most_patches, most_comments}
 use Rattle.review_names.specs.Names.{registered_users}
+use Rattle.review_project.specs.Rights.{may, granted, least_of, greatest_of}
+use Rattle.review_project.specs.declared.parts.Right.{Right}
+use Rattle.review_project.specs.declared.parts.Right.TheVariants as right
+use Rattle.review_changes.specs.Change.{Change, Setting, carried, copying, current, is_lost, is_open, label_in, reviewed, said}
+use Rattle.review_changes.specs.Counts.{AreMany}
+use Rattle.review_changes.specs.Sound.{answer_stored}
+use Rattle.review_changes.specs.Votes.{voted}
+use Rattle.review_changes.specs.declared.commands.ChangeCommand.TheVariants as change_asked
 pub use Rattle.review_rows.specs.Limits.{most_requests, most_accounts, most_projects, most_bases}
+use Rattle.review_rows.specs.Changes.{Reading, Reads, change, change_count, file_of, groups_of, is_known, setting_of}
 use Rattle.review_rows.specs.Files.{File, IsRead, IsFileFault, covers}
 
+-- whether an account has a right in a project, by the project's file
+abbrev pub has_right : Reading → List Entry → List ℕ → Right → ℕ → Bool
+has_right reading h project right account = may (file_of reading h project) right account (groups_of h)
+
+-- the checks of a new patch set in a branch: its commit is new there, and what it stands on is known
+abbrev pub commit_checks : Reading → List Entry → List ℕ → List ℕ → List ℕ → List ℕ → List (Bool × Refusal)
+commit_checks reading h project branch commit parent = (not (is_known reading h project branch commit), CommitKnown) ∷ (is_known reading h project branch parent, UnknownParent) ∷ []
+
+-- the checks of a new patch set of a change
+abbrev pub upload_checks : Reading → List Entry → ℕ → NewPatch → Change → List (Bool × Refusal)
+upload_checks reading h caller p c =
+    ((caller == c.owner) || has_right reading h c.project right.Upload caller, NotAllowed) ∷ (is_open c.state, Closed)
+    ∷ (commit_checks reading h c.project c.branch p.commit p.parent ++ (nat_lt (current c) most_patches, Limit) ∷ [])
+
+-- whether a value is one of a label
+abbrev pub is_value_of : File → Given → Bool
+is_value_of file g = option_map_or (λ label. list_any (λ v. int_eq v.0 g.value) label.values) (label_in file g.label) false
+
+-- whether a value lies in the range of an account on a label: from the least of 0 and what its groups are granted to the greatest
+abbrev pub is_in_range : Setting → ℕ → Given → Bool
+is_in_range s account g = int_le (least_of (granted s.file g.label account s.groups)) g.value && int_le g.value (greatest_of (granted s.file g.label account s.groups))
+
+-- the checks of values on labels of a change, each over all of them; none where no values are given
+abbrev pub given_checks : Setting → ℕ → ReviewOf → Change → List Given → List (Bool × Refusal)
+given_checks s caller r c [] = []
+given_checks s caller r c (g ∷ gs) =
+    (is_open c.state, Closed) ∷ (reviewed r c == current c, StalePatchSet) ∷ (list_all (λ x. is_some (label_in s.file x.label)) (g ∷ gs), NoLabel)
+    ∷ (list_all (is_value_of s.file) (g ∷ gs), ValueOut) ∷ (list_all (is_in_range s caller) (g ∷ gs), VoteRestricted) ∷ []
+
+-- the checks of a review of a change
+abbrev pub review_checks : Reading → List Entry → ℕ → ReviewOf → Change → List (Bool × Refusal)
+review_checks reading h caller r c =
+    (is_within (current c) (reviewed r c), NoPatchSet)
+    ∷ (given_checks (setting_of reading h c.project) caller r c r.labels ++ (answer_stored (length c.comments) r.comments, NoComment)
+    ∷ (nat_le (length c.comments + length (said r)) most_comments, Limit) ∷ [])
+
+-- checks of a change, where there is one
+abbrev pub of_change : (Change → List (Bool × Refusal)) → Option Change → List (Bool × Refusal)
+of_change each None = (false, NoChange) ∷ []
+of_change each (Some c) = each c
+
 -- The checks of a command in their order, each with the refusal where it fails. What is asked of the file that a PutProject puts comes after them.
-abbrev pub checks : List Entry → ℕ → Command → List (Bool × Refusal)
-checks h caller (CreateAccount name) =
+abbrev pub checks : Reading → List Entry → ℕ → Command → List (Bool × Refusal)
+checks reading h caller (CreateAccount name) =
     (is_admin h caller, NotAdmin) ∷ (not (name_taken h name), NameTaken) ∷ (nat_lt (account_count h) most_accounts, Limit) ∷ []
-checks h caller (PutGroup group members) =
+checks reading h caller (PutGroup group members) =
     (is_admin h caller, NotAdmin) ∷ (not (bytes_eq group registered_users), NameTaken) ∷ (list_all (is_account h) members, NoAccount) ∷ []
-checks h caller (PutProject project file) =
+checks reading h caller (PutProject project file) =
     (is_admin h caller, NotAdmin) ∷ []
-checks h caller (RecordBase project branch commit) =
+checks reading h caller (RecordBase project branch commit) =
     (is_admin h caller, NotAdmin) ∷ (is_project h project, NoProject) ∷ (not (is_base h project branch commit), CommitKnown)
     ∷ (nat_lt (base_count h project) most_bases, Limit) ∷ []
+checks reading h caller (CreateChange new) =
+    (is_project h new.project, NoProject) ∷ (is_branch h new.project new.branch, NoBranch) ∷ (has_right reading h new.project right.Create caller, NotAllowed)
+    ∷ (commit_checks reading h new.project new.branch new.commit new.parent ++ (nat_lt (change_count h) most_changes, Limit) ∷ [])
+checks reading h caller (Upload n patch) = of_change (upload_checks reading h caller patch) (change reading h n)
+checks reading h caller (Review n review) = of_change (review_checks reading h caller review) (change reading h n)
 
 -- the refusal of the first check that fails
 abbrev pub first_refusal : List (Bool × Refusal) → Option Refusal
@@ -37,23 +97,30 @@ first_refusal [] = None
 first_refusal (c ∷ cs) = if c.0 then first_refusal cs else Some c.1
 
 -- what refuses a command: that the caller is no account, before all others, or the first of its checks that fails
-abbrev pub refused_by : List Entry → ℕ → Command → Option Refusal
-refused_by h caller command = first_refusal ((is_account h caller, UnknownCaller) ∷ checks h caller command)
+abbrev pub refused_by : Reading → List Entry → ℕ → Command → Option Refusal
+refused_by reading h caller command = first_refusal ((is_account h caller, UnknownCaller) ∷ checks reading h caller command)
+
+-- the numbers of new comments, after so many
+abbrev pub numbers_after : {X : Type 0} → ℕ → List X → List ℕ
+numbers_after n [] = []
+numbers_after n (x ∷ xs) = (n + 1) ∷ numbers_after (n + 1) xs
+
+-- the numbers that the comments of a review get
+abbrev pub comment_numbers : ReviewOf → Option Change → List ℕ
+comment_numbers r None = []
+comment_numbers r (Some c) = numbers_after (length c.comments) (said r)
 
 -- what a command gives that is done
-abbrev pub done : List Entry → Command → Answer
-done h (CreateAccount name) = Account (account_count h + 1)
-done h _ = Nothing
+abbrev pub done : Reading → List Entry → Command → Answer
+done reading h (CreateAccount name) = Account (account_count h + 1)
+done reading h (CreateChange new) = AChange (change_count h + 1) 1
+done reading h (Review n review) = Reviewed (comment_numbers review (change reading h n))
+done reading h _ = Nothing
 
 -- a refusal where there is one, and otherwise this answer
 abbrev pub refused_or : Option Refusal → Answer → Reply
 refused_or None otherwise = Done otherwise
 refused_or (Some refusal) otherwise = Refused refusal
-
--- the file that a project has, which is the one that its text spells; none where it was never put
-abbrev pub HasFile : Option (List ℕ) → Option File → Type 0
-HasFile None file = file ≡ None
-HasFile (Some text) file = (f : File) × IsRead text f × (file ≡ Some f)
 
 -- the checks of the file that a PutProject puts, where the project has the old one: each label keeps its values, and a new project is among the most
 abbrev pub file_checks : List Entry → List ℕ → Option File → File → List (Bool × Refusal)
@@ -61,23 +128,41 @@ file_checks h project old new =
     (option_map_or (λ f. covers f new) old true, LabelNarrowed) ∷ (is_project h project || nat_lt (project_count h) most_projects, Limit) ∷ []
 
 -- what a PutProject is told where its text spells a file
-abbrev pub IsFileAnswer : List Entry → List ℕ → List ℕ → Reply → Type 0
-IsFileAnswer h project text reply =
-    (new : File) × (old : Option File) × IsRead text new × HasFile (file_text h project) old × (reply ≡ refused_or (first_refusal (file_checks h project old new)) Nothing)
+abbrev pub IsFileAnswer : Reading → List Entry → List ℕ → List ℕ → Reply → Type 0
+IsFileAnswer reading h project text reply =
+    (new : File) × IsRead text new × (reply ≡ refused_or (first_refusal (file_checks h project (option_map reading (file_text h project)) new)) Nothing)
 
 -- what a PutProject is told where its text has a fault
 abbrev pub IsFaultAnswer : List ℕ → Reply → Type 0
 IsFaultAnswer text reply = (fault : FileFault) × IsFileFault text fault × (reply ≡ Refused (BadFile fault))
 
+-- what an Upload is told: the number of the new patch set, and how many votes of the one before were copied and how many not
+pub record IsUploadAnswer (reading : Reading) (h : List Entry) (caller n : ℕ) (patch : NewPatch) (c : Change) (reply : Reply) : Type 0 where
+  pub copied : ℕ
+  pub outdated : ℕ
+  pub many_copied : AreMany (λ l u. voted (carried (copying (setting_of reading h c.project) (change_asked.Upload patch) caller c) c l u)) copied
+  pub many_outdated : AreMany (λ l u. is_lost (copying (setting_of reading h c.project) (change_asked.Upload patch) caller c) c u l) outdated
+  pub reply_is : reply ≡ Done (Patch n (current c + 1) copied outdated)
+
+-- it holds of a change that is there
+abbrev pub IsOf : (Change → Type 0) → Option Change → Type 0
+IsOf Holds None = ⊥
+IsOf Holds (Some c) = Holds c
+
 -- What a command is told that no check refuses. One place is free: a text with a pattern that nests deeper than the pattern engine reads may spell a file
 -- and be told a fault all the same.
-abbrev pub IsOutcome : List Entry → Command → Reply → Type 0
-IsOutcome h (PutProject project text) reply = IsFaultAnswer text reply ⊎ IsFileAnswer h project text reply
-IsOutcome h command reply = reply ≡ Done (done h command)
+abbrev pub IsOutcome : Reading → List Entry → ℕ → Command → Reply → Type 0
+IsOutcome reading h caller (PutProject project text) reply = IsFaultAnswer text reply ⊎ IsFileAnswer reading h project text reply
+IsOutcome reading h caller (Upload n patch) reply = IsOf (λ c. IsUploadAnswer reading h caller n patch c reply) (change reading h n)
+IsOutcome reading h caller command reply = reply ≡ Done (done reading h command)
 
--- The reply is an answer to the command.
+-- The reply is an answer to the command, by what is read of the texts that were put.
+abbrev pub IsAnswerBy : Reading → List Entry → ℕ → Command → Reply → Type 0
+IsAnswerBy reading h caller command reply = MatchOption (refused_by reading h caller command) (IsOutcome reading h caller command reply) (λ refusal. reply ≡ Refused refusal)
+
+-- The reply is an answer to the command, where each text that was put is read right.
 abbrev pub IsAnswer : List Entry → ℕ → Command → Reply → Type 0
-IsAnswer h caller command reply = MatchOption (refused_by h caller command) (IsOutcome h command reply) (λ refusal. reply ≡ Refused refusal)
+IsAnswer h caller command reply = (reading : Reading) → Reads reading h → IsAnswerBy reading h caller command reply
 
 -- the checks of a question in their order
 abbrev pub query_checks : List Entry → Query → List (Bool × Refusal)

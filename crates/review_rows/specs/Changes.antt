@@ -1,14 +1,13 @@
 -- The changes that a history makes.
-use Rattle.std.specs.Prelude.{ℕ, zero, suc, ◌+◌, ◌==◌, ◌&&◌, ◌||◌, Bool, false, List, [], ◌∷◌, Option, Some, None, if◌then◌else◌, is_some, unwrap_or, option_map, length}
+use Rattle.std.specs.Prelude.{ℕ, zero, suc, ◌+◌, ◌==◌, ◌&&◌, ◌||◌, Bool, false, List, [], ◌∷◌, Option, Some, None, if◌then◌else◌, unwrap_or, option_map, length}
 use Rattle.std.specs.BTreeMap.{insert_entry}
 use Rattle.std.specs.Cmp.Lexicographic.{slice_cmp}
-use Rattle.std.specs.Layout.BTreeMap.{btree_map}
 use Rattle.std.specs.List.{list_any}
 use Rattle.std.specs.Option.{option_map_or}
 use Rattle.std.specs.Ordering.{nat_cmp}
 use Rattle.std.specs.Str.{bytes_eq}
 use Rattle.review_names.specs.Names.{administrators}
-use Rattle.review_names.specs.declared.groups.Groups.{Groups}
+use Rattle.review_names.specs.Groups.{GroupList}
 use Rattle.review_words.specs.History.{Entry, accepted, file_text, is_base}
 use Rattle.review_words.specs.declared.command.Command.{Command}
 use Rattle.review_words.specs.declared.command.Command.TheVariants as asked
@@ -38,18 +37,14 @@ abbrev pub file_of : Reading → List Entry → List ℕ → FileView Expr
 file_of reading h project = reading (unwrap_or (file_text h project) [])
 
 -- the groups with their members, once this command is done
-abbrev pub group_put : Option Command → List (List ℕ × List ℕ) → List (List ℕ × List ℕ)
+abbrev pub group_put : Option Command → GroupList → GroupList
 group_put (Some (asked.PutGroup group members)) before = insert_entry (slice_cmp nat_cmp) before group members
 group_put _ before = before
 
 -- the groups with their members: `Administrators` from the start, and those that were put
-abbrev pub group_list : List Entry → List (List ℕ × List ℕ)
-group_list [] = (administrators, 1 ∷ []) ∷ []
-group_list (e ∷ h) = group_put (accepted e) (group_list h)
-
--- the groups after a history
-abbrev pub groups_of : List Entry → Groups
-groups_of h = record { 0 = btree_map (group_list h) (inl (record {})) }
+abbrev pub groups_of : List Entry → GroupList
+groups_of [] = (administrators, 1 ∷ []) ∷ []
+groups_of (e ∷ h) = group_put (accepted e) (groups_of h)
 
 -- what the requests on a project's changes are judged by
 abbrev pub setting_of : Reading → List Entry → List ℕ → Setting

@@ -1,11 +1,11 @@
 -- Why a decision isn't made, and what one names.
-use Rattle.std.specs.Prelude.{ℕ, ◌≡◌, ◌⊎◌, IsSomeAnd, List, [], ◌∷◌, None, Bool}
+use Rattle.std.specs.Prelude.{ℕ, ◌≡◌, ◌⊎◌, ◌==◌, IsSomeAnd, List, [], ◌∷◌, Option, Some, None, find, option_map}
 use Rattle.std.specs.declared.cmp.Ordering.{Ordering}
 use Rattle.std.specs.Ordering.{nat_cmp}
 use Rattle.review_table.specs.Rows.{change_of}
 use Rattle.review_table.specs.declared.table.Change.{Change}
 use Rattle.review_words.specs.declared.command.Command.{Command}
-use Rattle.review_words.specs.declared.command.Command.TheVariants.{PutProject}
+use Rattle.review_words.specs.declared.command.Command.TheVariants.{PutProject, CreateChange, Upload, Review}
 use Rattle.review_words.specs.declared.reply.Reply.{Reply}
 use Rattle.review_words.specs.declared.reply.Reply.TheVariants.{Done, Refused}
 use Rattle.review_words.specs.declared.reply.NotTaken.{NotTaken as Cause}
@@ -13,25 +13,52 @@ use Rattle.review_words.specs.declared.reply.NotTaken.TheVariants.{Memory, Patte
 use Rattle.review_words.specs.History.{Entry, file_text}
 use Rattle.review_project.specs.Reading.{IsReadFault}
 use Rattle.review_project.specs.declared.fault.ReadFault.TheVariants as read
-use Rattle.review_rows.specs.Files.{HasPattern}
+use Rattle.review_changes.specs.Seen.{vote_cmp}
+use Rattle.review_rows.specs.Changes.{Reading, change}
+use Rattle.review_rows.specs.Files.{File, IsRead, HasPattern}
 use Rattle.review_rows.specs.Answer.{IsHistory}
 use Rattle.review_rows.specs.View.{AreEnough}
+use Rattle.review_rows.specs.declared.rows.ChangeEdit.{ChangeEdit}
 use Rattle.review_rows.specs.declared.rows.Rows.{Rows}
 use Rattle.review_rows.specs.declared.rows.Delta.{Delta}
 use Rattle.review_rows.specs.Rows.{member_cmp}
 use Rattle.review_rows.specs.Steps.{OfCommand}
 
--- The command reads a pattern that the engine may refuse: in the file that is put, all before it being good, or in the file of its project.
-abbrev pub ReadsPattern : List Entry → Command → Type 0
-ReadsPattern h (PutProject project text) = IsReadFault text read.Pattern ⊎ IsSomeAnd (file_text h project) HasPattern
-ReadsPattern h command = ⊥
+-- the project by whose file a command is judged
+abbrev pub judging_project : Reading → List Entry → Command → Option (List ℕ)
+judging_project reading h (PutProject project text) = Some project
+judging_project reading h (CreateChange new) = Some new.project
+judging_project reading h (Upload n patch) = option_map (λ c. c.project) (change reading h n)
+judging_project reading h (Review n review) = option_map (λ c. c.project) (change reading h n)
+judging_project reading h command = None
 
--- Why a command is not decided: want of memory, a pattern that the engine refuses in a file that the command reads, or rows that are those of no history.
-abbrev pub IsUndecided : ℕ → Command → Rows → Cause → Type 0
-IsUndecided caller command rows Memory = Unit {0}
-IsUndecided caller command rows Pattern = (h : List Entry) → IsHistory h → AreEnough h caller (OfCommand command) rows → ReadsPattern h command
-IsUndecided caller command rows Damaged = (h : List Entry) → IsHistory h → AreEnough h caller (OfCommand command) rows → ⊥
-IsUndecided caller command rows _ = ⊥
+-- the file of the project has a pattern
+abbrev pub HasPatternIn : List Entry → Option (List ℕ) → Type 0
+HasPatternIn h None = ⊥
+HasPatternIn h (Some project) = IsSomeAnd (file_text h project) HasPattern
+
+-- a pattern that the engine refuses in the text that a command puts, all before it being good
+abbrev pub PutsPattern : Command → Type 0
+PutsPattern (PutProject project text) = IsReadFault text read.Pattern
+PutsPattern command = ⊥
+
+-- The command reads a pattern that the engine may refuse: in the file that is put, or in the file of its project.
+abbrev pub ReadsPattern : Reading → List Entry → Command → Type 0
+ReadsPattern reading h command = PutsPattern command ⊎ HasPatternIn h (judging_project reading h command)
+
+-- Why a command is not decided: want of memory, a pattern that the engine refuses in the file that it puts, or rows that are those of no history.
+abbrev pub IsUndecided : ℕ → Command → Option File → Rows → Cause → Type 0
+IsUndecided caller command file rows Memory = Unit {0}
+IsUndecided caller command file rows Pattern = PutsPattern command
+IsUndecided caller command file rows Damaged = (reading : Reading) (h : List Entry) → IsHistory h → AreEnough reading h caller (OfCommand command) file rows → ⊥
+IsUndecided caller command file rows _ = ⊥
+
+-- Why the file of a project is not read: want of memory, a pattern that the engine refuses, or a text that spells no file.
+abbrev pub IsUnread : Option (List ℕ) → Cause → Type 0
+IsUnread text Memory = Unit {0}
+IsUnread (Some text) Pattern = (f : File) → IsRead text f → HasPattern text
+IsUnread (Some text) Damaged = (f : File) → IsRead text f → ⊥
+IsUnread text _ = ⊥
 
 -- an answer or a refusal
 abbrev pub IsDoneOrRefused : Reply → Type 0
@@ -44,6 +71,19 @@ abbrev pub NamesOnce : {K X : Type 0} → (K → K → Ordering) → List (Chang
 NamesOnce cmp [] = Unit {0}
 NamesOnce cmp (c ∷ cs) = (change_of cmp cs c.key ≡ None) × NamesOnce cmp cs
 
+-- an edit of a change names each of its rows once
+pub record NamesRowsOnce (e : ChangeEdit) : Type 0 where
+  pub patches : NamesOnce nat_cmp e.patches.items
+  pub votes : NamesOnce vote_cmp e.votes.items
+  pub roles : NamesOnce nat_cmp e.roles.items
+  pub comments : NamesOnce nat_cmp e.comments.items
+  pub attention : NamesOnce nat_cmp e.attention.items
+
+-- each change stands once, and each of its rows
+abbrev pub NamesChangesOnce : List ChangeEdit → Type 0
+NamesChangesOnce [] = Unit {0}
+NamesChangesOnce (e ∷ es) = (find (λ x. x.change == e.change) es ≡ None) × NamesRowsOnce e × NamesChangesOnce es
+
 -- a delta names each key once
 abbrev pub NamesEachOnce : Delta → Type 0
-NamesEachOnce delta = NamesOnce nat_cmp delta.accounts.items × NamesOnce member_cmp delta.members.items
+NamesEachOnce delta = NamesOnce nat_cmp delta.accounts.items × NamesOnce member_cmp delta.members.items × NamesChangesOnce delta.changes.items

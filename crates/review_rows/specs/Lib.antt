@@ -3,6 +3,7 @@ pub mod Limits
 pub mod Rows
 pub mod Known
 pub mod Steps
+pub mod Changes
 pub mod Answer
 pub mod View
 pub mod Count

@@ -1,5 +1,5 @@
 -- What a command or a question asks of the tables, in steps.
-use Rattle.std.specs.Prelude.{ℕ, ◌+◌, ◌<◌, ◌≡◌, Option, Some, None, List, [], ◌∷◌, ◌++◌, map, flat_map, option_map, not, is_some, length, Bool, true, false, if◌then◌else◌}
+use Rattle.std.specs.Prelude.{ℕ, ◌+◌, ◌<◌, ◌≡◌, Option, Some, None, List, [], ◌∷◌, ◌++◌, map, flat_map, option_map, not, is_some, length}
 use Rattle.std.specs.List.{All, filter}
 use Rattle.review_names.specs.Names.{administrators}
 use Rattle.review_words.specs.declared.command.Command.{Command}

@@ -1,23 +1,26 @@
 -- The tables of a history, and what was decided.
-use Rattle.std.specs.Prelude.{ℕ, ◌+◌, ◌≡◌, List, [], ◌∷◌, Option, Some, None, Bool, length, option_map, if◌then◌else◌}
+use Rattle.std.specs.Prelude.{ℕ, ◌+◌, ◌≡◌, List, [], ◌∷◌, Option, Some, None, length, option_map, if◌then◌else◌}
 use Rattle.review_words.specs.Texts.{content_text, reply_text}
 use Rattle.review_words.specs.History.{Entry, Identity, is_same, name_of, is_listed, file_text, project_count, bases, base_count}
 use Rattle.review_words.specs.declared.command.Command.{Command}
 use Rattle.review_words.specs.declared.reply.Reply.{Reply}
 use Rattle.review_rows.specs.declared.rows.Delta.{Delta}
 use Rattle.review_rows.specs.declared.rows.Rows.{Rows}
-use Rattle.review_rows.specs.Rows.{Key, AccountKey, MemberKey, FileKey, BaseKey, OddKey, Row, AccountRow, MemberRow, FileRow, BaseRow, Count, Projects, BasesOf, AnswerRow, Stored, Answered, Tables, after, count_after}
-use Rattle.review_rows.specs.Known.{at_place, Agrees}
-use Rattle.review_rows.specs.Steps.{Topic, next}
-use Rattle.review_rows.specs.Answer.{IsAnswer}
+use Rattle.review_rows.specs.Rows.{Key, AccountKey, MemberKey, FileKey, BaseKey, PartKey, OddKey, Row, AccountRow, MemberRow, FileRow, BaseRow, APart, Count, Projects, BasesOf, AnswerRow, Stored, Answered, Tables, after, count_after}
+use Rattle.review_rows.specs.Known.{at_place, part_of, Agrees}
+use Rattle.review_rows.specs.Steps.{Topic, HasFile, next, text_for}
+use Rattle.review_rows.specs.Answer.{IsAnswerBy}
+use Rattle.review_rows.specs.Changes.{Reading, Reads, change}
+use Rattle.review_rows.specs.Files.{File}
 
--- the row of a key that the history says
-abbrev pub fact : List Entry → Key → Option Row
-fact h (AccountKey number) = option_map AccountRow (name_of h number)
-fact h (MemberKey group account) = if is_listed h group account then Some MemberRow else None
-fact h (FileKey project) = option_map FileRow (file_text h project)
-fact h (BaseKey project branch place) = option_map BaseRow (at_place (bases h project branch) place)
-fact h (OddKey o) = None
+-- the row of a key that the history says, by what is read of the texts that were put
+abbrev pub fact : Reading → List Entry → Key → Option Row
+fact reading h (AccountKey number) = option_map AccountRow (name_of h number)
+fact reading h (MemberKey group account) = if is_listed h group account then Some MemberRow else None
+fact reading h (FileKey project) = option_map FileRow (file_text h project)
+fact reading h (BaseKey project branch place) = option_map BaseRow (at_place (bases h project branch) place)
+fact reading h (PartKey n part) = option_map APart (part_of (change reading h n) part)
+fact reading h (OddKey o) = None
 
 -- a count that the history says
 abbrev pub counted : List Entry → Count → ℕ
@@ -37,25 +40,31 @@ stored_answer (e ∷ h) i = if is_same e.identity i then Some (Answered (answer_
 abbrev pub tables_version : ℕ
 tables_version = 1
 
--- the tables of a history
-abbrev pub view : List Entry → Tables
-view h = record { row = fact h; count = counted h; answer = stored_answer h; version = tables_version; requests = length h }
+-- the tables of a history, by what is read of the texts that were put
+abbrev pub view : Reading → List Entry → Tables
+view reading h = record { row = fact reading h; count = counted h; answer = stored_answer h; version = tables_version; requests = length h }
 
--- the tables have just what the history says
-pub record IsView (h : List Entry) (t : Tables) : Type 0 where
-  pub row_is : (k : Key) → t.row k ≡ fact h k
+-- the tables have just what the history says, by what is read of the texts that were put
+pub record IsViewBy (reading : Reading) (h : List Entry) (t : Tables) : Type 0 where
+  pub row_is : (k : Key) → t.row k ≡ fact reading h k
   pub count_is : (c : Count) → t.count c ≡ counted h c
   pub answer_is : (i : Identity) → t.answer i ≡ stored_answer h i
   pub version : t.version ≡ tables_version
   pub requests : t.requests ≡ length h
 
--- the rows decide what is to be answered after the history: what they know is so, and nothing is left to ask
-pub record AreEnough (h : List Entry) (caller : ℕ) (topic : Topic) (rows : Rows) : Type 0 where
-  pub agree : Agrees (view h) rows
-  pub nothing_left : next rows caller topic ≡ []
+-- The tables have just what the history says, where each text that was put is read right; a history has such a reading.
+abbrev pub IsView : List Entry → Tables → Type 0
+IsView h t = (reading : Reading) → Reads reading h → IsViewBy reading h t
 
--- the reply is an answer after the history, and the delta turns its rows and counts into those of the history with the entry
-pub record IsDecided (h : List Entry) (caller : ℕ) (command : Command) (delta : Delta) (reply : Reply) : Type 0 where
-  pub reply_is : IsAnswer h caller command reply
-  pub row_is : (id : List ℕ) (k : Key) → fact (record { identity = record { caller = caller; id = id }; command = command; reply = reply } ∷ h) k ≡ after delta k (fact h k)
-  pub count_is : (id : List ℕ) (c : Count) → counted (record { identity = record { caller = caller; id = id }; command = command; reply = reply } ∷ h) c ≡ count_after delta (fact h) c (counted h c)
+-- The rows, and the file that was read, decide what is to be answered after the history: what they know is so, and nothing is left to ask.
+pub record AreEnough (reading : Reading) (h : List Entry) (caller : ℕ) (topic : Topic) (file : Option File) (rows : Rows) : Type 0 where
+  pub reads : Reads reading h
+  pub agree : Agrees (view reading h) rows
+  pub file_is : HasFile (text_for rows topic) file
+  pub nothing_left : next file rows caller topic ≡ []
+
+-- The reply is an answer after the history, and the delta turns its rows and counts into those of the history with the entry.
+pub record IsDecided (reading : Reading) (h : List Entry) (caller : ℕ) (command : Command) (delta : Delta) (reply : Reply) : Type 0 where
+  pub reply_is : IsAnswerBy reading h caller command reply
+  pub row_is : (id : List ℕ) (k : Key) → fact reading (record { identity = record { caller = caller; id = id }; command = command; reply = reply } ∷ h) k ≡ after delta k (fact reading h k)
+  pub count_is : (id : List ℕ) (c : Count) → counted (record { identity = record { caller = caller; id = id }; command = command; reply = reply } ∷ h) c ≡ count_after delta (fact reading h) c (counted h c)

@@ -11,9 +11,7 @@ ghost use Rattle.review_changes.specs.Seen.{seen};
 use crate::rows::{Base, BranchKey, Counted, MemberKey, Rows, Want};
 use review_changes::ChangeRows;
 use review_table::{Key, Table};
-use review_words::{
-    AccountName, AccountNo, Bases, ChangeNo, FileText, GroupName, ProjectName,
-};
+use review_words::{AccountName, AccountNo, Bases, ChangeNo, FileText, GroupName, ProjectName};
 use std::alloc::{AllocError, Global};
 
 impl Rows {

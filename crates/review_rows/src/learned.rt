@@ -9,9 +9,7 @@ ghost use Rattle.review_changes.specs.Seen.{seen};
 use crate::rows::{Base, BranchKey, MemberKey, Rows};
 use review_changes::ChangeRows;
 use review_table::Table;
-use review_words::{
-    AccountName, AccountNo, Bases, ChangeNo, FileText, GroupName, ProjectName,
-};
+use review_words::{AccountName, AccountNo, Bases, ChangeNo, FileText, GroupName, ProjectName};
 use std::alloc::AllocError;
 
 impl Rows {

@@ -12,6 +12,7 @@ pub mod shelf;
 
 pub use matter::Matter;
 pub use rows::{
-    Base, BaseRow, BranchKey, ChangeEdit, Counted, Delta, Kept, MemberKey, Need, ProjectRow, Rows, Want,
+    Base, BaseRow, BranchKey, ChangeEdit, Counted, Delta, Kept, MemberKey, Need, ProjectRow, Rows,
+    Want,
 };
 pub use shelf::{Shelf, ShelfFault};

@@ -7,5 +7,5 @@ use Rattle.review_ranges.proofs.rights.greatest_of.Given as goal
 
 abbrev pub invariant-loop-grant : goal.invariant-loop-grant
 invariant-loop-grant l =
-    fold int_max l.greatest (map (λ g. g.greatest) (filter (λ g. has_account l.groups.0 g.group l.account) (drop l.grant-index l.grants)))
-    ≡ greatest_of (filter (λ g. has_account l.groups.0 g.group l.account) l.grants)
+    fold int_max l.greatest (map (λ g. g.greatest) (filter (λ g. has_account l.groups g.group l.account) (drop l.grant-index l.grants)))
+    ≡ greatest_of (filter (λ g. has_account l.groups g.group l.account) l.grants)

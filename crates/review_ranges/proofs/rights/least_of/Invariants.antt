@@ -7,5 +7,5 @@ use Rattle.review_ranges.proofs.rights.least_of.Given as goal
 
 abbrev pub invariant-loop-grant : goal.invariant-loop-grant
 invariant-loop-grant l =
-    fold int_min l.least (map (λ g. g.least) (filter (λ g. has_account l.groups.0 g.group l.account) (drop l.grant-index l.grants)))
-    ≡ least_of (filter (λ g. has_account l.groups.0 g.group l.account) l.grants)
+    fold int_min l.least (map (λ g. g.least) (filter (λ g. has_account l.groups g.group l.account) (drop l.grant-index l.grants)))
+    ≡ least_of (filter (λ g. has_account l.groups g.group l.account) l.grants)

@@ -7,7 +7,7 @@ use Rattle.review_ranges.proofs.rights.range_of.Goals as goal
 
 pub returns-clause-values : goal.returns-clause-values
 returns-clause-values c =
-    let low : to_z w8 (of_z w8 c.least_of.result) ≡ least_of (granted c.args.file.now c.args.label.now c.args.account c.args.groups.now.0) = search rules in
-    let high : to_z w8 (of_z w8 c.greatest_of.result) ≡ greatest_of (granted c.args.file.now c.args.label.now c.args.account c.args.groups.now.0) = search rules in
+    let low : to_z w8 (of_z w8 c.least_of.result) ≡ least_of (granted c.args.file.now c.args.label.now c.args.account c.args.groups.now) = search rules in
+    let high : to_z w8 (of_z w8 c.greatest_of.result) ≡ greatest_of (granted c.args.file.now c.args.label.now c.args.account c.args.groups.now) = search rules in
     rw (low, high)
-    (range_ends (λ l. bytes_eq l.name c.args.label.now) c.args.file.now.labels (λ g. has_account c.args.groups.now.0 g.group c.args.account) c.facts.ensures.labels)
+    (range_ends (λ l. bytes_eq l.name c.args.label.now) c.args.file.now.labels (λ g. has_account c.args.groups.now g.group c.args.account) c.facts.ensures.labels)

@@ -1,0 +1,81 @@
+-- What is read of the texts that a history puts.
+use Rattle.std.proofs.Common.{◌≡◌, ◌⊎◌, inl, inr, ◌∙◌, ℕ, List, [], ◌∷◌, Option, Some, None, true, false, cond, refl, sym, ap, subst, ⊎_elim}
+use Rattle.std.specs.Prelude.{MatchOption}
+use Rattle.std.specs.Str.{bytes_eq}
+use Rattle.std.proofs.lemmas.Bool.{cases_Bool}
+use Rattle.std.proofs.lemmas.Slice.Eq.{bytes_eq-Decides}
+use Rattle.review_words.specs.History.{Entry, accepted, if_done}
+use Rattle.review_words.specs.declared.command.Command.{Command}
+use Rattle.review_words.specs.declared.command.Command.TheVariants.{CreateAccount, PutGroup, PutProject, RecordBase, CreateChange, Upload, Review}
+use Rattle.review_words.specs.declared.reply.Answer.{Answer}
+use Rattle.review_words.specs.declared.reply.Refusal.{Refusal}
+use Rattle.review_words.specs.declared.reply.Refusal.TheVariants.{BadFile}
+use Rattle.review_words.specs.declared.reply.Reply.{Reply}
+use Rattle.review_words.specs.declared.reply.Reply.TheVariants.{Done, Refused, IdentityReused, NotTaken}
+use Rattle.review_rows.specs.Answer.{IsAnswerBy, IsHistory, IsFaultAnswer, IsFileAnswer, refused_by}
+use Rattle.review_rows.specs.Changes.{Reading, Reads, IsReadRight}
+use Rattle.review_rows.specs.Files.{File, IsRead}
+
+no_file : File
+no_file = record { description = None; access = record { create = []; upload = []; submit = []; abandon = [] }; labels = []; requirements = [] }
+
+-- what is read, with the file of one text more
+abbrev reading_with : Reading → List ℕ → File → Reading
+reading_with reading text file t = cond (bytes_eq t text) file (reading t)
+
+read_with : (reading : Reading) (text : List ℕ) (file : File) → IsRead text file → (t : List ℕ) → (bytes_eq t text ≡ true) ⊎ IsRead t (reading t) → IsRead t (reading_with reading text file t)
+read_with reading text file is t either =
+    ⊎_elim
+    (λ (same : bytes_eq t text ≡ true).
+    subst (IsRead t) (sym (ap (λ b. cond b file (reading t)) same)) (subst (λ x. IsRead x file) (sym ((bytes_eq-Decides t text).0 same)) is))
+    (λ (other : bytes_eq t text ≡ false). subst (IsRead t) (sym (ap (λ b. cond b file (reading t)) other)) (⊎_elim (λ same. let e : true ≡ false = sym same ∙ other in absurd (cc)) (λ right. right) either))
+    (cases_Bool (bytes_eq t text))
+
+right_with : (reading : Reading) (text : List ℕ) (file : File) → IsRead text file → (c : Option Command) → IsReadRight reading c → IsReadRight (reading_with reading text file) c
+right_with reading text file is None right = tt
+right_with reading text file is (Some (CreateAccount name)) right = tt
+right_with reading text file is (Some (PutGroup group members)) right = tt
+right_with reading text file is (Some (PutProject project t)) right = read_with reading text file is t (inr right)
+right_with reading text file is (Some (RecordBase project branch commit)) right = tt
+right_with reading text file is (Some (CreateChange new)) right = tt
+right_with reading text file is (Some (Upload n patch)) right = tt
+right_with reading text file is (Some (Review n review)) right = tt
+
+reads_with : (reading : Reading) (text : List ℕ) (file : File) → IsRead text file → (h : List Entry) → Reads reading h → Reads (reading_with reading text file) h
+reads_with reading text file is [] reads = tt
+reads_with reading text file is (e ∷ h) reads = (right_with reading text file is (accepted e) reads.0, reads_with reading text file is h reads.1)
+
+-- an answer that is no refusal is given where no check refuses
+not_refused : {A : Type 0} (o : Option Refusal) (a : Answer) → MatchOption o A (λ r. Done a ≡ Refused r) → A
+not_refused None a outcome = outcome
+not_refused (Some r) a refused = absurd (cc)
+
+-- the file that an accepted PutProject puts
+put_file : (reading : Reading) (h : List Entry) (caller : ℕ) (project text : List ℕ) (a : Answer) → IsAnswerBy reading h caller (PutProject project text) (Done a) → (f : File) × IsRead text f
+put_file reading h caller project text a answer =
+    ⊎_elim (λ (fault : IsFaultAnswer text (Done a)). let e : Done a ≡ Refused (BadFile fault.0) = fault.2 in absurd (cc)) (λ (file : IsFileAnswer reading h project text (Done a)). (file.0, file.1))
+    (not_refused (refused_by reading h caller (PutProject project text)) a answer)
+
+-- the reading of one entry more
+reading_of_one : (h : List Entry) (reading : Reading) → Reads reading h → (caller : ℕ) (command : Command) (reply : Reply) → IsAnswerBy reading h caller command reply →
+    (more : Reading) × IsReadRight more (if_done reply command) × Reads more h
+reading_of_one h reading reads caller command (Refused r) answer = (reading, tt, reads)
+reading_of_one h reading reads caller command IdentityReused answer = (reading, tt, reads)
+reading_of_one h reading reads caller command (NotTaken cause) answer = (reading, tt, reads)
+reading_of_one h reading reads caller (CreateAccount name) (Done a) answer = (reading, tt, reads)
+reading_of_one h reading reads caller (PutGroup group members) (Done a) answer = (reading, tt, reads)
+reading_of_one h reading reads caller (PutProject project text) (Done a) answer =
+    let put = put_file reading h caller project text a answer in
+    (reading_with reading text put.0, read_with reading text put.0 put.1 text (inl ((bytes_eq-Decides text text).1 refl)), reads_with reading text put.0 put.1 h reads)
+reading_of_one h reading reads caller (RecordBase project branch commit) (Done a) answer = (reading, tt, reads)
+reading_of_one h reading reads caller (CreateChange new) (Done a) answer = (reading, tt, reads)
+reading_of_one h reading reads caller (Upload n patch) (Done a) answer = (reading, tt, reads)
+reading_of_one h reading reads caller (Review n review) (Done a) answer = (reading, tt, reads)
+
+-- each history has a reading
+pub reading_of : (h : List Entry) → IsHistory h → (reading : Reading) × Reads reading h
+reading_of [] history = (λ text. no_file, tt)
+reading_of (e ∷ h) history =
+    let before = reading_of h history.3 in
+    let now = reading_of_one h before.0 before.1 e.identity.caller e.command e.reply (history.1 before.0 before.1) in
+    (now.0, (now.1, now.2))
