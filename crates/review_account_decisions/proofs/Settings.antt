@@ -7,10 +7,11 @@ use Rattle.std.proofs.lemmas.Bool.Decides.{nat_tests}
 use Rattle.std.proofs.lemmas.Slice.Eq.{bytes_eq-Decides}
 use Rattle.review_names.specs.Names.{admin_name}
 use Rattle.review_words.specs.declared.command.Command.{Command}
-use Rattle.review_words.specs.declared.command.Command.TheVariants.{CreateAccount, PutGroup, PutProject, RecordBase}
+use Rattle.review_words.specs.declared.command.Command.TheVariants.{CreateAccount, PutGroup, PutProject, RecordBase, CreateChange, Upload, Review}
 use Rattle.review_words.specs.History.{Entry, accepted, counted, named, is_named, account_count, name_of, name_taken, is_account}
 use Rattle.review_rows.specs.Rows.{AccountKey, AccountRow}
 use Rattle.review_rows.specs.Known.{IsFoundByName, IsLast}
+use Rattle.review_rows.specs.Changes.{Reading}
 use Rattle.review_rows.specs.View.{fact}
 
 some_cond : {X : Type 0} (b : Bool) (x : X) (o : Option X) → is_some (cond b (Some x) o) ≡ (b || is_some o)
@@ -34,6 +35,9 @@ named_step (Some (CreateAccount name)) n c before e = some_cond (n == c + 1) nam
 named_step (Some (PutGroup group members)) n c before e = e
 named_step (Some (PutProject project file)) n c before e = e
 named_step (Some (RecordBase project branch commit)) n c before e = e
+named_step (Some (CreateChange new)) n c before e = e
+named_step (Some (Upload change patch)) n c before e = e
+named_step (Some (Review change review)) n c before e = e
 named_step None n c before e = e
 
 -- an account has a name
@@ -50,6 +54,9 @@ some_account (e ∷ h) = step (accepted e) (account_count h) (some_account h)
     step (Some (PutGroup group members)) n p = p
     step (Some (PutProject project file)) n p = p
     step (Some (RecordBase project branch commit)) n p = p
+    step (Some (CreateChange new)) n p = p
+    step (Some (Upload change patch)) n p = p
+    step (Some (Review change review)) n p = p
     step None n p = p
 
 -- the next number has no name yet
@@ -82,6 +89,9 @@ taken_step (Some (CreateAccount given)) n next name before was taken some =
 taken_step (Some (PutGroup group members)) n next name before was taken some = taken some
 taken_step (Some (PutProject project file)) n next name before was taken some = taken some
 taken_step (Some (RecordBase project branch commit)) n next name before was taken some = taken some
+taken_step (Some (CreateChange new)) n next name before was taken some = taken some
+taken_step (Some (Upload change patch)) n next name before was taken some = taken some
+taken_step (Some (Review change review)) n next name before was taken some = taken some
 taken_step None n next name before was taken some = taken some
 
 pub name_is_taken : (h : List Entry) (n : ℕ) (name : List ℕ) → name_of h n ≡ Some name → name_taken h name ≡ true
@@ -110,6 +120,9 @@ free_step (Some (CreateAccount given)) h name found taken =
 free_step (Some (PutGroup group members)) h name found taken = found taken
 free_step (Some (PutProject project file)) h name found taken = found taken
 free_step (Some (RecordBase project branch commit)) h name found taken = found taken
+free_step (Some (CreateChange new)) h name found taken = found taken
+free_step (Some (Upload change patch)) h name found taken = found taken
+free_step (Some (Review change review)) h name found taken = found taken
 free_step None h name found taken = found taken
 
 pub taken_name_is : (h : List Entry) (name : List ℕ) → name_taken h name ≡ true → (n : ℕ) × (name_of h n ≡ Some name)
@@ -121,9 +134,9 @@ named_from None name e = absurd (cc)
 named_from (Some x) name e = let same : x ≡ name = cc in ap Some same
 
 -- what was found by name tells whether it is taken
-pub found_taken : (h : List Entry) (name : List ℕ) (found : Option ℕ) → IsFoundByName (fact h) name found → is_some found ≡ name_taken h name
-found_taken h name (Some n) is = sym (name_is_taken h n name (named_from (name_of h n) name is))
-found_taken h name None none =
+pub found_taken : (reading : Reading) (h : List Entry) (name : List ℕ) (found : Option ℕ) → IsFoundByName (fact reading h) name found → is_some found ≡ name_taken h name
+found_taken reading h name (Some n) is = sym (name_is_taken h n name (named_from (name_of h n) name is))
+found_taken reading h name None none =
     ⊎_elim
     (λ (t : name_taken h name ≡ true). let r = taken_name_is h name t in absurd (none r.0 (ap (option_map AccountRow) r.1)))
     (λ (f : name_taken h name ≡ false). sym f)
@@ -133,19 +146,19 @@ some_mapped : {X Y : Type 0} (f : X → Y) (o : Option X) → is_some (option_ma
 some_mapped f None = refl
 some_mapped f (Some x) = refl
 
-account_fact : (h : List Entry) (n : ℕ) → is_some (fact h (AccountKey n)) ≡ is_account h n
-account_fact h n = some_mapped AccountRow (name_of h n) ∙ named_account h n
+account_fact : (reading : Reading) (h : List Entry) (n : ℕ) → is_some (fact reading h (AccountKey n)) ≡ is_account h n
+account_fact reading h n = some_mapped AccountRow (name_of h n) ∙ named_account h n
 
 -- the greatest number is that of the last account
-pub last_is : (h : List Entry) (last : ℕ) → IsLast AccountKey (fact h) last → last ≡ account_count h
-last_is h last l =
+pub last_is : (reading : Reading) (h : List Entry) (last : ℕ) → IsLast AccountKey (fact reading h) last → last ≡ account_count h
+last_is reading h last l =
     let some = some_account h in
     let reached : account_count h ≤ last =
     ⊎_elim (λ (lt : last < account_count h). absurd (not_above lt)) (λ (ge : account_count h ≤ last). ge) (cases_lt last (account_count h)) in
     ⊎_elim
     (λ (zero : last ≡ 0). absurd (omega arith))
-    (λ (there : IsSome (fact h (AccountKey last))).
-    let p = and_parts (nat_le 1 last) (nat_le last (account_count h)) (sym (account_fact h last) ∙ there) in
+    (λ (there : IsSome (fact reading h (AccountKey last))).
+    let p = and_parts (nat_le 1 last) (nat_le last (account_count h)) (sym (account_fact reading h last) ∙ there) in
     let below : last ≤ account_count h = leb-true last (account_count h) p.1 in
     omega arith)
     l.there
@@ -154,7 +167,7 @@ last_is h last l =
     not_above lt =
         let none = l.above (account_count h) lt in
         let some = some_account h in
-        let there : is_some (fact h (AccountKey (account_count h))) ≡ true = account_fact h (account_count h) ∙ in_range (account_count h) some in
+        let there : is_some (fact reading h (AccountKey (account_count h))) ≡ true = account_fact reading h (account_count h) ∙ in_range (account_count h) some in
         let bad : true ≡ false = sym there ∙ ap is_some none in
         absurd (cc)
       where
@@ -162,5 +175,5 @@ last_is h last l =
         in_range c p = grind (arith, nat_tests)
 
 -- the row of an account tells whether it is there
-pub account_is : (h : List Entry) (n : ℕ) (o : Option (List ℕ)) → option_map AccountRow o ≡ fact h (AccountKey n) → is_some o ≡ is_account h n
-account_is h n o e = sym (some_mapped AccountRow o) ∙ (ap is_some e ∙ account_fact h n)
+pub account_is : (reading : Reading) (h : List Entry) (n : ℕ) (o : Option (List ℕ)) → option_map AccountRow o ≡ fact reading h (AccountKey n) → is_some o ≡ is_account h n
+account_is reading h n o e = sym (some_mapped AccountRow o) ∙ (ap is_some e ∙ account_fact reading h n)

@@ -1,22 +1,21 @@
 -- What rows that agree with a history tell of it, look-up by look-up.
-use Rattle.std.proofs.Common.{◌≡◌, ℕ, ◌+◌, ◌<◌, ◌≤◌, ◌==◌, zero, suc, List, [], ◌∷◌, ◌++◌, length, map, Option, Some, None, Bool, true, false, cond, ◌&&◌, ◌||◌, refl, sym, ap, ◌∙◌, subst, ◌⊎◌, ⊎_elim, inl, inr, arith}
-use Rattle.std.specs.Prelude.{is_some, IsSome, nat_lt, nat_le, option_map}
-use Rattle.std.specs.List.{AllByRecursion, list_all, list_any}
+use Rattle.std.proofs.Common.{◌≡◌, ℕ, ◌<◌, ◌≤◌, zero, suc, List, [], ◌∷◌, length, Option, Some, None, Bool, true, false, cond, ◌||◌, refl, sym, ap, ◌∙◌, ◌⊎◌, ⊎_elim, arith}
+use Rattle.std.specs.Prelude.{is_some, IsSome, nat_lt, option_map}
+use Rattle.std.specs.List.{list_any}
 use Rattle.std.specs.Str.{bytes_eq}
 use Rattle.std.specs.Ordering.{nat_cmp}
 use Rattle.std.proofs.lemmas.Bool.{cases_Bool, cases_lt}
 use Rattle.std.proofs.lemmas.Slice.Eq.{bytes_eq-Decides}
 use Rattle.review_table.specs.Rows.{row_in}
-use Rattle.review_names.specs.Names.{administrators}
-use Rattle.review_words.specs.History.{Entry, account_count, name_taken, is_account, is_admin, is_listed, file_text, is_project, project_count, bases, base_count, is_base}
+use Rattle.review_words.specs.History.{Entry, account_count, name_taken, is_account, is_listed, file_text, is_project, bases, is_base}
 use Rattle.review_rows.specs.declared.rows.BranchKey.{BranchKey as Branch}
 use Rattle.review_rows.specs.declared.rows.Base.{Base}
 use Rattle.review_rows.specs.declared.rows.Counted.{Counted}
 use Rattle.review_rows.specs.declared.rows.Rows.{Rows}
-use Rattle.review_rows.specs.declared.rows.Want.{Want}
 use Rattle.review_rows.specs.declared.rows.Want.TheVariants as want
-use Rattle.review_rows.specs.Rows.{Key, MemberKey, FileKey, BaseKey, Row, MemberRow, FileRow, BaseRow, member_row}
-use Rattle.review_rows.specs.Known.{Found, known, Agrees, IsKnown, is_so, is_there, number_of, holder_of, members_of, text_of, commits_of, at_place, IsLast, IsBaseOrNot, HasBases, count_of, most}
+use Rattle.review_rows.specs.Rows.{MemberRow, FileRow, BaseRow, member_row}
+use Rattle.review_rows.specs.Known.{known, Agrees, IsKnown, is_so, is_there, number_of, holder_of, members_of, text_of, commits_of, at_place, IsBaseOrNot, count_of, most}
+use Rattle.review_rows.specs.Changes.{Reading}
 use Rattle.review_rows.specs.View.{view, fact, counted}
 use Rattle.review_rows.proofs.Asked.{found_of}
 use Rattle.review_rows.proofs.Placing.{past_end, some_at, nothing_at_zero}
@@ -24,24 +23,24 @@ use Rattle.review_account_decisions.specs.Decisions.{is_held, member_of}
 use Rattle.review_account_decisions.proofs.Settings.{account_is, found_taken, last_is}
 
 -- the rows agree with the history
-abbrev pub Agree : List Entry → Rows → Type 0
-Agree h rows = Agrees (view h) rows
+abbrev pub Agree : Reading → List Entry → Rows → Type 0
+Agree reading h rows = Agrees (view reading h) rows
 
 -- whether a number is that of an account
-pub account_told : (h : List Entry) (rows : Rows) (n : ℕ) → Agree h rows → IsKnown rows (want.Account n) → is_there (known rows (want.Account n)) ≡ is_account h n
-account_told h rows n agree there =
-    let r = found_of (view h) rows (want.Account n) agree there in
-    ap is_there (r.1 ∙ ap Some r.2.1) ∙ account_is h n r.2.0 (sym r.2.2)
+pub account_told : (reading : Reading) (h : List Entry) (rows : Rows) (n : ℕ) → Agree reading h rows → IsKnown rows (want.Account n) → is_there (known rows (want.Account n)) ≡ is_account h n
+account_told reading h rows n agree there =
+    let r = found_of (view reading h) rows (want.Account n) agree there in
+    ap is_there (r.1 ∙ ap Some r.2.1) ∙ account_is reading h n r.2.0 (sym r.2.2)
 
 some_where : (b : Bool) → is_some (cond b (Some MemberRow) None) ≡ b
 some_where true = refl
 some_where false = refl
 
 -- whether an account is a member of a group
-pub member_told : (h : List Entry) (rows : Rows) (group : List ℕ) (n : ℕ) → Agree h rows → IsKnown rows (want.Member (member_of group n)) →
+pub member_told : (reading : Reading) (h : List Entry) (rows : Rows) (group : List ℕ) (n : ℕ) → Agree reading h rows → IsKnown rows (want.Member (member_of group n)) →
     is_so (known rows (want.Member (member_of group n))) ≡ is_listed h group n
-member_told h rows group n agree there =
-    let r = found_of (view h) rows (want.Member (member_of group n)) agree there in
+member_told reading h rows group n agree there =
+    let r = found_of (view reading h) rows (want.Member (member_of group n)) agree there in
     ap is_so (r.1 ∙ ap Some r.2.1) ∙ (sym (some_where r.2.0) ∙ (sym (ap is_some r.2.2) ∙ some_where (is_listed h group n)))
 
 some_member : (o : Option (Unit {0})) → is_some (member_row o) ≡ is_some o
@@ -49,25 +48,25 @@ some_member None = refl
 some_member (Some u) = refl
 
 -- whether an account was a member of a group whose members are known
-pub held_told : (h : List Entry) (rows : Rows) (group : List ℕ) (n : ℕ) → Agree h rows → IsKnown rows (want.Group group) →
+pub held_told : (reading : Reading) (h : List Entry) (rows : Rows) (group : List ℕ) (n : ℕ) → Agree reading h rows → IsKnown rows (want.Group group) →
     is_held (members_of (known rows (want.Group group))) n ≡ is_listed h group n
-held_told h rows group n agree there =
-    let r = found_of (view h) rows (want.Group group) agree there in
+held_told reading h rows group n agree there =
+    let r = found_of (view reading h) rows (want.Group group) agree there in
     ap (λ o. is_held (members_of o) n) (r.1 ∙ ap Some r.2.1)
     ∙ (sym (some_member (row_in nat_cmp r.2.0 n)) ∙ (sym (ap is_some (r.2.2 n)) ∙ some_where (is_listed h group n)))
 
 -- whether a name is taken
-pub holder_told : (h : List Entry) (rows : Rows) (name : List ℕ) → Agree h rows → IsKnown rows (want.AccountNamed name) →
+pub holder_told : (reading : Reading) (h : List Entry) (rows : Rows) (name : List ℕ) → Agree reading h rows → IsKnown rows (want.AccountNamed name) →
     is_some (holder_of (known rows (want.AccountNamed name))) ≡ name_taken h name
-holder_told h rows name agree there =
-    let r = found_of (view h) rows (want.AccountNamed name) agree there in
-    ap (λ o. is_some (holder_of o)) (r.1 ∙ ap Some r.2.1) ∙ found_taken h name r.2.0 r.2.2
+holder_told reading h rows name agree there =
+    let r = found_of (view reading h) rows (want.AccountNamed name) agree there in
+    ap (λ o. is_some (holder_of o)) (r.1 ∙ ap Some r.2.1) ∙ found_taken reading h name r.2.0 r.2.2
 
 -- the number of accounts
-pub last_told : (h : List Entry) (rows : Rows) → Agree h rows → IsKnown rows want.LastAccount → number_of (known rows want.LastAccount) ≡ account_count h
-last_told h rows agree there =
-    let r = found_of (view h) rows want.LastAccount agree there in
-    ap number_of (r.1 ∙ ap Some r.2.1) ∙ last_is h r.2.0 r.2.2
+pub last_told : (reading : Reading) (h : List Entry) (rows : Rows) → Agree reading h rows → IsKnown rows want.LastAccount → number_of (known rows want.LastAccount) ≡ account_count h
+last_told reading h rows agree there =
+    let r = found_of (view reading h) rows want.LastAccount agree there in
+    ap number_of (r.1 ∙ ap Some r.2.1) ∙ last_is reading h r.2.0 r.2.2
 
 text_from : (o p : Option (List ℕ)) → option_map FileRow o ≡ option_map FileRow p → o ≡ p
 text_from None None e = refl
@@ -76,9 +75,9 @@ text_from (Some x) None e = absurd (cc)
 text_from (Some x) (Some y) e = let same : x ≡ y = cc in ap Some same
 
 -- the text of a project's file
-pub text_told : (h : List Entry) (rows : Rows) (project : List ℕ) → Agree h rows → IsKnown rows (want.File project) → text_of (known rows (want.File project)) ≡ file_text h project
-text_told h rows project agree there =
-    let r = found_of (view h) rows (want.File project) agree there in
+pub text_told : (reading : Reading) (h : List Entry) (rows : Rows) (project : List ℕ) → Agree reading h rows → IsKnown rows (want.File project) → text_of (known rows (want.File project)) ≡ file_text h project
+text_told reading h rows project agree there =
+    let r = found_of (view reading h) rows (want.File project) agree there in
     ap text_of (r.1 ∙ ap Some r.2.1) ∙ text_from r.2.0 (file_text h project) (sym r.2.2)
 
 some_file : (o : Option (List ℕ)) → is_some (option_map FileRow o) ≡ is_some o
@@ -86,16 +85,16 @@ some_file None = refl
 some_file (Some t) = refl
 
 -- whether a project is there
-pub project_told : (h : List Entry) (rows : Rows) (project : List ℕ) → Agree h rows → IsKnown rows (want.Project project) → is_so (known rows (want.Project project)) ≡ is_project h project
-project_told h rows project agree there =
-    let r = found_of (view h) rows (want.Project project) agree there in
+pub project_told : (reading : Reading) (h : List Entry) (rows : Rows) (project : List ℕ) → Agree reading h rows → IsKnown rows (want.Project project) → is_so (known rows (want.Project project)) ≡ is_project h project
+project_told reading h rows project agree there =
+    let r = found_of (view reading h) rows (want.Project project) agree there in
     ap is_so (r.1 ∙ ap Some r.2.1) ∙ (sym r.2.2 ∙ some_file (file_text h project))
 
 -- whether there is room for one more
-pub room_told : (h : List Entry) (rows : Rows) (of : Counted) → Agree h rows → IsKnown rows (want.Room of) →
+pub room_told : (reading : Reading) (h : List Entry) (rows : Rows) (of : Counted) → Agree reading h rows → IsKnown rows (want.Room of) →
     is_so (known rows (want.Room of)) ≡ nat_lt (counted h (count_of of)) (most (count_of of))
-room_told h rows of agree there =
-    let r = found_of (view h) rows (want.Room of) agree there in
+room_told reading h rows of agree there =
+    let r = found_of (view reading h) rows (want.Room of) agree there in
     ap is_so (r.1 ∙ ap Some r.2.1) ∙ sym r.2.2
 
 -- ---- the bases of a branch, by place
@@ -125,10 +124,10 @@ last_place_is bs last above there =
         let none : option_map BaseRow (at_place bs last) ≡ None = ap (option_map BaseRow) (past_end bs last lt) in
         ⊎_elim (λ (z : last ≡ 0). absurd (omega arith)) (λ (s : IsSome (option_map BaseRow (at_place bs last))). let bad : true ≡ false = sym s ∙ ap is_some none in absurd (cc)) there
 
-pub place_told : (h : List Entry) (rows : Rows) (key : Branch) → Agree h rows → IsKnown rows (want.LastPlace key) →
+pub place_told : (reading : Reading) (h : List Entry) (rows : Rows) (key : Branch) → Agree reading h rows → IsKnown rows (want.LastPlace key) →
     number_of (known rows (want.LastPlace key)) ≡ length (bases h key.project key.branch)
-place_told h rows key agree there =
-    let r = found_of (view h) rows (want.LastPlace key) agree there in
+place_told reading h rows key agree there =
+    let r = found_of (view reading h) rows (want.LastPlace key) agree there in
     ap number_of (r.1 ∙ ap Some r.2.1) ∙ last_place_is (bases h key.project key.branch) r.2.0 r.2.2.above r.2.2.there
 
 -- a commit stands at a place just where it is in the list
@@ -155,10 +154,10 @@ based_from : (o : Option (List ℕ)) (commit : List ℕ) → option_map BaseRow 
 based_from None commit e = absurd (cc)
 based_from (Some c) commit e = let same : c ≡ commit = cc in ap Some same
 
-base_or_not : (h : List Entry) (base : Base) (is : Bool) → IsBaseOrNot (fact h) base is → is ≡ is_base h base.project base.branch base.commit
-base_or_not h base true there =
+base_or_not : (reading : Reading) (h : List Entry) (base : Base) (is : Bool) → IsBaseOrNot (fact reading h) base is → is ≡ is_base h base.project base.branch base.commit
+base_or_not reading h base true there =
     sym (listed_at (bases h base.project base.branch) base.commit there.0 (based_from (at_place (bases h base.project base.branch) there.0) base.commit there.1))
-base_or_not h base false none =
+base_or_not reading h base false none =
     ⊎_elim
     (λ (t : is_base h base.project base.branch base.commit ≡ true).
     let r = placed_at (bases h base.project base.branch) base.commit t in absurd (none (suc r.0) (ap (option_map BaseRow) r.1)))
@@ -166,11 +165,11 @@ base_or_not h base false none =
     (cases_Bool (is_base h base.project base.branch base.commit))
 
 -- whether a commit is a base
-pub base_told : (h : List Entry) (rows : Rows) (base : Base) → Agree h rows → IsKnown rows (want.Base base) →
+pub base_told : (reading : Reading) (h : List Entry) (rows : Rows) (base : Base) → Agree reading h rows → IsKnown rows (want.Base base) →
     is_so (known rows (want.Base base)) ≡ is_base h base.project base.branch base.commit
-base_told h rows base agree there =
-    let r = found_of (view h) rows (want.Base base) agree there in
-    ap is_so (r.1 ∙ ap Some r.2.1) ∙ base_or_not h base r.2.0 r.2.2
+base_told reading h rows base agree there =
+    let r = found_of (view reading h) rows (want.Base base) agree there in
+    ap is_so (r.1 ∙ ap Some r.2.1) ∙ base_or_not reading h base r.2.0 r.2.2
 
 -- lists with the same at each place are the same
 same_list : (xs ys : List (List ℕ)) → ((n : ℕ) → option_map BaseRow (at_place xs n) ≡ option_map BaseRow (at_place ys n)) → xs ≡ ys
@@ -187,7 +186,7 @@ same_list (x ∷ xs) (y ∷ ys) same =
     rest (suc n) = same (suc (suc n))
 
 -- the bases of a branch
-pub bases_told : (h : List Entry) (rows : Rows) (key : Branch) → Agree h rows → IsKnown rows (want.Bases key) → commits_of (known rows (want.Bases key)) ≡ bases h key.project key.branch
-bases_told h rows key agree there =
-    let r = found_of (view h) rows (want.Bases key) agree there in
+pub bases_told : (reading : Reading) (h : List Entry) (rows : Rows) (key : Branch) → Agree reading h rows → IsKnown rows (want.Bases key) → commits_of (known rows (want.Bases key)) ≡ bases h key.project key.branch
+bases_told reading h rows key agree there =
+    let r = found_of (view reading h) rows (want.Bases key) agree there in
     ap commits_of (r.1 ∙ ap Some r.2.1) ∙ same_list r.2.0 (bases h key.project key.branch) (λ n. sym (r.2.2 n))

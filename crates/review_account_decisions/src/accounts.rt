@@ -1,5 +1,5 @@
 //! Decisions on accounts and groups.
-ghost use Rattle.std.specs.Prelude.{◌≡◌, ◌++◌, ◌∷◌, ℕ, List, [], IfOk, IfErr, OnOk, is_some, map, true};
+ghost use Rattle.std.specs.Prelude.{◌≡◌, ◌++◌, ◌∷◌, ℕ, List, Option, [], IfOk, IfErr, OnOk, is_some, map, true};
 ghost use Rattle.std.specs.Map.Iter.{deref_pair};
 ghost use Rattle.std.specs.List.{list_all};
 ghost use Rattle.std.specs.List.Sorted.{IsStrictlySortedBy};
@@ -13,6 +13,8 @@ ghost use Rattle.review_rows.specs.Rows.{HasNoEffect, member_cmp};
 ghost use Rattle.review_rows.specs.declared.rows.Want.TheVariants as want;
 ghost use Rattle.review_rows.specs.Known.{known, is_there, members_of};
 ghost use Rattle.review_rows.specs.Steps.{OfCommand};
+ghost use Rattle.review_rows.specs.Changes.{Reading};
+ghost use Rattle.review_rows.specs.Files.{File};
 ghost use Rattle.review_rows.specs.View.{AreEnough, IsDecided};
 ghost use Rattle.review_rows.specs.Decisions.{NamesOnce, NamesEachOnce};
 ghost use Rattle.review_account_decisions.specs.Decisions.{added, dropped, member_of};
@@ -32,7 +34,7 @@ pub fn create_account(
     caller: AccountNo,
     name: &AccountName,
 ) -> Result<(Delta, Reply), NotTaken>
-    ensures decided { IfOk result (λ r. (h : List Entry) → is_account h caller ≡ true → AreEnough h caller (OfCommand (CreateAccount name.now)) rows.now → IsDecided h caller (CreateAccount name.now) r.0 r.1) }
+    ensures decided { IfOk result (λ r. (reading : Reading) (had : Option File) (h : List Entry) → is_account h caller ≡ true → AreEnough reading h caller (OfCommand (CreateAccount name.now)) had rows.now → IsDecided reading h caller (CreateAccount name.now) r.0 r.1) }
     ensures cause { IfErr result (λ e. e ≡ Memory) }
     ensures stored { IfOk result (λ r. IsStored r.1) }
     ensures refused { IfOk result (λ r. HasNoEffect r.1 r.0) }
@@ -65,7 +67,7 @@ pub fn put_group(
     group: &GroupName,
     members: &Members,
 ) -> Result<(Delta, Reply), NotTaken>
-    ensures decided { IfOk result (λ r. (h : List Entry) → is_account h caller ≡ true → AreEnough h caller (OfCommand (PutGroup group.now members.now)) rows.now → IsDecided h caller (PutGroup group.now members.now) r.0 r.1) }
+    ensures decided { IfOk result (λ r. (reading : Reading) (had : Option File) (h : List Entry) → is_account h caller ≡ true → AreEnough reading h caller (OfCommand (PutGroup group.now members.now)) had rows.now → IsDecided reading h caller (PutGroup group.now members.now) r.0 r.1) }
     ensures cause { IfErr result (λ e. e ≡ Memory) }
     ensures stored { IfOk result (λ r. IsStored r.1) }
     ensures refused { IfOk result (λ r. HasNoEffect r.1 r.0) }

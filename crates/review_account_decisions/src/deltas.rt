@@ -16,6 +16,7 @@ pub fn nothing(alloc: Global) -> Delta
         members: Vec::new(alloc),
         file: None,
         base: None,
+        changes: Vec::new(alloc),
     }
 }
 

@@ -9,41 +9,41 @@ use Rattle.review_account_decisions.proofs.Decided.{admin_is, asked_beside, refu
 use Rattle.review_account_decisions.proofs.accounts.create_account.Goals as goal
 
 pub returns-then-not-admin-clause-decided : goal.returns-then-not-admin-clause-decided
-returns-then-not-admin-clause-decided c = λ h known l.
+returns-then-not-admin-clause-decided c = λ reading had h known l.
     let a = c.args in
     let admin = sym (admin_is h a.caller (CreateAccount a.name.now) a.rows.now l) ∙ (sym c.in_ok-admin.ensures ∙ c.if-not-admin.true) in
     refused_pair h a.caller (CreateAccount a.name.now) c.refused.result NotAdmin c.refused.ensures.empty c.refused.ensures.reply
-    (create_refused h a.caller a.name.now true false (name_taken h a.name.now) (nat_lt (account_count h) 1000000) known admin refl refl)
+    (create_refused reading h a.caller a.name.now true false (name_taken h a.name.now) (nat_lt (account_count h) 1000000) known admin refl refl)
 
 pub returns-then-is_some-clause-decided : goal.returns-then-is_some-clause-decided
-returns-then-is_some-clause-decided c = λ h known l.
+returns-then-is_some-clause-decided c = λ reading had h known l.
     let a = c.args in
     let admin = sym (admin_is h a.caller (CreateAccount a.name.now) a.rows.now l) ∙ (sym c.in_ok-admin.ensures ∙ c.if-not-admin.false) in
-    let taken = sym (holder_told h a.rows.now a.name.now l.agree (asked_beside h a.caller (CreateAccount a.name.now) a.rows.now l).0) ∙ (ap is_some (sym c.holder.ensures) ∙ sym c.is_some.ensures ∙ c.if-is_some.true) in
+    let taken = sym (holder_told reading h a.rows.now a.name.now l.agree (asked_beside h a.caller (CreateAccount a.name.now) a.rows.now l).0) ∙ (ap is_some (sym c.holder.ensures) ∙ sym c.is_some.ensures ∙ c.if-is_some.true) in
     refused_pair h a.caller (CreateAccount a.name.now) c.refused-then-is_some.result NameTaken c.refused-then-is_some.ensures.empty c.refused-then-is_some.ensures.reply
-    (create_refused h a.caller a.name.now true true true (nat_lt (account_count h) 1000000) known admin taken refl)
+    (create_refused reading h a.caller a.name.now true true true (nat_lt (account_count h) 1000000) known admin taken refl)
 
 pub returns-in_default-clause-decided : goal.returns-in_default-clause-decided
-returns-in_default-clause-decided c = λ h known l.
+returns-in_default-clause-decided c = λ reading had h known l.
     let a = c.args in
     let admin = sym (admin_is h a.caller (CreateAccount a.name.now) a.rows.now l) ∙ (sym c.in_ok-admin.ensures ∙ c.if-not-admin.false) in
-    let free = sym (holder_told h a.rows.now a.name.now l.agree (asked_beside h a.caller (CreateAccount a.name.now) a.rows.now l).0) ∙ (ap is_some (sym c.holder.ensures) ∙ sym c.is_some.ensures ∙ c.if-is_some.false) in
-    let last : c.last_account.result ≡ account_count h = c.last_account.ensures ∙ last_told h a.rows.now l.agree (asked_beside h a.caller (CreateAccount a.name.now) a.rows.now l).1.0 in
+    let free = sym (holder_told reading h a.rows.now a.name.now l.agree (asked_beside h a.caller (CreateAccount a.name.now) a.rows.now l).0) ∙ (ap is_some (sym c.holder.ensures) ∙ sym c.is_some.ensures ∙ c.if-is_some.false) in
+    let last : c.last_account.result ≡ account_count h = c.last_account.ensures ∙ last_told reading h a.rows.now l.agree (asked_beside h a.caller (CreateAccount a.name.now) a.rows.now l).1.0 in
     let full = c.after.ensures.none c.in_default.is in
     refused_pair h a.caller (CreateAccount a.name.now) c.refused-in_default.result Limit c.refused-in_default.ensures.empty c.refused-in_default.ensures.reply
-    (create_refused h a.caller a.name.now true true false false known admin free (le-ltb (account_count h) 1000000 (omega arith)))
+    (create_refused reading h a.caller a.name.now true true false false known admin free (le-ltb (account_count h) 1000000 (omega arith)))
 
 pub returns-clause-decided : goal.returns-clause-decided
-returns-clause-decided c = λ h known l.
+returns-clause-decided c = λ reading had h known l.
     let a = c.args in
     let admin = sym (admin_is h a.caller (CreateAccount a.name.now) a.rows.now l) ∙ (sym c.in_ok-admin.ensures ∙ c.if-not-admin.false) in
-    let free = sym (holder_told h a.rows.now a.name.now l.agree (asked_beside h a.caller (CreateAccount a.name.now) a.rows.now l).0) ∙ (ap is_some (sym c.holder.ensures) ∙ sym c.is_some.ensures ∙ c.if-is_some.false) in
-    let last : c.last_account.result ≡ account_count h = c.last_account.ensures ∙ last_told h a.rows.now l.agree (asked_beside h a.caller (CreateAccount a.name.now) a.rows.now l).1.0 in
+    let free = sym (holder_told reading h a.rows.now a.name.now l.agree (asked_beside h a.caller (CreateAccount a.name.now) a.rows.now l).0) ∙ (ap is_some (sym c.holder.ensures) ∙ sym c.is_some.ensures ∙ c.if-is_some.false) in
+    let last : c.last_account.result ≡ account_count h = c.last_account.ensures ∙ last_told reading h a.rows.now l.agree (asked_beside h a.caller (CreateAccount a.name.now) a.rows.now l).1.0 in
     let given = c.in-Some.ensures.some in
     let room = given.1 in
     let number : c.in-Some.number ≡ account_count h + 1 = given.0 ∙ ap (λ k. k + 1) last in
     let empty = c.nothing-delta.ensures in
     let row : c.push.new.self.items ≡ record { key = c.in-Some.number; row = Some a.name.now } ∷ [] =
     c.in_ok-push.ensures.items ∙ (λ i. empty.accounts i ++ record { key = c.in-Some.number; row = Some (c.in_ok-copy.ensures i) } ∷ []) in
-    create_decided h a.caller a.name.now (record { accounts = c.push.new.self; members = c.nothing-delta.result.members; file = c.nothing-delta.result.file; base = c.nothing-delta.result.base }) c.in-Some.number
-    known admin free (lt-ltb (account_count h) 1000000 (omega arith)) number row empty.members empty.file empty.base
+    create_decided h a.caller a.name.now (record { accounts = c.push.new.self; members = c.nothing-delta.result.members; file = c.nothing-delta.result.file; base = c.nothing-delta.result.base; changes = c.nothing-delta.result.changes }) c.in-Some.number
+    known admin free (lt-ltb (account_count h) 1000000 (omega arith)) number row empty.members empty.file empty.base empty.changes
