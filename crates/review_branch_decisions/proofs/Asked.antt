@@ -1,7 +1,6 @@
 -- What the loaded rows tell of the history, for a question.
-use Rattle.std.proofs.Common.{◌≡◌, ℕ, ◌≤◌, ◌+◌, arith, length-append, List, [], ◌∷◌, ◌++◌, length, map, take, get_or, not, ◌<◌, Option, Some, None, Bool, true, false, cond, ◌&&◌, refl, sym, ap, ◌∙◌}
-use Rattle.std.specs.Prelude.{is_some, nat_le}
-use Rattle.std.proofs.lemmas.List.{take_more, map-append}
+use Rattle.std.proofs.Common.{◌≡◌, ℕ, ◌≤◌, ◌+◌, arith, length-append, List, [], ◌∷◌, ◌++◌, length, Option, Some, None, Bool, true, false, cond, ◌&&◌, refl}
+use Rattle.std.specs.Prelude.{nat_le}
 use Rattle.std.proofs.lemmas.Bool.Decides.{nat_tests}
 use Rattle.review_words.specs.declared.command.Query.{Query}
 use Rattle.review_words.specs.declared.command.Query.TheVariants as asked
@@ -10,33 +9,34 @@ use Rattle.review_words.specs.declared.reply.Answer.TheVariants as made
 use Rattle.review_words.specs.declared.reply.Refusal.{Refusal}
 use Rattle.review_words.specs.declared.reply.Refusal.TheVariants.{UnknownCaller, NoProject, NoBranch}
 use Rattle.review_words.specs.declared.command.Command.{Command}
-use Rattle.review_words.specs.declared.command.Command.TheVariants.{CreateAccount, PutGroup, PutProject, RecordBase}
+use Rattle.review_words.specs.declared.command.Command.TheVariants.{CreateAccount, PutGroup, PutProject, RecordBase, CreateChange, Upload, Review}
 use Rattle.review_words.specs.History.{Entry, accepted, is_account, is_project, is_branch, bases, base_count, with_base, base_counted}
 use Rattle.std.specs.Str.{bytes_eq}
 use Rattle.review_rows.specs.declared.rows.Rows.{Rows}
-use Rattle.review_rows.specs.declared.rows.Want.{Want}
 use Rattle.review_rows.specs.declared.rows.Want.TheVariants as want
 use Rattle.review_rows.specs.Known.{known, is_so, is_there, commits_of}
-use Rattle.review_rows.specs.Steps.{OfQuery, unknown}
+use Rattle.review_rows.specs.Steps.{OfQuery}
 use Rattle.review_rows.specs.Answer.{query_answer, refused_or}
+use Rattle.review_rows.specs.Changes.{Reading}
+use Rattle.review_rows.specs.Files.{File}
 use Rattle.review_rows.specs.View.{AreEnough}
 use Rattle.review_rows.proofs.Asked.{all_asked}
 use Rattle.review_account_decisions.proofs.Told.{account_told, project_told, bases_told}
 
 -- whether the caller is an account
-pub asker_is : (h : List Entry) (caller : ℕ) (query : Query) (rows : Rows) → AreEnough h caller (OfQuery query) rows → is_there (known rows (want.Account caller)) ≡ is_account h caller
-asker_is h caller (asked.Branch project branch) rows l = account_told h rows caller l.agree (all_asked rows caller (OfQuery (asked.Branch project branch)) l.nothing_left).0
+pub asker_is : {reading : Reading} {file : Option File} (h : List Entry) (caller : ℕ) (query : Query) (rows : Rows) → AreEnough reading h caller (OfQuery query) file rows → is_there (known rows (want.Account caller)) ≡ is_account h caller
+asker_is {reading = reading} h caller (asked.Branch project branch) rows l = account_told reading h rows caller l.agree (all_asked _ rows caller (OfQuery (asked.Branch project branch)) l.nothing_left).0
 
 -- whether the project is there
-pub project_asked : (h : List Entry) (caller : ℕ) (project branch : List ℕ) (rows : Rows) → AreEnough h caller (OfQuery (asked.Branch project branch)) rows →
+pub project_asked : {reading : Reading} {file : Option File} (h : List Entry) (caller : ℕ) (project branch : List ℕ) (rows : Rows) → AreEnough reading h caller (OfQuery (asked.Branch project branch)) file rows →
     is_so (known rows (want.Project project)) ≡ is_project h project
-project_asked h caller project branch rows l = project_told h rows project l.agree (all_asked rows caller (OfQuery (asked.Branch project branch)) l.nothing_left).1.0
+project_asked {reading = reading} h caller project branch rows l = project_told reading h rows project l.agree (all_asked _ rows caller (OfQuery (asked.Branch project branch)) l.nothing_left).1.0
 
 -- the bases of the branch
-pub bases_asked : (h : List Entry) (caller : ℕ) (project branch : List ℕ) (rows : Rows) → AreEnough h caller (OfQuery (asked.Branch project branch)) rows →
+pub bases_asked : {reading : Reading} {file : Option File} (h : List Entry) (caller : ℕ) (project branch : List ℕ) (rows : Rows) → AreEnough reading h caller (OfQuery (asked.Branch project branch)) file rows →
     commits_of (known rows (want.Bases (record { project = project; branch = branch }))) ≡ bases h project branch
-bases_asked h caller project branch rows l =
-    bases_told h rows (record { project = project; branch = branch }) l.agree (all_asked rows caller (OfQuery (asked.Branch project branch)) l.nothing_left).1.1.0
+bases_asked {reading = reading} h caller project branch rows l =
+    bases_told reading h rows (record { project = project; branch = branch }) l.agree (all_asked _ rows caller (OfQuery (asked.Branch project branch)) l.nothing_left).1.1.0
 
 -- whether a branch has bases
 pub none_there : (bs : List (List ℕ)) → bs ≡ [] → nat_le 1 (length bs) ≡ false
@@ -76,31 +76,7 @@ branch_within (e ∷ h) project branch = step (accepted e) (bases h project bran
     step (Some (CreateAccount name)) bs n le = le
     step (Some (PutGroup group members)) bs n le = le
     step (Some (PutProject p file)) bs n le = le
+    step (Some (CreateChange new)) bs n le = le
+    step (Some (Upload change patch)) bs n le = le
+    step (Some (Review change review)) bs n le = le
     step None bs n le = le
-
--- one account more
-pub accounts_more : (numbers : List ℕ) (i : ℕ) (n : ℕ) → i < length numbers → n ≡ get_or numbers i n → map want.Account (take (i + 1) numbers) ≡ map want.Account (take i numbers) ++ want.Account n ∷ []
-accounts_more numbers i n below is =
-    ap (map want.Account) (take_more numbers i n below ∙ ap (λ x. take i numbers ++ x ∷ []) (sym is)) ∙ map-append want.Account (take i numbers) (n ∷ [])
-
--- the first look-up of the rest
-in_front : (b : Bool) (w : Want) (ws : List Want) → cond b (w ∷ ws) ws ≡ cond b (w ∷ []) [] ++ ws
-in_front true w ws = refl
-in_front false w ws = refl
-
-assoc : (xs ys zs : List Want) → (xs ++ ys) ++ zs ≡ xs ++ (ys ++ zs)
-assoc [] ys zs = refl
-assoc (x ∷ xs) ys zs = ap (λ l. x ∷ l) (assoc xs ys zs)
-
-pub unknown_first : (rows : Rows) (old new left rest : List Want) (w : Want) → left ≡ w ∷ rest → new ≡ old ++ unknown rows (w ∷ []) → new ++ unknown rows rest ≡ old ++ unknown rows left
-unknown_first rows old new left rest w is one =
-    ap (λ l. l ++ unknown rows rest) one
-    ∙ (assoc old (unknown rows (w ∷ [])) (unknown rows rest)
-    ∙ ap (λ l. old ++ l) (sym (in_front (not (is_some (known rows w))) w (unknown rows rest)) ∙ ap (unknown rows) (sym is)))
-
-pub unknown_none : (rows : Rows) (old left : List Want) → left ≡ [] → old ++ unknown rows left ≡ old
-unknown_none rows old left is = ap (λ l. old ++ unknown rows l) is ∙ end old
-  where
-    end : (xs : List Want) → xs ++ [] ≡ xs
-    end [] = refl
-    end (x ∷ xs) = ap (λ l. x ∷ l) (end xs)

@@ -1,11 +1,13 @@
 //! Decisions on branches.
-ghost use Rattle.std.specs.Prelude.{◌≡◌, List, IfOk, IfErr, true};
+ghost use Rattle.std.specs.Prelude.{◌≡◌, List, Option, IfOk, IfErr, true};
 ghost use Rattle.review_words.specs.Texts.{IsStored};
 ghost use Rattle.review_words.specs.History.{Entry, is_account};
 ghost use Rattle.review_words.specs.declared.command.Command.TheVariants.{RecordBase};
 ghost use Rattle.review_words.specs.declared.reply.NotTaken.TheVariants.{Memory};
 ghost use Rattle.review_rows.specs.Rows.{HasNoEffect};
 ghost use Rattle.review_rows.specs.Steps.{OfCommand};
+ghost use Rattle.review_rows.specs.Changes.{Reading};
+ghost use Rattle.review_rows.specs.Files.{File};
 ghost use Rattle.review_rows.specs.View.{AreEnough, IsDecided};
 ghost use Rattle.review_rows.specs.Decisions.{NamesEachOnce};
 
@@ -27,7 +29,7 @@ pub fn record_base(
     branch: &BranchName,
     commit: &CommitName,
 ) -> Result<(Delta, Reply), NotTaken>
-    ensures decided { IfOk result (λ r. (h : List Entry) → is_account h caller ≡ true → AreEnough h caller (OfCommand (RecordBase project.now branch.now commit.now)) rows.now → IsDecided h caller (RecordBase project.now branch.now commit.now) r.0 r.1) }
+    ensures decided { IfOk result (λ r. (reading : Reading) (had : Option File) (h : List Entry) → is_account h caller ≡ true → AreEnough reading h caller (OfCommand (RecordBase project.now branch.now commit.now)) had rows.now → IsDecided reading h caller (RecordBase project.now branch.now commit.now) r.0 r.1) }
     ensures cause { IfErr result (λ e. e ≡ Memory) }
     ensures stored { IfOk result (λ r. IsStored r.1) }
     ensures refused { IfOk result (λ r. HasNoEffect r.1 r.0) }

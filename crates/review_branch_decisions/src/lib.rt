@@ -1,14 +1,12 @@
-//! The answer to a command on a branch or to a question, from the rows that decide it; and what each command and question asks of the tables.
+//! The answer to a command on a branch or to a question, from the rows that decide it.
 //!
 //! Nothing here reads a project file, so it stands beside the reader of these.
 #![tactic(auto)]
 
 pub mod branches;
 pub mod keys;
-pub mod needs;
 pub mod questions;
 
 pub use branches::record_base;
 pub use keys::{base_of, branch_of};
-pub use needs::next_need;
 pub use questions::show;

@@ -1,5 +1,5 @@
 //! The answers to questions.
-ghost use Rattle.std.specs.Prelude.{◌≡◌, List, IfOk, IfErr, true};
+ghost use Rattle.std.specs.Prelude.{◌≡◌, List, Option, IfOk, IfErr, true};
 ghost use Rattle.review_words.specs.History.{Entry, is_account};
 ghost use Rattle.review_words.specs.declared.command.Query.TheVariants.{Branch};
 ghost use Rattle.review_words.specs.declared.reply.NotTaken.TheVariants.{Memory};
@@ -7,6 +7,8 @@ ghost use Rattle.review_rows.specs.Answer.{query_answer};
 ghost use Rattle.review_rows.specs.declared.rows.Want.TheVariants as want;
 ghost use Rattle.review_rows.specs.Known.{known, commits_of};
 ghost use Rattle.review_rows.specs.Steps.{OfQuery};
+ghost use Rattle.review_rows.specs.Changes.{Reading};
+ghost use Rattle.review_rows.specs.Files.{File};
 ghost use Rattle.review_rows.specs.View.{AreEnough};
 ghost use Rattle.review_rows.specs.Decisions.{IsDoneOrRefused};
 
@@ -20,7 +22,7 @@ use std::alloc::{AllocError, Global};
 /// The answer to a question: the first check that fails refuses, in the order of the question's checks. It changes
 /// nothing. The only error is want of memory.
 pub fn show(alloc: Global, rows: &Rows, caller: AccountNo, query: &Query) -> Result<Reply, NotTaken>
-    ensures shown { IfOk result (λ r. (h : List Entry) → AreEnough h caller (OfQuery query.now) rows.now → r ≡ query_answer h caller query.now) }
+    ensures shown { IfOk result (λ r. (reading : Reading) (had : Option File) (h : List Entry) → AreEnough reading h caller (OfQuery query.now) had rows.now → r ≡ query_answer h caller query.now) }
     ensures answered { IfOk result IsDoneOrRefused }
     ensures cause { IfErr result (λ e. e ≡ Memory) }
 {
@@ -34,7 +36,7 @@ pub fn show(alloc: Global, rows: &Rows, caller: AccountNo, query: &Query) -> Res
 // The answer to a question of an account.
 fn answer(alloc: Global, rows: &Rows, caller: AccountNo, query: &Query) -> Result<Reply, AllocError>
     ensures answered { IfOk result IsDoneOrRefused }
-    ensures shown { IfOk result (λ r. (h : List Entry) → is_account h caller ≡ true → AreEnough h caller (OfQuery query.now) rows.now → r ≡ query_answer h caller query.now) }
+    ensures shown { IfOk result (λ r. (reading : Reading) (had : Option File) (h : List Entry) → is_account h caller ≡ true → AreEnough reading h caller (OfQuery query.now) had rows.now → r ≡ query_answer h caller query.now) }
 {
     match query {
         Query::Branch { project, branch } => show_branch(alloc, rows, caller, project, branch),
@@ -49,7 +51,7 @@ fn show_branch(
     branch: &BranchName,
 ) -> Result<Reply, AllocError>
     ensures answered { IfOk result IsDoneOrRefused }
-    ensures shown { IfOk result (λ r. (h : List Entry) → is_account h caller ≡ true → AreEnough h caller (OfQuery (Branch project.now branch.now)) rows.now → r ≡ query_answer h caller (Branch project.now branch.now)) }
+    ensures shown { IfOk result (λ r. (reading : Reading) (had : Option File) (h : List Entry) → is_account h caller ≡ true → AreEnough reading h caller (OfQuery (Branch project.now branch.now)) had rows.now → r ≡ query_answer h caller (Branch project.now branch.now)) }
 {
     if !rows.has_project(project) {
         return Ok(Reply::Refused(Refusal::NoProject));

@@ -14,7 +14,7 @@ use Rattle.review_terms.specs.declared.terms.Voters.{Voters}
 use Rattle.review_terms.specs.declared.terms.Voters.TheVariants as voters
 use Rattle.review_expr.specs.declared.expr.Expr.{Expr}
 use Rattle.review_expr.specs.declared.expr.Expr.TheVariants as expr
-use Rattle.review_project.specs.View.{FileView}
+use Rattle.review_project.specs.View.{FileView, LabelView}
 
 -- the group that a term of a copy condition names
 abbrev pub copy_group : CopyTerm → List (List ℕ)
@@ -51,9 +51,13 @@ abbrev pub groups_in : Expr → List (List ℕ)
 groups_in (expr.Requirement e) = named requirement_group (view e.node)
 groups_in (expr.Copy e) = named copy_group (view e.node)
 
+-- the groups that the copy conditions of labels name
+abbrev pub copying_groups : List (LabelView Expr) → List (List ℕ)
+copying_groups labels = flat_map (λ label. option_map_or groups_in label.copy_condition []) labels
+
 -- the groups that the copy conditions of a file name
 abbrev pub copy_groups : FileView Expr → List (List ℕ)
-copy_groups file = flat_map (λ label. option_map_or groups_in label.copy_condition []) file.labels
+copy_groups file = copying_groups file.labels
 
 -- two lists of groups have the same accounts in a group
 abbrev pub SameIn : GroupList → GroupList → List ℕ → Type 0

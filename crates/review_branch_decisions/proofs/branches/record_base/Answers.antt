@@ -13,67 +13,67 @@ use Rattle.review_branch_decisions.proofs.Asked.{branch_within}
 use Rattle.review_branch_decisions.proofs.branches.record_base.Goals as goal
 
 pub returns-then-not-admin-clause-decided : goal.returns-then-not-admin-clause-decided
-returns-then-not-admin-clause-decided c = λ h there_is l.
+returns-then-not-admin-clause-decided c = λ reading had h there_is l.
     let a = c.args in
     let command = RecordBase a.project.now a.branch.now a.commit.now in
     let admin = sym (admin_is h a.caller command a.rows.now l) ∙ (sym c.in_ok-admin.ensures ∙ c.if-not-admin.true) in
     refused_pair h a.caller command c.refused.result NotAdmin c.refused.ensures.empty c.refused.ensures.reply
-    (base_refused h a.caller a.project.now a.branch.now a.commit.now true false (is_project h a.project.now) (is_base h a.project.now a.branch.now a.commit.now) (nat_lt (base_count h a.project.now) 100000)
+    (base_refused reading h a.caller a.project.now a.branch.now a.commit.now true false (is_project h a.project.now) (is_base h a.project.now a.branch.now a.commit.now) (nat_lt (base_count h a.project.now) 100000)
     there_is admin refl refl refl)
 
 pub returns-then-not-has_project-clause-decided : goal.returns-then-not-has_project-clause-decided
-returns-then-not-has_project-clause-decided c = λ h there_is l.
+returns-then-not-has_project-clause-decided c = λ reading had h there_is l.
     let a = c.args in
     let command = RecordBase a.project.now a.branch.now a.commit.now in
     let all = asked_beside h a.caller command a.rows.now l in
     let admin = sym (admin_is h a.caller command a.rows.now l) ∙ (sym c.in_ok-admin.ensures ∙ c.if-not-admin.false) in
-    let absent = sym (project_told h a.rows.now a.project.now l.agree all.0) ∙ (sym c.has_project.ensures ∙ c.if-not-has_project.true) in
+    let absent = sym (project_told reading h a.rows.now a.project.now l.agree all.0) ∙ (sym c.has_project.ensures ∙ c.if-not-has_project.true) in
     refused_pair h a.caller command c.refused-then-not-has_project.result NoProject c.refused-then-not-has_project.ensures.empty c.refused-then-not-has_project.ensures.reply
-    (base_refused h a.caller a.project.now a.branch.now a.commit.now true true false (is_base h a.project.now a.branch.now a.commit.now) (nat_lt (base_count h a.project.now) 100000)
+    (base_refused reading h a.caller a.project.now a.branch.now a.commit.now true true false (is_base h a.project.now a.branch.now a.commit.now) (nat_lt (base_count h a.project.now) 100000)
     there_is admin absent refl refl)
 
 pub returns-then-has_base-clause-decided : goal.returns-then-has_base-clause-decided
-returns-then-has_base-clause-decided c = λ h there_is l.
+returns-then-has_base-clause-decided c = λ reading had h there_is l.
     let a = c.args in
     let command = RecordBase a.project.now a.branch.now a.commit.now in
     let all = asked_beside h a.caller command a.rows.now l in
     let admin = sym (admin_is h a.caller command a.rows.now l) ∙ (sym c.in_ok-admin.ensures ∙ c.if-not-admin.false) in
-    let there = sym (project_told h a.rows.now a.project.now l.agree all.0) ∙ (sym c.has_project.ensures ∙ c.if-not-has_project.false) in
+    let there = sym (project_told reading h a.rows.now a.project.now l.agree all.0) ∙ (sym c.has_project.ensures ∙ c.if-not-has_project.false) in
     let asked = ap (λ k. is_so (known a.rows.now (want.Base k))) c.in_ok-base.ensures in
-    let known_base = sym (base_told h a.rows.now (record { project = a.project.now; branch = a.branch.now; commit = a.commit.now }) l.agree all.1.0) ∙ (sym asked ∙ (sym c.has_base.ensures ∙ c.if-has_base.true)) in
+    let known_base = sym (base_told reading h a.rows.now (record { project = a.project.now; branch = a.branch.now; commit = a.commit.now }) l.agree all.1.0) ∙ (sym asked ∙ (sym c.has_base.ensures ∙ c.if-has_base.true)) in
     refused_pair h a.caller command c.refused-then-has_base.result CommitKnown c.refused-then-has_base.ensures.empty c.refused-then-has_base.ensures.reply
-    (base_refused h a.caller a.project.now a.branch.now a.commit.now true true true true (nat_lt (base_count h a.project.now) 100000) there_is admin there known_base refl)
+    (base_refused reading h a.caller a.project.now a.branch.now a.commit.now true true true true (nat_lt (base_count h a.project.now) 100000) there_is admin there known_base refl)
 
 pub returns-then-not-has_room_for_bases-clause-decided : goal.returns-then-not-has_room_for_bases-clause-decided
-returns-then-not-has_room_for_bases-clause-decided c = λ h there_is l.
+returns-then-not-has_room_for_bases-clause-decided c = λ reading had h there_is l.
     let a = c.args in
     let command = RecordBase a.project.now a.branch.now a.commit.now in
     let all = asked_beside h a.caller command a.rows.now l in
     let admin = sym (admin_is h a.caller command a.rows.now l) ∙ (sym c.in_ok-admin.ensures ∙ c.if-not-admin.false) in
-    let there = sym (project_told h a.rows.now a.project.now l.agree all.0) ∙ (sym c.has_project.ensures ∙ c.if-not-has_project.false) in
+    let there = sym (project_told reading h a.rows.now a.project.now l.agree all.0) ∙ (sym c.has_project.ensures ∙ c.if-not-has_project.false) in
     let asked = ap (λ k. is_so (known a.rows.now (want.Base k))) c.in_ok-base.ensures in
-    let free = sym (base_told h a.rows.now (record { project = a.project.now; branch = a.branch.now; commit = a.commit.now }) l.agree all.1.0) ∙ (sym asked ∙ (sym c.has_base.ensures ∙ c.if-has_base.false)) in
-    let full = sym (room_told h a.rows.now (BasesOf a.project.now) l.agree all.1.1.0) ∙ (sym c.has_room_for_bases.ensures ∙ c.if-not-has_room_for_bases.true) in
+    let free = sym (base_told reading h a.rows.now (record { project = a.project.now; branch = a.branch.now; commit = a.commit.now }) l.agree all.1.0) ∙ (sym asked ∙ (sym c.has_base.ensures ∙ c.if-has_base.false)) in
+    let full = sym (room_told reading h a.rows.now (BasesOf a.project.now) l.agree all.1.1.0) ∙ (sym c.has_room_for_bases.ensures ∙ c.if-not-has_room_for_bases.true) in
     refused_pair h a.caller command c.refused-then-not-has_room_for_bases.result Limit c.refused-then-not-has_room_for_bases.ensures.empty c.refused-then-not-has_room_for_bases.ensures.reply
-    (base_refused h a.caller a.project.now a.branch.now a.commit.now true true true false false there_is admin there free full)
+    (base_refused reading h a.caller a.project.now a.branch.now a.commit.now true true true false false there_is admin there free full)
 
 pub returns-clause-decided : goal.returns-clause-decided
-returns-clause-decided c = λ h there_is l.
+returns-clause-decided c = λ reading had h there_is l.
     let a = c.args in
     let command = RecordBase a.project.now a.branch.now a.commit.now in
     let all = asked_beside h a.caller command a.rows.now l in
     let admin = sym (admin_is h a.caller command a.rows.now l) ∙ (sym c.in_ok-admin.ensures ∙ c.if-not-admin.false) in
-    let there = sym (project_told h a.rows.now a.project.now l.agree all.0) ∙ (sym c.has_project.ensures ∙ c.if-not-has_project.false) in
+    let there = sym (project_told reading h a.rows.now a.project.now l.agree all.0) ∙ (sym c.has_project.ensures ∙ c.if-not-has_project.false) in
     let asked = ap (λ k. is_so (known a.rows.now (want.Base k))) c.in_ok-base.ensures in
-    let free = sym (base_told h a.rows.now (record { project = a.project.now; branch = a.branch.now; commit = a.commit.now }) l.agree all.1.0) ∙ (sym asked ∙ (sym c.has_base.ensures ∙ c.if-has_base.false)) in
-    let room = sym (room_told h a.rows.now (BasesOf a.project.now) l.agree all.1.1.0) ∙ (sym c.has_room_for_bases.ensures ∙ c.if-not-has_room_for_bases.false) in
+    let free = sym (base_told reading h a.rows.now (record { project = a.project.now; branch = a.branch.now; commit = a.commit.now }) l.agree all.1.0) ∙ (sym asked ∙ (sym c.has_base.ensures ∙ c.if-has_base.false)) in
+    let room = sym (room_told reading h a.rows.now (BasesOf a.project.now) l.agree all.1.1.0) ∙ (sym c.has_room_for_bases.ensures ∙ c.if-not-has_room_for_bases.false) in
     let last : c.last_place.result ≡ length (bases h a.project.now a.branch.now) =
     c.last_place.ensures ∙ (ap (λ k. number_of (known a.rows.now (want.LastPlace k))) c.in_ok-key.ensures
-    ∙ place_told h a.rows.now (record { project = a.project.now; branch = a.branch.now }) l.agree all.1.1.1.0) in
+    ∙ place_told reading h a.rows.now (record { project = a.project.now; branch = a.branch.now }) l.agree all.1.1.1.0) in
     let below = ltb-true (base_count h a.project.now) 100000 room in
     let within = branch_within h a.project.now a.branch.now in
     let place : c.saturating_add-place.result ≡ length (bases h a.project.now a.branch.now) + 1 = let e = c.saturating_add-place.ensures in omega arith in
     let empty = c.nothing-delta.ensures in
     base_decided h a.caller a.project.now a.branch.now a.commit.now c.saturating_add-place.result _ place
     there_is admin there free room empty.accounts empty.members empty.file
-    (λ i. Some (record { project = (c.in_ok-key.ensures i).project; branch = (c.in_ok-key.ensures i).branch; place = c.saturating_add-place.result; commit = (c.in_ok-base.ensures i).commit }))
+    (λ i. Some (record { project = (c.in_ok-key.ensures i).project; branch = (c.in_ok-key.ensures i).branch; place = c.saturating_add-place.result; commit = (c.in_ok-base.ensures i).commit })) empty.changes

@@ -1,4 +1,4 @@
-use Rattle.std.proofs.Common.{◌≡◌, ◌∙◌, true, false, refl, sym, ap}
+use Rattle.std.proofs.Common.{◌∙◌, true, false, refl, sym, ap}
 use Rattle.review_words.specs.declared.reply.Reply.TheVariants.{Done}
 use Rattle.review_words.specs.declared.reply.Answer.TheVariants as made
 use Rattle.review_words.specs.History.{bases, is_branch}
@@ -8,13 +8,13 @@ use Rattle.review_branch_decisions.proofs.Asked.{project_asked, bases_asked, non
 use Rattle.review_branch_decisions.proofs.questions.show_branch.Goals as goal
 
 pub returns-then-not-has_project-clause-shown : goal.returns-then-not-has_project-clause-shown
-returns-then-not-has_project-clause-shown c = λ h there_is l.
+returns-then-not-has_project-clause-shown c = λ reading had h there_is l.
     let a = c.args in
     let absent = sym (project_asked h a.caller a.project.now a.branch.now a.rows.now l) ∙ (sym c.has_project.ensures ∙ c.if-not-has_project.true) in
     sym (branch_answer h a.caller a.project.now a.branch.now true false (is_branch h a.project.now a.branch.now) there_is absent refl)
 
 pub returns-then-is_empty-clause-shown : goal.returns-then-is_empty-clause-shown
-returns-then-is_empty-clause-shown c = λ h there_is l.
+returns-then-is_empty-clause-shown c = λ reading had h there_is l.
     let a = c.args in
     let there = sym (project_asked h a.caller a.project.now a.branch.now a.rows.now l) ∙ (sym c.has_project.ensures ∙ c.if-not-has_project.false) in
     let all = c.in_ok-bases.ensures ∙ (ap (λ k. commits_of (known a.rows.now (want.Bases k))) c.in_ok-key.ensures ∙ bases_asked h a.caller a.project.now a.branch.now a.rows.now l) in
@@ -22,7 +22,7 @@ returns-then-is_empty-clause-shown c = λ h there_is l.
     sym (branch_answer h a.caller a.project.now a.branch.now true true false there_is there (none_there (bases h a.project.now a.branch.now) none))
 
 pub returns-clause-shown : goal.returns-clause-shown
-returns-clause-shown c = λ h there_is l.
+returns-clause-shown c = λ reading had h there_is l.
     let a = c.args in
     let there = sym (project_asked h a.caller a.project.now a.branch.now a.rows.now l) ∙ (sym c.has_project.ensures ∙ c.if-not-has_project.false) in
     let all = c.in_ok-bases.ensures ∙ (ap (λ k. commits_of (known a.rows.now (want.Bases k))) c.in_ok-key.ensures ∙ bases_asked h a.caller a.project.now a.branch.now a.rows.now l) in

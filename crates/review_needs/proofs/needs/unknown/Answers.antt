@@ -1,8 +1,8 @@
 use Rattle.std.proofs.Common.{◌≡◌, [], ◌∷◌, ◌++◌, refl, sym, ap, ◌∙◌, rules, arith}
 use Rattle.std.proofs.lemmas.Grind.{common_steps}
 use Rattle.review_rows.specs.Steps.{unknown}
-use Rattle.review_branch_decisions.proofs.Asked.{unknown_first, unknown_none}
-use Rattle.review_branch_decisions.proofs.needs.unknown.Goals as goal
+use Rattle.review_needs.proofs.Asking.{unknown_first, unknown_none}
+use Rattle.review_needs.proofs.needs.unknown.Goals as goal
 
 pub loop-want-init : goal.loop-want-init
 loop-want-init c = λ i. c.new-left.ensures.items i ++ unknown c.args.rows.now (c.into_iter-want-iterator.ensures.into_iter_gives.0 i)

@@ -1,36 +1,21 @@
-//! What deliveries ask of the tables.
+//! What is asked first.
 ghost use Rattle.std.specs.Prelude.{◌≡◌, ◌++◌, ◌∷◌, [], IfOk, OnOk, map};
-ghost use Rattle.review_words.specs.declared.command.Command.TheVariants.{RecordBase};
+ghost use Rattle.review_words.specs.declared.command.Command.TheVariants.{RecordBase, CreateChange};
 ghost use Rattle.review_rows.specs.declared.rows.Want.TheVariants as want;
-ghost use Rattle.review_rows.specs.Steps.{caller_wants, command_wants, query_wants, first_wants, unknown, unless_none, wants_in, next, topic_of};
+ghost use Rattle.review_rows.specs.Steps.{caller_wants, command_wants, query_wants, first_wants, topic_of};
 
-use crate::keys::{base_of, branch_of};
-use review_rows::{Counted, Matter, MemberKey, Need, Rows, Want};
+use crate::changes::push_patch;
+use review_branch_decisions::{base_of, branch_of};
+use review_rows::{Counted, Matter, MemberKey, Want};
 use review_words::{
-    AccountNo, BranchName, Command, CommitName, ProjectName, Query, administrators,
+    AccountNo, BranchName, Command, CommitName, NewChange, ProjectName, Query, administrators,
 };
 use std::alloc::{AllocError, Global};
 
-/// What a command or a question asks of the tables next; nothing where the rows decide it. Of a command these are: how many requests are
-/// stored, the caller's account and those that it names, whether the caller is an administrator, and what it is to change; of a question
-/// the caller's account, whether the project is there, and the bases of the branch.
-pub fn next_need(
-    alloc: Global,
-    rows: &Rows,
-    caller: AccountNo,
-    matter: Matter<'_>,
-) -> Result<Option<Need>, AllocError>
-    ensures { IfOk result (λ need. wants_in need ≡ unless_none (next rows.now caller (topic_of matter.entry))) }
-{
-    let wants = first_wants(alloc, caller, matter)?;
-    let wants = unknown(alloc, rows, wants)?;
-    if wants.is_empty() {
-        return Ok(None);
-    }
-    Ok(Some(Need { wants }))
-}
-
-fn first_wants(
+/// What a command or a question asks first. Of a command these are: how many requests are stored, the caller's account and those that it
+/// names, whether the caller is an administrator, and what it is to change or the change that it names; of a question the caller's
+/// account, whether the project is there, and the bases of the branch.
+pub fn first_wants(
     alloc: Global,
     caller: AccountNo,
     matter: Matter<'_>,
@@ -41,26 +26,6 @@ fn first_wants(
         Matter::Command(command) => command_wants(alloc, caller, command),
         Matter::Query(query) => query_wants(alloc, caller, query),
     }
-}
-
-// Those look-ups that weren't made.
-fn unknown(alloc: Global, rows: &Rows, wants: Vec<Want>) -> Result<Vec<Want>, AllocError>
-    ensures { IfOk result (λ left. left.items ≡ unknown rows.now wants.items) }
-{
-    let mut left = Vec::new(alloc);
-    for want in wants {
-        push_unknown(&mut left, rows, want)?;
-    }
-    Ok(left)
-}
-
-fn push_unknown(left: &mut Vec<Want>, rows: &Rows, want: Want) -> Result<(), AllocError>
-    ensures { OnOk result (left.new.items ≡ left.old.items ++ unknown rows.now (want ∷ [])) }
-{
-    if !rows.knows(&want) {
-        left.push(want)?;
-    }
-    Ok(())
 }
 
 // How many requests are stored, and whether the caller is an account and an administrator.
@@ -103,11 +68,14 @@ fn command_wants(
             branch,
             commit,
         } => push_base(alloc, &mut wants, project, branch, commit)?,
+        Command::CreateChange(new) => push_new(alloc, &mut wants, new)?,
+        Command::Upload { change, patch: _ } => wants.push(Want::Change(*change))?,
+        Command::Review { change, review: _ } => wants.push(Want::Change(*change))?,
     }
     Ok(wants)
 }
 
-#[tactic(auto, using(crate::proofs::Asked::accounts_more))]
+#[tactic(auto, using(crate::proofs::Asking::accounts_more))]
 fn push_accounts(wants: &mut Vec<Want>, numbers: &[AccountNo]) -> Result<(), AllocError>
     ensures { OnOk result (wants.new.items ≡ wants.old.items ++ map want.Account numbers.now) }
 {
@@ -131,6 +99,21 @@ fn push_base(
     wants.push(Want::Room(Counted::BasesOf(project.copy(alloc)?)))?;
     wants.push(Want::LastPlace(branch_of(alloc, project, branch)?))?;
     Ok(())
+}
+
+fn push_new(alloc: Global, wants: &mut Vec<Want>, new: &NewChange) -> Result<(), AllocError>
+    ensures { OnOk result (wants.new.items ≡ wants.old.items ++ command_wants (CreateChange new.now)) }
+{
+    wants.push(Want::LastPlace(branch_of(alloc, &new.project, &new.branch)?))?;
+    wants.push(Want::LastChange)?;
+    push_patch(
+        alloc,
+        wants,
+        &new.project,
+        &new.branch,
+        &new.commit,
+        &new.parent,
+    )
 }
 
 fn query_wants(alloc: Global, caller: AccountNo, query: &Query) -> Result<Vec<Want>, AllocError>

@@ -1,0 +1,138 @@
+//! What is asked by the project file that was read.
+ghost use Rattle.std.specs.Prelude.{◌≡◌, ◌++◌, ◌∷◌, [], IfOk, OnOk, map, option_copied};
+ghost use Rattle.review_group_names.specs.Named.{copying_groups};
+ghost use Rattle.review_project.specs.Rights.{grants_of};
+ghost use Rattle.review_rows.specs.declared.rows.Want.TheVariants as want;
+ghost use Rattle.review_rows.specs.Steps.{caller_in, file_wants, granted_groups, topic_of};
+
+use review_file::{Grant, Label, ProjectFile, Right};
+use review_group_names::push_groups;
+use review_rows::{Matter, MemberKey, Want};
+use review_words::{AccountNo, Command, Given, GroupName, LabelName};
+use std::alloc::{AllocError, Global};
+
+/// What is asked of groups, by the file that was read: whether the caller is in those of a right or of a range, and the members of those
+/// that copy conditions name.
+pub fn file_wants(
+    alloc: Global,
+    file: Option<&ProjectFile>,
+    caller: AccountNo,
+    matter: Matter<'_>,
+) -> Result<Vec<Want>, AllocError>
+    ensures { IfOk result (λ wants. wants.items ≡ file_wants (option_copied file.entry) caller (topic_of matter.entry)) }
+{
+    let mut wants = Vec::new(alloc);
+    let Some(file) = file else {
+        return Ok(wants);
+    };
+    match matter {
+        Matter::Command(Command::CreateChange(_)) => {
+            push_caller(alloc, &mut wants, caller, file.groups(Right::Create))?;
+        }
+        Matter::Command(Command::Upload { .. }) => {
+            push_caller(alloc, &mut wants, caller, file.groups(Right::Upload))?;
+            push_copying(alloc, &mut wants, file.labels())?;
+        }
+        Matter::Command(Command::Review { change: _, review }) => {
+            push_granted(alloc, &mut wants, caller, file, review.labels.as_slice())?;
+        }
+        _ => {}
+    }
+    Ok(wants)
+}
+
+/// Adds whether the caller is in these groups.
+fn push_caller(
+    alloc: Global,
+    wants: &mut Vec<Want>,
+    caller: AccountNo,
+    groups: &[GroupName],
+) -> Result<(), AllocError>
+    ensures { OnOk result (wants.new.items ≡ wants.old.items ++ caller_in caller groups.now) }
+{
+    for group in groups {
+        push_member(alloc, wants, caller, group)?;
+    }
+    Ok(())
+}
+
+fn push_member(
+    alloc: Global,
+    wants: &mut Vec<Want>,
+    caller: AccountNo,
+    group: &GroupName,
+) -> Result<(), AllocError>
+    ensures { OnOk result (wants.new.items ≡ wants.old.items ++ caller_in caller (group.now ∷ [])) }
+{
+    wants.push(Want::Member(MemberKey {
+        group: group.copy(alloc)?,
+        account: caller,
+    }))?;
+    Ok(())
+}
+
+/// Adds whether the caller is in the groups that have a range of one of the labels.
+fn push_granted(
+    alloc: Global,
+    wants: &mut Vec<Want>,
+    caller: AccountNo,
+    file: &ProjectFile,
+    given: &[Given],
+) -> Result<(), AllocError>
+    ensures { OnOk result (wants.new.items ≡ wants.old.items ++ caller_in caller (granted_groups file.now given.now)) }
+{
+    for one in given {
+        push_grants(alloc, wants, caller, grants_of(file, &one.label))?;
+    }
+    Ok(())
+}
+
+fn grants_of<'f>(file: &'f ProjectFile, label: &LabelName) -> &'f [Grant]
+    ensures { result.now ≡ grants_of file.now label.now }
+{
+    match file.label(label) {
+        Some(found) => found.grants(),
+        None => &[],
+    }
+}
+
+fn push_grants(
+    alloc: Global,
+    wants: &mut Vec<Want>,
+    caller: AccountNo,
+    grants: &[Grant],
+) -> Result<(), AllocError>
+    ensures { OnOk result (wants.new.items ≡ wants.old.items ++ caller_in caller (map (λ g. g.group) grants.now)) }
+{
+    for grant in grants {
+        push_member(alloc, wants, caller, &grant.group)?;
+    }
+    Ok(())
+}
+
+/// Adds the members of the groups that the copy conditions of labels name.
+fn push_copying(alloc: Global, wants: &mut Vec<Want>, labels: &[Label]) -> Result<(), AllocError>
+    ensures { OnOk result (wants.new.items ≡ wants.old.items ++ map want.Group (copying_groups labels.now)) }
+{
+    for label in labels {
+        if let Some(condition) = label.copy_condition() {
+            let mut groups = Vec::new(alloc);
+            push_groups(&mut groups, condition)?;
+            push_group_names(alloc, wants, &groups)?;
+        }
+    }
+    Ok(())
+}
+
+fn push_group_names(
+    alloc: Global,
+    wants: &mut Vec<Want>,
+    groups: &[&GroupName],
+) -> Result<(), AllocError>
+    ensures { OnOk result (wants.new.items ≡ wants.old.items ++ map want.Group (map (λ g. g.now) groups.now)) }
+{
+    for group in groups {
+        wants.push(Want::Group(group.copy(alloc)?))?;
+    }
+    Ok(())
+}
