@@ -1,0 +1,5 @@
+pub mod There
+pub mod Same
+pub mod Sent
+pub mod Grouped
+pub mod Sound
