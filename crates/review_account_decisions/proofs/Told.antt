@@ -1,22 +1,20 @@
 -- What rows that agree with a history tell of it, look-up by look-up.
-use Rattle.std.proofs.Common.{◌≡◌, ℕ, ◌+◌, ◌<◌, ◌≤◌, ◌==◌, zero, suc, List, [], ◌∷◌, ◌++◌, length, map, Option, Some, None, Bool, true, false, cond, ◌&&◌, ◌||◌, refl, sym, ap, ◌∙◌, subst, ◌⊎◌, ⊎_elim, inl, inr, arith}
-use Rattle.std.specs.Prelude.{is_some, IsSome, nat_lt, nat_le, option_map}
-use Rattle.std.specs.List.{AllByRecursion, list_all, list_any}
+use Rattle.std.proofs.Common.{◌≡◌, ℕ, ◌<◌, ◌≤◌, zero, suc, List, [], ◌∷◌, length, Option, Some, None, Bool, true, false, cond, ◌||◌, refl, sym, ap, ◌∙◌, ◌⊎◌, ⊎_elim, arith}
+use Rattle.std.specs.Prelude.{is_some, IsSome, nat_lt, option_map}
+use Rattle.std.specs.List.{list_any}
 use Rattle.std.specs.Str.{bytes_eq}
 use Rattle.std.specs.Ordering.{nat_cmp}
 use Rattle.std.proofs.lemmas.Bool.{cases_Bool, cases_lt}
 use Rattle.std.proofs.lemmas.Slice.Eq.{bytes_eq-Decides}
 use Rattle.review_table.specs.Rows.{row_in}
-use Rattle.review_names.specs.Names.{administrators}
-use Rattle.review_words.specs.History.{Entry, account_count, name_taken, is_account, is_admin, is_listed, file_text, is_project, project_count, bases, base_count, is_base}
+use Rattle.review_words.specs.History.{Entry, account_count, name_taken, is_account, is_listed, file_text, is_project, bases, is_base}
 use Rattle.review_rows.specs.declared.rows.BranchKey.{BranchKey as Branch}
 use Rattle.review_rows.specs.declared.rows.Base.{Base}
 use Rattle.review_rows.specs.declared.rows.Counted.{Counted}
 use Rattle.review_rows.specs.declared.rows.Rows.{Rows}
-use Rattle.review_rows.specs.declared.rows.Want.{Want}
 use Rattle.review_rows.specs.declared.rows.Want.TheVariants as want
-use Rattle.review_rows.specs.Rows.{Key, MemberKey, FileKey, BaseKey, Row, MemberRow, FileRow, BaseRow, member_row}
-use Rattle.review_rows.specs.Known.{Found, known, Agrees, IsKnown, is_so, is_there, number_of, holder_of, members_of, text_of, commits_of, at_place, IsLast, IsBaseOrNot, HasBases, count_of, most}
+use Rattle.review_rows.specs.Rows.{MemberRow, FileRow, BaseRow, member_row}
+use Rattle.review_rows.specs.Known.{known, Agrees, IsKnown, is_so, is_there, number_of, holder_of, members_of, text_of, commits_of, at_place, IsBaseOrNot, count_of, most}
 use Rattle.review_rows.specs.View.{view, fact, counted}
 use Rattle.review_rows.proofs.Asked.{found_of}
 use Rattle.review_rows.proofs.Placing.{past_end, some_at, nothing_at_zero}
