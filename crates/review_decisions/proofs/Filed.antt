@@ -6,10 +6,7 @@ use Rattle.std.specs.Option.{option_map_or}
 use Rattle.std.specs.Str.{bytes_eq}
 use Rattle.review_words.specs.declared.command.Command.{Command}
 use Rattle.review_words.specs.declared.command.Command.TheVariants.{CreateAccount, PutGroup, PutProject, RecordBase}
-use Rattle.review_words.specs.declared.faults.ExprCode.{ExprCode}
-use Rattle.review_words.specs.declared.faults.ExprCode.TheVariants as code
 use Rattle.review_words.specs.declared.faults.FileFault.{FileFault}
-use Rattle.review_words.specs.declared.faults.FileFault.TheVariants as file
 use Rattle.review_words.specs.declared.reply.Reply.{Reply}
 use Rattle.review_words.specs.declared.reply.Reply.TheVariants.{Done, Refused, IdentityReused, NotTaken}
 use Rattle.review_words.specs.declared.reply.Answer.{Answer}
@@ -22,19 +19,18 @@ use Rattle.review_words.specs.History.{Entry, Identity, accepted, text_put, file
 use Rattle.review_project.specs.declared.fault.ReadFault.{ReadFault}
 use Rattle.review_project.specs.declared.fault.ReadFault.TheVariants as read
 use Rattle.review_project.specs.Reading.{IsReadFault}
-use Rattle.review_project_laws.proofs.Together.{read_or_fault}
+use Rattle.review_project_laws.proofs.Together.{never_both}
 use Rattle.review_rows.specs.declared.rows.Rows.{Rows}
 use Rattle.review_rows.specs.declared.rows.Delta.{Delta}
 use Rattle.review_rows.specs.Files.{File, IsRead, IsFileFault, covers, HasPattern}
-use Rattle.review_rows.specs.Rows.{FileKey, FileRow, HasNoEffect}
+use Rattle.review_rows.specs.Rows.{HasNoEffect}
 use Rattle.review_rows.specs.Answer.{IsHistory, IsAnswer, IsOutcome, HasFile, file_checks, first_refusal, refused_or, refused_by}
-use Rattle.review_rows.specs.declared.rows.Want.TheVariants as want
 use Rattle.review_rows.specs.declared.rows.Counted.TheVariants as counted
 use Rattle.review_rows.specs.Steps.{OfCommand}
-use Rattle.review_rows.specs.View.{fact, AreEnough, IsDecided}
+use Rattle.review_rows.specs.View.{AreEnough, IsDecided}
 use Rattle.review_rows.specs.Decisions.{IsUndecided, ReadsPattern}
 use Rattle.review_account_decisions.specs.Decisions.{IsEmpty}
-use Rattle.review_decisions.specs.Files.{file_in, room_in, bad_value_cause, unread_cause, IsCovered, IsReadCause, IsUnreadText, IsUnread, IsFileRefusal, IsPutBy, IsFilePut, file_refused}
+use Rattle.review_decisions.specs.Files.{file_in, room_in, unread_cause, IsCovered, IsReadCause, IsUnreadText, IsUnread, IsFileRefusal, IsPutBy, IsFilePut, ReadsPatternIn, file_refused}
 use Rattle.review_account_decisions.proofs.Told.{text_told, room_told}
 use Rattle.review_account_decisions.proofs.Decided.{asked_beside, empty_changes, outcome_answer, project_refused, refused_decided, file_decided}
 
@@ -51,32 +47,11 @@ pub unread_residual : {X : Type 0} (had : Option (List ℕ)) (r : Result X Cause
 unread_residual had (Ok x) e = tt
 unread_residual had (Err c) e = subst (IsUnread had) (sym e.1) (unread_memory had)
 
--- why a text that spells a file is not read
+-- why a text that should spell a file is not read
 pub unread_is : (t : List ℕ) (fault : ReadFault) → IsReadFault t fault → (fault ≡ read.Pattern → HasPattern t) → IsUnreadText t (unread_cause fault)
 unread_is t read.Memory is pattern = tt
-unread_is t read.Pattern is pattern = λ f r. pattern refl
-unread_is t (read.File (file.Expr e)) is pattern = at e.code refl
-  where
-    other : (k : ExprCode) → e.code ≡ k → (k ≡ code.BadValue → ⊥) → (f : File) → IsRead t f → ⊥
-    other k here differs f r = differs (sym here ∙ (read_or_fault t f (file.Expr e) r is).0)
-
-    at : (k : ExprCode) → e.code ≡ k → IsUnreadText t (bad_value_cause k)
-    at code.BadValue here = λ f r. (read_or_fault t f (file.Expr e) r is).2
-    at code.Empty here = other code.Empty here (λ x. absurd (cc))
-    at code.BadTerm here = other code.BadTerm here (λ x. absurd (cc))
-    at code.Unbalanced here = other code.Unbalanced here (λ x. absurd (cc))
-    at code.Mixed here = other code.Mixed here (λ x. absurd (cc))
-    at code.Zero here = other code.Zero here (λ x. absurd (cc))
-    at code.TooDeep here = other code.TooDeep here (λ x. absurd (cc))
-    at code.TooLong here = other code.TooLong here (λ x. absurd (cc))
-unread_is t (read.File file.Toml) is pattern = λ f r. (read_or_fault t f file.Toml r is).0
-unread_is t (read.File file.UnknownKey) is pattern = λ f r. (read_or_fault t f file.UnknownKey r is).0
-unread_is t (read.File file.Missing) is pattern = λ f r. (read_or_fault t f file.Missing r is).0
-unread_is t (read.File file.BadName) is pattern = λ f r. (read_or_fault t f file.BadName r is).0
-unread_is t (read.File file.Twice) is pattern = λ f r. (read_or_fault t f file.Twice r is).0
-unread_is t (read.File file.BadValues) is pattern = λ f r. (read_or_fault t f file.BadValues r is).0
-unread_is t (read.File file.UnknownLabel) is pattern = λ f r. (read_or_fault t f file.UnknownLabel r is).0
-unread_is t (read.File file.Limit) is pattern = λ f r. (read_or_fault t f file.Limit r is).0
+unread_is t read.Pattern is pattern = pattern refl
+unread_is t (read.File fault) is pattern = λ f r. never_both t f fault r is
 
 -- the text that rows know is the project's
 pub file_loaded : (h : List Entry) (caller : ℕ) (project text : List ℕ) (rows : Rows) → AreEnough h caller (OfCommand (PutProject project text)) rows → file_in rows project ≡ file_text h project
@@ -149,7 +124,7 @@ unread_undecided caller project text rows cause is = at (file_in rows project) r
     at None here Full is = absurd (cc)
     at (Some t) here Store is = absurd is
     at (Some t) here Full is = absurd is
-    at (Some t) here Pattern is = λ h hist l. let there = stored h t here l in let f = project_read h hist project t there in reads h t there (is f.0 f.1)
+    at (Some t) here Pattern is = λ h hist l. reads h t (stored h t here l) is
     at (Some t) here Damaged is = λ h hist l. let f = project_read h hist project t (stored h t here l) in is f.0 f.1
 
 -- why it is not decided where the file that is put is not read
@@ -159,6 +134,20 @@ unreadable_undecided caller project text rows fault Pattern refused is = λ h hi
 unreadable_undecided caller project text rows fault Store refused is = absurd is
 unreadable_undecided caller project text rows fault Damaged refused is = absurd is
 unreadable_undecided caller project text rows fault Full refused is = absurd is
+
+-- a pattern that is refused is in what the command reads
+pub stored_pattern : (project text : List ℕ) (rows : Rows) (result : Result (Delta × Reply) Cause) → IfErr result (IsUnread (file_in rows project)) → IfErr result (λ cause. cause ≡ Pattern → ReadsPatternIn rows (PutProject project text))
+stored_pattern project text rows (Ok r) x = tt
+stored_pattern project text rows (Err e) x = λ is. inr (at (file_in rows project) (subst (IsUnread (file_in rows project)) is x))
+  where
+    at : (o : Option (List ℕ)) → IsUnread o Pattern → IsSomeAnd o HasPattern
+    at None bad = absurd (cc)
+    at (Some t) has = has
+
+pub put_pattern : (project text : List ℕ) (rows : Rows) (fault : ReadFault) (result : Result (Delta × Reply) Cause) → IsReadFault text fault → IfErr result (IsReadCause fault) →
+    IfErr result (λ cause. cause ≡ Pattern → ReadsPatternIn rows (PutProject project text))
+put_pattern project text rows fault (Ok r) refused x = tt
+put_pattern project text rows fault (Err e) refused x = λ is. inl (subst (IsReadFault text) (subst (IsReadCause fault) is x) refused)
 
 -- a text with a fault is refused with it
 pub fault_decided : (h : List Entry) (caller : ℕ) (project text : List ℕ) (r : Delta × Reply) (fault : FileFault) → is_account h caller ≡ true → is_admin h caller ≡ true →

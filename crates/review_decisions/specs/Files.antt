@@ -1,8 +1,7 @@
 -- What is done with the files of projects.
-use Rattle.std.specs.Prelude.{ℕ, ◌≡◌, List, [], Option, Some, None, Bool, true, false, is_some, nat_lt, option_map, if◌then◌else◌}
-use Rattle.review_words.specs.declared.faults.ExprCode.{ExprCode}
-use Rattle.review_words.specs.declared.faults.ExprCode.TheVariants.{BadValue}
-use Rattle.review_words.specs.declared.faults.FileFault.TheVariants.{Expr}
+use Rattle.std.specs.Prelude.{ℕ, ◌≡◌, ◌⊎◌, List, [], Option, Some, None, Bool, true, false, is_some, nat_lt, option_map, if◌then◌else◌, IsSomeAnd}
+use Rattle.review_words.specs.declared.command.Command.{Command}
+use Rattle.review_words.specs.declared.command.Command.TheVariants.{PutProject}
 use Rattle.review_words.specs.declared.reply.Reply.{Reply}
 use Rattle.review_words.specs.declared.reply.Reply.TheVariants.{Done, Refused}
 use Rattle.review_words.specs.declared.reply.Answer.TheVariants.{Nothing}
@@ -13,6 +12,7 @@ use Rattle.review_words.specs.declared.reply.NotTaken.TheVariants.{Memory, Patte
 use Rattle.review_words.specs.History.{Entry, is_project, project_count}
 use Rattle.review_project.specs.declared.fault.ReadFault.{ReadFault}
 use Rattle.review_project.specs.declared.fault.ReadFault.TheVariants as read
+use Rattle.review_project.specs.Reading.{IsReadFault}
 use Rattle.review_rows.specs.Files.{File, IsRead, HasPattern, covers}
 use Rattle.review_rows.specs.Answer.{HasFile, file_checks, first_refusal, most_projects}
 use Rattle.review_rows.specs.declared.rows.Rows.{Rows}
@@ -30,17 +30,10 @@ file_in rows project = text_of (known rows (want.File project))
 abbrev pub room_in : Rows → Bool
 room_in rows = is_so (known rows (want.Room counted.Projects))
 
--- what a fault of an expression in a stored file shows
-abbrev pub bad_value_cause : ExprCode → Cause
-bad_value_cause BadValue = Pattern
-bad_value_cause code = Damaged
-
--- Why a stored file is not read. The file of a history was read when it was put: a bad value shows a pattern that the engine refuses now, any
--- other fault damage. In tables of no history it may be another bad value.
+-- Why a stored text, which should spell a file, is not read: for a pattern that the engine refuses, or for a fault of the text, which no file's text has.
 abbrev pub unread_cause : ReadFault → Cause
 unread_cause read.Memory = Memory
 unread_cause read.Pattern = Pattern
-unread_cause (read.File (Expr fault)) = bad_value_cause fault.code
 unread_cause (read.File fault) = Damaged
 
 -- why a file that is put is not read
@@ -52,7 +45,7 @@ IsReadCause fault _ = ⊥
 -- why a text that should spell a file is not read
 abbrev pub IsUnreadText : List ℕ → Cause → Type 0
 IsUnreadText text Memory = Unit {0}
-IsUnreadText text Pattern = (f : File) → IsRead text f → HasPattern text
+IsUnreadText text Pattern = HasPattern text
 IsUnreadText text Damaged = (f : File) → IsRead text f → ⊥
 IsUnreadText text _ = ⊥
 
@@ -60,6 +53,11 @@ IsUnreadText text _ = ⊥
 abbrev pub IsUnread : Option (List ℕ) → Cause → Type 0
 IsUnread None cause = cause ≡ Memory
 IsUnread (Some text) cause = IsUnreadText text cause
+
+-- A command reads a pattern that the engine may refuse: in the file that is put, all before it being good, or in the stored text of its project, as rows know it.
+abbrev pub ReadsPatternIn : Rows → Command → Type 0
+ReadsPatternIn rows (PutProject project text) = IsReadFault text read.Pattern ⊎ IsSomeAnd (file_in rows project) HasPattern
+ReadsPatternIn rows command = ⊥
 
 -- the file of this project is put, and nothing else is done
 pub record PutsFile (project text : List ℕ) (delta : Delta) : Type 0 where

@@ -12,14 +12,12 @@ ghost use Rattle.review_words.specs.declared.reply.Refusal.TheVariants.{BadFile}
 ghost use Rattle.review_project.specs.declared.fault.ReadFault.TheVariants.{File};
 ghost use Rattle.review_rows.specs.Decisions.{IsUndecided, NamesEachOnce};
 ghost use Rattle.review_account_decisions.specs.Decisions.{IsEmpty};
-ghost use Rattle.review_decisions.specs.Files.{file_in, room_in, file_refused, unread_cause, IsCovered, IsReadCause, IsUnread, PutsFile, IsFileRefusal, IsFilePut};
+ghost use Rattle.review_decisions.specs.Files.{file_in, room_in, file_refused, unread_cause, IsCovered, IsReadCause, IsUnread, PutsFile, IsFileRefusal, IsFilePut, ReadsPatternIn};
 
 use review_account_decisions::{is_admin, nothing, refused};
 use review_file::{FileMemo, ProjectFile, ReadFault, ReadText, covers};
 use review_rows::{Delta, ProjectRow, Rows};
-use review_words::{
-    AccountNo, Answer, ExprCode, FileFault, FileText, NotTaken, ProjectName, Refusal, Reply,
-};
+use review_words::{AccountNo, Answer, FileFault, FileText, NotTaken, ProjectName, Refusal, Reply};
 use std::alloc::{AllocError, Global};
 
 /// Puts the file of a project. What is remembered spares reading the one that it has; the one that is put is remembered, where there is memory for it.
@@ -33,6 +31,7 @@ pub fn put_project(
 ) -> Result<(Delta, Reply), NotTaken>
     ensures decided { IfOk result (λ r. (h : List Entry) → is_account h caller ≡ true → AreEnough h caller (OfCommand (PutProject project.now file.now)) rows.now → IsDecided h caller (PutProject project.now file.now) r.0 r.1) }
     ensures cause { IfErr result (IsUndecided caller (PutProject project.now file.now) rows.now) }
+    ensures pattern { IfErr result (λ cause. cause ≡ NotTaken.Pattern → ReadsPatternIn rows.now (PutProject project.now file.now)) }
     ensures stored { IfOk result (λ r. IsStored r.1) }
     ensures refused { IfOk result (λ r. HasNoEffect r.1 r.0) }
     ensures once { IfOk result (λ r. NamesEachOnce r.0) }
@@ -150,18 +149,14 @@ fn covers_old(
     }
 }
 
-/// Why a stored file is not read. The file of a history was read when it was put: a bad value shows a pattern that the engine
-/// refuses now, any other fault damage.
+/// Why a stored text, which should spell a file, is not read: Pattern only where the engine refuses a pattern that the text has, and any fault of
+/// the text is damage, for the text of no history's file has one.
 pub fn unread_cause(fault: ReadFault) -> NotTaken
     ensures { result ≡ unread_cause fault }
 {
     match fault {
         ReadFault::Memory => NotTaken::Memory,
         ReadFault::Pattern => NotTaken::Pattern,
-        ReadFault::File(FileFault::Expr(fault)) => match fault.code {
-            ExprCode::BadValue => NotTaken::Pattern,
-            _ => NotTaken::Damaged,
-        },
         ReadFault::File(_) => NotTaken::Damaged,
     }
 }

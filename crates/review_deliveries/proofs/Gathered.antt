@@ -4,12 +4,10 @@ use Rattle.std.specs.Option.{option_or}
 use Rattle.std.specs.List.{All}
 use Rattle.review_rows.specs.declared.rows.Want.{Want}
 use Rattle.review_rows.specs.declared.rows.Rows.{Rows}
-use Rattle.review_rows.specs.declared.rows.Need.{Need}
 use Rattle.review_rows.specs.declared.shelf.ShelfFault.{ShelfFault}
-use Rattle.review_rows.specs.declared.shelf.ShelfFault.TheVariants as fault
 use Rattle.review_rows.specs.Rows.{Tables}
 use Rattle.review_rows.specs.Known.{Found, IsFound, known, IsKnown, Agrees, AreAdded}
-use Rattle.review_rows.specs.Steps.{Topic, next, left, unless_none, wants_in}
+use Rattle.review_rows.specs.Steps.{Topic, next, left, unless_none}
 use Rattle.review_rows.specs.Shelf.{Shows, LeavesBy, Blames, cause_of}
 use Rattle.review_rows.proofs.Asked.{asking_lowers, asks_first}
 

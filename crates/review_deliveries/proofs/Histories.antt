@@ -16,11 +16,11 @@ use Rattle.review_words.specs.History.{Entry, Identity, stored, is_same, is_acco
 use Rattle.review_project_laws.proofs.Placed.{placed}
 use Rattle.review_rows.specs.declared.rows.Delta.{Delta}
 use Rattle.review_rows.specs.declared.rows.Rows.{Rows}
-use Rattle.review_rows.specs.Rows.{Key, Row, Count, AnswerRow, Stored, Answered, Tables, after, count_after}
-use Rattle.review_rows.specs.Known.{Agrees, known, number_of}
-use Rattle.review_rows.specs.Steps.{Topic, OfCommand, next}
+use Rattle.review_rows.specs.Rows.{AnswerRow, Answered, Tables, after, count_after}
+use Rattle.review_rows.specs.Known.{Agrees}
+use Rattle.review_rows.specs.Steps.{Topic, next}
 use Rattle.review_rows.specs.Answer.{IsHistory, IsAnswer, IsOutcome, checks, file_checks, first_refusal, refused_by, refused_or, most_requests}
-use Rattle.review_rows.specs.View.{AreEnough, IsView, IsDecided, view, fact, counted, stored_answer, answer_row}
+use Rattle.review_rows.specs.View.{AreEnough, IsView, IsDecided, view, fact, stored_answer, answer_row}
 use Rattle.review_rows.specs.Shelf.{IsCommitted, Shows, Views}
 
 pub same_from : (a b : Identity) → is_same a b ≡ true → a ≡ b

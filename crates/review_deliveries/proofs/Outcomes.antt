@@ -11,7 +11,7 @@ use Rattle.review_words.specs.declared.reply.Refusal.{Refusal}
 use Rattle.review_words.specs.declared.reply.Refusal.TheVariants.{BadFile, LabelNarrowed, Limit}
 use Rattle.review_words.specs.History.{Entry, is_project, project_count, file_text}
 use Rattle.review_project.specs.Reading.{IsBadValue}
-use Rattle.review_project_laws.proofs.Together.{same_covers, read_or_fault, one_refusal}
+use Rattle.review_project_laws.proofs.Together.{same_covers, never_both, one_refusal}
 use Rattle.review_rows.specs.Files.{File, IsRead, covers, HasDeepPattern}
 use Rattle.review_rows.specs.Answer.{IsOutcome, HasFile, first_refusal, refused_by, refused_or}
 use Rattle.review_deliveries.specs.Restart.{IsFree, RefusesBadValue, OneAnswer}
@@ -33,10 +33,8 @@ one_put h project text r s (inl f) (inl g) = by (one_refusal text f.0 g.0 f.1 g.
     by (inl same) = inl (f.2 ∙ ap (λ x. Refused (BadFile x)) same ∙ sym g.2)
     by (inr (inl bad, deep)) = inr (deep, inl (subst RefusesBadValue (sym f.2) bad))
     by (inr (inr bad, deep)) = inr (deep, inr (subst RefusesBadValue (sym g.2) bad))
-one_put h project text r s (inl f) (inr g) =
-    let bad = read_or_fault text g.0 f.0 g.2 f.1 in inr (bad.1, inl (subst RefusesBadValue (sym f.2) bad.0))
-one_put h project text r s (inr f) (inl g) =
-    let bad = read_or_fault text f.0 g.0 f.2 g.1 in inr (bad.1, inr (subst RefusesBadValue (sym g.2) bad.0))
+one_put h project text r s (inl f) (inr g) = absurd (never_both text g.0 f.0 g.2 f.1)
+one_put h project text r s (inr f) (inl g) = absurd (never_both text f.0 g.0 f.2 g.1)
 one_put h project text r s (inr f) (inr g) =
     inl (f.4
     ∙ ap (λ b. refused_or (first_refusal ((b, LabelNarrowed) ∷ (is_project h project || nat_lt (project_count h) 1000, Limit) ∷ [])) Nothing)

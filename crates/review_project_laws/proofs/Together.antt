@@ -16,7 +16,7 @@ use Rattle.review_words.specs.declared.faults.FileFault.TheVariants.{Toml, Unkno
 use Rattle.review_words.specs.declared.faults.FileFault.TheVariants.{Expr as Faulty}
 use Rattle.review_grammar.specs.Views.{view}
 use Rattle.review_judging.specs.Labels.{labels}
-use Rattle.review_spelling.specs.Words.{requirement_reading, copy_reading, IsDeep, IsPattern}
+use Rattle.review_spelling.specs.Words.{requirement_reading, copy_reading, IsDeep}
 use Rattle.review_document.specs.Limits.{most_bytes}
 use Rattle.review_expr.specs.declared.expr.Expr.{Expr}
 use Rattle.review_expr.specs.declared.expr.Expr.TheVariants as expr
@@ -30,9 +30,9 @@ use Rattle.review_project.specs.View.{LabelView, RequirementView, FileView}
 use Rattle.review_project.specs.Rights.{covers, is_covered, has_values}
 use Rattle.review_project.specs.Spelled.{spelled}
 use Rattle.review_project.specs.Expressions.{EachTo, IfThere, AllRead, FirstFault, IsNoCopy, IsNoRequirement, IsLabel, IsRequirement, IsFile, IsStoppedBy, copy_texts, requirement_texts, names_other, requires_other, has_unknown_label}
-use Rattle.review_project.specs.Patterns.{SomeWord, HasPattern, HasDeepPattern}
+use Rattle.review_project.specs.Patterns.{SomeWord, HasDeepPattern}
 use Rattle.review_project.specs.Reading.{first_fault, HasFile, IsFaultless, IsLeast, IsBadValue, IsRefused, IsFileFault, IsRead}
-use Rattle.review_project_laws.proofs.DeepWords.{deep_word}
+use Rattle.review_project_laws.proofs.DeepWords.{no_deep_word}
 use Rattle.review_project.proofs.Verdicts.{all_copies, all_requirements}
 
 -- ---- labels of two files that one document spells
@@ -131,23 +131,19 @@ copies_both [] fault all first = first
 copies_both (text ∷ texts) fault all (inl refused) = copy_both text all.0.0 fault all.0.1 refused
 copies_both (text ∷ texts) fault all (inr first) = copies_both texts fault all.1 first.1
 
-requirement_both : (text : List ℕ) (e : Expr) (fault : ExprFault) → IsRequirementOf text e → IsFault requirement_reading IsDeep text fault.place fault.code →
-    (fault.code ≡ BadValue) × HasWord requirement_reading IsDeep text fault.place × HasWord requirement_reading IsPattern text fault.place
+requirement_both : (text : List ℕ) (e : Expr) (fault : ExprFault) → IsRequirementOf text e → IsFault requirement_reading IsDeep text fault.place fault.code → ⊥
 requirement_both text (expr.Requirement e) fault is refused =
-    let bad = bad_value requirement_reading IsDeep text (view e.node) fault.place fault.code is refused in (bad.0, bad.1, deep_word text (view e.node) fault.place is bad.1)
-requirement_both text (expr.Copy e) fault is refused = absurd is
+    no_deep_word text (view e.node) fault.place is (bad_value requirement_reading IsDeep text (view e.node) fault.place fault.code is refused).1
+requirement_both text (expr.Copy e) fault is refused = is
 
-requirements_both : (texts : List (List ℕ)) (fault : ExprFault) → AllRead IsRequirementOf texts → FirstFault IsRequirementOf IsNoRequirement texts (parse.Text fault) →
-    (fault.code ≡ BadValue) × SomeWord IsDeep texts × SomeWord IsPattern texts
-requirements_both [] fault all first = absurd first
-requirements_both (text ∷ texts) fault all (inl refused) =
-    let here = requirement_both text all.0.0 fault all.0.1 refused in (here.0, inl (fault.place, here.1), inl (fault.place, here.2))
-requirements_both (text ∷ texts) fault all (inr first) = let there = requirements_both texts fault all.1 first.1 in (there.0, inr there.1, inr there.2)
+requirements_both : (texts : List (List ℕ)) (fault : ExprFault) → AllRead IsRequirementOf texts → FirstFault IsRequirementOf IsNoRequirement texts (parse.Text fault) → ⊥
+requirements_both [] fault all first = first
+requirements_both (text ∷ texts) fault all (inl refused) = requirement_both text all.0.0 fault all.0.1 refused
+requirements_both (text ∷ texts) fault all (inr first) = requirements_both texts fault all.1 first.1
 
--- where all expressions are good, one is faulty only as a bad value, for a pattern that nests too deep
-file_both : (p : FileView (List ℕ)) (f : FileView Expr) (fault : ExprFault) → IsFile p f → IsStoppedBy p (parse.Text fault) →
-    (fault.code ≡ BadValue) × SomeWord IsDeep (requirement_texts p.requirements) × SomeWord IsPattern (requirement_texts p.requirements)
-file_both p f fault is (inl copies) = absurd (copies_both (copy_texts p.labels) fault (all_copies p.labels f.labels is.2) copies)
+-- where all expressions are good, none is faulty
+file_both : (p : FileView (List ℕ)) (f : FileView Expr) (fault : ExprFault) → IsFile p f → IsStoppedBy p (parse.Text fault) → ⊥
+file_both p f fault is (inl copies) = copies_both (copy_texts p.labels) fault (all_copies p.labels f.labels is.2) copies
 file_both p f fault is (inr requirements) =
     requirements_both (requirement_texts p.requirements) fault (all_requirements p.requirements f.requirements is.3) requirements.1
 
@@ -156,17 +152,16 @@ file_both p f fault is (inr requirements) =
 no_first : (o : Option FileFault) (x : FileFault) → o ≡ None → o ≡ Some x → ⊥
 no_first o x h k = cc
 
-least_both : (file : Data) (f : FileView Expr) (x : FileFault) → IsFaultless file f → IsLeast file x →
-    IsBadValue x × SomeWord IsDeep (requirement_texts (spelled file).requirements) × SomeWord IsPattern (requirement_texts (spelled file).requirements)
+least_both : (file : Data) (f : FileView Expr) (x : FileFault) → IsFaultless file f → IsLeast file x → ⊥
 least_both file f (Faulty e) good least = file_both (spelled file) f e good.0.1 least.1
-least_both file f UnknownLabel good least = absurd (not_both _ _ (unknown_alike (spelled file) least.0 f least.1.1 good.0.1) least.2 good.1)
-least_both file f Limit good least = absurd (not_both _ _ refl least.3 good.2)
-least_both file f Toml good least = absurd (no_first _ _ good.0.0 least)
-least_both file f UnknownKey good least = absurd (no_first _ _ good.0.0 least)
-least_both file f Missing good least = absurd (no_first _ _ good.0.0 least)
-least_both file f BadName good least = absurd (no_first _ _ good.0.0 least)
-least_both file f Twice good least = absurd (no_first _ _ good.0.0 least)
-least_both file f BadValues good least = absurd (no_first _ _ good.0.0 least)
+least_both file f UnknownLabel good least = not_both _ _ (unknown_alike (spelled file) least.0 f least.1.1 good.0.1) least.2 good.1
+least_both file f Limit good least = not_both _ _ refl least.3 good.2
+least_both file f Toml good least = no_first _ _ good.0.0 least
+least_both file f UnknownKey good least = no_first _ _ good.0.0 least
+least_both file f Missing good least = no_first _ _ good.0.0 least
+least_both file f BadName good least = no_first _ _ good.0.0 least
+least_both file f Twice good least = no_first _ _ good.0.0 least
+least_both file f BadValues good least = no_first _ _ good.0.0 least
 
 least_of : (text : List ℕ) (ms : Members) (x : FileFault) → nat_lt most_bytes (length text) ≡ false → parse_document text ≡ Some ms → IsFileFault text x → IsLeast (table ms) x
 least_of text ms x short parsed refused =
@@ -174,10 +169,9 @@ least_of text ms x short parsed refused =
     let Q : Option Members → Type 0 = λ o. IsRefused o (File x) in
     subst Q parsed (subst P short refused)
 
--- a text that spells a file has a fault only as a bad value, for a pattern that nests too deep
-pub read_or_fault : (text : List ℕ) (f : FileView Expr) (x : FileFault) → IsRead text f → IsFileFault text x → IsBadValue x × HasDeepPattern text × HasPattern text
-read_or_fault text f x (short, (ms, parsed, good)) refused =
-    let both = least_both (table ms) f x good (least_of text ms x short parsed refused) in (both.0, (ms, parsed, both.1), (ms, parsed, both.2))
+-- a text that spells a file has no fault
+pub never_both : (text : List ℕ) (f : FileView Expr) (x : FileFault) → IsRead text f → IsFileFault text x → ⊥
+never_both text f x (short, (ms, parsed, good)) refused = least_both (table ms) f x good (least_of text ms x short parsed refused)
 
 -- ---- two faults
 
@@ -219,8 +213,8 @@ one_requirement : (texts : List (List ℕ)) (d e : ExprFault) → FirstFault IsR
 one_requirement [] d e h k = absurd h
 one_requirement (text ∷ texts) d e (inl h) (inl k) =
     same_requirement text texts d e (one_fault requirement_reading IsDeep text d.place e.place d.code e.code h k)
-one_requirement (text ∷ texts) d e (inl h) (inr k) = let bad = requirement_both text k.0.0 d k.0.1 h in inr (inl bad.0, inl (d.place, bad.1))
-one_requirement (text ∷ texts) d e (inr h) (inl k) = let bad = requirement_both text h.0.0 e h.0.1 k in inr (inr bad.0, inl (e.place, bad.1))
+one_requirement (text ∷ texts) d e (inl h) (inr k) = absurd (requirement_both text k.0.0 d k.0.1 h)
+one_requirement (text ∷ texts) d e (inr h) (inl k) = absurd (requirement_both text h.0.0 e h.0.1 k)
 one_requirement (text ∷ texts) d e (inr h) (inr k) = one_or (Faulty d) (Faulty e) inr (one_requirement texts d e h.1 k.1)
 
 one_stop : (p : FileView (List ℕ)) (d e : ExprFault) → IsStoppedBy p (parse.Text d) → IsStoppedBy p (parse.Text e) →
@@ -252,8 +246,8 @@ module _ (file : Data) where
   abbrev Deep : Type 0
   Deep = SomeWord IsDeep (requirement_texts (spelled file).requirements)
 
-  stopped : (x : FileFault) (f : FileView Expr) (e : ExprFault) → x ≡ Faulty e → HasFile file f → IsStoppedBy (spelled file) (parse.Text e) → IsBadValue x × Deep
-  stopped x f e is has stop = let bad = file_both (spelled file) f e has.1 stop in (subst IsBadValue (sym is) bad.0, bad.1)
+  stopped : (x : FileFault) (f : FileView Expr) (e : ExprFault) → x ≡ Faulty e → HasFile file f → IsStoppedBy (spelled file) (parse.Text e) → ⊥
+  stopped x f e is has stop = file_both (spelled file) f e has.1 stop
 
   one_verdict : (x y : FileFault) → Verdict file x → Verdict file y → OneOrBadValue Deep x y
   one_verdict x y (Early h) (Early k) = inl (same_Some x y (sym h ∙ k))
@@ -262,14 +256,14 @@ module _ (file : Data) where
   one_verdict x y (Early h) (Past f is has known) = absurd (no_first _ x has.0 h)
   one_verdict x y (Stopped d was first stop) (Early k) = absurd (no_first _ y first k)
   one_verdict x y (Stopped d was first stop) (Stopped e is second end) = subst (λ z. OneOrBadValue Deep z y) (sym was) (subst (OneOrBadValue Deep (Faulty d)) (sym is) (one_stop (spelled file) d e stop end))
-  one_verdict x y (Stopped d was first stop) (Unknown f is has unknown) = let bad = stopped x f d was has stop in inr (inl bad.0, bad.1)
-  one_verdict x y (Stopped d was first stop) (Past f is has known) = let bad = stopped x f d was has stop in inr (inl bad.0, bad.1)
+  one_verdict x y (Stopped d was first stop) (Unknown f is has unknown) = absurd (stopped x f d was has stop)
+  one_verdict x y (Stopped d was first stop) (Past f is has known) = absurd (stopped x f d was has stop)
   one_verdict x y (Unknown f was has unknown) (Early k) = absurd (no_first _ y has.0 k)
-  one_verdict x y (Unknown f was has unknown) (Stopped e is first stop) = let bad = stopped y f e is has stop in inr (inr bad.0, bad.1)
+  one_verdict x y (Unknown f was has unknown) (Stopped e is first stop) = absurd (stopped y f e is has stop)
   one_verdict x y (Unknown f was has unknown) (Unknown g is spells another) = inl (was ∙ sym is)
   one_verdict x y (Unknown f was has unknown) (Past g is spells known) = absurd (not_both _ _ (unknown_alike (spelled file) f g has.1 spells.1) unknown known)
   one_verdict x y (Past f was has known) (Early k) = absurd (no_first _ y has.0 k)
-  one_verdict x y (Past f was has known) (Stopped e is first stop) = let bad = stopped y f e is has stop in inr (inr bad.0, bad.1)
+  one_verdict x y (Past f was has known) (Stopped e is first stop) = absurd (stopped y f e is has stop)
   one_verdict x y (Past f was has known) (Unknown g is spells unknown) = absurd (not_both _ _ (unknown_alike (spelled file) g f spells.1 has.1) unknown known)
   one_verdict x y (Past f was has known) (Past g is spells within) = inl (was ∙ sym is)
 

@@ -29,7 +29,7 @@ use Rattle.review_shelves.specs.declared.keys.AnswerKey.{AnswerKey}
 use Rattle.review_shelves.specs.declared.keys.NameKey.{NameKey}
 use Rattle.review_shelves.specs.declared.keys.StoredAnswer.{StoredAnswer}
 use Rattle.review_shelves.specs.declared.tables.MemoryTables.{MemoryTables}
-use Rattle.review_shelves.specs.Desk.{Desk, desk_of, tables_of, row_of, count_of, stored_row, file_changes, answer_cmp, name_cmp, IsNumber, IsIndexed, IsNumbered, IsBounded, IsSound, IsGiven, IsHeld, AreIndexed, KeepsNames, AreChangesOf, AreApplied, IsWithBase, HasRoom, with_branches}
+use Rattle.review_shelves.specs.Desk.{Desk, desk_of, tables_of, row_of, count_of, stored_row, file_changes, answer_cmp, name_cmp, IsNumber, AreInUse, IsIndexed, IsNumbered, IsBounded, IsSound, IsGiven, IsHeld, AreIndexed, KeepsNames, AreChangesOf, AreApplied, IsWithBase, HasRoom, HasRoomOnlyFor, with_branches}
 use Rattle.review_shelves.specs.Branches.{BranchesView, place_cmp, base_at, total_in, place_of}
 use Rattle.review_shelves.specs.declared.keys.PlaceKey.{PlaceKey}
 use Rattle.review_shelves.proofs.Based.{at_place_of}
@@ -182,6 +182,9 @@ committed delta kept changes projects old new copies applied based number = reco
 pub room_beside : (t : MemoryTables) (branches : BranchesView) (changes : Changes) → HasRoom t changes → HasRoom (with_branches t branches) changes
 room_beside t branches changes room = record { accounts = room.accounts; members = room.members; files = room.files; answers = room.answers }
 
+pub spare_beside : (t : MemoryTables) (branches : BranchesView) (changes : Changes) → HasRoomOnlyFor changes t → HasRoomOnlyFor changes (with_branches t branches)
+spare_beside t branches changes only = record { accounts = only.accounts; names = only.names; members = only.members; files = only.files; answers = only.answers }
+
 -- the changes of the same rows beside other branches
 pub applied_from : (old mid : MemoryTables) (branches : BranchesView) (changes : Changes) (projects : ℕ) (new : Desk) → desk_of mid ≡ desk_of old →
     AreApplied (desk_of (with_branches mid branches)) changes projects new → AreApplied (desk_of old) changes projects new
@@ -220,10 +223,33 @@ applied_bounded delta changes projects old new applied based number bounded = re
       (subst (λ n. n ≤ old.requests + 1) (sym (total_after delta.base old new based p)) (base_bounded delta.base (row_of old) p (total_in old.branches.totals p) old.requests (bounded.bases p)));
 }
 
--- whether the changes were made or not
+-- a name that was in the index is that of its account still, or one that an account had before it changed
+still_held : (delta : Delta) (held : List NameKey) (old new : List (ℕ × List ℕ)) → All (IsHeld old held) delta.accounts.items → ((n : ℕ) → row_in nat_cmp new n ≡ changed nat_cmp delta.accounts.items n (row_in nat_cmp old n)) →
+    (k : NameKey) → row_in nat_cmp old k.account ≡ Some k.name → (row_in nat_cmp new k.account ≡ Some k.name) ⊎ Contains held k
+still_held delta held old new are done k there = at (change_of nat_cmp delta.accounts.items k.account) refl
+  where
+    at : (o : Option (Option (List ℕ))) → change_of nat_cmp delta.accounts.items k.account ≡ o → (row_in nat_cmp new k.account ≡ Some k.name) ⊎ Contains held k
+    at None is = inl (done k.account ∙ (ap (λ c. after_change c (row_in nat_cmp old k.account)) is ∙ there))
+    at (Some row) is =
+        let h = change_holds exact_unsigned (λ n r. IfSome (row_in nat_cmp old n) (λ name. Contains held (record { name = name; account = n }))) delta.accounts.items are k.account row is in
+        inr (subst (λ o. IfSome o (λ name. Contains held (record { name = name; account = k.account }))) there h)
+
+pub made_held : (delta : Delta) (kept : Kept) (changes : Changes) (held : List NameKey) (projects : ℕ) (r : Result (Unit {0}) AllocError) (old new : MemoryTables) → AreChangesOf delta kept changes →
+    All (IsHeld (rows_of old.accounts) held) delta.accounts.items → OnOk r (AreApplied (desk_of old) changes projects (desk_of new)) → OnErr r (desk_of new ≡ desk_of old) → AreInUse (rows_of old.accounts) (rows_of old.names) →
+    (k : NameKey) → row_in name_cmp (rows_of old.names) k ≡ Some tt → (row_in nat_cmp (rows_of new.accounts) k.account ≡ Some k.name) ⊎ Contains held k
+made_held delta kept changes held projects (Ok u) old new copies are done same used k there =
+    still_held delta held (rows_of old.accounts) (rows_of new.accounts) are (λ n. done.accounts n ∙ ap (λ cs. changed nat_cmp cs n (row_in nat_cmp (rows_of old.accounts) n)) copies.accounts) k (used k there)
+made_held delta kept changes held projects (Err e) old new copies are done same used k there = inl (ap (λ (d : Desk). row_in nat_cmp d.accounts k.account) same ∙ used k there)
+
+-- what holds of the tables, whether the changes were made or not
+pub record IsMadeSound (t : MemoryTables) : Type 0 where
+  pub indexed : IsIndexed (rows_of t.accounts) (rows_of t.names)
+  pub numbered : IsNumbered (rows_of t.members)
+  pub bounded : IsBounded (desk_of t)
+
 pub made_sound : (delta : Delta) (kept : Kept) (changes : Changes) (given : List NameKey) (projects : ℕ) (r : Result (Unit {0}) AllocError) (old new : MemoryTables) → AreChangesOf delta kept changes → All (IsGiven given) delta.accounts.items
     → KeepsNames (rows_of old.names) (rows_of new.names) → OnOk r (AreIndexed (rows_of new.names) given) → OnOk r (AreApplied (desk_of old) changes projects (desk_of new)) → OnOk r (IsWithBase delta.base old.branches new.branches)
-    → projects ≡ projects_after delta.file (row_of (desk_of old)) old.projects → OnErr r (desk_of new ≡ desk_of old) → IsSound old → IsSound new
+    → projects ≡ projects_after delta.file (row_of (desk_of old)) old.projects → OnErr r (desk_of new ≡ desk_of old) → IsSound old → IsMadeSound new
 made_sound delta kept changes given projects (Ok u) old new copies are keeps listed done based number same sound = record {
   indexed = applied_indexed delta kept changes given projects old new copies are listed keeps done sound.indexed;
   numbered = applied_numbered delta kept changes projects (desk_of old) (desk_of new) copies done sound.numbered;

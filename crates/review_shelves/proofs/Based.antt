@@ -13,9 +13,8 @@ use Rattle.std.specs.BTreeMap.{is_at}
 use Rattle.std.proofs.lemmas.Bool.{cases_Bool, and_parts, cases_lt, eqb-false}
 use Rattle.std.proofs.lemmas.Slice.Eq.{bytes_eq-Decides}
 use Rattle.std.proofs.lemmas.Map.Text.{is_eq-slice_cmp}
-use Rattle.std.proofs.lemmas.Cmp.{then_total, on_total, nat_cmp_total, nat_list_cmp_total, tied_itself}
+use Rattle.std.proofs.lemmas.Cmp.{then_total, on_total, nat_cmp_total, nat_list_cmp_total}
 use Rattle.std.proofs.lemmas.Map.Lookups.{CmpEqualImpliesEq, exact_unsigned, exact_bytes}
-use Rattle.std.proofs.lemmas.Map.Views.{tells_apart}
 use Rattle.review_table.specs.Rows.{row_in, after_change, changed, HasNoEmptyPlace, HasEmptyOnly}
 use Rattle.std.specs.List.{All}
 use Rattle.review_table.specs.declared.table.Change.{Change}
@@ -24,14 +23,14 @@ use Rattle.review_rows.specs.declared.rows.BaseRow.{BaseRow}
 use Rattle.review_rows.specs.Rows.{branch_cmp}
 use Rattle.review_shelves.specs.declared.keys.PlaceKey.{PlaceKey}
 use Rattle.review_shelves.specs.declared.keys.CommitKey.{CommitKey}
-use Rattle.review_shelves.specs.Branches.{place_cmp, commit_cmp, base_at, total_in, last_in, commit_at, place_of, greatest_place, AreListed, AreLast, IsLastPlace}
+use Rattle.review_shelves.specs.Branches.{place_cmp, commit_cmp, base_at, total_in, last_in, place_of, AreListed, AreLast, IsLastPlace}
 
 is_eq-then : (a b : Ordering) → is_eq (ordering_then a b) ≡ (is_eq a && is_eq b)
 is_eq-then Less b = refl
 is_eq-then Equal b = refl
 is_eq-then Greater b = refl
 
-both_equal : (a b : Ordering) → ordering_then a b ≡ Equal → (a ≡ Equal) × (b ≡ Equal)
+pub both_equal : (a b : Ordering) → ordering_then a b ≡ Equal → (a ≡ Equal) × (b ≡ Equal)
 both_equal Equal b e = (refl, e)
 both_equal Less b e = absurd (cc)
 both_equal Greater b e = absurd (cc)
@@ -76,29 +75,6 @@ with_row R old new key row is q = is q ∙ at (is_at (R key) q)
     at : (t : Bool) → after_change (cond t (Some (Some row)) None) (row_in R old q) ≡ cond t (Some row) (row_in R old q)
     at true = refl
     at false = refl
-
-kept_there : {K : Type 0} (R : K → K → Ordering) (old new : List (K × Unit {0})) (key q : K) → WithRow R old key tt new → row_in R old q ≡ Some tt → row_in R new q ≡ Some tt
-kept_there R old new key q with there =
-    with q ∙ (ap (cond (is_at (R key) q) (Some tt)) there ∙ elim (is_at (R key) q) as (λ b. cond {A = Option (Unit {0})} b (Some tt) (Some tt) ≡ Some tt) [ true ↦ refl | false ↦ refl ])
-
--- the index has the base that is put
-pub listed_more : (base : BaseRow) (commits after : List (CommitKey × Unit {0})) (old new : List (PlaceKey × List ℕ)) → base.place ≤ greatest_place → AreListed commits old →
-    WithRow commit_cmp commits (commit_at (place_of base) base.commit) tt after → WithRow place_cmp old (place_of base) base.commit new → AreListed after new
-listed_more base commits after old new fits all listed put k commit is =
-    ⊎_elim
-    (λ (t : is_at (place_cmp (place_of base)) k ≡ true).
-    let same = tells_apart exact_place (place_of base) k t in
-    let given : Some base.commit ≡ Some commit = sym (put k ∙ ap (λ b. cond b (Some base.commit) (row_in place_cmp old k)) t) ∙ is in
-    let text : base.commit ≡ commit = cc in (
-      subst (λ (q : PlaceKey). q.place ≤ greatest_place) same fits,
-      subst (λ (q : CommitKey). row_in commit_cmp after q ≡ Some tt) (λ i. commit_at (same i) (text i))
-          (listed (commit_at (place_of base) base.commit)
-          ∙ ap (λ b. cond b (Some tt) (row_in commit_cmp commits (commit_at (place_of base) base.commit))) (ap is_eq (tied_itself commit_total (commit_at (place_of base) base.commit)))),
-    ))
-    (λ (f : is_at (place_cmp (place_of base)) k ≡ false).
-    let was = all k commit (sym (put k ∙ ap (λ b. cond b (Some base.commit) (row_in place_cmp old k)) f) ∙ is) in
-    (was.0, kept_there commit_cmp commits after (commit_at (place_of base) base.commit) (commit_at k commit) listed was.1))
-    (cases_Bool (is_at (place_cmp (place_of base)) k))
 
 -- the greater of two numbers
 abbrev pub IsGreater : ℕ → ℕ → ℕ → Type 0

@@ -15,8 +15,8 @@ use Rattle.review_rows.specs.declared.rows.MemberKey.{MemberKey as Member}
 use Rattle.review_rows.specs.Rows.{Key, AccountKey, MemberKey, FileKey, BaseKey, OddKey, AccountRow, MemberRow, Count, Projects, BasesOf, member_cmp, member_row}
 use Rattle.review_rows.specs.View.{IsView, fact, counted}
 use Rattle.review_shelves.specs.declared.keys.NameKey.{NameKey}
-use Rattle.review_shelves.specs.Desk.{Desk, tables_of, row_of, count_of, name_cmp, IsNumber, IsIndexed, IsNumbered}
-use Rattle.review_shelves.proofs.Orders.{exact_member, at_account, at_member}
+use Rattle.review_shelves.specs.Desk.{Desk, tables_of, row_of, count_of, name_cmp, AreInUse, IsNumber, IsIndexed, IsNumbered}
+use Rattle.review_shelves.proofs.Orders.{exact_member, exact_name, at_account, at_member}
 use Rattle.review_shelves.proofs.Indexed.{at_itself}
 
 abbrev pub first_name : NameKey
@@ -49,6 +49,11 @@ first_indexed accounts names account named number name is =
       subst IsNumber same one_number,
       subst (λ k. row_in name_cmp names k ≡ Some tt) (λ i. record { name = there.1 i; account = same i }) (named first_name ∙ ap (λ b. cond b (Some tt) None) (at_itself first_name)),
     )
+
+pub first_in_use : (accounts : List (ℕ × List ℕ)) (names : List (NameKey × Unit {0})) → HasAccount accounts → HasName names → AreInUse accounts names
+first_in_use accounts names account named k is =
+    let there = if_there (is_at (name_cmp first_name) k) tt tt (sym (named k) ∙ is) in
+    subst (λ (q : NameKey). row_in nat_cmp accounts q.account ≡ Some q.name) (tells_apart exact_name first_name k there.0) (account 1)
 
 pub first_numbered : (members : List (Member × Unit {0})) → HasMember members → IsNumbered members
 first_numbered members member k is =

@@ -5,6 +5,8 @@ pub mod Steps
 pub mod Applied
 pub mod First
 pub mod Based
+pub mod Spare
+pub mod Listed
 pub mod Placed
 pub mod Looked
 pub mod Lengths

@@ -1,5 +1,5 @@
 -- The bases of branches, in memory.
-use Rattle.std.specs.Prelude.{ℕ, ◌+◌, ◌<◌, ◌≤◌, ◌≡◌, ◌⊎◌, List, [], ◌∷◌, Option, Some, None, IsSome, Bool, true, false, unwrap_or, is_some, if◌then◌else◌}
+use Rattle.std.specs.Prelude.{ℕ, ◌+◌, ◌<◌, ◌≤◌, ◌≡◌, ◌↔◌, ◌⊎◌, ◌&&◌, not, List, [], ◌∷◌, Option, Some, None, IsSome, Bool, true, false, unwrap_or, is_some, if◌then◌else◌}
 use Rattle.std.specs.declared.cmp.Ordering.{Ordering}
 use Rattle.std.specs.Ordering.{nat_cmp, ordering_then}
 use Rattle.std.specs.Cmp.Lexicographic.{slice_cmp}
@@ -52,9 +52,15 @@ commit_at k commit = record { project = k.project; branch = k.branch; commit = c
 abbrev pub greatest_place : ℕ
 greatest_place = 18446744073709551615
 
--- each base is in the index by its commit, and its place is one that a key can have
-abbrev pub AreListed : List (CommitKey × Unit {0}) → List (PlaceKey × List ℕ) → Type 0
-AreListed commits bases = (k : PlaceKey) (commit : List ℕ) → row_in place_cmp bases k ≡ Some commit → (k.place ≤ greatest_place) × (row_in commit_cmp commits (commit_at k commit) ≡ Some tt)
+-- the index by commit has the bases and nothing else, and each place is one that a key can have
+pub record AreListed (commits : List (CommitKey × Unit {0})) (bases : List (PlaceKey × List ℕ)) : Type 0 where
+  pub fits : (k : PlaceKey) (commit : List ℕ) → row_in place_cmp bases k ≡ Some commit → k.place ≤ greatest_place
+  pub listed : (k : PlaceKey) (commit : List ℕ) → (row_in place_cmp bases k ≡ Some commit) ↔ (row_in commit_cmp commits (commit_at k commit) ≡ Some tt)
+
+-- whether a key of the index is that of the base that stood at a place before, where this commit is another one
+abbrev pub is_stale : Option CommitKey → List ℕ → CommitKey → Bool
+is_stale None commit q = false
+is_stale (Some before) commit q = not (bytes_eq before.commit commit) && is_at (commit_cmp before) q
 
 -- no base of a branch stands behind its last place, and one stands there, unless it is 0
 pub record IsLastPlace (bases : List (PlaceKey × List ℕ)) (project branch : List ℕ) (last : ℕ) : Type 0 where

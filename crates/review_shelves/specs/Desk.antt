@@ -1,11 +1,11 @@
 -- The desk that tables in memory hold.
-use Rattle.std.specs.Prelude.{ℕ, ◌≡◌, ◌≤◌, ◌+◌, List, [], ◌∷◌, Option, Some, None, IfSome, option_map, string_bytes}
+use Rattle.std.specs.Prelude.{ℕ, ◌≡◌, ◌≤◌, ◌+◌, ◌⊎◌, List, [], ◌∷◌, Option, Some, None, IfSome, option_map, string_bytes}
 use Rattle.std.specs.List.{All, Contains}
 use Rattle.std.specs.declared.cmp.Ordering.{Ordering}
 use Rattle.std.specs.Ordering.{nat_cmp, ordering_then}
 use Rattle.std.specs.Cmp.Lexicographic.{slice_cmp}
 use Rattle.review_table.specs.declared.table.Change.{Change}
-use Rattle.review_table.specs.Rows.{row_in, rows_of, HavePlaces, changed}
+use Rattle.review_table.specs.Rows.{row_in, rows_of, is_named, HasEmptyOnly, HasNoEmptyPlace, HavePlaces, changed}
 use Rattle.review_words.specs.History.{Identity}
 use Rattle.review_rows.specs.declared.rows.MemberKey.{MemberKey as Member}
 use Rattle.review_rows.specs.declared.rows.BaseRow.{BaseRow as PlacedBase}
@@ -102,6 +102,10 @@ IsNumber n = (1 ≤ n) × (n ≤ 1000000)
 abbrev pub IsIndexed : List (ℕ × List ℕ) → List (NameKey × Unit {0}) → Type 0
 IsIndexed accounts names = (number : ℕ) (name : List ℕ) → row_in nat_cmp accounts number ≡ Some name → IsNumber number × (row_in name_cmp names (record { name = name; account = number }) ≡ Some tt)
 
+-- each name in the index is that of its account
+abbrev pub AreInUse : List (ℕ × List ℕ) → List (NameKey × Unit {0}) → Type 0
+AreInUse accounts names = (k : NameKey) → row_in name_cmp names k ≡ Some tt → row_in nat_cmp accounts k.account ≡ Some k.name
+
 -- each member is an account by its number
 abbrev pub IsNumbered : List (Member × Unit {0}) → Type 0
 IsNumbered members = (k : Member) → row_in member_cmp members k ≡ Some tt → IsNumber k.account
@@ -111,11 +115,21 @@ pub record IsBounded (d : Desk) : Type 0 where
   pub projects : d.projects ≤ d.requests
   pub bases : (p : List ℕ) → total_in d.branches.totals p ≤ d.requests
 
+-- every place of the tables has a row
+pub record HasNoSpareRoom (t : MemoryTables) : Type 0 where
+  pub accounts : HasNoEmptyPlace nat_cmp t.accounts
+  pub names : HasNoEmptyPlace name_cmp t.names
+  pub members : HasNoEmptyPlace member_cmp t.members
+  pub files : HasNoEmptyPlace (slice_cmp nat_cmp) t.files
+  pub answers : HasNoEmptyPlace answer_cmp t.answers
+
 -- what holds of the tables between any two calls
 pub record IsSound (t : MemoryTables) : Type 0 where
   pub indexed : IsIndexed (rows_of t.accounts) (rows_of t.names)
+  pub in_use : AreInUse (rows_of t.accounts) (rows_of t.names)
   pub numbered : IsNumbered (rows_of t.members)
   pub bounded : IsBounded (desk_of t)
+  pub filled : HasNoSpareRoom t
 
 -- the name that an account had is listed
 abbrev pub IsHeld : List (ℕ × List ℕ) → List NameKey → Change ℕ (List ℕ) → Type 0
@@ -151,12 +165,24 @@ AreIndexed names keys = All (λ k. row_in name_cmp names k ≡ Some tt) keys
 abbrev pub KeepsNames : List (NameKey × Unit {0}) → List (NameKey × Unit {0}) → Type 0
 KeepsNames old new = (k : NameKey) → row_in name_cmp old k ≡ Some tt → row_in name_cmp new k ≡ Some tt
 
+-- the index has no names but those that it had, and these
+abbrev pub AddsNames : List (NameKey × Unit {0}) → List NameKey → List (NameKey × Unit {0}) → Type 0
+AddsNames old keys new = (k : NameKey) → row_in name_cmp new k ≡ Some tt → (row_in name_cmp old k ≡ Some tt) ⊎ Contains keys k
+
 -- there is a place for each row that changes
 pub record HasRoom (t : MemoryTables) (changes : Changes) : Type 0 where
   pub accounts : HavePlaces nat_cmp t.accounts changes.accounts.items
   pub members : HavePlaces member_cmp t.members changes.members.items
   pub files : HavePlaces (slice_cmp nat_cmp) t.files changes.files.items
   pub answers : HavePlaces answer_cmp t.answers changes.answers.items
+
+-- every place of the tables has a row, but for those that changes name
+pub record HasRoomOnlyFor (changes : Changes) (t : MemoryTables) : Type 0 where
+  pub accounts : HasEmptyOnly nat_cmp (is_named nat_cmp changes.accounts.items) t.accounts
+  pub names : HasNoEmptyPlace name_cmp t.names
+  pub members : HasEmptyOnly member_cmp (is_named member_cmp changes.members.items) t.members
+  pub files : HasEmptyOnly (slice_cmp nat_cmp) (is_named (slice_cmp nat_cmp) changes.files.items) t.files
+  pub answers : HasEmptyOnly answer_cmp (is_named answer_cmp changes.answers.items) t.answers
 
 -- a base was put, where there is one to put
 abbrev pub IsWithBase : Option PlacedBase → BranchesView → BranchesView → Type 0

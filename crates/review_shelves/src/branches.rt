@@ -1,10 +1,11 @@
 //! The bases of branches in memory.
-ghost use Rattle.std.specs.Prelude.{◌≡◌, ◌-◌, ◌^◌, ◌<◌, ◌↔◌, [], Some, IsTrue, IfOk, IfErr, OnOk, OnErr, is_some};
+ghost use Rattle.std.specs.Prelude.{◌≡◌, ◌-◌, ◌^◌, ◌<◌, ◌↔◌, [], Some, None, IsTrue, IfOk, IfErr, OnOk, OnErr, option_map, if◌then◌else◌};
 ghost use Rattle.std.specs.Ordering.{nat_cmp};
 ghost use Rattle.std.specs.Cmp.Lexicographic.{slice_cmp};
-ghost use Rattle.review_table.specs.Rows.{rows_of, row_in, HavePlaces};
+ghost use Rattle.review_table.specs.Rows.{rows_of, row_in, HasNoEmptyPlace, HavePlaces};
 ghost use Rattle.review_rows.specs.Rows.{branch_cmp};
-ghost use Rattle.review_shelves.specs.Branches.{place_cmp, commit_cmp, base_at, total_in, IsLastPlace, IsPut, place_of, commit_at, AreBases, IsCommitThere, IsUnlisted, PutsBase, HasNoSpare, HasSpareOnly};
+ghost use Rattle.review_shelves.specs.declared.keys.CommitKey.{CommitKey};
+ghost use Rattle.review_shelves.specs.Branches.{place_cmp, commit_cmp, base_at, total_in, IsLastPlace, IsPut, place_of, commit_at, is_stale, AreBases, IsCommitThere, IsUnlisted, PutsBase, HasNoSpare, HasSpareOnly};
 
 use crate::keys::{CommitKey, PlaceKey};
 use review_rows::{Base, BaseRow, BranchKey};
@@ -144,7 +145,8 @@ impl Branches {
     {
         let branch = branch_of(alloc, base)?;
         let last = self.last_place(&branch).max(base.place);
-        let known = self.has_place(alloc, base)?;
+        let before = self.listed_at(alloc, base)?;
+        let known = before.is_some();
         let total = self.total(&base.project) + u64::from(!known);
         let changes = changes_of(alloc, base, branch, last, total)?;
         let reserved = reserve(
@@ -159,26 +161,56 @@ impl Branches {
             Ok(()) => {
                 self.bases.apply(changes.placed);
                 self.commits.apply(changes.listed);
+                drop_stale(&mut self.commits, &before, base);
                 self.lasts.apply(changes.ended);
                 self.totals.apply(changes.counted);
                 Ok(())
             }
             Err(error) => {
-                self.bases.release(&changes.placed);
-                self.commits.release(&changes.listed);
-                self.lasts.release(&changes.ended);
-                self.totals.release(&changes.counted);
+                release(
+                    &mut self.bases,
+                    &mut self.commits,
+                    &mut self.lasts,
+                    &mut self.totals,
+                    &changes,
+                );
                 Err(error)
             }
         }
     }
 
-    // Whether there is a base at the place of one.
-    fn has_place(&self, alloc: Global, base: &BaseRow) -> Result<bool, AllocError>
-        ensures { IfOk result (λ is. is ≡ is_some (row_in place_cmp self.now.bases (place_of base.now))) }
+    // The key in the index of the base that stands at the place of one, where there is one.
+    fn listed_at(&self, alloc: Global, base: &BaseRow) -> Result<Option<CommitKey>, AllocError>
+        ensures { IfOk result (λ key. key ≡ option_map (commit_at (place_of base.now)) (row_in place_cmp self.now.bases (place_of base.now))) }
     {
         let key = place_of(alloc, base)?;
-        Ok(self.bases.get(&key).is_some())
+        let commit = match self.bases.get(&key) {
+            Some(commit) => commit.copy(alloc)?,
+            None => return Ok(None),
+        };
+        let PlaceKey {
+            project,
+            branch,
+            place,
+        } = key;
+        Ok(Some(CommitKey {
+            project,
+            branch,
+            commit,
+            place,
+        }))
+    }
+}
+
+// Takes the base that stood at a place before out of the index, where one with another commit stands there now.
+fn drop_stale(commits: &mut Table<CommitKey, ()>, before: &Option<CommitKey>, base: &BaseRow)
+    ensures rows { (q : CommitKey) → row_in commit_cmp (rows_of commits.new) q ≡ (if is_stale before.now base.now.commit q then None else row_in commit_cmp (rows_of commits.old) q) }
+    ensures full { HasNoEmptyPlace commit_cmp commits.old → HasNoEmptyPlace commit_cmp commits.new }
+{
+    if let Some(key) = before {
+        if key.commit.as_str() != base.commit.as_str() {
+            commits.remove(key);
+        }
     }
 }
 
@@ -267,6 +299,26 @@ fn reserve(
     lasts.reserve_all(alloc, &changes.ended)?;
     totals.reserve_all(alloc, &changes.counted)?;
     Ok(())
+}
+
+// Drops the places that hold no row, of those that changes name, which changes no row.
+fn release(
+    bases: &mut Table<PlaceKey, CommitName>,
+    commits: &mut Table<CommitKey, ()>,
+    lasts: &mut Table<BranchKey, u64>,
+    totals: &mut Table<ProjectName, u64>,
+    changes: &BaseChanges,
+)
+    ensures bases { rows_of bases.new ≡ rows_of bases.old }
+    ensures commits { rows_of commits.new ≡ rows_of commits.old }
+    ensures lasts { rows_of lasts.new ≡ rows_of lasts.old }
+    ensures totals { rows_of totals.new ≡ rows_of totals.old }
+    ensures full { HasSpareOnly changes.now bases.old commits.old lasts.old totals.old → HasNoSpare bases.new commits.new lasts.new totals.new }
+{
+    bases.release(&changes.placed);
+    commits.release(&changes.listed);
+    lasts.release(&changes.ended);
+    totals.release(&changes.counted);
 }
 
 fn branch_of(alloc: Global, base: &BaseRow) -> Result<BranchKey, AllocError>

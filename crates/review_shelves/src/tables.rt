@@ -1,13 +1,15 @@
 //! The tables of a desk in memory, and what changes in them.
-ghost use Rattle.std.specs.Prelude.{◌≡◌, Some, IfOk, IfSome, OnOk, OnErr, ◌<◌, ◌^◌, ◌-◌, IsTrue, ◌↔◌, []};
+ghost use Rattle.std.specs.Prelude.{◌≡◌, Some, IfOk, OnOk, OnErr, ◌<◌, ◌^◌, ◌-◌, IsTrue, ◌↔◌, []};
 ghost use Rattle.std.specs.List.{All};
 ghost use Rattle.std.specs.Ordering.{nat_cmp};
 ghost use Rattle.std.specs.Cmp.Lexicographic.{slice_cmp};
-ghost use Rattle.review_table.specs.Rows.{row_in, rows_of, IsEmptyPlace};
-ghost use Rattle.review_rows.specs.Rows.{member_cmp, projects_after, kept_row};
+ghost use Rattle.review_table.specs.Rows.{row_in, rows_of, is_named, HasEmptyOnly, HasNoEmptyPlace};
+ghost use Rattle.review_rows.specs.Rows.{projects_after, kept_row};
+ghost use Rattle.review_rows.specs.declared.rows.Kept.{Kept};
+ghost use Rattle.review_shelves.specs.declared.changes.Changes.{Changes};
 ghost use Rattle.review_rows.specs.Shelf.{IsRecalled, IsCommitted};
 ghost use Rattle.review_rows.specs.View.{IsView};
-ghost use Rattle.review_shelves.specs.Desk.{tables_of, desk_of, row_of, name_cmp, answer_cmp, IsIndexed, IsBounded, IsSound, AreIndexed, KeepsNames, HasRoom, AreApplied, IsWithBase, with_branches};
+ghost use Rattle.review_shelves.specs.Desk.{tables_of, desk_of, row_of, name_cmp, file_changes, IsIndexed, IsBounded, IsSound, AddsNames, AreChangesOf, AreIndexed, KeepsNames, HasNoSpareRoom, HasRoom, HasRoomOnlyFor, AreApplied, IsWithBase, with_branches};
 
 use crate::branches::Branches;
 use crate::changes::{Changes, names_given, names_held};
@@ -19,8 +21,8 @@ use review_words::{
 };
 use std::alloc::{AllocError, Global};
 
-/// The tables, with an index of the accounts by name. The index may have a name that its account has no more: who looks a
-/// name up asks the accounts.
+/// The tables, with an index of the accounts by name. Between two calls the index has just the names of the accounts, and every place of a
+/// table has a row, so that the memory that a desk takes is bounded by its rows.
 #[derive(Drop)]
 pub struct MemoryTables {
     pub accounts: Table<AccountNo, AccountName>,
@@ -138,7 +140,9 @@ impl MemoryTables {
         requires number { self.old.requests < 2 ^ 64 - 1 }
         requires bounded { IsBounded (desk_of self.old) }
         ensures kept { KeepsNames (rows_of self.old.names) (rows_of self.new.names) }
+        ensures only { AddsNames (rows_of self.old.names) given.now (rows_of self.new.names) }
         ensures listed { OnOk result (AreIndexed (rows_of self.new.names) given.now) }
+        ensures spare { HasNoSpareRoom self.old → HasRoomOnlyFor changes self.new }
         ensures done { OnOk result (AreApplied (desk_of self.old) changes projects (desk_of self.new)) }
         ensures based { OnOk result (IsWithBase base.now self.old.branches self.new.branches) }
         ensures same { OnErr result (desk_of self.new ≡ desk_of self.old) }
@@ -172,8 +176,10 @@ impl MemoryTables {
     ) -> Result<(), AllocError>
         ensures same { desk_of self.new ≡ desk_of self.old }
         ensures kept { KeepsNames (rows_of self.old.names) (rows_of self.new.names) }
+        ensures only { AddsNames (rows_of self.old.names) names.now (rows_of self.new.names) }
         ensures listed { OnOk result (AreIndexed (rows_of self.new.names) names.now) }
         ensures room { OnOk result (HasRoom self.new changes.now) }
+        ensures spare { HasNoSpareRoom self.old → HasRoomOnlyFor changes.now self.new }
     {
         self.list_names(alloc, names)?;
         self.accounts.reserve_all(alloc, &changes.accounts)?;
@@ -186,7 +192,9 @@ impl MemoryTables {
     fn list_names(&mut self, alloc: Global, names: &[NameKey]) -> Result<(), AllocError>
         ensures same { desk_of self.new ≡ desk_of self.old }
         ensures kept { KeepsNames (rows_of self.old.names) (rows_of self.new.names) }
+        ensures only { AddsNames (rows_of self.old.names) names.now (rows_of self.new.names) }
         ensures listed { OnOk result (AreIndexed (rows_of self.new.names) names.now) }
+        ensures filled { HasNoSpareRoom self.old → HasNoSpareRoom self.new }
     {
         for key in names {
             self.names.put(key.copy(alloc)?, ())?;
@@ -198,10 +206,8 @@ impl MemoryTables {
     fn release(&mut self, delta: &Delta, identity: &AnswerKey)
         ensures same { desk_of self.new ≡ desk_of self.old }
         ensures names { self.new.names ≡ self.old.names }
-        ensures accounts { All (λ c. IsEmptyPlace nat_cmp self.new.accounts c.key → ⊥) delta.now.accounts.items }
-        ensures members { All (λ c. IsEmptyPlace member_cmp self.new.members c.key → ⊥) delta.now.members.items }
-        ensures file { IfSome delta.now.file (λ put. IsEmptyPlace (slice_cmp nat_cmp) self.new.files put.project → ⊥) }
-        ensures answer { IsEmptyPlace answer_cmp self.new.answers identity.now → ⊥ }
+        ensures filled { (kept : Kept) (changes : Changes) → AreChangesOf delta.now kept changes → identity.now ≡ record { caller = kept.caller; id = kept.id } →
+            HasRoomOnlyFor changes self.old → HasNoSpareRoom self.new }
     {
         self.accounts.release(&delta.accounts);
         self.members.release(&delta.members);
@@ -216,6 +222,7 @@ impl MemoryTables {
         ensures done { AreApplied (desk_of self.old) changes projects (desk_of self.new) }
         ensures branches { self.new.branches ≡ self.old.branches }
         ensures names { self.new.names ≡ self.old.names }
+        ensures spare { HasRoomOnlyFor changes self.old → HasRoomOnlyFor changes self.new }
     {
         let Changes {
             accounts,
@@ -236,7 +243,9 @@ impl MemoryTables {
         requires { IsIndexed (rows_of self.old.accounts) (rows_of self.old.names) }
         ensures same { desk_of self.new ≡ desk_of self.old }
         ensures indexed { IsIndexed (rows_of self.new.accounts) (rows_of self.new.names) }
+        ensures no_more { KeepsNames (rows_of self.new.names) (rows_of self.old.names) }
         ensures dropped { All (λ k. row_in name_cmp (rows_of self.new.names) k ≡ Some tt → row_in nat_cmp (rows_of self.new.accounts) k.account ≡ Some k.name) names.now }
+        ensures filled { HasNoSpareRoom self.old → HasNoSpareRoom self.new }
     {
         for key in names {
             self.drop_name(key);
@@ -249,6 +258,7 @@ impl MemoryTables {
         ensures indexed { IsIndexed (rows_of self.old.accounts) (rows_of self.old.names) → IsIndexed (rows_of self.new.accounts) (rows_of self.new.names) }
         ensures no_more { KeepsNames (rows_of self.new.names) (rows_of self.old.names) }
         ensures dropped { row_in name_cmp (rows_of self.new.names) key.now ≡ Some tt → row_in nat_cmp (rows_of self.new.accounts) key.now.account ≡ Some key.now.name }
+        ensures filled { HasNoSpareRoom self.old → HasNoSpareRoom self.new }
     {
         if !self.has_name(key.account, &key.name) {
             self.names.remove(key);
@@ -269,7 +279,7 @@ impl MemoryTables {
 // Drops the place of a project's file, where it holds none.
 fn release_file(files: &mut Table<ProjectName, FileText>, file: &Option<ProjectRow>)
     ensures same { rows_of files.new ≡ rows_of files.old }
-    ensures gone { IfSome file.now (λ put. IsEmptyPlace (slice_cmp nat_cmp) files.new put.project → ⊥) }
+    ensures filled { HasEmptyOnly (slice_cmp nat_cmp) (is_named (slice_cmp nat_cmp) (file_changes file.now)) files.old → HasNoEmptyPlace (slice_cmp nat_cmp) files.new }
 {
     if let Some(put) = file {
         files.release_one(&put.project);

@@ -1,3 +1,3 @@
 pub mod Alike
 pub mod Lists
-mod Refused
+pub mod Refused

@@ -1,5 +1,5 @@
 -- When a text is a pattern, and when it matches a whole text.
-use Rattle.std.specs.Prelude.{◌≡◌, ◌⊎◌, ◌<◌, ◌&&◌, ℕ, List, ◌++◌, codes, Bool, true, false, Option, Some, None, is_some, IsSomeAnd, chars}
+use Rattle.std.specs.Prelude.{◌≡◌, ◌⊎◌, ◌<◌, ◌&&◌, ℕ, nat_le, List, ◌++◌, codes, Bool, true, false, Option, Some, None, is_some, IsSomeAnd, chars}
 use Rattle.regex_hir.specs.Re.{Re}
 use Rattle.regex_syntax.specs.Brackets.{Nested}
 use Rattle.regex_syntax.specs.Grammar.{Names, read}
@@ -26,9 +26,14 @@ has_match source hay = found_by (read default_config (chars source)) hay
 abbrev pub matches_whole : List ℕ → List ℕ → Bool
 matches_whole re text = has_match (anchored re) text
 
--- the grammar of `regex` reads the text
+-- what was read of a text nests no deeper than `regex` reads
+abbrev pub is_within : Option (Nested Re × Names) → Bool
+is_within None = false
+is_within (Some found) = nat_le found.0.depth default_config.nest_limit
+
+-- the grammar of `regex` reads the text, within its limit on nesting
 unfoldable pub is_read : List ℕ → Bool
-is_read source = is_some (read default_config (chars source))
+is_read source = is_within (read default_config (chars source))
 
 -- a pattern: the text is read alone, and held to the whole
 unfoldable pub is_pattern : List ℕ → Bool
@@ -38,7 +43,7 @@ is_pattern re = is_read re && is_read (anchored re)
 unfoldable pub NestsTooDeep : List ℕ → Type 0
 NestsTooDeep source = IsSomeAnd (read default_config (chars source)) (λ found. default_config.nest_limit < found.0.depth)
 
--- the one free place: a pattern that nests deeper than the engine reads, alone or held to the whole
+-- a text that would be a pattern, and nests deeper than `regex` reads, alone or held to the whole
 abbrev pub IsDeepPattern : List ℕ → Type 0
 IsDeepPattern re = NestsTooDeep re ⊎ NestsTooDeep (anchored re)
 
@@ -56,12 +61,12 @@ IsHeld text r = IsReadFrom (anchored text) r
 
 -- which fault may be given for one text
 abbrev pub IsRefusedBy : List ℕ → PatternFault → Type 0
-IsRefusedBy source Syntax = (is_read source ≡ false) ⊎ NestsTooDeep source
+IsRefusedBy source Syntax = is_read source ≡ false
 IsRefusedBy source Engine = is_read source ≡ true
 IsRefusedBy source Memory = Unit {0}
 
 -- which fault may be given for a pattern
 abbrev pub IsLawful : List ℕ → PatternFault → Type 0
-IsLawful re Syntax = (is_pattern re ≡ false) ⊎ IsDeepPattern re
+IsLawful re Syntax = is_pattern re ≡ false
 IsLawful re Engine = IsEnginePattern re
 IsLawful re Memory = Unit {0}

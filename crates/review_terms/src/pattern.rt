@@ -31,7 +31,7 @@ impl Model for Pattern {
 /// Why a text gives no pattern.
 #[derive(Clone, Copy, Debug, PartialEq, Eq)]
 pub enum PatternFault {
-    /// The text is no pattern, or nests deeper than the engine reads. It will not be read, however
+    /// The text is no pattern, as one that nests deeper than the engine reads. It will not be read, however
     /// often it is tried.
     Syntax,
     /// The text is a pattern, and the engine refuses it all the same, as for its size.
@@ -98,8 +98,8 @@ fn is_found(matcher: &mut Matcher<'_>, text: &str) -> bool
 }
 
 impl Pattern {
-    /// Reads and compiles a pattern: a text that is one alone, and held to the whole. Syntax where
-    /// it is none, and perhaps where one of the two nests deeper than the engine reads; Engine only
+    /// Reads and compiles a pattern: a text that is one alone, and held to the whole. Syntax only
+    /// where it is none, as where one of the two nests deeper than the engine reads; Engine only
     /// where it is one.
     pub fn read(alloc: Global, text: &str) -> Result<Pattern, PatternFault>
         ensures text { IfOk result (λ p. p ≡ text.now) }

@@ -2,7 +2,7 @@ use Rattle.std.proofs.Common.{◌∙◌, true, false, sym}
 use Rattle.review_words.specs.declared.command.Command.TheVariants.{PutProject}
 use Rattle.review_words.specs.declared.reply.Refusal.TheVariants.{NotAdmin}
 use Rattle.review_account_decisions.proofs.Decided.{admin_is, refused_pair, project_refused}
-use Rattle.review_decisions.proofs.Filed.{put_project_by, unread_by, fault_by, unreadable_by}
+use Rattle.review_decisions.proofs.Filed.{put_project_by, put_pattern, stored_pattern, unread_by, fault_by, unreadable_by}
 use Rattle.review_decisions.proofs.projects.put_project.Goals as goal
 
 pub returns-then-not-admin-clause-decided : goal.returns-then-not-admin-clause-decided
@@ -34,3 +34,9 @@ returns-in-Err-clause-cause c =
     let a = c.args in
     unreadable_by a.caller a.project.now a.file.now a.rows.now c.in-Err.fault c.refuse_file.result
     c.in-Err.ensures.fault c.refuse_file.ensures.cause
+
+pub returns-in-Ok-clause-pattern : goal.returns-in-Ok-clause-pattern
+returns-in-Ok-clause-pattern c = stored_pattern c.args.project.now c.args.file.now c.args.rows.now c.put_file.result c.put_file.ensures.cause
+
+pub returns-in-Err-clause-pattern : goal.returns-in-Err-clause-pattern
+returns-in-Err-clause-pattern c = put_pattern c.args.project.now c.args.file.now c.args.rows.now c.in-Err.fault c.refuse_file.result c.in-Err.ensures.fault c.refuse_file.ensures.cause

@@ -1,6 +1,6 @@
-use Rattle.std.proofs.Common.{◌≡◌, ◌∙◌, ap, refl, sym, subst, inl}
+use Rattle.std.proofs.Common.{◌∙◌, ap, refl, sym, subst, inl}
 use Rattle.review_rows.specs.Steps.{topic_of, wants_in}
-use Rattle.review_deliveries.proofs.Gathered.{step_lowers, none_asked, so_far_added, so_far_shown, left_before, blamed_before}
+use Rattle.review_deliveries.proofs.Gathered.{step_lowers, none_asked, so_far_added, so_far_shown}
 use Rattle.review_rows.specs.Known.{Agrees}
 use Rattle.review_rows.specs.Shelf.{Shows}
 use Rattle.review_deliveries.proofs.gathering.gather.Goals as goal

@@ -15,12 +15,12 @@ loop-key-init c = λ n is.
     let k : PlaceKey = record { project = base.project; branch = base.branch; place = n } in
     let q : CommitKey = record { project = base.project; branch = base.branch; commit = base.commit; place = n } in
     let all = row_in commit_cmp (rows_of c.self.inside.commits) q in
-    let listed = c.self.invariant.0 k base.commit (ap (λ (v : BranchesView). row_in place_cmp v.bases k) c.self.view_is ∙ is) in
+    let there = ap (λ (v : BranchesView). row_in place_cmp v.bases k) c.self.view_is ∙ is in
     ap (λ xs. row_in commit_cmp (map deref_pair xs) q) c.into_iter-key-iterator.ensures.into_iter_gives.0
     ∙ c.in_ok-items.ensures.found q
     ∙ (λ i. cond (is_le (commit_cmp (c.in_ok-from.ensures i) q) && not (is_lt (commit_cmp (c.in_ok-to.ensures i) q))) all None)
-    ∙ ap (λ b. cond b all None) (between_places base.project base.branch base.commit n listed.0)
-    ∙ listed.1
+    ∙ ap (λ b. cond b all None) (between_places base.project base.branch base.commit n (c.self.invariant.0.fits k base.commit there))
+    ∙ (c.self.invariant.0.listed k base.commit).0 there
 
 nothing : (o : Option (Unit {0})) → o ≡ None → o ≡ Some tt → ⊥
 nothing None none there = absurd (cc)

@@ -1,12 +1,14 @@
 use Rattle.std.proofs.Common.{◌≡◌, ◌≤◌, ◌+◌, ◌∙◌, ◌∷◌, [], List, ℕ, Some, ap, ◌<◌, sym, subst, arith}
-use Rattle.std.specs.Option.{is_some}
+use Rattle.std.specs.Option.{is_some, option_map}
 use Rattle.std.specs.Ordering.{nat_cmp}
 use Rattle.std.specs.Cmp.Lexicographic.{slice_cmp}
-use Rattle.review_table.specs.Rows.{rows_of, row_in, changed, HasEmptyOnly, is_named}
+use Rattle.review_table.specs.Rows.{rows_of, row_in, changed}
 use Rattle.review_rows.specs.Rows.{branch_cmp}
 use Rattle.review_rows.specs.declared.rows.BranchKey.{BranchKey}
 use Rattle.review_shelves.specs.Branches.{BranchesView, IsPut, IsLastPlace, place_cmp, commit_cmp, place_of, commit_at, last_in, total_in, greatest_place}
-use Rattle.review_shelves.proofs.Based.{WithRow, IsGreater, with_row, listed_more, last_more, last_unique, greater_of, still_listed, total_more, total_is, one_has}
+use Rattle.review_shelves.proofs.Based.{WithRow, IsGreater, with_row, last_more, last_unique, greater_of, still_listed, total_more, total_is, one_has}
+use Rattle.review_shelves.proofs.Listed.{listed_more}
+use Rattle.review_shelves.proofs.Picked.{some_mapped_is}
 use Rattle.std.specs.List.{All}
 use Rattle.review_table.specs.declared.table.Change.{Change}
 use Rattle.std.specs.Option.{IsSome}
@@ -15,13 +17,13 @@ use Rattle.review_shelves.specs.declared.keys.CommitKey.{CommitKey}
 use Rattle.review_shelves.proofs.branches.Branches.put.Goals as goal
 
 -- the base stands at its place
-put_there : (c : goal.After-apply-in-Ok-3) → WithRow place_cmp (rows_of c.self.inside.bases) (place_of c.args.base.now) c.args.base.now.commit (rows_of c.apply.new.self)
+put_there : (c : goal.Joined-before-2) → WithRow place_cmp (rows_of c.self.inside.bases) (place_of c.args.base.now) c.args.base.now.commit (rows_of c.apply.new.self)
 put_there c =
     with_row place_cmp (rows_of c.self.inside.bases) (rows_of c.apply.new.self) (place_of c.args.base.now) c.args.base.now.commit
     (λ q. c.apply.ensures.all c.in-Ok.ensures.placed q ∙ (λ i. changed place_cmp (c.in_ok-changes.ensures.placed i) q (row_in place_cmp (c.reserve-reserved.ensures.bases i) q)))
 
 -- the last place is the greater of what it was and that of the base
-greater : (c : goal.After-apply-in-Ok-3) → IsGreater (last_in (rows_of c.self.inside.lasts) c.args.base.now.project c.args.base.now.branch) c.args.base.now.place c.max-last.result
+greater : (c : goal.Joined-before-2) → IsGreater (last_in (rows_of c.self.inside.lasts) c.args.base.now.project c.args.base.now.branch) c.args.base.now.place c.max-last.result
 greater c =
     let base = c.args.base.now in
     let was = c.last_place.result in
@@ -45,32 +47,31 @@ invariant_of-self c =
     ∙ (λ i. changed branch_cmp (record { key = c.in_ok-branch.ensures i; row = Some last } ∷ []) q (row_in branch_cmp (rows_of c.self.inside.lasts) q))) in
     let fits : last ≤ greatest_place = let t : last < 18446744073709551616 = c.max-last.type_inv in omega (arith, t) in
     let spare = c.in-Ok.ensures.spare c.self.invariant.2 in (
-      listed_more base (rows_of c.self.inside.commits) (rows_of c.apply-in-Ok.new.self) (rows_of c.self.inside.bases) (rows_of c.apply.new.self) (let g = greater c in let h = g.1 in omega arith) c.self.invariant.0 listed (put_there c),
+      listed_more base c.in_ok-before.before (rows_of c.self.inside.commits) (rows_of c.apply-in-Ok.new.self) (rows_of c.drop_stale.new.commits) (rows_of c.self.inside.bases) (rows_of c.apply.new.self)
+          (record {
+            fits = let g = greater c in let h = g.1 in omega arith;
+            all = c.self.invariant.0;
+            was = c.in_ok-before.ensures ∙ ap (λ (v : BranchesView). option_map (commit_at (place_of base)) (row_in place_cmp v.bases (place_of base))) (sym c.self.view_is);
+            listed = listed;
+            dropped = c.drop_stale.ensures.rows;
+            put = put_there c;
+          }),
       last_more base last (rows_of c.self.inside.lasts) (rows_of c.apply-in-Ok-2.new.self) (rows_of c.self.inside.bases) (rows_of c.apply.new.self) c.self.invariant.1 (greater c) ended (put_there c),
       record {
         bases_full = c.apply.ensures.mended (subst (All (λ (x : Change PlaceKey (List ℕ)). IsSome x.row)) (sym c.in_ok-changes.ensures.placed) (one_has (place_of base) base.commit)) spare.bases_spare;
-        commits_full = c.apply-in-Ok.ensures.mended (subst (All (λ (x : Change CommitKey (Unit {0})). IsSome x.row)) (sym c.in_ok-changes.ensures.listed) (one_has (commit_at (place_of base) base.commit) tt)) spare.commits_spare;
+        commits_full = c.drop_stale.ensures.full (c.apply-in-Ok.ensures.mended (subst (All (λ (x : Change CommitKey (Unit {0})). IsSome x.row)) (sym c.in_ok-changes.ensures.listed) (one_has (commit_at (place_of base) base.commit) tt)) spare.commits_spare);
         lasts_full = c.apply-in-Ok-2.ensures.mended (subst (All (λ (x : Change BranchKey ℕ). IsSome x.row)) (sym c.in_ok-changes.ensures.ended) (one_has c.in_ok-branch.branch last)) spare.lasts_spare;
         totals_full = c.apply-in-Ok-3.ensures.mended (subst (All (λ (x : Change (List ℕ) ℕ). IsSome x.row)) (sym c.in_ok-changes.ensures.counted) (one_has base.project (c.total.result + c.from.result))) spare.totals_spare;
       },
     )
 
-pub invariant_of-self-in-Err-1 : goal.invariant_of-self-in-Err-1
-invariant_of-self-in-Err-1 c =
+pub invariant_of-self-in-Err : goal.invariant_of-self-in-Err
+invariant_of-self-in-Err c =
     let kept =
-    still_listed (rows_of c.self.inside.commits) (rows_of c.release-in-Err.new.self) (rows_of c.self.inside.bases) (rows_of c.release.new.self) (rows_of c.self.inside.lasts) (rows_of c.release-in-Err-2.new.self)
-    (sym (c.release-in-Err.ensures.same ∙ c.reserve-reserved.ensures.commits)) (sym (c.release.ensures.same ∙ c.reserve-reserved.ensures.bases)) (sym (c.release-in-Err-2.ensures.same ∙ c.reserve-reserved.ensures.lasts))
+    still_listed (rows_of c.self.inside.commits) (rows_of c.release.new.commits) (rows_of c.self.inside.bases) (rows_of c.release.new.bases) (rows_of c.self.inside.lasts) (rows_of c.release.new.lasts)
+    (sym (c.release.ensures.commits ∙ c.reserve-reserved.ensures.commits)) (sym (c.release.ensures.bases ∙ c.reserve-reserved.ensures.bases)) (sym (c.release.ensures.lasts ∙ c.reserve-reserved.ensures.lasts))
     (c.self.invariant.0, c.self.invariant.1) in
-    let spare = c.in-Err.ensures.spare c.self.invariant.2 in (
-      kept.0,
-      kept.1,
-      record {
-        bases_full = c.release.ensures.mended (subst (λ cs. HasEmptyOnly place_cmp (is_named place_cmp cs) c.reserve-reserved.new.bases) (sym c.deref.ensures.value) spare.bases_spare);
-        commits_full = c.release-in-Err.ensures.mended (subst (λ cs. HasEmptyOnly commit_cmp (is_named commit_cmp cs) c.reserve-reserved.new.commits) (sym c.deref-in-Err.ensures.value) spare.commits_spare);
-        lasts_full = c.release-in-Err-2.ensures.mended (subst (λ cs. HasEmptyOnly branch_cmp (is_named branch_cmp cs) c.reserve-reserved.new.lasts) (sym c.deref-in-Err-2.ensures.value) spare.lasts_spare);
-        totals_full = c.release-in-Err-3.ensures.mended (subst (λ cs. HasEmptyOnly (slice_cmp nat_cmp) (is_named (slice_cmp nat_cmp) cs) c.reserve-reserved.new.totals) (sym c.deref-in-Err-3.ensures.value) spare.totals_spare);
-      },
-    )
+    (kept.0, kept.1, c.release.ensures.full (c.in-Err.ensures.spare c.self.invariant.2))
 
 pub returns-in-Ok-clause-put : goal.returns-in-Ok-clause-put
 returns-in-Ok-clause-put c =
@@ -86,8 +87,9 @@ returns-in-Ok-clause-put c =
     (record {
       bases = put_there c;
       totals = total_more base known total totals after
-          (total_is known c.in_ok-known.known c.total.result c.from.result (total_in totals base.project)
-          (c.in_ok-known.ensures ∙ ap (λ (v : BranchesView). is_some (row_in place_cmp v.bases (place_of base))) (sym c.self.view_is))
+          (total_is known c.is_some-known.result c.total.result c.from.result (total_in totals base.project)
+          (c.is_some-known.ensures ∙ ap is_some c.in_ok-before.ensures ∙ some_mapped_is (commit_at (place_of base)) (row_in place_cmp c.args.self.now.bases (place_of base))
+          ∙ ap (λ (v : BranchesView). is_some (row_in place_cmp v.bases (place_of base))) (sym c.self.view_is))
           c.from.ensures
           (c.total.ensures ∙ ap (λ (v : BranchesView). total_in v.totals base.project) (sym c.self.view_is)))
           counted;

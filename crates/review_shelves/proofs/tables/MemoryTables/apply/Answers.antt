@@ -10,3 +10,12 @@ returns-clause-done c = record {
   answers = c.apply-4.ensures.all c.requires.room.answers;
   requests = refl;
 }
+
+pub returns-clause-spare : goal.returns-clause-spare
+returns-clause-spare c = λ only. record {
+  accounts = c.apply.ensures.only only.accounts;
+  names = only.names;
+  members = c.apply-2.ensures.only only.members;
+  files = c.apply-3.ensures.only only.files;
+  answers = c.apply-4.ensures.only only.answers;
+}

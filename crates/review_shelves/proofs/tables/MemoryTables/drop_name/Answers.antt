@@ -1,5 +1,8 @@
 use Rattle.std.proofs.Common.{◌∙◌, sym, None}
 use Rattle.review_table.specs.Rows.{rows_of}
+use Rattle.std.specs.BTreeMap.{is_at}
+use Rattle.review_shelves.specs.Desk.{name_cmp}
+use Rattle.review_shelves.proofs.Based.{none_spare}
 use Rattle.review_shelves.proofs.Indexed.{remove_indexed, remove_adds_none, with_row_here}
 use Rattle.review_shelves.proofs.tables.MemoryTables.drop_name.Goals as goal
 
@@ -15,3 +18,12 @@ returns-then-not-has_name-clause-no_more c = remove_adds_none (rows_of c.args.se
 pub returns-then-not-has_name-clause-dropped : goal.returns-then-not-has_name-clause-dropped
 returns-then-not-has_name-clause-dropped c = λ there.
     let gone = sym (with_row_here (rows_of c.args.self.now.names) (rows_of c.remove.new.self) c.args.key.now None c.remove.ensures.rows) ∙ there in absurd (cc)
+
+pub returns-then-not-has_name-clause-filled : goal.returns-then-not-has_name-clause-filled
+returns-then-not-has_name-clause-filled c = λ full. record {
+  accounts = full.accounts;
+  names = c.remove.ensures.mended (none_spare name_cmp (is_at (name_cmp c.args.key.now)) c.args.self.now.names full.names);
+  members = full.members;
+  files = full.files;
+  answers = full.answers;
+}

@@ -14,6 +14,8 @@ loop-key-preserved c =
     record {
       same = c.drop_name.ensures.same ∙ c.loop-key.invariant.same;
       indexed = c.drop_name.ensures.indexed c.loop-key.invariant.indexed;
+      no_more = λ k there. c.loop-key.invariant.no_more k (c.drop_name.ensures.no_more k there);
+      filled = λ full. c.drop_name.ensures.filled (c.loop-key.invariant.filled full);
       dropped = All-step (λ (k : NameKey). row_in name_cmp (rows_of old.names) k ≡ Some tt → row_in nat_cmp (rows_of old.accounts) k.account ≡ Some k.name)
           (λ (k : NameKey). row_in name_cmp (rows_of new.names) k ≡ Some tt → row_in nat_cmp (rows_of new.accounts) k.account ≡ Some k.name)
           c.args.names.now c.loop-key.key-index c.key-item.result c.loop-key-test.true c.key-item.is

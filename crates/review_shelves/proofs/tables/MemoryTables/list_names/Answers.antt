@@ -3,7 +3,7 @@ use Rattle.review_table.specs.Rows.{row_in, rows_of}
 use Rattle.review_shelves.specs.declared.keys.NameKey.{NameKey}
 use Rattle.review_shelves.specs.Desk.{name_cmp}
 use Rattle.review_shelves.proofs.Steps.{All-step}
-use Rattle.review_shelves.proofs.Indexed.{WithRow, put_keeps, with_row_here}
+use Rattle.review_shelves.proofs.Indexed.{WithRow, put_keeps, put_only, with_row_here}
 use Rattle.review_shelves.proofs.tables.MemoryTables.list_names.Goals as goal
 
 pub loop-key-preserved : goal.loop-key-preserved
@@ -16,6 +16,23 @@ loop-key-preserved c =
     record {
       same = c.loop-key.invariant.same;
       kept = λ q there. keeps q (c.loop-key.invariant.kept q there);
+      only = put_only (rows_of c.args.self.now.names) old new c.args.names.now c.loop-key.key-index key c.loop-key-test.true c.key-item.is with c.loop-key.invariant.only;
+      filled = λ full. let was = c.loop-key.invariant.filled full in record {
+        accounts = was.accounts;
+        names = c.put.ensures.kept was.names;
+        members = was.members;
+        files = was.files;
+        answers = was.answers;
+      };
       listed = All-step (λ (k : NameKey). row_in name_cmp old k ≡ Some tt) (λ (k : NameKey). row_in name_cmp new k ≡ Some tt)
           c.args.names.now c.loop-key.key-index key c.loop-key-test.true c.key-item.is keeps c.loop-key.invariant.listed (with_row_here old new key (Some tt) with);
     }
+
+pub returns-in_err-put-clause-filled : goal.returns-in_err-put-clause-filled
+returns-in_err-put-clause-filled c = λ full. let was = c.loop-key.invariant.filled full in record {
+  accounts = was.accounts;
+  names = c.in_err-put.ensures.kept was.names;
+  members = was.members;
+  files = was.files;
+  answers = was.answers;
+}

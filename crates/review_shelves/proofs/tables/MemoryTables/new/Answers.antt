@@ -1,13 +1,15 @@
 use Rattle.std.proofs.Common.{◌∙◌, ◌≤◌, sym, subst, cond, Some, arith}
 use Rattle.std.specs.Ordering.{nat_cmp}
 use Rattle.std.specs.BTreeMap.{is_at}
+use Rattle.std.specs.Cmp.Lexicographic.{slice_cmp}
 use Rattle.review_table.specs.Rows.{row_in, rows_of}
 use Rattle.review_rows.specs.declared.rows.MemberKey.{MemberKey}
 use Rattle.review_rows.specs.Rows.{member_cmp}
 use Rattle.review_shelves.specs.declared.keys.NameKey.{NameKey}
-use Rattle.review_shelves.specs.Desk.{name_cmp}
+use Rattle.review_shelves.specs.Desk.{answer_cmp, name_cmp}
 use Rattle.review_shelves.specs.Branches.{BranchesView, total_in}
-use Rattle.review_shelves.proofs.First.{HasAccount, HasName, HasMember, first_indexed, first_numbered, first_view}
+use Rattle.review_shelves.proofs.Spare.{none_empty}
+use Rattle.review_shelves.proofs.First.{HasAccount, HasName, HasMember, first_in_use, first_indexed, first_numbered, first_view}
 use Rattle.review_shelves.proofs.tables.MemoryTables.new.Goals as goal
 
 account : (c : goal.After-new-3) → HasAccount (rows_of c.put.new.self)
@@ -28,6 +30,14 @@ returns-clause-sound c = record {
   bounded = record {
     projects = omega arith;
     bases = λ p. subst (λ (b : BranchesView). total_in b.totals p ≤ 0) (sym c.new-2.ensures) (omega arith);
+  };
+  in_use = first_in_use (rows_of c.put.new.self) (rows_of c.put-2.new.self) (account c) (named c);
+  filled = record {
+    accounts = c.put.ensures.kept (none_empty nat_cmp c.new-accounts.result c.new-accounts.ensures);
+    names = c.put-2.ensures.kept (none_empty name_cmp c.new-names.result c.new-names.ensures);
+    members = c.put-3.ensures.kept (none_empty member_cmp c.new-members.result c.new-members.ensures);
+    files = none_empty (slice_cmp nat_cmp) c.new.result c.new.ensures;
+    answers = none_empty answer_cmp c.new-3.result c.new-3.ensures;
   };
 }
 

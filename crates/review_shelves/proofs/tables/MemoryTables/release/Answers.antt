@@ -1,7 +1,11 @@
-use Rattle.std.proofs.Common.{subst}
-use Rattle.std.specs.List.{All}
+use Rattle.std.proofs.Common.{◌≡◌, ◌∙◌, true, ap, sym, subst}
 use Rattle.std.specs.Ordering.{nat_cmp}
-use Rattle.review_table.specs.Rows.{IsEmptyPlace}
+use Rattle.std.specs.BTreeMap.{is_at}
+use Rattle.std.specs.Cmp.Lexicographic.{slice_cmp}
+use Rattle.review_table.specs.Rows.{HasEmptyOnly, is_named}
+use Rattle.review_shelves.specs.declared.keys.AnswerKey.{AnswerKey}
+use Rattle.review_shelves.specs.Desk.{answer_cmp}
+use Rattle.review_shelves.proofs.Spare.{one_named}
 use Rattle.review_rows.specs.Rows.{member_cmp}
 use Rattle.review_shelves.proofs.tables.MemoryTables.release.Goals as goal
 
@@ -16,8 +20,14 @@ returns-clause-same c = λ i. record {
   requests = c.args.self.now.requests;
 }
 
-pub returns-clause-accounts : goal.returns-clause-accounts
-returns-clause-accounts c = subst (All (λ change. IsEmptyPlace nat_cmp c.release.new.self change.key → ⊥)) c.deref.ensures.value c.release.ensures.gone
-
-pub returns-clause-members : goal.returns-clause-members
-returns-clause-members c = subst (All (λ change. IsEmptyPlace member_cmp c.release-2.new.self change.key → ⊥)) c.deref-2.ensures.value c.release-2.ensures.gone
+pub returns-clause-filled : goal.returns-clause-filled
+returns-clause-filled c = λ kept changes are same only. record {
+  accounts = c.release.ensures.mended (subst (λ cs. HasEmptyOnly nat_cmp (is_named nat_cmp cs) c.args.self.now.accounts) (are.accounts ∙ sym c.deref.ensures.value) only.accounts);
+  names = only.names;
+  members = c.release-2.ensures.mended (subst (λ cs. HasEmptyOnly member_cmp (is_named member_cmp cs) c.args.self.now.members) (are.members ∙ sym c.deref-2.ensures.value) only.members);
+  files = c.release_file.ensures.filled (subst (λ cs. HasEmptyOnly (slice_cmp nat_cmp) (is_named (slice_cmp nat_cmp) cs) c.args.self.now.files) are.files only.files);
+  answers = c.release_one.ensures.mended (λ q empty.
+      let put = are.answers.0 in
+      ap (λ (k : AnswerKey). is_at (answer_cmp k) q) (same ∙ sym are.answers.2.key)
+      ∙ one_named answer_cmp put q (subst (λ cs. is_named answer_cmp cs q ≡ true) are.answers.1 (only.answers q empty)));
+}

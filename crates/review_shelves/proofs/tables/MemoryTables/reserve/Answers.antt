@@ -1,9 +1,10 @@
 use Rattle.std.proofs.Common.{subst}
 use Rattle.std.specs.Ordering.{nat_cmp}
 use Rattle.std.specs.Cmp.Lexicographic.{slice_cmp}
-use Rattle.review_table.specs.Rows.{HavePlaces}
+use Rattle.review_table.specs.Rows.{HasEmptyOnly, HavePlaces, is_named}
 use Rattle.review_rows.specs.Rows.{member_cmp}
 use Rattle.review_shelves.specs.Desk.{answer_cmp}
+use Rattle.review_shelves.proofs.Based.{none_spare}
 use Rattle.review_shelves.proofs.tables.MemoryTables.reserve.Goals as goal
 
 pub returns-clause-room : goal.returns-clause-room
@@ -12,4 +13,58 @@ returns-clause-room c = record {
   members = subst (HavePlaces member_cmp c.reserve_all-2.new.self) c.deref-2.ensures.value c.in_ok-reserve_all-2.ensures.ok;
   files = subst (HavePlaces (slice_cmp nat_cmp) c.reserve_all-3.new.self) c.deref-3.ensures.value c.in_ok-reserve_all-3.ensures.ok;
   answers = subst (HavePlaces answer_cmp c.reserve_all-4.new.self) c.deref-4.ensures.value c.in_ok-reserve_all-4.ensures.ok;
+}
+
+pub returns-in_err-list_names-clause-spare : goal.returns-in_err-list_names-clause-spare
+returns-in_err-list_names-clause-spare c = λ full. record {
+  accounts = none_spare nat_cmp (is_named nat_cmp c.args.changes.now.accounts.items) c.list_names.new.self.accounts (c.list_names.ensures.filled full).accounts;
+  names = (c.list_names.ensures.filled full).names;
+  members = none_spare member_cmp (is_named member_cmp c.args.changes.now.members.items) c.list_names.new.self.members (c.list_names.ensures.filled full).members;
+  files = none_spare (slice_cmp nat_cmp) (is_named (slice_cmp nat_cmp) c.args.changes.now.files.items) c.list_names.new.self.files (c.list_names.ensures.filled full).files;
+  answers = none_spare answer_cmp (is_named answer_cmp c.args.changes.now.answers.items) c.list_names.new.self.answers (c.list_names.ensures.filled full).answers;
+}
+
+pub returns-in_err-reserve_all-clause-spare : goal.returns-in_err-reserve_all-clause-spare
+returns-in_err-reserve_all-clause-spare c = λ full. record {
+  accounts = subst (λ cs. HasEmptyOnly nat_cmp (is_named nat_cmp cs) c.reserve_all.new.self) c.deref.ensures.value (c.reserve_all.ensures.only (c.list_names.ensures.filled full).accounts);
+  names = (c.list_names.ensures.filled full).names;
+  members = none_spare member_cmp (is_named member_cmp c.args.changes.now.members.items) c.list_names.new.self.members (c.list_names.ensures.filled full).members;
+  files = none_spare (slice_cmp nat_cmp) (is_named (slice_cmp nat_cmp) c.args.changes.now.files.items) c.list_names.new.self.files (c.list_names.ensures.filled full).files;
+  answers = none_spare answer_cmp (is_named answer_cmp c.args.changes.now.answers.items) c.list_names.new.self.answers (c.list_names.ensures.filled full).answers;
+}
+
+pub returns-in_err-reserve_all-2-clause-spare : goal.returns-in_err-reserve_all-2-clause-spare
+returns-in_err-reserve_all-2-clause-spare c = λ full. record {
+  accounts = subst (λ cs. HasEmptyOnly nat_cmp (is_named nat_cmp cs) c.reserve_all.new.self) c.deref.ensures.value (c.reserve_all.ensures.only (c.list_names.ensures.filled full).accounts);
+  names = (c.list_names.ensures.filled full).names;
+  members = subst (λ cs. HasEmptyOnly member_cmp (is_named member_cmp cs) c.reserve_all-2.new.self) c.deref-2.ensures.value (c.reserve_all-2.ensures.only (c.list_names.ensures.filled full).members);
+  files = none_spare (slice_cmp nat_cmp) (is_named (slice_cmp nat_cmp) c.args.changes.now.files.items) c.list_names.new.self.files (c.list_names.ensures.filled full).files;
+  answers = none_spare answer_cmp (is_named answer_cmp c.args.changes.now.answers.items) c.list_names.new.self.answers (c.list_names.ensures.filled full).answers;
+}
+
+pub returns-in_err-reserve_all-3-clause-spare : goal.returns-in_err-reserve_all-3-clause-spare
+returns-in_err-reserve_all-3-clause-spare c = λ full. record {
+  accounts = subst (λ cs. HasEmptyOnly nat_cmp (is_named nat_cmp cs) c.reserve_all.new.self) c.deref.ensures.value (c.reserve_all.ensures.only (c.list_names.ensures.filled full).accounts);
+  names = (c.list_names.ensures.filled full).names;
+  members = subst (λ cs. HasEmptyOnly member_cmp (is_named member_cmp cs) c.reserve_all-2.new.self) c.deref-2.ensures.value (c.reserve_all-2.ensures.only (c.list_names.ensures.filled full).members);
+  files = subst (λ cs. HasEmptyOnly (slice_cmp nat_cmp) (is_named (slice_cmp nat_cmp) cs) c.reserve_all-3.new.self) c.deref-3.ensures.value (c.reserve_all-3.ensures.only (c.list_names.ensures.filled full).files);
+  answers = none_spare answer_cmp (is_named answer_cmp c.args.changes.now.answers.items) c.list_names.new.self.answers (c.list_names.ensures.filled full).answers;
+}
+
+pub returns-in_err-reserve_all-4-clause-spare : goal.returns-in_err-reserve_all-4-clause-spare
+returns-in_err-reserve_all-4-clause-spare c = λ full. record {
+  accounts = subst (λ cs. HasEmptyOnly nat_cmp (is_named nat_cmp cs) c.reserve_all.new.self) c.deref.ensures.value (c.reserve_all.ensures.only (c.list_names.ensures.filled full).accounts);
+  names = (c.list_names.ensures.filled full).names;
+  members = subst (λ cs. HasEmptyOnly member_cmp (is_named member_cmp cs) c.reserve_all-2.new.self) c.deref-2.ensures.value (c.reserve_all-2.ensures.only (c.list_names.ensures.filled full).members);
+  files = subst (λ cs. HasEmptyOnly (slice_cmp nat_cmp) (is_named (slice_cmp nat_cmp) cs) c.reserve_all-3.new.self) c.deref-3.ensures.value (c.reserve_all-3.ensures.only (c.list_names.ensures.filled full).files);
+  answers = subst (λ cs. HasEmptyOnly answer_cmp (is_named answer_cmp cs) c.reserve_all-4.new.self) c.deref-4.ensures.value (c.reserve_all-4.ensures.only (c.list_names.ensures.filled full).answers);
+}
+
+pub returns-clause-spare : goal.returns-clause-spare
+returns-clause-spare c = λ full. record {
+  accounts = subst (λ cs. HasEmptyOnly nat_cmp (is_named nat_cmp cs) c.reserve_all.new.self) c.deref.ensures.value (c.reserve_all.ensures.only (c.list_names.ensures.filled full).accounts);
+  names = (c.list_names.ensures.filled full).names;
+  members = subst (λ cs. HasEmptyOnly member_cmp (is_named member_cmp cs) c.reserve_all-2.new.self) c.deref-2.ensures.value (c.reserve_all-2.ensures.only (c.list_names.ensures.filled full).members);
+  files = subst (λ cs. HasEmptyOnly (slice_cmp nat_cmp) (is_named (slice_cmp nat_cmp) cs) c.reserve_all-3.new.self) c.deref-3.ensures.value (c.reserve_all-3.ensures.only (c.list_names.ensures.filled full).files);
+  answers = subst (λ cs. HasEmptyOnly answer_cmp (is_named answer_cmp cs) c.reserve_all-4.new.self) c.deref-4.ensures.value (c.reserve_all-4.ensures.only (c.list_names.ensures.filled full).answers);
 }
