@@ -1,10 +1,10 @@
 -- What is read of the texts that a history puts.
-use Rattle.std.proofs.Common.{◌≡◌, ◌⊎◌, inl, inr, ◌∙◌, ℕ, List, [], ◌∷◌, Option, Some, None, true, false, cond, refl, sym, ap, subst, ⊎_elim}
+use Rattle.std.proofs.Common.{◌≡◌, ◌⊎◌, inl, inr, ◌∙◌, ℕ, List, [], ◌∷◌, Option, Some, None, Bool, true, false, cond, refl, sym, ap, subst, ⊎_elim}
 use Rattle.std.specs.Prelude.{MatchOption}
 use Rattle.std.specs.Str.{bytes_eq}
 use Rattle.std.proofs.lemmas.Bool.{cases_Bool}
 use Rattle.std.proofs.lemmas.Slice.Eq.{bytes_eq-Decides}
-use Rattle.review_words.specs.History.{Entry, accepted, if_done}
+use Rattle.review_words.specs.History.{Entry, accepted, if_done, file_text, text_put}
 use Rattle.review_words.specs.declared.command.Command.{Command}
 use Rattle.review_words.specs.declared.command.Command.TheVariants.{CreateAccount, PutGroup, PutProject, RecordBase, CreateChange, Upload, Review}
 use Rattle.review_words.specs.declared.reply.Answer.{Answer}
@@ -79,3 +79,28 @@ reading_of (e ∷ h) history =
     let before = reading_of h history.3 in
     let now = reading_of_one h before.0 before.1 e.identity.caller e.command e.reply (history.1 before.0 before.1) in
     (now.0, (now.1, now.2))
+
+-- a text that a command puts, or one from before
+put_before : (b : Bool) (given text : List ℕ) (before : Option (List ℕ)) → cond b (Some given) before ≡ Some text → ((b ≡ true) × (given ≡ text)) ⊎ (before ≡ Some text)
+put_before true given text before is = inl (refl, cc)
+put_before false given text before is = inr is
+
+read_by : (reading : Reading) (o : Option Command) (project text : List ℕ) (before : Option (List ℕ)) → IsReadRight reading o → (before ≡ Some text → IsRead text (reading text)) →
+    text_put o project before ≡ Some text → IsRead text (reading text)
+read_by reading None project text before right later is = later is
+read_by reading (Some (CreateAccount name)) project text before right later is = later is
+read_by reading (Some (PutGroup group members)) project text before right later is = later is
+read_by reading (Some (PutProject given put)) project text before right later is =
+    ⊎_elim
+    (λ (here : (bytes_eq given project ≡ true) × (put ≡ text)). subst (λ t. IsRead t (reading t)) here.1 right)
+    (λ (there : before ≡ Some text). later there)
+    (put_before (bytes_eq given project) put text before is)
+read_by reading (Some (RecordBase in_project branch commit)) project text before right later is = later is
+read_by reading (Some (CreateChange new)) project text before right later is = later is
+read_by reading (Some (Upload n patch)) project text before right later is = later is
+read_by reading (Some (Review n review)) project text before right later is = later is
+
+-- the text of a project's file is read right
+pub read_of : (reading : Reading) (h : List Entry) (project text : List ℕ) → Reads reading h → file_text h project ≡ Some text → IsRead text (reading text)
+read_of reading [] project text reads is = absurd (cc)
+read_of reading (e ∷ h) project text reads is = read_by reading (accepted e) project text (file_text h project) reads.0 (λ before. read_of reading h project text reads.1 before) is

@@ -56,7 +56,7 @@ IsUndecided caller command file rows _ = ⊥
 -- Why the file of a project is not read: want of memory, a pattern that the engine refuses, or a text that spells no file.
 abbrev pub IsUnread : Option (List ℕ) → Cause → Type 0
 IsUnread text Memory = Unit {0}
-IsUnread (Some text) Pattern = (f : File) → IsRead text f → HasPattern text
+IsUnread (Some text) Pattern = HasPattern text
 IsUnread (Some text) Damaged = (f : File) → IsRead text f → ⊥
 IsUnread text _ = ⊥
 
