@@ -8,7 +8,7 @@ ghost use Rattle.review_names.specs.Groups.{has_account};
 
 use crate::names::{AccountNo, BadName, GroupName, Members};
 use crate::places::Path;
-use std::alloc::Global;
+use std::alloc::{AllocError, Global};
 use std::collections::{BTreeMap, BTreeSet};
 use std::marker::Model;
 
@@ -90,6 +90,17 @@ impl Paths {
             sorted.push(path)?;
         }
         Ok(Paths { paths: sorted })
+    }
+
+    /// The same paths once more. An error where there was no memory for them.
+    pub fn copy(&self, alloc: Global) -> Result<Paths, AllocError>
+        ensures { IfOk result (λ p. p ≡ self.now) }
+    {
+        let mut paths = Vec::new(alloc);
+        for path in self.as_slice() {
+            paths.push(path.copy(alloc)?)?;
+        }
+        Ok(Paths { paths })
     }
 
     /// The paths in the order of their bytes, each once.

@@ -1,5 +1,5 @@
 -- Rows of all tables as one type, read at a key: what tables hold, and what a delta changes.
-use Rattle.std.specs.Prelude.{ℕ, ◌+◌, ◌≡◌, List, [], ◌∷◌, Option, Some, None, ◌&&◌, ◌==◌, is_some, option_map, if◌then◌else◌, string_bytes}
+use Rattle.std.specs.Prelude.{ℕ, ℤ, ◌+◌, ◌≡◌, List, [], ◌∷◌, Option, Some, None, ◌&&◌, ◌==◌, is_some, option_map, if◌then◌else◌, string_bytes}
 use Rattle.std.specs.declared.cmp.Ordering.{Ordering}
 use Rattle.std.specs.Ordering.{nat_cmp, ordering_then}
 use Rattle.std.specs.Cmp.Lexicographic.{slice_cmp}
@@ -7,6 +7,7 @@ use Rattle.std.specs.Str.{bytes_eq}
 use Rattle.review_table.specs.Rows.{change_of, after_change}
 use Rattle.review_changes.specs.Parts.{Part, TheHeader, PatchOf, VoteOf, RoleOf, CommentOf, AttentionOf, PartRow, AHeader, APatch, AVote, ARole, AComment, ACall}
 use Rattle.review_changes.specs.Seen.{vote_cmp}
+use Rattle.review_changes.specs.Votes.{voted}
 use Rattle.review_words.specs.History.{Identity}
 use Rattle.review_words.specs.declared.reply.Reply.{Reply}
 use Rattle.review_words.specs.declared.reply.Reply.TheVariants.{Refused}
@@ -100,11 +101,16 @@ base_after None project branch place was = was
 base_after (Some base) project branch place was =
     if bytes_eq base.project project && (bytes_eq base.branch branch && (base.place == place)) then Some (BaseRow base.commit) else was
 
+-- the row of a vote; a value of 0 is none
+abbrev pub vote_row : Option ℤ → Option PartRow
+vote_row None = None
+vote_row (Some v) = if voted v then Some (AVote v) else None
+
 -- what an edit makes of a row of its change: none where it leaves it, and otherwise the new row or that there is none any more
 abbrev pub part_change : ChangeEdit → Part → Option (Option PartRow)
 part_change e TheHeader = Some (Some (AHeader e.header))
 part_change e (PatchOf n) = option_map (option_map APatch) (change_of nat_cmp e.patches.items n)
-part_change e (VoteOf n l a) = option_map (option_map AVote) (change_of vote_cmp e.votes.items (record { patch = n; label = l; account = a }))
+part_change e (VoteOf n l a) = option_map vote_row (change_of vote_cmp e.votes.items (record { patch = n; label = l; account = a }))
 part_change e (RoleOf u) = option_map (option_map ARole) (change_of nat_cmp e.roles.items u)
 part_change e (CommentOf k) = option_map (option_map AComment) (change_of nat_cmp e.comments.items k)
 part_change e (AttentionOf u) = option_map (option_map ACall) (change_of nat_cmp e.attention.items u)

@@ -3,5 +3,5 @@
 
 pub mod table;
 
-pub use review_key::{Key, Row};
+pub use review_key::Key;
 pub use table::{BadRows, Change, Table};

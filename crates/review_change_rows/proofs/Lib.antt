@@ -1,0 +1,2 @@
+mod Becoming
+pub mod Telling

@@ -1,0 +1,79 @@
+//! Rows that are copied and compared.
+ghost use Rattle.std.specs.Prelude.{◌≡◌, Bool, IfOk};
+ghost use Rattle.std.specs.Bool.{Decides};
+
+use review_changes::{Called, Vote};
+use review_words::Role;
+use std::alloc::{AllocError, Global};
+
+/// A row that can be compared and copied exactly.
+pub trait Row: Drop + Sized {
+    ghost same: { Self → Self → Bool };
+
+    /// Whether two rows are the same.
+    fn is_same(&self, other: &Self) -> bool
+        ensures { result ≡ same self.now other.now };
+
+    /// The same row once more. An error where there was no memory for it.
+    fn copied(&self, alloc: Global) -> Result<Self, AllocError>
+        ensures { IfOk result (λ r. r ≡ self.now) };
+
+    ghost tells: { (a b : Self) → Decides (same a b) (a ≡ b) };
+}
+
+impl Row for Vote {
+    ghost use Rattle.std.specs.Ordering.{int_eq};
+    ghost use Rattle.std.proofs.lemmas.Bool.Decides.{Decides-int_eq};
+
+    ghost same = { int_eq };
+
+    fn is_same(&self, other: &Vote) -> bool {
+        self.get() == other.get()
+    }
+
+    fn copied(&self, _alloc: Global) -> Result<Vote, AllocError> {
+        Ok(*self)
+    }
+
+    ghost tells = { Decides-int_eq };
+}
+
+impl Row for Role {
+    ghost use Rattle.review_change_rows.specs.Same.{same_role};
+    ghost use Rattle.review_change_rows.proofs.Telling.{roles_tell};
+
+    ghost same = { same_role };
+
+    fn is_same(&self, other: &Role) -> bool {
+        match (self, other) {
+            (Role::Reviewer, Role::Reviewer) | (Role::Cc, Role::Cc) => true,
+            _ => false,
+        }
+    }
+
+    fn copied(&self, _alloc: Global) -> Result<Role, AllocError> {
+        Ok(*self)
+    }
+
+    ghost tells = { roles_tell };
+}
+
+impl Row for Called {
+    ghost use Rattle.review_change_rows.specs.Same.{same_call};
+    ghost use Rattle.review_change_rows.proofs.Telling.{calls_tell};
+
+    ghost same = { same_call };
+
+    fn is_same(&self, other: &Called) -> bool {
+        self.reason.as_str() == other.reason.as_str() && self.request == other.request
+    }
+
+    fn copied(&self, alloc: Global) -> Result<Called, AllocError> {
+        Ok(Called {
+            reason: self.reason.copy(alloc)?,
+            request: self.request,
+        })
+    }
+
+    ghost tells = { calls_tell };
+}
