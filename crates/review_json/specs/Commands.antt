@@ -7,6 +7,8 @@ use Rattle.review_names.specs.Forms.{is_slashed_name, is_commit}
 use Rattle.review_words.specs.declared.command.Command.{Command}
 use Rattle.review_words.specs.declared.command.Command.TheVariants.{CreateAccount, PutGroup, PutProject, RecordBase}
 use Rattle.review_json.specs.Parts.{text_at, name_at, members_at}
+use Rattle.review_json.specs.Changes.{create_change, upload}
+use Rattle.review_json.specs.Reviews.{review}
 
 -- the body has the name
 unfoldable pub create_account : Data → Option Command
@@ -33,4 +35,7 @@ command_named name line body =
     if bytes_eq name (codes "CreateAccount") then create_account body
     else (if bytes_eq name (codes "PutGroup") then put_group line body
     else (if bytes_eq name (codes "PutProject") then put_project line body
-    else (if bytes_eq name (codes "RecordBase") then record_base line body else None)))
+    else (if bytes_eq name (codes "RecordBase") then record_base line body
+    else (if bytes_eq name (codes "CreateChange") then create_change body
+    else (if bytes_eq name (codes "Upload") then upload line body
+    else (if bytes_eq name (codes "Review") then review line body else None))))))

@@ -3,8 +3,10 @@ ghost use Rattle.serde_json.specs.View.{view};
 ghost use Rattle.review_json.specs.Parts.{Gives};
 ghost use Rattle.review_json.specs.Commands.{create_account, put_group, put_project, record_base, command_named};
 
+use crate::changes::{create_change, upload};
 use crate::fault::BadBody;
 use crate::parts::{file_at, members_at, name_at};
+use crate::reviews::review;
 use review_words::Command;
 use serde_json::Value;
 use std::alloc::Global;
@@ -74,6 +76,15 @@ pub fn command_named(
     }
     if name == "RecordBase" {
         return record_base(alloc, line, body);
+    }
+    if name == "CreateChange" {
+        return create_change(alloc, body);
+    }
+    if name == "Upload" {
+        return upload(alloc, line, body);
+    }
+    if name == "Review" {
+        return review(alloc, line, body);
     }
     Err(BadBody::Form)
 }

@@ -8,11 +8,15 @@
 #![tactic(auto)]
 
 pub mod answer;
+pub mod changes;
 pub mod commands;
+pub mod comments;
 pub mod fault;
 pub mod line;
 pub mod parts;
 pub mod queries;
+pub mod reviews;
+pub mod votes;
 
 pub use answer::answer_text;
 pub use fault::BadBody;
