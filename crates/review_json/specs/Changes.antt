@@ -1,5 +1,5 @@
 -- The commands that make changes and patch sets.
-use Rattle.std.specs.Prelude.{Option, Some, Bool, false, List, option_map, unwrap_or, codes}
+use Rattle.std.specs.Prelude.{Option, Some, Bool, false, option_map, unwrap_or, codes}
 use Rattle.serde_json.specs.Data.{Data}
 use Rattle.review_names.specs.Forms.{is_slashed_name, is_line, is_commit}
 use Rattle.review_names.specs.Numerals.{◌>>=◌}
