@@ -1,9 +1,3 @@
-pub mod Faults
-pub mod Parts
-pub mod Changes
-pub mod Votes
-pub mod Comments
-pub mod Reviews
 pub mod Commands
 pub mod Queries
 pub mod Line

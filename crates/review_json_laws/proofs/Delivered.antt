@@ -12,12 +12,12 @@ use Rattle.review_names.specs.Forms.{is_commit, is_slashed_name}
 use Rattle.review_names.specs.Names.{is_word}
 use Rattle.review_words.specs.declared.command.Command.{Command}
 use Rattle.review_words.specs.declared.command.Delivery.{Delivery}
-use Rattle.review_json.specs.Parts.{text_at, name_at, members_at, change_at, account_at}
-use Rattle.review_json.specs.Changes.{new_change, create_change, new_patch, upload}
-use Rattle.review_json.specs.Comments.{comments_in}
-use Rattle.review_json.specs.Reviews.{message_in, patch_in, has_refused, said, review}
-use Rattle.review_json.specs.Votes.{labels_in}
-use Rattle.review_json.specs.Commands.{create_account, put_group, put_project, record_base, command_named}
+use Rattle.review_bodies.specs.Parts.{text_at, name_at, members_at, change_at, account_at}
+use Rattle.review_bodies.specs.Changes.{new_change, new_patch}
+use Rattle.review_bodies.specs.Comments.{comments_in}
+use Rattle.review_bodies.specs.Reviews.{message_in, patch_in, has_refused, said}
+use Rattle.review_bodies.specs.Votes.{labels_in}
+use Rattle.review_json.specs.Commands.{create_account, put_group, put_project, record_base, create_change, upload, review, command_named}
 use Rattle.review_json.specs.Queries.{is_query, query_named}
 use Rattle.review_json.specs.Line.{value_spelled, object_or_empty, body_in, command_in, write_in, read_in, delivery_in, delivery_spelled}
 use Rattle.review_json_laws.specs.Laws.{made_comments, delivered_comments, CommentsGoByPlace}
@@ -37,7 +37,7 @@ in_review : (line body : Data) → IsInOrder body → IfSome (review line body) 
 unfolding review
 in_review line body h =
     either_some IsByPlace (has_refused body) None _ tt
-    (next_some IsByPlace _ (λ change. next_some IsByPlace _ (λ patch. bind_some (λ r. GoByPlace r.comments) IsByPlace _ (λ whole p. p) (said patch body) (in_said patch body h)) (patch_in line)) (change_at (codes "change") line))
+    (then_any IsByPlace _ (λ change. then_any IsByPlace _ (λ patch. map_some (λ r. GoByPlace r.comments) IsByPlace _ (λ what p. p) (said patch body) (in_said patch body h)) (patch_in line)) (change_at (codes "change") line))
 
 in_create_account : (body : Data) → IfSome (create_account body) IsByPlace
 unfolding create_account
@@ -62,7 +62,7 @@ in_create_change body = map_any IsByPlace _ (λ change. tt) (new_change body)
 
 in_upload : (line body : Data) → IfSome (upload line body) IsByPlace
 unfolding upload
-in_upload line body = next_some IsByPlace _ (λ change. next_some IsByPlace _ (λ patch. tt) (new_patch body)) (change_at (codes "change") line)
+in_upload line body = then_any IsByPlace _ (λ change. map_any IsByPlace _ (λ patch. tt) (new_patch body)) (change_at (codes "change") line)
 
 in_command_named : (name : List ℕ) (line body : Data) → IsInOrder body → IfSome (command_named name line body) IsByPlace
 unfolding command_named

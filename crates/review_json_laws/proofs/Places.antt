@@ -12,8 +12,8 @@ use Rattle.review_names.specs.Forms.{is_message, is_place}
 use Rattle.review_names.specs.Numerals.{◌>>=◌}
 use Rattle.review_words.specs.Reviews.{all_written}
 use Rattle.review_words.specs.declared.changes.NewComment.{NewComment}
-use Rattle.review_json.specs.Parts.{formed, or_absent, name_at, flag_at}
-use Rattle.review_json.specs.Comments.{line_in, answered_in, comment_of, comments_on, comments_at, comments_from, written, comments_of, comments_in}
+use Rattle.review_bodies.specs.Parts.{formed, or_absent, name_at, flag_at}
+use Rattle.review_bodies.specs.Comments.{line_in, answered_in, comment_of, comments_on, comments_at, comments_from, written, comments_of, comments_in}
 use Rattle.review_json_laws.proofs.Ordered.{map_some, then_some, either_some, IsBelow, AreAbove, IsInOrder, MembersInOrder, get_in_order, object_in_order}
 
 pub bind_some : {A B : Type 0} (P : A → Type 0) (Q : B → Type 0) (f : A → Option B) → ((a : A) → P a → IfSome (f a) Q) → (o : Option A) → IfSome o P → IfSome (o >>= f) Q

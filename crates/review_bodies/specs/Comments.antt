@@ -6,7 +6,7 @@ use Rattle.review_names.specs.Forms.{is_message, is_place, most_comments}
 use Rattle.review_names.specs.Numerals.{◌>>=◌}
 use Rattle.review_words.specs.Reviews.{all_written}
 use Rattle.review_words.specs.declared.changes.NewComment.{NewComment}
-use Rattle.review_json.specs.Parts.{formed, or_absent, optional, name_at, number_of, flag_at}
+use Rattle.review_bodies.specs.Parts.{formed, or_absent, optional, name_at, number_of, flag_at}
 
 -- the greatest line of a comment
 abbrev pub most_lines : ℕ

@@ -6,7 +6,7 @@ use Rattle.review_names.specs.Forms.{is_label}
 use Rattle.review_names.specs.Numerals.{◌>>=◌}
 use Rattle.review_words.specs.Reviews.{label_set}
 use Rattle.review_words.specs.declared.changes.Given.{Given}
-use Rattle.review_json.specs.Parts.{formed, or_absent}
+use Rattle.review_bodies.specs.Parts.{formed, or_absent}
 
 -- the number, where it is from -99 to 99
 abbrev pub value_from : ℤ → Option ℤ

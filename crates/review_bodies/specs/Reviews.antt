@@ -1,4 +1,4 @@
--- The command for a review.
+-- The bodies of reviews, and the patch sets that they are of.
 use Rattle.std.specs.Prelude.{ℕ, List, [], ◌∷◌, Bool, false, if◌then◌else◌, Option, Some, None, is_some, option_map, option_and_then, unwrap_or, codes}
 use Rattle.std.specs.List.{list_any}
 use Rattle.std.specs.Str.{bytes_eq}
@@ -6,12 +6,10 @@ use Rattle.serde_json.specs.Data.{Data}
 use Rattle.serde_json.specs.Find.{get, as_str}
 use Rattle.review_names.specs.Forms.{is_message, most_patches}
 use Rattle.review_names.specs.Numerals.{◌>>=◌}
-use Rattle.review_words.specs.declared.changes.Review.{Review as WholeReview}
-use Rattle.review_words.specs.declared.command.Command.{Command}
-use Rattle.review_words.specs.declared.command.Command.TheVariants.{Review}
-use Rattle.review_json.specs.Parts.{formed, or_absent, number_of, change_at}
-use Rattle.review_json.specs.Votes.{labels_in}
-use Rattle.review_json.specs.Comments.{comments_in}
+use Rattle.review_words.specs.declared.changes.Review.{Review}
+use Rattle.review_bodies.specs.Parts.{formed, or_absent, number_of}
+use Rattle.review_bodies.specs.Votes.{labels_in}
+use Rattle.review_bodies.specs.Comments.{comments_in}
 
 -- whether the current patch set is meant, by the text `current`
 abbrev pub is_current : Data → Bool
@@ -44,17 +42,9 @@ unfoldable pub has_refused : Data → Bool
 has_refused body = list_any (λ key. is_some (get key body)) refused_members
 
 -- what the body says, of the patch set that is given
-unfoldable pub said : Option ℕ → Data → Option WholeReview
+unfoldable pub said : Option ℕ → Data → Option Review
 said patch body = do
   message ← message_in body
   labels ← labels_in body
   comments ← comments_in body
   Some (record { patch = patch; message = message; labels = labels; comments = comments })
-
--- the line has the change and the patch set, the body what is said of it
-unfoldable pub review : Data → Data → Option Command
-review line body = if has_refused body then None else do
-  change ← change_at (codes "change") line
-  patch ← patch_in line
-  whole ← said patch body
-  Some (Review change whole)

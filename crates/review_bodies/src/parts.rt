@@ -1,7 +1,7 @@
 //! What the members of an object spell.
 ghost use Rattle.std.specs.Prelude.{◌≡◌, Some, None, Err, IfOk, option_map};
 ghost use Rattle.serde_json.specs.View.{view, items_view};
-ghost use Rattle.review_json.specs.Parts.{Gives, text_at, name_at, account_of, account_at, accounts_in, members_from, members_at, number_of, change_at, flag_at};
+ghost use Rattle.review_bodies.specs.Parts.{Gives, text_at, name_at, account_of, account_at, accounts_in, members_from, members_at, number_of, change_at, flag_at};
 ghost use Rattle.review_names.specs.Forms.{most_changes};
 
 use crate::fault::BadBody;

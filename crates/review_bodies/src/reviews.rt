@@ -1,16 +1,15 @@
-//! The command for a review.
+//! The bodies of reviews, and the patch sets that they are of.
 ghost use Rattle.std.specs.Prelude.{◌≡◌, is_some};
 ghost use Rattle.serde_json.specs.Find.{get};
 ghost use Rattle.serde_json.specs.View.{view};
 ghost use Rattle.review_names.specs.Forms.{most_patches};
-ghost use Rattle.review_json.specs.Parts.{Gives, number_of};
-ghost use Rattle.review_json.specs.Reviews.{is_current, patch_of, patch_in, message_of, message_in, has_refused, said, review};
+ghost use Rattle.review_bodies.specs.Parts.{Gives, number_of};
+ghost use Rattle.review_bodies.specs.Reviews.{is_current, patch_of, patch_in, message_of, message_in, has_refused, said};
 
 use crate::comments::comments_in;
 use crate::fault::BadBody;
-use crate::parts::change_at;
 use crate::votes::labels_in;
-use review_words::{Command, Message, PatchNo, Review};
+use review_words::{Message, PatchNo, Review};
 use serde_json::Value;
 use std::alloc::Global;
 
@@ -105,18 +104,4 @@ pub fn said(alloc: Global, patch: Option<PatchNo>, body: &Value) -> Result<Revie
         labels,
         comments,
     })
-}
-
-/// A review: `change` and `patch_set` in the line, what is said in the body.
-#[tactic(auto, unfolding(crate::specs::Reviews::review))]
-pub fn review(alloc: Global, line: &Value, body: &Value) -> Result<Command, BadBody>
-    ensures { Gives result (review (view line.now) (view body.now)) }
-{
-    if has_refused(body) {
-        return Err(BadBody::Form);
-    }
-    let change = change_at("change", line)?;
-    let patch = patch_in(line)?;
-    let review = said(alloc, patch, body)?;
-    Ok(Command::Review { change, review })
 }

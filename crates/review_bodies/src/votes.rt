@@ -1,8 +1,8 @@
 //! The values that a review gives on labels.
 ghost use Rattle.std.specs.Prelude.{◌≡◌, Some, None, Err, IfOk};
 ghost use Rattle.serde_json.specs.View.{view, members_view};
-ghost use Rattle.review_json.specs.Parts.{Gives};
-ghost use Rattle.review_json.specs.Votes.{value_of, given_of, given_in, labels_of, labels_in};
+ghost use Rattle.review_bodies.specs.Parts.{Gives};
+ghost use Rattle.review_bodies.specs.Votes.{value_of, given_of, given_in, labels_of, labels_in};
 
 use crate::fault::BadBody;
 use review_words::{Given, LabelName, Labels};

@@ -6,8 +6,8 @@ use Rattle.review_names.specs.Forms.{is_within, is_path, text_set, most_changes,
 use Rattle.review_names.specs.Kinds.{kind_named}
 use Rattle.review_names.specs.Names.{is_account_number, set_of, most_members}
 use Rattle.review_names.specs.declared.kinds.ChangeKind.{ChangeKind}
-use Rattle.review_json.specs.declared.fault.BadBody.{BadBody}
-use Rattle.review_json.specs.declared.fault.BadBody.TheVariants.{Form, Memory}
+use Rattle.review_bodies.specs.declared.fault.BadBody.{BadBody}
+use Rattle.review_bodies.specs.declared.fault.BadBody.TheVariants.{Form, Memory}
 
 -- what is spelled was given, and Form exactly where nothing is spelled
 abbrev pub Gives : {X : Type 0} → Result X BadBody → Option X → Type 0

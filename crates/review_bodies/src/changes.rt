@@ -1,12 +1,12 @@
-//! The commands that make changes and patch sets.
+//! The bodies of new changes and new patch sets.
 ghost use Rattle.std.specs.Prelude.{◌≡◌, Some, None, Err, IfOk};
 ghost use Rattle.serde_json.specs.View.{view, items_view};
-ghost use Rattle.review_json.specs.Parts.{Gives, path_of, paths_in, paths_from, paths_at, kind_at};
-ghost use Rattle.review_json.specs.Changes.{wip_in, new_change, create_change, new_patch, upload};
+ghost use Rattle.review_bodies.specs.Parts.{Gives, path_of, paths_in, paths_from, paths_at, kind_at};
+ghost use Rattle.review_bodies.specs.Changes.{wip_in, new_change, new_patch};
 
 use crate::fault::BadBody;
-use crate::parts::{change_at, flag_at, name_at, text_at};
-use review_words::{ChangeKind, Command, NewChange, NewPatch, Path, Paths};
+use crate::parts::{flag_at, name_at, text_at};
+use review_words::{ChangeKind, NewChange, NewPatch, Path, Paths};
 use serde_json::Value;
 use std::alloc::Global;
 
@@ -90,14 +90,6 @@ pub fn new_change(alloc: Global, body: &Value) -> Result<NewChange, BadBody>
     })
 }
 
-/// A new change, all of which is in the body.
-#[tactic(auto, unfolding(crate::specs::Changes::create_change))]
-pub fn create_change(alloc: Global, body: &Value) -> Result<Command, BadBody>
-    ensures { Gives result (create_change (view body.now)) }
-{
-    Ok(Command::CreateChange(new_change(alloc, body)?))
-}
-
 /// The patch set of a body: `commit`, `parent`, `kind`, `paths`.
 #[tactic(auto, unfolding(crate::specs::Changes::new_patch))]
 pub fn new_patch(alloc: Global, body: &Value) -> Result<NewPatch, BadBody>
@@ -113,14 +105,4 @@ pub fn new_patch(alloc: Global, body: &Value) -> Result<NewPatch, BadBody>
         kind,
         paths,
     })
-}
-
-/// A new patch set of a change: `change` in the line, the patch set in the body.
-#[tactic(auto, unfolding(crate::specs::Changes::upload))]
-pub fn upload(alloc: Global, line: &Value, body: &Value) -> Result<Command, BadBody>
-    ensures { Gives result (upload (view line.now) (view body.now)) }
-{
-    let change = change_at("change", line)?;
-    let patch = new_patch(alloc, body)?;
-    Ok(Command::Upload { change, patch })
 }
