@@ -7,7 +7,7 @@ use Rattle.review_words.specs.Faults.{code_name, file_fault_name}
 use Rattle.review_words.specs.declared.reply.Reply.{Reply}
 use Rattle.review_words.specs.declared.reply.Reply.TheVariants.{Done, Refused, IdentityReused, NotTaken}
 use Rattle.review_words.specs.declared.reply.Answer.{Answer}
-use Rattle.review_words.specs.declared.reply.Answer.TheVariants.{Account, Nothing, Branch}
+use Rattle.review_words.specs.declared.reply.Answer.TheVariants.{Account, Nothing, Change, Patch, Reviewed, Branch}
 use Rattle.review_words.specs.declared.reply.Refusal.{Refusal}
 use Rattle.review_words.specs.declared.reply.Refusal.TheVariants.{BadFile}
 use Rattle.review_words.specs.declared.faults.FileFault.{FileFault}
@@ -31,10 +31,21 @@ cause_name Full = codes "FULL"
 abbrev pub texts_data : List (List ℕ) → Items
 texts_data texts = items_of (map (λ text. string text) texts)
 
--- what a command that was done gave, or what a query found; nothing joins a branch, since there are no changes
+-- numbers in their order
+abbrev pub numbers_data : List ℕ → Items
+numbers_data numbers = items_of (map number_data numbers)
+
+-- what a command that was done gave, or what a query found; nothing joins a branch, since no change is merged
 abbrev pub answer_data : Answer → Data
 answer_data (Account account) = object (member (codes "account") (number_data account) no_members)
 answer_data Nothing = object no_members
+answer_data (Change change patch) = object (member (codes "change") (number_data change) (member (codes "patch_set") (number_data patch) no_members))
+answer_data (Patch change patch copied outdated) =
+    object (member (codes "change") (number_data change)
+    (member (codes "copied") (number_data copied)
+    (member (codes "outdated") (number_data outdated)
+    (member (codes "patch_set") (number_data patch) no_members))))
+answer_data (Reviewed comments) = object (member (codes "comments") (array (numbers_data comments)) no_members)
 answer_data (Branch bases) = object (member (codes "bases") (array (texts_data bases)) (member (codes "joined") (array no_items) no_members))
 
 -- a refusal for a file with this fault; for an expression's fault with its code and its place

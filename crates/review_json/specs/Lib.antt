@@ -1,5 +1,3 @@
-pub mod Faults
-pub mod Parts
 pub mod Commands
 pub mod Queries
 pub mod Line

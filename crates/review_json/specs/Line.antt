@@ -8,7 +8,7 @@ use Rattle.review_names.specs.Names.{is_word}
 use Rattle.review_words.specs.declared.command.Command.{Command}
 use Rattle.review_words.specs.declared.command.Delivery.{Delivery}
 use Rattle.review_words.specs.declared.command.Delivery.TheVariants.{Write, Read}
-use Rattle.review_json.specs.Parts.{text_at, name_at, account_at}
+use Rattle.review_bodies.specs.Parts.{text_at, name_at, account_at}
 use Rattle.review_json.specs.Commands.{command_named}
 use Rattle.review_json.specs.Queries.{is_query, query_named}
 

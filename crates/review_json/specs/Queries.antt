@@ -5,7 +5,7 @@ use Rattle.serde_json.specs.Data.{Data}
 use Rattle.review_names.specs.Forms.{is_slashed_name}
 use Rattle.review_words.specs.declared.command.Query.{Query}
 use Rattle.review_words.specs.declared.command.Query.TheVariants.{Branch}
-use Rattle.review_json.specs.Parts.{name_at}
+use Rattle.review_bodies.specs.Parts.{name_at}
 
 -- the line has the project and the branch
 unfoldable pub branch : Data → Option Query

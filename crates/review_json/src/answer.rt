@@ -2,9 +2,9 @@
 ghost use Rattle.std.specs.Prelude.{◌≡◌, IfOk, string_bytes};
 ghost use Rattle.serde_json.specs.View.{view, items_view};
 ghost use Rattle.serde_json.specs.Written.{compact_text};
-ghost use Rattle.review_json.specs.Answer.{cause_name, texts_data, answer_data, bad_file_data, refusal_data, reply_data};
+ghost use Rattle.review_json.specs.Answer.{cause_name, texts_data, numbers_data, answer_data, bad_file_data, refusal_data, reply_data};
 
-use review_words::{Answer, CommitName, FileFault, NotTaken, Refusal, Reply};
+use review_words::{Answer, CommentNo, CommitName, FileFault, NotTaken, Refusal, Reply};
 use serde_json::{Map, Value, json};
 use std::alloc::{AllocError, Global};
 
@@ -31,15 +31,43 @@ fn commit_values(alloc: Global, commits: &[CommitName]) -> Result<Vec<Value>, Al
     Ok(values)
 }
 
+fn comment_values(alloc: Global, comments: &[CommentNo]) -> Result<Vec<Value>, AllocError>
+    ensures { IfOk result (λ v. items_view v.items ≡ numbers_data comments.now) }
+{
+    let mut values = Vec::new(alloc);
+    for comment in comments {
+        values.push(Value::from(comment.get()))?;
+    }
+    Ok(values)
+}
+
 fn answer_value(alloc: Global, answer: &Answer) -> Result<Value, AllocError>
     ensures { IfOk result (λ v. view v ≡ answer_data answer.now) }
 {
     match answer {
         Answer::Account(account) => json!(in alloc; {"account": account.get()}),
         Answer::Nothing => Ok(Value::Object(Map::new(alloc))),
+        Answer::Change { change, patch } => {
+            json!(in alloc; {"change": change.get(), "patch_set": patch.get()})
+        }
+        Answer::Patch {
+            change,
+            patch,
+            copied,
+            outdated,
+        } => json!(in alloc; {
+            "change": change.get(),
+            "copied": *copied,
+            "outdated": *outdated,
+            "patch_set": patch.get(),
+        }),
+        Answer::Reviewed(comments) => {
+            let numbers = comment_values(alloc, comments.as_slice())?;
+            json!(in alloc; {"comments": numbers})
+        }
         Answer::Branch(bases) => {
             let commits = commit_values(alloc, bases.as_slice())?;
-            // Nothing joins a branch, since there are no changes yet.
+            // Nothing joins a branch, since no change is merged yet.
             json!(in alloc; {"bases": commits, "joined": []})
         }
     }

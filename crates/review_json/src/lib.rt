@@ -1,4 +1,4 @@
-//! Deliveries and answers as JSON.
+//! Deliveries and answers as JSON, over the bodies of `review_bodies`.
 //!
 //! A delivery is a line such as `{"caller":1,"id":"a1","do":"CreateAccount","body":{"name":"ann"}}`, or for a query
 //! `{"caller":1,"do":"Branch","project":"tools","branch":"main"}`, and the answer to it a text such as `{"account":2}` or
@@ -9,11 +9,9 @@
 
 pub mod answer;
 pub mod commands;
-pub mod fault;
 pub mod line;
-pub mod parts;
 pub mod queries;
 
 pub use answer::answer_text;
-pub use fault::BadBody;
 pub use line::delivery_of_line;
+pub use review_bodies::BadBody;

@@ -1,13 +1,12 @@
 //! The delivery that a line spells.
 ghost use Rattle.std.specs.Prelude.{◌≡◌, Some, None, Err, IfOk, codes};
 ghost use Rattle.serde_json.specs.View.{view};
-ghost use Rattle.review_json.specs.Parts.{Gives};
+ghost use Rattle.review_bodies.specs.Parts.{Gives};
 ghost use Rattle.review_json.specs.Line.{value_spelled, command_in, write_in, read_in, delivery_in, delivery_spelled};
 
 use crate::commands::command_named;
-use crate::fault::BadBody;
-use crate::parts::{account_at, name_at, text_at};
 use crate::queries::{is_query, query_named};
+use review_bodies::{BadBody, account_at, name_at, text_at};
 use review_words::{AccountNo, Command, Delivery};
 use serde_json::{Map, Value};
 use std::alloc::Global;
@@ -87,8 +86,9 @@ pub fn value_of(alloc: Global, bytes: &[u8]) -> Result<Value, BadBody>
 /// The delivery that the bytes of a line spell.
 ///
 /// A line is an object with `caller`, a number; `do`, the name of a command or a query; and the segments of its route, as
-/// `group`, or `project` and `branch`. A command's line has `id`, a name, too, and `body`, an object with the command's
-/// other parts, which is `{}` where it is absent.
+/// `group`, or `project` and `branch`, or `change` and `patch_set`, of which a change is a number, and a patch set a number or
+/// the text `current`. A command's line has `id`, a name, too, and `body`, an object with the command's other parts, which is
+/// `{}` where it is absent.
 /// Members may come in any order; other members are ignored, as `id` and `body` of a query; of a key that is given twice
 /// the last value stays.
 /// A whole number is one that is written so: `2.0` and `1e0` are none. `null` isn't absent.

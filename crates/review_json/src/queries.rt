@@ -1,11 +1,10 @@
 //! The queries, one function each: what is a part of its route stands in the line.
 ghost use Rattle.std.specs.Prelude.{◌≡◌};
 ghost use Rattle.serde_json.specs.View.{view};
-ghost use Rattle.review_json.specs.Parts.{Gives};
+ghost use Rattle.review_bodies.specs.Parts.{Gives};
 ghost use Rattle.review_json.specs.Queries.{branch, is_query, query_named};
 
-use crate::fault::BadBody;
-use crate::parts::name_at;
+use review_bodies::{BadBody, name_at};
 use review_words::Query;
 use serde_json::Value;
 use std::alloc::Global;

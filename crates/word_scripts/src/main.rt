@@ -21,8 +21,9 @@
 //! - `reply TEXT`: the stored reply of a text: its JSON, the status of a refusal, and its text again; or `no stored reply`. Replies that
 //!   have no text are `branch-with COMMIT,COMMIT,..`, `not-taken CAUSE` and `identity-reused`.
 //!
-//! In a line `{N:PART}` is PART N times, `{A..B}` the numbers from A to B with commas between, and `{U+HEX}` a character; any other
-//! brace is itself. In an answer `\n` is a line feed, and a text of more than 300 bytes is told by its length.
+//! In a line `{N:PART}` is PART N times, `{A..B}` the numbers from A to B with commas between, `{"A..B"}` the same with each in
+//! quotes, and `{U+HEX}` a character; any other brace is itself. In an answer `\n` is a line feed, and a text of more than 300 bytes
+//! is told by its length.
 #![tactic(auto)]
 
 mod commands;

@@ -21,16 +21,26 @@ fn range(inner: &str) -> Option<(u32, u32)> {
     Some((first.parse::<u32>().ok()?, last.parse::<u32>().ok()?))
 }
 
-/// Writes the numbers from the first to the last, rising or falling, with commas between.
-fn push_numbers(alloc: Global, whole: &mut String, ends: (u32, u32)) -> Result<(), AllocError> {
+/// The ends of `"A..B"`.
+fn quoted_range(inner: &str) -> Option<(u32, u32)> {
+    range(inner.strip_prefix("\"")?.strip_suffix("\"")?)
+}
+
+/// Writes the numbers from the first to the last, rising or falling, each between two marks, with commas between.
+fn push_numbers(
+    alloc: Global,
+    whole: &mut String,
+    ends: (u32, u32),
+    mark: &str,
+) -> Result<(), AllocError> {
     let (first, last) = ends;
-    whole.push_str(format!(in alloc; "{first}")?.as_str())?;
+    whole.push_str(format!(in alloc; "{mark}{first}{mark}")?.as_str())?;
     for number in first.saturating_add(1)..last.saturating_add(1) {
-        whole.push_str(format!(in alloc; ",{number}")?.as_str())?;
+        whole.push_str(format!(in alloc; ",{mark}{number}{mark}")?.as_str())?;
     }
     for step in 1..first.saturating_sub(last).saturating_add(1) {
         let number = first.saturating_sub(step);
-        whole.push_str(format!(in alloc; ",{number}")?.as_str())?;
+        whole.push_str(format!(in alloc; ",{mark}{number}{mark}")?.as_str())?;
     }
     Ok(())
 }
@@ -47,7 +57,10 @@ fn push_inner(alloc: Global, whole: &mut String, inner: &str) -> Result<(), Allo
         return Ok(());
     }
     if let Some(ends) = range(inner) {
-        return push_numbers(alloc, whole, ends);
+        return push_numbers(alloc, whole, ends, "");
+    }
+    if let Some(ends) = quoted_range(inner) {
+        return push_numbers(alloc, whole, ends, "\"");
     }
     whole.push('{')?;
     whole.push_str(inner)?;

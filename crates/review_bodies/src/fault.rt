@@ -14,7 +14,7 @@ pub enum BadBody {
 }
 
 impl From<AllocError> for BadBody {
-    ghost use Rattle.review_json.specs.declared.fault.BadBody.TheVariants.{Memory};
+    ghost use Rattle.review_bodies.specs.declared.fault.BadBody.TheVariants.{Memory};
 
     ghost from_gives = { λ _ e. e ≡ Memory };
 
@@ -24,7 +24,7 @@ impl From<AllocError> for BadBody {
 }
 
 impl<T: Drop> From<AllocFailed<T>> for BadBody {
-    ghost use Rattle.review_json.specs.declared.fault.BadBody.TheVariants.{Memory};
+    ghost use Rattle.review_bodies.specs.declared.fault.BadBody.TheVariants.{Memory};
 
     ghost from_gives = { λ _ e. e ≡ Memory };
 
@@ -34,7 +34,7 @@ impl<T: Drop> From<AllocFailed<T>> for BadBody {
 }
 
 impl From<BadName> for BadBody {
-    ghost use Rattle.review_json.specs.Faults.{body_fault};
+    ghost use Rattle.review_bodies.specs.Faults.{body_fault};
 
     ghost from_gives = { λ bad e. e ≡ body_fault bad };
 

@@ -1,10 +1,11 @@
 //! What the members of an object spell.
 ghost use Rattle.std.specs.Prelude.{◌≡◌, Some, None, Err, IfOk, option_map};
 ghost use Rattle.serde_json.specs.View.{view, items_view};
-ghost use Rattle.review_json.specs.Parts.{Gives, text_at, name_at, account_of, account_at, accounts_in, members_from, members_at};
+ghost use Rattle.review_bodies.specs.Parts.{Gives, text_at, name_at, account_of, account_at, accounts_in, members_from, members_at, number_of, change_at, flag_at};
+ghost use Rattle.review_names.specs.Forms.{most_changes};
 
 use crate::fault::BadBody;
-use review_words::{AccountNo, FileText, Form, Members, Name};
+use review_words::{AccountNo, ChangeNo, FileText, Form, Members, Name};
 use serde_json::Value;
 use std::alloc::Global;
 
@@ -76,4 +77,32 @@ pub fn members_at(alloc: Global, key: &str, value: &Value) -> Result<Members, Ba
     };
     let accounts = accounts_in(alloc, list)?;
     members_from(alloc, accounts)
+}
+
+fn change_of(value: &Value) -> Option<ChangeNo>
+    ensures { result ≡ number_of most_changes (view value.now) }
+{
+    ChangeNo::from_number(value.as_u64()?)
+}
+
+/// The change of the member `key`, a whole number.
+#[tactic(auto, unfolding(crate::specs::Parts::change_at))]
+pub fn change_at(key: &str, value: &Value) -> Result<ChangeNo, BadBody>
+    ensures { Gives result (change_at key.now (view value.now)) }
+{
+    value.get(key).and_then(change_of).ok_or(BadBody::Form)
+}
+
+/// The truth value of the member `key`, if it is there.
+#[tactic(auto, unfolding(crate::specs::Parts::flag_at))]
+pub fn flag_at(key: &str, value: &Value) -> Result<Option<bool>, BadBody>
+    ensures { Gives result (flag_at key.now (view value.now)) }
+{
+    match value.get(key) {
+        Some(flag) => {
+            let flag = flag.as_bool().ok_or(BadBody::Form)?;
+            Ok(Some(flag))
+        }
+        None => Ok(None),
+    }
 }

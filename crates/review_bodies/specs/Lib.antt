@@ -1,0 +1,6 @@
+pub mod Faults
+pub mod Parts
+pub mod Changes
+pub mod Votes
+pub mod Comments
+pub mod Reviews

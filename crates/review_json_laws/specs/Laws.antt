@@ -1,0 +1,25 @@
+-- What is said of lines in other words than those by which they are read.
+use Rattle.std.specs.Prelude.{ℕ, List, [], IfSome}
+use Rattle.std.specs.Cmp.Lexicographic.{slice_cmp}
+use Rattle.std.specs.List.Sorted.{IsSortedByKey}
+use Rattle.std.specs.Ordering.{nat_cmp}
+use Rattle.review_words.specs.declared.changes.NewComment.{NewComment}
+use Rattle.review_words.specs.declared.command.Command.{Command}
+use Rattle.review_words.specs.declared.command.Command.TheVariants.{Review}
+use Rattle.review_words.specs.declared.command.Delivery.{Delivery}
+use Rattle.review_words.specs.declared.command.Delivery.TheVariants.{Write, Read}
+use Rattle.review_json.specs.Line.{delivery_spelled}
+
+-- the comments that a command makes, which is a review's alone
+abbrev pub made_comments : Command → List NewComment
+made_comments (Review change review) = review.comments
+made_comments _ = []
+
+-- the comments that a delivery is to make
+abbrev pub delivered_comments : Delivery → List NewComment
+delivered_comments (Write caller id command) = made_comments command
+delivered_comments (Read caller query) = []
+
+-- Whatever the order in a line, the comments that it spells go by the bytes of their places.
+abbrev pub CommentsGoByPlace : Type 0
+CommentsGoByPlace = (bytes : List ℕ) → IfSome (delivery_spelled bytes) (λ delivery. IsSortedByKey (λ comment. comment.path) (slice_cmp nat_cmp) (delivered_comments delivery))
