@@ -21,29 +21,28 @@ use Rattle.review_change_rows.specs.Differences.{has_row, puts, takes}
 tied : (o : Ordering) → is_eq o ≡ true → o ≡ Equal
 tied o h = (Equal-is o).0 h
 
-module _ {K X : Type 0} {R : K → K → Ordering} (o : IsTotalOrder R) where
-  at_back : (j k : K) → is_at (R j) k ≡ true → is_at (R k) j ≡ true
-  at_back j k h = ap is_eq (tied_back o j k (tied (R j k) h))
+at_back : {K : Type 0} {R : K → K → Ordering} (o : IsTotalOrder R) (j k : K) → is_at (R j) k ≡ true → is_at (R k) j ≡ true
+at_back {R = R} o j k h = ap is_eq (tied_back o j k (tied (R j k) h))
 
-  -- a tie goes both ways
-  at_same : (j k : K) → is_at (R j) k ≡ is_at (R k) j
-  at_same j k = ⊎_elim
-      (λ (y : is_at (R j) k ≡ true). y ∙ sym (at_back j k y))
-      (λ (f : is_at (R j) k ≡ false). ⊎_elim
-      (λ (y : is_at (R k) j ≡ true). let e = at_back k j y in absurd (let g : true ≡ false = sym e ∙ f in cc))
-      (λ (g : is_at (R k) j ≡ false). f ∙ sym g)
-      (cases_Bool (is_at (R k) j)))
-      (cases_Bool (is_at (R j) k))
+-- a tie goes both ways
+at_same : {K : Type 0} {R : K → K → Ordering} (o : IsTotalOrder R) (j k : K) → is_at (R j) k ≡ is_at (R k) j
+at_same {R = R} o j k = ⊎_elim
+    (λ (y : is_at (R j) k ≡ true). y ∙ sym (at_back o j k y))
+    (λ (f : is_at (R j) k ≡ false). ⊎_elim
+    (λ (y : is_at (R k) j ≡ true). let e = at_back o k j y in absurd (let g : true ≡ false = sym e ∙ f in cc))
+    (λ (g : is_at (R k) j ≡ false). f ∙ sym g)
+    (cases_Bool (is_at (R k) j)))
+    (cases_Bool (is_at (R j) k))
 
-  -- keys that tie have one row
-  row_tied : (j k : K) → is_at (R j) k ≡ true → (rows : List (K × X)) → row_in R rows j ≡ row_in R rows k
-  row_tied j k h [] = refl
-  row_tied j k h (e ∷ rows) = λ i. if is_eq (o.congr j k e.0 (tied (R j k) h) i) then Some e.1 else row_tied j k h rows i
+-- keys that tie have one row
+row_tied : {K X : Type 0} {R : K → K → Ordering} (o : IsTotalOrder R) (j k : K) → is_at (R j) k ≡ true → (rows : List (K × X)) → row_in R rows j ≡ row_in R rows k
+row_tied o j k h [] = refl
+row_tied {R = R} o j k h (e ∷ rows) = λ i. if is_eq (o.congr j k e.0 (tied (R j k) h) i) then Some e.1 else row_tied o j k h rows i
 
-  -- after a key in order there is no row of one that ties with it
-  none_later : (k q : K) → is_at (R q) k ≡ true → (rows : List (K × X)) → AllByRecursion (λ y. R k y ≡ Less) (keys_of rows) → row_in R rows q ≡ None
-  none_later k q e [] s = refl
-  none_later k q e (r ∷ rows) s = let h : is_at (R q) r.0 ≡ false = ap is_eq (o.congr q k r.0 (tied (R q k) e) ∙ s.0) in rw h (none_later k q e rows s.1)
+-- after a key in order there is no row of one that ties with it
+none_later : {K X : Type 0} {R : K → K → Ordering} (o : IsTotalOrder R) (k q : K) → is_at (R q) k ≡ true → (rows : List (K × X)) → AllByRecursion (λ y. R k y ≡ Less) (keys_of rows) → row_in R rows q ≡ None
+none_later o k q e [] s = refl
+none_later {R = R} o k q e (r ∷ rows) s = let h : is_at (R q) r.0 ≡ false = ap is_eq (o.congr q k r.0 (tied (R q k) e) ∙ s.0) in rw h (none_later o k q e rows s.1)
 
 -- what is changed at a key, by its row now and its row before
 abbrev put_change : {X : Type 0} → (X → X → Bool) → Option X → Option X → Option (Option X)

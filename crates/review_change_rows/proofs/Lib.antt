@@ -1,2 +1,3 @@
 mod Becoming
-pub mod Telling
+mod Numbered
+mod Edited

@@ -1,7 +1,9 @@
 -- When two rows of a change are the same.
-use Rattle.std.specs.Prelude.{ℕ, ℤ, ◌≡◌, ◌==◌, ◌&&◌, Bool, true, false}
-use Rattle.std.specs.Ordering.{int_eq}
+use Rattle.std.proofs.Common.{◌≡◌, ◌==◌, ◌&&◌, Bool, true, false, cond, refl, sym, ap, subst, eqb-true, eq-eqb}
+use Rattle.std.specs.Bool.{Decides}
 use Rattle.std.specs.Str.{bytes_eq}
+use Rattle.std.proofs.lemmas.Bool.{and_parts}
+use Rattle.std.proofs.lemmas.Slice.Eq.{bytes_eq-Decides}
 use Rattle.review_words.specs.declared.changes.Role.{Role}
 use Rattle.review_words.specs.declared.changes.Role.TheVariants.{Reviewer, Cc}
 use Rattle.review_changes.specs.declared.rows.Called.{Called}
@@ -15,3 +17,22 @@ same_role _ _ = false
 -- two entries of an attention set are the same
 abbrev pub same_call : Called → Called → Bool
 same_call a b = bytes_eq a.reason b.reason && (a.request == b.request)
+
+-- no truth is false
+abbrev never : false ≡ true → ⊥
+never e = subst (λ b. cond b ⊥ (Unit {0})) e tt
+
+-- sameness tells roles apart
+pub roles_tell : (a b : Role) → Decides (same_role a b) (a ≡ b)
+roles_tell Reviewer Reviewer = (λ e. refl, λ e. refl)
+roles_tell Reviewer Cc = (λ e. absurd (never e), λ e. ap (same_role Reviewer) (sym e))
+roles_tell Cc Reviewer = (λ e. absurd (never e), λ e. ap (same_role Cc) (sym e))
+roles_tell Cc Cc = (λ e. refl, λ e. refl)
+
+-- and entries of an attention set
+pub calls_tell : (a b : Called) → Decides (same_call a b) (a ≡ b)
+calls_tell a b = (
+  λ e. let p = and_parts (bytes_eq a.reason b.reason) (a.request == b.request) e in
+      λ i. record { reason = (bytes_eq-Decides a.reason b.reason).0 p.0 i; request = eqb-true a.request b.request p.1 i },
+  λ e i. (bytes_eq-Decides a.reason b.reason).1 (ap (λ (c : Called). c.reason) e) i && eq-eqb a.request b.request (ap (λ (c : Called). c.request) e) i,
+)

@@ -7,7 +7,6 @@ ghost use Rattle.review_change_rows.specs.Differences.{has_row, puts, takes};
 
 use crate::rows::Row;
 use review_table::{Change, Key, Table};
-
 use std::alloc::{AllocError, Global};
 
 fn has_row<K: Key, V: Row>(table: &Table<K, V>, key: &K, row: &V) -> bool

@@ -39,8 +39,7 @@ impl Row for Vote {
 }
 
 impl Row for Role {
-    ghost use Rattle.review_change_rows.specs.Same.{same_role};
-    ghost use Rattle.review_change_rows.proofs.Telling.{roles_tell};
+    ghost use Rattle.review_change_rows.specs.Same.{roles_tell, same_role};
 
     ghost same = { same_role };
 
@@ -59,8 +58,7 @@ impl Row for Role {
 }
 
 impl Row for Called {
-    ghost use Rattle.review_change_rows.specs.Same.{same_call};
-    ghost use Rattle.review_change_rows.proofs.Telling.{calls_tell};
+    ghost use Rattle.review_change_rows.specs.Same.{calls_tell, same_call};
 
     ghost same = { same_call };
 

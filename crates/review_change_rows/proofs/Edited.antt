@@ -1,0 +1,84 @@
+-- What an edit makes of a change, row by row.
+use Rattle.std.proofs.Common.{◌≡◌, ℕ, ℤ, zero, suc, List, [], ◌∷◌, Option, Some, None, cond, refl, sym, ap, ◌∙◌}
+use Rattle.std.specs.Prelude.{option_map}
+use Rattle.std.specs.Ordering.{nat_cmp}
+use Rattle.review_table.specs.Rows.{after_change, changed, change_of, row_in, rows_of}
+use Rattle.review_changes.specs.Change.{of_number}
+use Rattle.review_changes.specs.Parts.{Part, TheHeader, PatchOf, VoteOf, RoleOf, CommentOf, AttentionOf, AHeader, APatch, AVote, ARole, AComment, ACall, part_row}
+use Rattle.review_changes.specs.Seen.{of_account, seen, value_of, vote_cmp}
+use Rattle.review_changes.specs.Votes.{voted}
+use Rattle.review_words.specs.declared.changes.Role.{Role}
+use Rattle.review_changes.specs.declared.rows.Called.{Called}
+use Rattle.review_changes.specs.declared.rows.ChangeRows.{ChangeRows}
+use Rattle.review_changes.specs.declared.rows.CommentRow.{CommentRow}
+use Rattle.review_changes.specs.declared.rows.PatchRow.{PatchRow}
+use Rattle.review_changes.specs.declared.rows.VoteKey.{VoteKey}
+use Rattle.review_rows.specs.Rows.{part_change, vote_row}
+use Rattle.review_rows.specs.declared.rows.ChangeEdit.{ChangeEdit}
+
+after_mapped : {X Y : Type 0} (f : X → Y) (o : Option (Option X)) (was : Option X) → after_change (option_map (option_map f) o) (option_map f was) ≡ option_map f (after_change o was)
+after_mapped f None was = refl
+after_mapped f (Some now) was = refl
+
+after_vote : (o : Option (Option ℤ)) (was : Option ℤ) → after_change (option_map vote_row o) (vote_row was) ≡ vote_row (after_change o was)
+after_vote None was = refl
+after_vote (Some now) was = refl
+
+-- the row of a vote by its value
+vote_is : (r : Option ℤ) → cond (voted (value_of r)) (Some (AVote (value_of r))) None ≡ vote_row r
+vote_is None = refl
+vote_is (Some v) = refl
+
+-- the rows of a change but for its header
+pub record Before : Type 0 where
+  pub patches : List PatchRow
+  pub votes : List (VoteKey × Option ℤ)
+  pub roles : List (ℕ × Option Role)
+  pub comments : List CommentRow
+  pub attention : List (ℕ × Option Called)
+
+-- those of a change that is there
+abbrev pub of_rows : ChangeRows → Before
+of_rows rows = record { patches = rows.patches.items; votes = rows.votes; roles = rows.roles; comments = rows.comments.items; attention = rows.attention }
+
+-- none
+abbrev pub no_rows : Before
+no_rows = record { patches = []; votes = []; roles = []; comments = []; attention = [] }
+
+-- an edit turns these tables into those of the new change
+pub record Turns (e : ChangeEdit) (old : Before) (new : ChangeRows) : Type 0 where
+  pub header : e.header ≡ new.header
+  pub patches : (n : ℕ) → changed nat_cmp e.patches.items n (of_number old.patches n) ≡ of_number new.patches.items n
+  pub votes : (q : VoteKey) → changed vote_cmp e.votes.items q (row_in vote_cmp (rows_of old.votes) q) ≡ row_in vote_cmp (rows_of new.votes) q
+  pub roles : (u : ℕ) → changed nat_cmp e.roles.items u (of_account old.roles u) ≡ of_account new.roles u
+  pub comments : (n : ℕ) → changed nat_cmp e.comments.items n (of_number old.comments n) ≡ of_number new.comments.items n
+  pub attention : (u : ℕ) → changed nat_cmp e.attention.items u (of_account old.attention u) ≡ of_account new.attention u
+
+pub turned : (e : ChangeEdit) (old new : ChangeRows) → Turns e (of_rows old) new → (part : Part) → after_change (part_change e part) (part_row (seen old) part) ≡ part_row (seen new) part
+turned e old new t TheHeader = ap (λ h. Some (AHeader h)) t.header
+turned e old new t (PatchOf n) = after_mapped APatch (change_of nat_cmp e.patches.items n) (of_number old.patches.items n) ∙ ap (option_map APatch) (t.patches n)
+turned e old new t (VoteOf n l a) =
+    let q : VoteKey = record { patch = n; label = l; account = a } in
+    ap (after_change (option_map vote_row (change_of vote_cmp e.votes.items q))) (vote_is (row_in vote_cmp (rows_of old.votes) q))
+    ∙ (after_vote (change_of vote_cmp e.votes.items q) (row_in vote_cmp (rows_of old.votes) q)
+    ∙ (ap vote_row (t.votes q) ∙ sym (vote_is (row_in vote_cmp (rows_of new.votes) q))))
+turned e old new t (RoleOf u) = after_mapped ARole (change_of nat_cmp e.roles.items u) (of_account old.roles u) ∙ ap (option_map ARole) (t.roles u)
+turned e old new t (CommentOf n) = after_mapped AComment (change_of nat_cmp e.comments.items n) (of_number old.comments.items n) ∙ ap (option_map AComment) (t.comments n)
+turned e old new t (AttentionOf u) = after_mapped ACall (change_of nat_cmp e.attention.items u) (of_account old.attention u) ∙ ap (option_map ACall) (t.attention u)
+
+none_at : {X : Type 0} (xs : List X) (n : ℕ) → xs ≡ [] → None ≡ of_number xs n
+none_at [] zero e = refl
+none_at [] (suc n) e = refl
+none_at (x ∷ xs) n e = absurd (cc)
+
+pub begun_by : (e : ChangeEdit) (new : ChangeRows) → Turns e no_rows new → (part : Part) → after_change (part_change e part) None ≡ part_row (seen new) part
+begun_by e new t TheHeader = ap (λ h. Some (AHeader h)) t.header
+begun_by e new t (PatchOf n) =
+    after_mapped APatch (change_of nat_cmp e.patches.items n) None ∙ ap (option_map APatch) (ap (after_change (change_of nat_cmp e.patches.items n)) (none_at [] n refl) ∙ t.patches n)
+begun_by e new t (VoteOf n l a) =
+    let q : VoteKey = record { patch = n; label = l; account = a } in
+    after_vote (change_of vote_cmp e.votes.items q) None ∙ (ap vote_row (t.votes q) ∙ sym (vote_is (row_in vote_cmp (rows_of new.votes) q)))
+begun_by e new t (RoleOf u) = after_mapped ARole (change_of nat_cmp e.roles.items u) None ∙ ap (option_map ARole) (t.roles u)
+begun_by e new t (CommentOf n) =
+    after_mapped AComment (change_of nat_cmp e.comments.items n) None ∙ ap (option_map AComment) (ap (after_change (change_of nat_cmp e.comments.items n)) (none_at [] n refl) ∙ t.comments n)
+begun_by e new t (AttentionOf u) = after_mapped ACall (change_of nat_cmp e.attention.items u) None ∙ ap (option_map ACall) (t.attention u)

@@ -1,0 +1,149 @@
+//! Changes and patch sets that are copied.
+ghost use Rattle.std.specs.Prelude.{◌≡◌, ◌∷◌, [], IfOk, OnOk};
+ghost use Rattle.std.specs.Option.{option_or};
+ghost use Rattle.review_table.specs.Rows.{row_in, rows_of};
+ghost use Rattle.review_changes.specs.Seen.{seen};
+
+use crate::rows::Row;
+use review_changes::{ChangeRows, CommentRow, Header, PatchRow};
+use review_table::{Key, Table};
+use review_words::{NewChange, NewPatch};
+use std::alloc::{AllocError, Global};
+
+/// A new change once more. An error where there was no memory for it.
+pub fn copied_new(alloc: Global, new: &NewChange) -> Result<NewChange, AllocError>
+    ensures { IfOk result (λ n. n ≡ new.now) }
+{
+    Ok(NewChange {
+        project: new.project.copy(alloc)?,
+        branch: new.branch.copy(alloc)?,
+        subject: new.subject.copy(alloc)?,
+        commit: new.commit.copy(alloc)?,
+        parent: new.parent.copy(alloc)?,
+        paths: new.paths.copy(alloc)?,
+        wip: new.wip,
+    })
+}
+
+/// A new patch set once more. An error where there was no memory for it.
+pub fn copied_patch(alloc: Global, patch: &NewPatch) -> Result<NewPatch, AllocError>
+    ensures { IfOk result (λ p. p ≡ patch.now) }
+{
+    Ok(NewPatch {
+        commit: patch.commit.copy(alloc)?,
+        parent: patch.parent.copy(alloc)?,
+        kind: patch.kind,
+        paths: patch.paths.copy(alloc)?,
+    })
+}
+
+/// A change once more. An error where there was no memory for it.
+pub fn copied_change(alloc: Global, rows: &ChangeRows) -> Result<ChangeRows, AllocError>
+    ensures { IfOk result (λ c. seen c ≡ seen rows.now) }
+{
+    let header = copied_header(alloc, &rows.header)?;
+    let patches = copied_patches(alloc, &rows.patches)?;
+    let votes = copied_table(alloc, &rows.votes)?;
+    let roles = copied_table(alloc, &rows.roles)?;
+    let comments = copied_comments(alloc, &rows.comments)?;
+    let attention = copied_table(alloc, &rows.attention)?;
+    Ok(ChangeRows {
+        header,
+        patches,
+        votes,
+        roles,
+        comments,
+        attention,
+    })
+}
+
+pub(crate) fn copied_header(alloc: Global, header: &Header) -> Result<Header, AllocError>
+    ensures { IfOk result (λ h. h ≡ header.now) }
+{
+    Ok(Header {
+        project: header.project.copy(alloc)?,
+        branch: header.branch.copy(alloc)?,
+        subject: header.subject.copy(alloc)?,
+        owner: header.owner,
+        state: header.state,
+        wip: header.wip,
+        place: header.place,
+        updated: header.updated,
+    })
+}
+
+pub(crate) fn copied_patch_row(alloc: Global, patch: &PatchRow) -> Result<PatchRow, AllocError>
+    ensures { IfOk result (λ p. p ≡ patch.now) }
+{
+    Ok(PatchRow {
+        commit: patch.commit.copy(alloc)?,
+        parent: patch.parent.copy(alloc)?,
+        kind: patch.kind,
+        uploader: patch.uploader,
+        paths: patch.paths.copy(alloc)?,
+    })
+}
+
+pub(crate) fn copied_comment(alloc: Global, comment: &CommentRow) -> Result<CommentRow, AllocError>
+    ensures { IfOk result (λ c. c ≡ comment.now) }
+{
+    Ok(CommentRow {
+        patch: comment.patch,
+        path: comment.path.copy(alloc)?,
+        line: comment.line,
+        author: comment.author,
+        message: comment.message.copy(alloc)?,
+        unresolved: comment.unresolved,
+        answers: comment.answers,
+        request: comment.request,
+    })
+}
+
+fn copied_patches(alloc: Global, patches: &[PatchRow]) -> Result<Vec<PatchRow>, AllocError>
+    ensures { IfOk result (λ v. v.items ≡ patches.now) }
+{
+    let mut copies = Vec::new(alloc);
+    for patch in patches {
+        copies.push(copied_patch_row(alloc, patch)?)?;
+    }
+    Ok(copies)
+}
+
+fn copied_comments(alloc: Global, comments: &[CommentRow]) -> Result<Vec<CommentRow>, AllocError>
+    ensures { IfOk result (λ v. v.items ≡ comments.now) }
+{
+    let mut copies = Vec::new(alloc);
+    for comment in comments {
+        copies.push(copied_comment(alloc, comment)?)?;
+    }
+    Ok(copies)
+}
+
+fn copied_table<K: Key, V: Row>(
+    alloc: Global,
+    table: &Table<K, V>,
+) -> Result<Table<K, V>, AllocError>
+    ensures { IfOk result (λ t. (q : K) → row_in K.cmp (rows_of t) q ≡ row_in K.cmp (rows_of table.now) q) }
+{
+    let mut copy = Table::new(alloc);
+    for (key, row) in table.rows(alloc)? {
+        add_copy(alloc, &mut copy, key, row)?;
+    }
+    Ok(copy)
+}
+
+// Adds a row where its key has none.
+fn add_copy<K: Key, V: Row>(
+    alloc: Global,
+    copy: &mut Table<K, V>,
+    key: &K,
+    row: &V,
+) -> Result<(), AllocError>
+    ensures { OnOk result ((q : K) → row_in K.cmp (rows_of copy.new) q ≡ option_or (row_in K.cmp (rows_of copy.old) q) (row_in K.cmp ((key.now, row.now) ∷ []) q)) }
+{
+    if copy.get(key).is_none() {
+        let key = key.copy(alloc)?;
+        copy.put(key, row.copied(alloc)?)?;
+    }
+    Ok(())
+}
