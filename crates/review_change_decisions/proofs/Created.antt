@@ -1,0 +1,128 @@
+-- A new change.
+use Rattle.std.proofs.Common.{◌≡◌, ℕ, ◌+◌, ◌==◌, List, [], ◌∷◌, length, Option, Some, None, Bool, true, false, cond, not, ◌&&◌, refl, sym, ap, ◌∙◌, subst, ⊎_elim, eqb-true, arith}
+use Rattle.std.specs.Prelude.{is_some, nat_le, nat_lt, option_map}
+use Rattle.std.specs.List.{AllByRecursion}
+use Rattle.std.specs.Ordering.{nat_cmp}
+use Rattle.std.proofs.lemmas.Bool.{cases_Bool}
+use Rattle.std.proofs.lemmas.Bool.Decides.{nat_tests}
+use Rattle.review_names.specs.Forms.{most_changes}
+use Rattle.review_table.specs.Rows.{after_change, change_of}
+use Rattle.review_words.specs.History.{Entry, bases, base_count, file_text, is_account, is_branch, is_project, project_count}
+use Rattle.review_words.specs.declared.changes.NewChange.{NewChange}
+use Rattle.review_words.specs.declared.command.Command.TheVariants.{CreateChange}
+use Rattle.review_words.specs.declared.reply.Answer.TheVariants as made
+use Rattle.review_words.specs.declared.reply.Refusal.{Refusal}
+use Rattle.review_words.specs.declared.reply.Refusal.TheVariants.{UnknownCaller, NoProject, NoBranch, NotAllowed, CommitKnown, UnknownParent, Limit}
+use Rattle.review_words.specs.declared.reply.Reply.TheVariants.{Done}
+use Rattle.review_project.specs.declared.parts.Right.TheVariants as right
+use Rattle.review_changes.specs.Change.{Change, begun}
+use Rattle.review_changes.specs.Parts.{Part, part_row}
+use Rattle.review_rows.specs.Answer.{first_refusal, has_right, refused_by}
+use Rattle.review_rows.specs.Changes.{Reading, change, change_count, is_known}
+use Rattle.review_rows.specs.Files.{File}
+use Rattle.review_rows.specs.Known.{known, IsKnown, number_of, part_of, text_of}
+use Rattle.review_rows.specs.Rows.{Key, AccountKey, MemberKey, FileKey, BaseKey, PartKey, OddKey, APart, Count, Projects, BasesOf, account_change, member_change, file_after, base_after, edited, projects_after, bases_after, after, count_after, part_change, member_cmp}
+use Rattle.review_rows.specs.Steps.{HasFile, OfCommand, command_wants, file_wants}
+use Rattle.review_rows.specs.View.{AreEnough, IsDecided, counted, fact}
+use Rattle.review_rows.specs.declared.rows.ChangeEdit.{ChangeEdit}
+use Rattle.review_rows.specs.declared.rows.Delta.{Delta}
+use Rattle.review_rows.specs.declared.rows.Rows.{Rows}
+use Rattle.review_rows.specs.declared.rows.Want.TheVariants as want
+use Rattle.review_rows.proofs.Asked.{file_asked}
+use Rattle.review_account_decisions.proofs.Decided.{asked_beside, outcome_answer}
+use Rattle.review_account_decisions.proofs.Told.{text_told}
+use Rattle.review_change_laws.proofs.Sound.{all_pass}
+use Rattle.review_change_laws.proofs.There.{change_there, is_up_to}
+use Rattle.review_change_decisions.specs.Facts.{create_checks, known_in, right_in}
+use Rattle.review_change_decisions.proofs.Made.{edit_turns}
+use Rattle.review_change_decisions.proofs.Told.{OneFile, branch_told, known_told, last_change_told, right_told}
+
+-- the checks, by what is found of each
+abbrev refusal_of : Bool → Bool → Bool → Bool → Bool → Bool → Bool → Option Refusal
+refusal_of a b c d e f g =
+    cond a (cond b (cond c (cond d (cond (not e) (cond f (cond g None (Some Limit)) (Some UnknownParent)) (Some CommitKnown)) (Some NotAllowed)) (Some NoBranch)) (Some NoProject)) (Some UnknownCaller)
+
+checks_are : (reading : Reading) (h : List Entry) (caller : ℕ) (new : NewChange) (a b c d e f g : Bool) → is_account h caller ≡ a → is_project h new.project ≡ b → is_branch h new.project new.branch ≡ c →
+    has_right reading h new.project right.Create caller ≡ d → is_known reading h new.project new.branch new.commit ≡ e → is_known reading h new.project new.branch new.parent ≡ f → nat_lt (change_count h) most_changes ≡ g →
+    refused_by reading h caller (CreateChange new) ≡ refusal_of a b c d e f g
+checks_are reading h caller new a b c d e f g p q r s t u v = λ i. refusal_of (p i) (q i) (r i) (s i) (t i) (u i) (v i)
+
+-- no file is read where there is no text, and one where there is one
+no_text : (text : Option (List ℕ)) → HasFile text None → text ≡ None
+no_text None has = refl
+no_text (Some t) has = let bad = has.2 in absurd (cc)
+
+some_text : (text : Option (List ℕ)) (f : File) → HasFile text (Some f) → is_some text ≡ true
+some_text None f has = absurd (cc)
+some_text (Some t) f has = refl
+
+refused_at : OneFile → (reading : Reading) (h : List Entry) (caller : ℕ) (new : NewChange) (had o : Option File) (rows : Rows) → is_account h caller ≡ true → AreEnough reading h caller (OfCommand (CreateChange new)) had rows →
+    HasFile (file_text h new.project) o → AllByRecursion (IsKnown rows) (command_wants (CreateChange new)) → AllByRecursion (IsKnown rows) (file_wants o caller (OfCommand (CreateChange new))) →
+    refused_by reading h caller (CreateChange new) ≡ first_refusal (create_checks o rows caller new)
+refused_at one reading h caller new had None rows account l has all asked =
+    checks_are reading h caller new true false (is_branch h new.project new.branch) (has_right reading h new.project right.Create caller) (is_known reading h new.project new.branch new.commit)
+    (is_known reading h new.project new.branch new.parent) (nat_lt (change_count h) most_changes) account (ap is_some (no_text (file_text h new.project) has)) refl refl refl refl refl
+refused_at one reading h caller new had (Some f) rows account l has all asked =
+    checks_are reading h caller new true true
+    (nat_le 1 (number_of (known rows (want.LastPlace (record { project = new.project; branch = new.branch }))))) (right_in rows f right.Create caller)
+    (known_in rows new.project new.branch new.commit) (known_in rows new.project new.branch new.parent) (nat_lt (number_of (known rows want.LastChange)) most_changes)
+    account (some_text (file_text h new.project) f has)
+    (sym (branch_told reading h rows new.project new.branch l.agree all.0))
+    (sym (right_told one reading h rows new.project f right.Create caller l.reads l.agree has asked))
+    (sym (known_told reading h rows new.project new.branch new.commit l.agree all.1.1.1.0 all.1.1.1.1.0))
+    (sym (known_told reading h rows new.project new.branch new.parent l.agree all.1.1.1.1.1.0 all.1.1.1.1.1.1.0))
+    (sym (ap (λ n. nat_lt n most_changes) (last_change_told reading h rows l.agree all.1.0)))
+
+-- what refuses a new change is what rows tell
+pub refused_told : OneFile → (reading : Reading) (h : List Entry) (caller : ℕ) (new : NewChange) (had : Option File) (rows : Rows) → is_account h caller ≡ true → AreEnough reading h caller (OfCommand (CreateChange new)) had rows →
+    refused_by reading h caller (CreateChange new) ≡ first_refusal (create_checks had rows caller new)
+refused_told one reading h caller new had rows account l =
+    let all = asked_beside h caller (CreateChange new) rows l in
+    refused_at one reading h caller new had had rows account l
+    (subst (λ t. HasFile t had) (text_told reading h rows new.project l.agree all.1.1.0) l.file_is) all (file_asked had rows caller (OfCommand (CreateChange new)) l.nothing_left)
+
+-- where no check refuses, there is a number left
+pub number_left : (had : Option File) (rows : Rows) (caller : ℕ) (new : NewChange) → first_refusal (create_checks had rows caller new) ≡ None → nat_lt (number_of (known rows want.LastChange)) most_changes ≡ true
+number_left None rows caller new passes = absurd (cc)
+number_left (Some f) rows caller new passes = (all_pass (create_checks (Some f) rows caller new) passes).1.1.1.1.0
+
+-- the number after the last is none's yet
+none_yet : (reading : Reading) (h : List Entry) → change reading h (change_count h + 1) ≡ None
+none_yet reading h = at (change reading h (change_count h + 1)) (change_there reading h (change_count h + 1) ∙ beyond (change_count h))
+  where
+    beyond : (n : ℕ) → is_up_to n (n + 1) ≡ false
+    beyond n = grind (arith, nat_tests)
+
+    at : (o : Option Change) → is_some o ≡ false → o ≡ None
+    at None e = refl
+    at (Some c) e = absurd (cc)
+
+-- the change is made
+pub create_decided : (reading : Reading) (h : List Entry) (caller : ℕ) (new : NewChange) (number patch : ℕ) (c : Change) (e : ChangeEdit) (delta : Delta) → refused_by reading h caller (CreateChange new) ≡ None →
+    number ≡ change_count h + 1 → patch ≡ 1 → c ≡ begun new caller (length h + 1) → e.change ≡ number → ((part : Part) → after_change (part_change e part) None ≡ part_row c part) →
+    delta.accounts.items ≡ [] → delta.members.items ≡ [] → delta.file ≡ None → delta.base ≡ None → delta.changes.items ≡ e ∷ [] →
+    IsDecided reading h caller (CreateChange new) delta (Done (made.Change number patch))
+create_decided reading h caller new number patch c e delta passes n p made_is of turns da dm df db dc = record {
+  reply_is = outcome_answer reading h caller (CreateChange new) (Done (made.Change number patch)) passes (λ i. Done (made.Change (n i) (p i)));
+  row_is = λ id k. rows k;
+  count_is = λ id k. counts k;
+}
+  where
+    counts : (k : Count) → counted (record { identity = record { caller = caller; id = [] }; command = CreateChange new; reply = Done (made.Change number patch) } ∷ h) k ≡ count_after delta (fact reading h) k (counted h k)
+    counts Projects = sym (ap (λ o. projects_after o (fact reading h) (project_count h)) df)
+    counts (BasesOf q) = sym (ap (λ o. bases_after o (fact reading h) q (base_count h q)) db)
+
+    here : (m : ℕ) → (e.change == m) ≡ (change_count h + 1 == m)
+    here m = ap (λ x. x == m) (of ∙ n)
+
+    rows : (k : Key) → fact reading (record { identity = record { caller = caller; id = [] }; command = CreateChange new; reply = Done (made.Change number patch) } ∷ h) k ≡ after delta k (fact reading h k)
+    rows (AccountKey m) = sym (ap (λ l. after_change (account_change (change_of nat_cmp l m)) (fact reading h (AccountKey m))) da)
+    rows (MemberKey g m) = sym (ap (λ l. after_change (member_change (change_of member_cmp l (record { group = g; account = m }))) (fact reading h (MemberKey g m))) dm)
+    rows (FileKey q) = sym (ap (λ o. file_after o q (fact reading h (FileKey q))) df)
+    rows (BaseKey q b m) = sym (ap (λ o. base_after o q b m (fact reading h (BaseKey q b m))) db)
+    rows (PartKey m part) =
+        edit_turns e m part (change reading h m) (begun new caller (length h + 1)) (change_count h + 1 == m) (here m)
+        (λ t. ap (λ o. after_change (part_change e part) (part_of o part)) (ap (change reading h) (sym (eqb-true (change_count h + 1) m t)) ∙ none_yet reading h)
+        ∙ (turns part ∙ ap (λ x. part_row x part) made_is))
+        ∙ sym (ap (λ es. after_change (option_map (option_map APart) (edited es m part)) (fact reading h (PartKey m part))) dc)
+    rows (OddKey o) = refl

@@ -1,0 +1,3 @@
+pub mod Told
+pub mod Made
+pub mod Created

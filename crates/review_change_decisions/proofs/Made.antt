@@ -1,0 +1,40 @@
+-- What a command on a change makes of the rows.
+use Rattle.std.proofs.Common.{◌≡◌, ℕ, ◌+◌, ◌==◌, ◌≤◌, ◌<◌, List, [], ◌∷◌, length, Option, Some, None, Bool, true, false, cond, ◌&&◌, refl, sym, ap, ◌∙◌, subst, ⊎_elim, arith, eqb-true}
+use Rattle.std.specs.Prelude.{is_some, nat_le, nat_lt, option_map}
+use Rattle.std.specs.Ordering.{nat_cmp}
+use Rattle.std.proofs.lemmas.Bool.{cases_Bool}
+use Rattle.std.proofs.lemmas.Bool.Decides.{nat_tests}
+use Rattle.review_names.specs.Forms.{is_within, most_changes, most_patches}
+use Rattle.review_table.specs.Rows.{after_change, change_of}
+use Rattle.review_changes.specs.Change.{Change}
+use Rattle.review_changes.specs.Parts.{Part, PartRow, part_row}
+use Rattle.review_changes.proofs.Within.{within_next, within_parts}
+use Rattle.review_rows.specs.Known.{part_of}
+use Rattle.review_rows.specs.Rows.{APart, edited, part_change}
+use Rattle.review_rows.specs.declared.rows.ChangeEdit.{ChangeEdit}
+
+pub first_within : is_within most_patches 1 ≡ true
+unfolding is_within
+first_within = refl
+
+-- the numbers of an answer to a new change
+pub stored_numbers : (number last patch : ℕ) → number ≡ last + 1 → is_within most_changes (last + 1) ≡ true → patch ≡ 1 → (1 ≤ number) × (number ≤ most_changes) × (1 ≤ patch) × (patch ≤ most_patches)
+stored_numbers number last patch n within p = let w = within_parts most_changes (last + 1) within in (omega arith, omega arith, omega arith, omega arith)
+
+pub change_within : (n : ℕ) → nat_lt n most_changes ≡ true → is_within most_changes (n + 1) ≡ true
+change_within n below = within_next n most_changes below
+
+after_mapped : {X Y : Type 0} (f : X → Y) (o : Option (Option X)) (was : Option X) → after_change (option_map (option_map f) o) (option_map f was) ≡ option_map f (after_change o was)
+after_mapped f None was = refl
+after_mapped f (Some now) was = refl
+
+-- an edit turns the rows of its change and no others
+pub edit_turns : (e : ChangeEdit) (n : ℕ) (part : Part) (before : Option Change) (new : Change) (b : Bool) → (e.change == n) ≡ b →
+    (b ≡ true → after_change (part_change e part) (part_of before part) ≡ part_row new part) →
+    option_map APart (part_of (cond b (Some new) before) part) ≡ after_change (option_map (option_map APart) (edited (e ∷ []) n part)) (option_map APart (part_of before part))
+edit_turns e n part before new true is turns =
+    ap (option_map APart) (sym (turns refl))
+    ∙ (sym (after_mapped APart (part_change e part) (part_of before part))
+    ∙ ap (λ b. after_change (option_map (option_map APart) (cond b (part_change e part) None)) (option_map APart (part_of before part))) (sym is))
+edit_turns e n part before new false is turns =
+    ap (λ b. after_change (option_map (option_map APart) (cond b (part_change e part) None)) (option_map APart (part_of before part))) (sym is)

@@ -1,0 +1,91 @@
+-- What rows that agree with a history tell of its changes.
+use Rattle.std.proofs.Common.{◌≡◌, ℕ, List, [], ◌∷◌, Option, Some, None, Bool, true, false, ◌||◌, refl, sym, ap, ◌∙◌, map, length, unwrap_or}
+use Rattle.std.specs.Prelude.{is_some, nat_le}
+use Rattle.std.specs.List.{AllByRecursion, list_any}
+use Rattle.std.specs.Str.{bytes_eq}
+use Rattle.review_names.specs.Groups.{has_account}
+use Rattle.review_names.specs.Names.{registered_users}
+use Rattle.review_words.specs.History.{Entry, bases, file_text, is_branch}
+use Rattle.review_project.specs.Rights.{groups_of as right_groups}
+use Rattle.review_project.specs.Trees.{file_trees}
+use Rattle.review_project.specs.declared.parts.Right.{Right}
+use Rattle.review_rows.specs.Answer.{has_right}
+use Rattle.review_rows.specs.Changes.{Reading, Reads, change, change_count, file_of, groups_of, is_known, is_sent}
+use Rattle.review_rows.specs.Files.{File, IsRead}
+use Rattle.review_rows.specs.Known.{known, IsKnown, change_in, holder_of, number_of}
+use Rattle.review_rows.specs.Steps.{HasFile, caller_in}
+use Rattle.review_rows.specs.View.{view}
+use Rattle.review_rows.specs.declared.rows.Base.{Base}
+use Rattle.review_rows.specs.declared.rows.BranchKey.{BranchKey as Branch}
+use Rattle.review_rows.specs.declared.rows.Rows.{Rows}
+use Rattle.review_rows.specs.declared.rows.Want.TheVariants as want
+use Rattle.review_rows.proofs.Asked.{found_of}
+use Rattle.review_rows.proofs.Readings.{read_of}
+use Rattle.review_account_decisions.proofs.Told.{Agree, base_told, member_told, place_told}
+use Rattle.review_change_laws.proofs.Grouped.{in_group}
+use Rattle.review_change_laws.proofs.Same.{rows_tell}
+use Rattle.review_change_laws.proofs.Sent.{sent_is}
+use Rattle.review_change_laws.proofs.There.{last_change_is}
+use Rattle.review_change_decisions.specs.Facts.{in_rows, known_in, right_in}
+
+-- the files that a text spells have the same trees
+abbrev pub OneFile : Type 0
+OneFile = (text : List ℕ) (f g : File) → IsRead text f → IsRead text g → file_trees f ≡ file_trees g
+
+-- a change
+pub change_told : (reading : Reading) (h : List Entry) (rows : Rows) (n : ℕ) → Agree reading h rows → IsKnown rows (want.Change n) → change_in (known rows (want.Change n)) ≡ change reading h n
+change_told reading h rows n agree there =
+    let r = found_of (view reading h) rows (want.Change n) agree there in
+    ap change_in (r.1 ∙ ap Some r.2.1) ∙ rows_tell r.2.0 (change reading h n) (λ part. sym (r.2.2 part))
+
+-- how many changes there are
+pub last_change_told : (reading : Reading) (h : List Entry) (rows : Rows) → Agree reading h rows → IsKnown rows want.LastChange → number_of (known rows want.LastChange) ≡ change_count h
+last_change_told reading h rows agree there =
+    let r = found_of (view reading h) rows want.LastChange agree there in
+    ap number_of (r.1 ∙ ap Some r.2.1) ∙ last_change_is reading h r.2.0 r.2.2
+
+sent_told : (reading : Reading) (h : List Entry) (rows : Rows) (base : Base) → Agree reading h rows → IsKnown rows (want.ChangeOf base) →
+    is_some (holder_of (known rows (want.ChangeOf base))) ≡ is_sent reading h base.project base.branch base.commit
+sent_told reading h rows base agree there =
+    let r = found_of (view reading h) rows (want.ChangeOf base) agree there in
+    ap (λ o. is_some (holder_of o)) (r.1 ∙ ap Some r.2.1) ∙ sent_is reading h base r.2.0 r.2.2
+
+-- whether a commit is known in a branch
+pub known_told : (reading : Reading) (h : List Entry) (rows : Rows) (project branch commit : List ℕ) → Agree reading h rows →
+    IsKnown rows (want.Base (record { project = project; branch = branch; commit = commit })) → IsKnown rows (want.ChangeOf (record { project = project; branch = branch; commit = commit })) →
+    known_in rows project branch commit ≡ is_known reading h project branch commit
+known_told reading h rows project branch commit agree based sent =
+    λ i. base_told reading h rows (record { project = project; branch = branch; commit = commit }) agree based i
+    || sent_told reading h rows (record { project = project; branch = branch; commit = commit }) agree sent i
+
+-- whether there is a branch
+pub branch_told : (reading : Reading) (h : List Entry) (rows : Rows) (project branch : List ℕ) → Agree reading h rows → IsKnown rows (want.LastPlace (record { project = project; branch = branch })) →
+    nat_le 1 (number_of (known rows (want.LastPlace (record { project = project; branch = branch })))) ≡ is_branch h project branch
+branch_told reading h rows project branch agree there = ap (nat_le 1) (place_told reading h rows (record { project = project; branch = branch }) agree there)
+
+-- whether an account is in one of some groups that were asked for
+each_group : (reading : Reading) (h : List Entry) (rows : Rows) (account : ℕ) (groups : List (List ℕ)) → Agree reading h rows → AllByRecursion (IsKnown rows) (caller_in account groups) →
+    list_any (in_rows rows account) groups ≡ list_any (λ group. has_account (groups_of h) group account) groups
+each_group reading h rows account [] agree all = refl
+each_group reading h rows account (g ∷ gs) agree all =
+    λ i. ((ap (λ b. bytes_eq g registered_users || b) (member_told reading h rows g account agree all.0)) ∙ sym (in_group h g account)) i || each_group reading h rows account gs agree all.1 i
+
+-- the file that was read has the groups of the one that is read right
+same_groups : OneFile → (reading : Reading) (h : List Entry) (project : List ℕ) (file : File) (right : Right) → Reads reading h → HasFile (file_text h project) (Some file) →
+    right_groups right file.access ≡ right_groups right (file_of reading h project).access
+same_groups one reading h project file right reads has = at (file_text h project) refl has
+  where
+    at : (o : Option (List ℕ)) → file_text h project ≡ o → HasFile o (Some file) → right_groups right file.access ≡ right_groups right (reading (unwrap_or (file_text h project) [])).access
+    at None is has = absurd (cc)
+    at (Some text) is has =
+        let same : file ≡ has.0 = cc in
+        ap (λ f. right_groups right f.access) same
+        ∙ (ap (λ t. right_groups right t.access) (one text has.0 (reading text) has.1 (read_of reading h project text reads is))
+        ∙ ap (λ o. right_groups right (reading (unwrap_or o [])).access) (sym is))
+
+-- whether an account has a right
+pub right_told : OneFile → (reading : Reading) (h : List Entry) (rows : Rows) (project : List ℕ) (file : File) (right : Right) (account : ℕ) → Reads reading h → Agree reading h rows →
+    HasFile (file_text h project) (Some file) → AllByRecursion (IsKnown rows) (caller_in account (right_groups right file.access)) → right_in rows file right account ≡ has_right reading h project right account
+right_told one reading h rows project file right account reads agree has all =
+    each_group reading h rows account (right_groups right file.access) agree all
+    ∙ ap (list_any (λ group. has_account (groups_of h) group account)) (same_groups one reading h project file right reads has)

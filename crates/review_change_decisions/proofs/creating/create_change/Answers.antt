@@ -1,0 +1,52 @@
+use Rattle.std.proofs.Common.{◌≡◌, ◌<◌, ◌+◌, ◌++◌, ◌∷◌, [], ◌∙◌, ap, sym, subst, length, true, arith}
+use Rattle.std.specs.Option.{option_copied}
+use Rattle.review_names.specs.Forms.{is_within, most_changes}
+use Rattle.review_words.specs.declared.command.Command.TheVariants.{CreateChange}
+use Rattle.review_changes.specs.Change.{begun}
+use Rattle.review_changes.specs.Parts.{part_row}
+use Rattle.review_changes.specs.Seen.{seen}
+use Rattle.review_rows.specs.View.{view}
+use Rattle.review_rows.proofs.Asked.{requests_are}
+use Rattle.review_account_decisions.proofs.Decided.{asked_beside, refused_pair}
+use Rattle.review_change_decisions.proofs.Created.{create_decided, number_left, refused_told}
+use Rattle.review_change_decisions.proofs.Made.{change_within, first_within, stored_numbers}
+use Rattle.review_change_decisions.proofs.Told.{last_change_told}
+use Rattle.review_change_decisions.proofs.creating.create_change.Goals as goal
+
+pub returns-in-Some-clause-decided : goal.returns-in-Some-clause-decided
+returns-in-Some-clause-decided c = λ reading h room known l.
+    let a = c.args in
+    refused_pair h a.caller (CreateChange a.new.now) c.refused.result c.in-Some.refusal c.refused.ensures.empty c.refused.ensures.reply
+    (refused_told c.one_file.ensures.trees reading h a.caller a.new.now (option_copied a.had) a.rows.now known l ∙ (sym c.in_ok-refusal.ensures ∙ c.in-Some.is))
+
+pub next_change-change-requires : goal.next_change-change-requires
+next_change-change-requires c =
+    let a = c.args in
+    subst (λ n. is_within most_changes (n + 1) ≡ true) (sym c.last_change.ensures)
+    (change_within _ (number_left (option_copied a.had) a.rows.now a.caller a.new.now (sym c.in_ok-refusal.ensures ∙ c.in_default.is)))
+
+pub returns-clause-decided : goal.returns-clause-decided
+returns-clause-decided c = λ reading h room known l.
+    let a = c.args in
+    let command = CreateChange a.new.now in
+    let passes = refused_told c.one_file.ensures.trees reading h a.caller a.new.now (option_copied a.had) a.rows.now known l ∙ (sym c.in_ok-refusal.ensures ∙ c.in_default.is) in
+    let number = c.next_change-change.ensures ∙ ap (λ k. k + 1) (c.last_change.ensures ∙ last_change_told reading h a.rows.now l.agree (asked_beside h a.caller command a.rows.now l).1.0) in
+    let many : c.requests.result ≡ length h = c.requests.ensures ∙ requests_are (view reading h) (option_copied a.had) a.rows.now a.caller command l.agree l.nothing_left in
+    let request : c.saturating_add-request.result ≡ length h + 1 = let e = c.saturating_add-request.ensures in omega arith in
+    let empty = c.nothing-delta.ensures in
+    create_decided reading h a.caller a.new.now c.next_change-change.result c.patch_of-patch.result (seen c.in_ok-file.file.rows) c.in_ok-edit.edit
+    (record { accounts = c.nothing-delta.result.accounts; members = c.nothing-delta.result.members; file = c.nothing-delta.result.file; base = c.nothing-delta.result.base; changes = c.push.new.self })
+    passes number c.patch_of-patch.ensures (c.in_ok-file.ensures ∙ (λ i. begun (c.in_ok-new.ensures i) a.caller (request i))) c.in_ok-edit.ensures.change
+    (λ part. c.in_ok-edit.ensures.becomes part ∙ ap (λ r. part_row (seen r) part) c.rows.ensures.same)
+    empty.accounts empty.members empty.file empty.base (c.in_ok-push.ensures.items ∙ (λ i. empty.changes i ++ c.in_ok-edit.edit ∷ []))
+
+pub returns-clause-stored : goal.returns-clause-stored
+returns-clause-stored c =
+    let a = c.args in
+    stored_numbers c.next_change-change.result c.last_change.result c.patch_of-patch.result c.next_change-change.ensures
+    (subst (λ n. is_within most_changes (n + 1) ≡ true) (sym c.last_change.ensures)
+    (change_within _ (number_left (option_copied a.had) a.rows.now a.caller a.new.now (sym c.in_ok-refusal.ensures ∙ c.in_default.is))))
+    c.patch_of-patch.ensures
+
+pub patch_of-patch-requires : goal.patch_of-patch-requires
+patch_of-patch-requires c = first_within

@@ -1,0 +1,109 @@
+//! New changes.
+ghost use Rattle.std.specs.Prelude.{◌≡◌, ◌<◌, ◌+◌, List, Option, IfOk, IfErr, length, option_copied, true};
+ghost use Rattle.review_names.specs.Forms.{is_within, most_changes, most_patches};
+ghost use Rattle.review_words.specs.Texts.{IsStored};
+ghost use Rattle.review_words.specs.History.{Entry, is_account};
+ghost use Rattle.review_words.specs.declared.command.Command.TheVariants.{CreateChange};
+ghost use Rattle.review_words.specs.declared.reply.NotTaken.TheVariants.{Memory};
+ghost use Rattle.review_rows.specs.Answer.{first_refusal, most_requests};
+ghost use Rattle.review_rows.specs.Changes.{Reading};
+ghost use Rattle.review_rows.specs.Rows.{HasNoEffect};
+ghost use Rattle.review_rows.specs.Steps.{OfCommand};
+ghost use Rattle.review_rows.specs.View.{AreEnough, IsDecided};
+ghost use Rattle.review_change_decisions.specs.Facts.{create_checks};
+
+use crate::facts::{has_right, is_known};
+use review_account_decisions::{nothing, refused};
+use review_branch_decisions::branch_of;
+use review_change_rows::{copied_new, edit_of_new};
+use review_core::ChangeFile;
+use review_file::{ProjectFile, Right};
+use review_project_laws::one_file;
+use review_rows::{Delta, Rows};
+use review_words::{AccountNo, Answer, ChangeNo, NewChange, NotTaken, PatchNo, Refusal, Reply};
+use std::alloc::{AllocError, Global};
+
+/// The first check of a new change that fails, where one does.
+fn create_refusal(
+    alloc: Global,
+    had: Option<&ProjectFile>,
+    rows: &Rows,
+    caller: AccountNo,
+    new: &NewChange,
+) -> Result<Option<Refusal>, AllocError>
+    ensures { IfOk result (λ r. r ≡ first_refusal (create_checks (option_copied had.entry) rows.now caller new.now)) }
+{
+    let Some(file) = had else {
+        return Ok(Some(Refusal::NoProject));
+    };
+    let branch = branch_of(alloc, &new.project, &new.branch)?;
+    if rows.last_place(&branch) == 0 {
+        return Ok(Some(Refusal::NoBranch));
+    }
+    if !has_right(alloc, rows, file, Right::Create, caller)? {
+        return Ok(Some(Refusal::NotAllowed));
+    }
+    if is_known(alloc, rows, &new.project, &new.branch, &new.commit)? {
+        return Ok(Some(Refusal::CommitKnown));
+    }
+    if !is_known(alloc, rows, &new.project, &new.branch, &new.parent)? {
+        return Ok(Some(Refusal::UnknownParent));
+    }
+    if rows.last_change() >= 1_000_000_000 {
+        return Ok(Some(Refusal::Limit));
+    }
+    Ok(None)
+}
+
+/// The number after that of the last change.
+fn next_change(last: u32) -> ChangeNo
+    requires { is_within most_changes (last + 1) ≡ true }
+    ensures { result ≡ last + 1 }
+{
+    match ChangeNo::from_number(last as u64 + 1) {
+        Some(next) => next,
+        None => unreachable!(),
+    }
+}
+
+/// The patch set of a number.
+fn patch_of(number: u32) -> PatchNo
+    requires { is_within most_patches number ≡ true }
+    ensures { result ≡ number }
+{
+    match PatchNo::from_number(number as u64) {
+        Some(patch) => patch,
+        None => unreachable!(),
+    }
+}
+
+/// A new change for a branch, with its first patch set; the caller is its owner. Refused for a project or a branch that isn't there, for
+/// want of the right to create changes, a commit that is known in the branch, a parent that isn't, or the last number given, in this order.
+/// An error is want of memory.
+pub fn create_change(
+    alloc: Global,
+    had: Option<&ProjectFile>,
+    rows: &Rows,
+    caller: AccountNo,
+    new: &NewChange,
+) -> Result<(Delta, Reply), NotTaken>
+    ensures decided { IfOk result (λ r. (reading : Reading) (h : List Entry) → length h < most_requests → is_account h caller ≡ true → AreEnough reading h caller (OfCommand (CreateChange new.now)) (option_copied had.entry) rows.now → IsDecided reading h caller (CreateChange new.now) r.0 r.1) }
+    ensures cause { IfErr result (λ e. e ≡ Memory) }
+    ensures stored { IfOk result (λ r. IsStored r.1) }
+    ensures refused { IfOk result (λ r. HasNoEffect r.1 r.0) }
+{
+    one_file();
+    let refusal = create_refusal(alloc, had, rows, caller, new)?;
+    if let Some(refusal) = refusal {
+        return Ok(refused(alloc, refusal));
+    }
+    let change = next_change(rows.last_change());
+    let request = rows.requests().saturating_add(1);
+    let new = copied_new(alloc, new)?;
+    let file = ChangeFile::begin(alloc, new, caller, request)?;
+    let edit = edit_of_new(alloc, change, file.rows())?;
+    let mut delta = nothing(alloc);
+    delta.changes.push(edit)?;
+    let patch = patch_of(1);
+    Ok((delta, Reply::Done(Answer::Change { change, patch })))
+}

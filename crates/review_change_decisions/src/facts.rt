@@ -1,0 +1,73 @@
+//! What rows tell of a command on a change.
+ghost use Rattle.std.specs.Prelude.{◌≡◌, IfOk, is_some, nat_le};
+ghost use Rattle.std.specs.List.{list_any};
+ghost use Rattle.review_project.specs.Rights.{groups_of};
+ghost use Rattle.review_change_decisions.specs.Facts.{in_rows, known_in, right_in};
+
+use review_branch_decisions::base_of;
+use review_file::{ProjectFile, Right};
+use review_rows::{MemberKey, Rows};
+use review_words::{AccountNo, BranchName, CommitName, GroupName, ProjectName};
+use std::alloc::{AllocError, Global};
+
+/// Whether an account is known to be in a group; every account is in `Registered-Users`.
+fn is_in(
+    alloc: Global,
+    rows: &Rows,
+    account: AccountNo,
+    group: &GroupName,
+) -> Result<bool, AllocError>
+    ensures { IfOk result (λ b. b ≡ in_rows rows.now account group.now) }
+{
+    if group.as_str() == "Registered-Users" {
+        return Ok(true);
+    }
+    let key = MemberKey {
+        group: group.copy(alloc)?,
+        account,
+    };
+    Ok(rows.is_member(&key))
+}
+
+fn is_in_any(
+    alloc: Global,
+    rows: &Rows,
+    account: AccountNo,
+    groups: &[GroupName],
+) -> Result<bool, AllocError>
+    ensures { IfOk result (λ b. b ≡ list_any (in_rows rows.now account) groups.now) }
+{
+    for group in groups {
+        if is_in(alloc, rows, account, group)? {
+            return Ok(true);
+        }
+    }
+    Ok(false)
+}
+
+/// Whether an account is known to have a right, by the project's file.
+pub fn has_right(
+    alloc: Global,
+    rows: &Rows,
+    file: &ProjectFile,
+    right: Right,
+    account: AccountNo,
+) -> Result<bool, AllocError>
+    ensures { IfOk result (λ b. b ≡ right_in rows.now file.now right account) }
+{
+    is_in_any(alloc, rows, account, file.groups(right))
+}
+
+/// Whether a commit is known to be known in a branch: as a base, or as that of a patch set.
+pub fn is_known(
+    alloc: Global,
+    rows: &Rows,
+    project: &ProjectName,
+    branch: &BranchName,
+    commit: &CommitName,
+) -> Result<bool, AllocError>
+    ensures { IfOk result (λ b. b ≡ known_in rows.now project.now branch.now commit.now) }
+{
+    let key = base_of(alloc, project, branch, commit)?;
+    Ok(rows.has_base(&key) || rows.change_of(&key).is_some())
+}

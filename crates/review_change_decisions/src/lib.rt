@@ -1,0 +1,7 @@
+//! The answers to commands on changes, from the rows that decide them.
+#![tactic(auto)]
+
+pub mod creating;
+pub mod facts;
+
+pub use creating::create_change;
