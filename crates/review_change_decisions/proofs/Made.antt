@@ -8,7 +8,7 @@ use Rattle.review_names.specs.Forms.{is_within, most_changes, most_patches}
 use Rattle.review_table.specs.Rows.{after_change, change_of}
 use Rattle.review_changes.specs.Change.{Change}
 use Rattle.review_changes.specs.Parts.{Part, PartRow, part_row}
-use Rattle.review_changes.proofs.Within.{within_next, within_parts}
+use Rattle.review_changes.proofs.Within.{within_from, within_next, within_parts}
 use Rattle.review_rows.specs.Known.{part_of}
 use Rattle.review_rows.specs.Rows.{APart, edited, part_change}
 use Rattle.review_rows.specs.declared.rows.ChangeEdit.{ChangeEdit}
@@ -38,3 +38,11 @@ edit_turns e n part before new true is turns =
     ∙ ap (λ b. after_change (option_map (option_map APart) (cond b (part_change e part) None)) (option_map APart (part_of before part))) (sym is))
 edit_turns e n part before new false is turns =
     ap (λ b. after_change (option_map (option_map APart) (cond b (part_change e part) None)) (option_map APart (part_of before part))) (sym is)
+
+pub up_to : (most n : ℕ) → 1 ≤ n → nat_le n most ≡ is_within most n
+unfolding is_within
+up_to most n some = grind (arith, nat_tests)
+
+-- a number within a greatest one is within itself
+pub within_itself : (most n : ℕ) → is_within most n ≡ true → is_within n n ≡ true
+within_itself most n within = let w = within_parts most n within in within_from n n w.0 (omega arith)

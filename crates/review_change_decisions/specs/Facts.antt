@@ -1,15 +1,20 @@
 -- What rows tell of a command on a change.
-use Rattle.std.specs.Prelude.{ℕ, ◌||◌, Bool, false, not, is_some, nat_le, nat_lt, List, [], ◌∷◌, Option, Some, None}
-use Rattle.std.specs.List.{list_any}
+use Rattle.std.specs.Prelude.{ℕ, ◌+◌, ◌==◌, ◌&&◌, ◌||◌, Bool, false, not, int_le, is_some, length, nat_le, nat_lt, List, [], ◌∷◌, Option, Some, None}
+use Rattle.std.specs.List.{filter, list_all, list_any}
 use Rattle.std.specs.Str.{bytes_eq}
-use Rattle.review_names.specs.Forms.{most_changes}
+use Rattle.review_names.specs.Forms.{most_changes, most_comments}
 use Rattle.review_names.specs.Names.{registered_users}
+use Rattle.review_words.specs.declared.changes.Given.{Given}
 use Rattle.review_words.specs.declared.changes.NewChange.{NewChange}
+use Rattle.review_words.specs.declared.changes.Review.{Review as ReviewOf}
 use Rattle.review_words.specs.declared.reply.Refusal.{Refusal}
-use Rattle.review_words.specs.declared.reply.Refusal.TheVariants.{NoProject, NoBranch, NotAllowed, CommitKnown, UnknownParent, Limit}
-use Rattle.review_project.specs.Rights.{groups_of}
+use Rattle.review_words.specs.declared.reply.Refusal.TheVariants.{NoProject, NoBranch, NoComment, NotAllowed, Closed, StalePatchSet, NoLabel, ValueOut, VoteRestricted, CommitKnown, UnknownParent, Limit}
+use Rattle.review_project.specs.Rights.{grants_of, greatest_of, groups_of, least_of}
 use Rattle.review_project.specs.declared.parts.Right.{Right}
 use Rattle.review_project.specs.declared.parts.Right.TheVariants as right
+use Rattle.review_changes.specs.Change.{Change, current, is_open, label_in, reviewed, said}
+use Rattle.review_changes.specs.Sound.{answer_stored}
+use Rattle.review_rows.specs.Answer.{is_value_of}
 use Rattle.review_rows.specs.Files.{File}
 use Rattle.review_rows.specs.Known.{known, holder_of, is_so, number_of}
 use Rattle.review_rows.specs.declared.rows.Rows.{Rows}
@@ -36,3 +41,20 @@ create_checks (Some file) rows caller new =
     (nat_le 1 (number_of (known rows (want.LastPlace (record { project = new.project; branch = new.branch })))), NoBranch) ∷ (right_in rows file right.Create caller, NotAllowed)
     ∷ (not (known_in rows new.project new.branch new.commit), CommitKnown) ∷ (known_in rows new.project new.branch new.parent, UnknownParent)
     ∷ (nat_lt (number_of (known rows want.LastChange)) most_changes, Limit) ∷ []
+
+-- whether a value is known to lie in the range of an account on a label
+abbrev pub range_in : Rows → File → ℕ → Given → Bool
+range_in rows file account g =
+    int_le (least_of (filter (λ x. in_rows rows account x.group) (grants_of file g.label))) g.value
+    && int_le g.value (greatest_of (filter (λ x. in_rows rows account x.group) (grants_of file g.label)))
+
+-- the checks of values on labels of a change, by what rows tell and the file that its project has
+abbrev pub given_in : File → Rows → ℕ → ReviewOf → Change → List Given → List (Bool × Refusal)
+given_in file rows caller r c [] = []
+given_in file rows caller r c (g ∷ gs) =
+    (is_open c.state, Closed) ∷ (reviewed r c == current c, StalePatchSet) ∷ (list_all (λ x. is_some (label_in file x.label)) (g ∷ gs), NoLabel)
+    ∷ (list_all (is_value_of file) (g ∷ gs), ValueOut) ∷ (list_all (range_in rows file caller) (g ∷ gs), VoteRestricted) ∷ []
+
+-- the checks of a review but for its values
+abbrev pub said_checks : ReviewOf → Change → List (Bool × Refusal)
+said_checks r c = (answer_stored (length c.comments) r.comments, NoComment) ∷ (nat_le (length c.comments + length (said r)) most_comments, Limit) ∷ []

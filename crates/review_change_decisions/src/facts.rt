@@ -11,7 +11,7 @@ use review_words::{AccountNo, BranchName, CommitName, GroupName, ProjectName};
 use std::alloc::{AllocError, Global};
 
 /// Whether an account is known to be in a group; every account is in `Registered-Users`.
-fn is_in(
+pub fn is_in(
     alloc: Global,
     rows: &Rows,
     account: AccountNo,

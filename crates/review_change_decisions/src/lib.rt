@@ -3,5 +3,7 @@
 
 pub mod creating;
 pub mod facts;
+pub mod ranges;
+pub mod reviewing;
 
 pub use creating::create_change;
