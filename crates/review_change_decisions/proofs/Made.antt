@@ -1,5 +1,5 @@
 -- What a command on a change makes of the rows.
-use Rattle.std.proofs.Common.{◌≡◌, ℕ, ◌+◌, ◌==◌, ◌≤◌, ◌<◌, List, [], ◌∷◌, length, Option, Some, None, Bool, true, false, cond, ◌&&◌, refl, sym, ap, ◌∙◌, subst, ⊎_elim, arith, eqb-true}
+use Rattle.std.proofs.Common.{◌≡◌, ℕ, ◌+◌, ◌==◌, ◌≤◌, ◌<◌, List, [], ◌∷◌, ◌++◌, length, Option, Some, None, Bool, true, false, cond, ◌&&◌, refl, sym, ap, ◌∙◌, subst, ⊎_elim, arith, eqb-true}
 use Rattle.std.specs.Prelude.{is_some, nat_le, nat_lt, option_map}
 use Rattle.std.specs.Ordering.{nat_cmp}
 use Rattle.std.proofs.lemmas.Bool.{cases_Bool}
@@ -9,6 +9,8 @@ use Rattle.review_table.specs.Rows.{after_change, change_of}
 use Rattle.review_changes.specs.Change.{Change}
 use Rattle.review_changes.specs.Parts.{Part, PartRow, part_row}
 use Rattle.review_changes.proofs.Within.{within_from, within_next, within_parts}
+use Rattle.review_words.specs.declared.reply.Refusal.{Refusal}
+use Rattle.review_rows.specs.Answer.{first_refusal}
 use Rattle.review_rows.specs.Known.{part_of}
 use Rattle.review_rows.specs.Rows.{APart, edited, part_change}
 use Rattle.review_rows.specs.declared.rows.ChangeEdit.{ChangeEdit}
@@ -46,3 +48,17 @@ up_to most n some = grind (arith, nat_tests)
 -- a number within a greatest one is within itself
 pub within_itself : (most n : ℕ) → is_within most n ≡ true → is_within n n ≡ true
 within_itself most n within = let w = within_parts most n within in within_from n n w.0 (omega arith)
+
+-- what refuses first refuses before what follows
+pub first_of : (xs ys : List (Bool × Refusal)) (v : Option Refusal) (b : Bool) (otherwise : Option Refusal) → b ≡ true → v ≡ first_refusal xs → is_some v ≡ true → v ≡ cond b (first_refusal (xs ++ ys)) otherwise
+first_of xs ys v b otherwise passes is some = is ∙ (before xs ys (sym (ap is_some is) ∙ some) ∙ sym (ap (λ t. cond t (first_refusal (xs ++ ys)) otherwise) passes))
+  where
+    before : (xs ys : List (Bool × Refusal)) → is_some (first_refusal xs) ≡ true → first_refusal xs ≡ first_refusal (xs ++ ys)
+    before [] ys some = absurd (cc)
+    before (c ∷ cs) ys some =
+        ⊎_elim
+        (λ (t : c.0 ≡ true).
+        ap (λ k. cond k (first_refusal cs) (Some c.1)) t ∙ (before cs ys (sym (ap (λ k. is_some (cond k (first_refusal cs) (Some c.1))) t) ∙ some)
+        ∙ sym (ap (λ k. cond k (first_refusal (cs ++ ys)) (Some c.1)) t)))
+        (λ (f : c.0 ≡ false). ap (λ k. cond k (first_refusal cs) (Some c.1)) f ∙ sym (ap (λ k. cond k (first_refusal (cs ++ ys)) (Some c.1)) f))
+        (cases_Bool c.0)

@@ -1,14 +1,14 @@
 -- What rows tell of a command on a change.
-use Rattle.std.specs.Prelude.{ℕ, ◌+◌, ◌==◌, ◌&&◌, ◌||◌, Bool, false, not, int_le, is_some, length, nat_le, nat_lt, List, [], ◌∷◌, Option, Some, None}
+use Rattle.std.specs.Prelude.{ℕ, ◌+◌, ◌==◌, ◌&&◌, ◌||◌, Bool, false, not, int_le, is_some, length, nat_le, nat_lt, List, [], ◌∷◌, ◌++◌, Option, Some, None}
 use Rattle.std.specs.List.{filter, list_all, list_any}
 use Rattle.std.specs.Str.{bytes_eq}
-use Rattle.review_names.specs.Forms.{most_changes, most_comments}
+use Rattle.review_names.specs.Forms.{is_within, most_changes, most_comments}
 use Rattle.review_names.specs.Names.{registered_users}
 use Rattle.review_words.specs.declared.changes.Given.{Given}
 use Rattle.review_words.specs.declared.changes.NewChange.{NewChange}
 use Rattle.review_words.specs.declared.changes.Review.{Review as ReviewOf}
 use Rattle.review_words.specs.declared.reply.Refusal.{Refusal}
-use Rattle.review_words.specs.declared.reply.Refusal.TheVariants.{NoProject, NoBranch, NoComment, NotAllowed, Closed, StalePatchSet, NoLabel, ValueOut, VoteRestricted, CommitKnown, UnknownParent, Limit}
+use Rattle.review_words.specs.declared.reply.Refusal.TheVariants.{NoProject, NoBranch, NoPatchSet, NoComment, NotAllowed, Closed, StalePatchSet, NoLabel, ValueOut, VoteRestricted, CommitKnown, UnknownParent, Limit}
 use Rattle.review_project.specs.Rights.{grants_of, greatest_of, groups_of, least_of}
 use Rattle.review_project.specs.declared.parts.Right.{Right}
 use Rattle.review_project.specs.declared.parts.Right.TheVariants as right
@@ -58,3 +58,17 @@ given_in file rows caller r c (g ∷ gs) =
 -- the checks of a review but for its values
 abbrev pub said_checks : ReviewOf → Change → List (Bool × Refusal)
 said_checks r c = (answer_stored (length c.comments) r.comments, NoComment) ∷ (nat_le (length c.comments + length (said r)) most_comments, Limit) ∷ []
+
+-- the checks of the values that a review gives, where a file was read
+abbrev pub given_of : Option File → Rows → ℕ → ReviewOf → Change → List (Bool × Refusal)
+given_of None rows caller r c = []
+given_of (Some file) rows caller r c = given_in file rows caller r c r.labels
+
+-- the checks of a review of a change, by what rows tell and the file that its project has
+abbrev pub review_list : Option File → Rows → ℕ → ReviewOf → Change → List (Bool × Refusal)
+review_list had rows caller r c = (is_within (current c) (reviewed r c), NoPatchSet) ∷ (given_of had rows caller r c ++ said_checks r c)
+
+-- values are given without a file to judge them by
+abbrev pub LacksFile : Option File → List Given → Type 0
+LacksFile None (g ∷ gs) = Unit {0}
+LacksFile had given = ⊥

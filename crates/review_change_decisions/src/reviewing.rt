@@ -1,11 +1,11 @@
 //! Reviews.
-ghost use Rattle.std.specs.Prelude.{◌≡◌, ◌≤◌, ◌<◌, ◌+◌, ◌++◌, ◌∷◌, List, Option, IfOk, IfErr, Some, length, option_copied, true, ◌==◌};
+ghost use Rattle.std.specs.Prelude.{◌≡◌, ◌≤◌, ◌<◌, ◌+◌, ◌⊎◌, nat_le, None, List, Option, IfOk, IfErr, Some, length, option_copied, true, ◌==◌};
 ghost use Rattle.std.specs.Option.{option_map_or};
-ghost use Rattle.review_names.specs.Forms.{is_within, most_patches};
+ghost use Rattle.review_names.specs.Forms.{is_within, most_comments, most_patches};
 ghost use Rattle.review_words.specs.Texts.{IsStored};
 ghost use Rattle.review_words.specs.History.{Entry, is_account};
 ghost use Rattle.review_words.specs.declared.command.Command.TheVariants.{Review as ReviewCommand};
-ghost use Rattle.review_words.specs.declared.reply.Refusal.TheVariants.{NoPatchSet};
+ghost use Rattle.review_words.specs.declared.reply.NotTaken.TheVariants.{Damaged, Memory};
 ghost use Rattle.review_changes.specs.Change.{current, is_open, reviewed, said};
 ghost use Rattle.review_changes.specs.Seen.{seen};
 ghost use Rattle.review_changes.specs.Sound.{IsSound, answer_stored};
@@ -15,13 +15,13 @@ ghost use Rattle.review_rows.specs.Decisions.{IsUndecided};
 ghost use Rattle.review_rows.specs.Rows.{HasNoEffect};
 ghost use Rattle.review_rows.specs.Steps.{OfCommand};
 ghost use Rattle.review_rows.specs.View.{AreEnough, IsDecided};
-ghost use Rattle.review_change_decisions.specs.Facts.{given_in, said_checks};
+ghost use Rattle.review_change_decisions.specs.Facts.{LacksFile, given_in, given_of, review_list};
 
 use crate::ranges::{are_in_range, has_labels, has_values};
 use review_changes::{ChangeRows, State};
 use review_file::ProjectFile;
 use review_rows::Rows;
-use review_words::{AccountNo, Given, NewComment, Refusal, Review};
+use review_words::{AccountNo, NewComment, NotTaken, Refusal, Review};
 use std::alloc::{AllocError, Global};
 
 /// The first check of the values that a review gives which fails, where one does.
@@ -107,4 +107,81 @@ fn is_answer(stored: usize, comment: &NewComment) -> bool
         Some(answered) => is_up_to(answered.get(), stored),
         None => true,
     }
+}
+
+/// The first check of the values that a review gives which fails, where one does. Values need a file to be judged by.
+fn values_refusal(
+    alloc: Global,
+    had: Option<&ProjectFile>,
+    rows: &Rows,
+    caller: AccountNo,
+    review: &Review,
+    change: &ChangeRows,
+) -> Result<Option<Refusal>, NotTaken>
+    ensures refusal { IfOk result (λ r. r ≡ first_refusal (given_of (option_copied had.entry) rows.now caller review.now (seen change.now))) }
+    ensures judged { IfOk result (λ r. LacksFile (option_copied had.entry) review.now.labels → ⊥) }
+    ensures cause { IfErr result (λ e. (e ≡ Memory) ⊎ ((e ≡ Damaged) × LacksFile (option_copied had.entry) review.now.labels)) }
+{
+    let Some(file) = had else {
+        if review.labels.as_slice().is_empty() {
+            return Ok(None);
+        }
+        return Err(NotTaken::Damaged);
+    };
+    Ok(given_refusal(alloc, file, rows, caller, review, change)?)
+}
+
+/// The first check of a review that fails, where one does.
+fn review_refusal(
+    alloc: Global,
+    had: Option<&ProjectFile>,
+    rows: &Rows,
+    caller: AccountNo,
+    review: &Review,
+    change: &ChangeRows,
+) -> Result<Option<Refusal>, NotTaken>
+    requires { is_within most_patches (current (seen change.now)) ≡ true }
+    ensures refusal { IfOk result (λ r. r ≡ first_refusal (review_list (option_copied had.entry) rows.now caller review.now (seen change.now))) }
+    ensures judged { IfOk result (λ r. r ≡ None → LacksFile (option_copied had.entry) review.now.labels → ⊥) }
+    ensures cause { IfErr result (λ e. (e ≡ Memory) ⊎ ((e ≡ Damaged) × LacksFile (option_copied had.entry) review.now.labels)) }
+{
+    if !has_reviewed(review, change) {
+        return Ok(Some(Refusal::NoPatchSet));
+    }
+    let values = values_refusal(alloc, had, rows, caller, review, change)?;
+    if values.is_some() {
+        return Ok(values);
+    }
+    let stored = change.comments.len();
+    if !answers_stored(stored, review.comments.as_slice()) {
+        return Ok(Some(Refusal::NoComment));
+    }
+    if !has_room(stored, review) {
+        return Ok(Some(Refusal::Limit));
+    }
+    Ok(None)
+}
+
+/// How many comments a review makes: its message is one.
+fn said_count(review: &Review) -> usize
+    requires { length review.now.comments ≤ 10000 }
+    ensures { result ≡ length (said review.now) }
+{
+    let comments = review.comments.as_slice().len();
+    if review.message.as_str().is_empty() {
+        comments
+    } else {
+        comments + 1
+    }
+}
+
+/// Whether there is a number for each comment that a review makes.
+fn has_room(stored: usize, review: &Review) -> bool
+    ensures { result ≡ nat_le (stored + length (said review.now)) most_comments }
+{
+    if review.comments.as_slice().len() > 10_000 {
+        return false;
+    }
+    let said = said_count(review);
+    said <= 10_000 && stored <= 10_000 - said
 }
