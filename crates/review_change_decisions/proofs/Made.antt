@@ -1,10 +1,10 @@
 -- What a command on a change makes of the rows.
-use Rattle.std.proofs.Common.{◌≡◌, ℕ, ◌+◌, ◌==◌, ◌≤◌, ◌<◌, List, [], ◌∷◌, ◌++◌, length, Option, Some, None, Bool, true, false, cond, ◌&&◌, refl, sym, ap, ◌∙◌, subst, ⊎_elim, arith, eqb-true}
+use Rattle.std.proofs.Common.{◌≡◌, ℕ, zero, suc, ◌+◌, ◌==◌, ◌≤◌, ◌<◌, List, [], ◌∷◌, ◌++◌, length, Option, Some, None, Bool, true, false, cond, ◌&&◌, refl, sym, ap, ◌∙◌, subst, ⊎_elim, arith, eqb-true}
 use Rattle.std.specs.Prelude.{is_some, nat_le, nat_lt, option_map}
 use Rattle.std.specs.Ordering.{nat_cmp}
 use Rattle.std.proofs.lemmas.Bool.{cases_Bool}
 use Rattle.std.proofs.lemmas.Bool.Decides.{nat_tests}
-use Rattle.review_names.specs.Forms.{is_within, most_changes, most_patches}
+use Rattle.review_names.specs.Forms.{is_within, most_changes, most_comments, most_patches}
 use Rattle.review_table.specs.Rows.{after_change, change_of}
 use Rattle.review_changes.specs.Change.{Change}
 use Rattle.review_changes.specs.Parts.{Part, PartRow, part_row}
@@ -14,6 +14,7 @@ use Rattle.review_rows.specs.Answer.{first_refusal}
 use Rattle.review_rows.specs.Known.{part_of}
 use Rattle.review_rows.specs.Rows.{APart, edited, part_change}
 use Rattle.review_rows.specs.declared.rows.ChangeEdit.{ChangeEdit}
+use Rattle.review_change_decisions.specs.Facts.{next_numbers}
 
 pub first_within : is_within most_patches 1 ≡ true
 unfolding is_within
@@ -62,3 +63,14 @@ first_of xs ys v b otherwise passes is some = is ∙ (before xs ys (sym (ap is_s
         ∙ sym (ap (λ k. cond k (first_refusal (cs ++ ys)) (Some c.1)) t)))
         (λ (f : c.0 ≡ false). ap (λ k. cond k (first_refusal cs) (Some c.1)) f ∙ sym (ap (λ k. cond k (first_refusal (cs ++ ys)) (Some c.1)) f))
         (cases_Bool c.0)
+
+-- one number more
+pub numbers_more : (n k : ℕ) → next_numbers n (k + 1) ≡ next_numbers n k ++ (n + k + 1) ∷ []
+numbers_more n k = let e : k + 1 ≡ suc k = omega arith in ap (next_numbers n) e ∙ by n k
+  where
+    by : (n k : ℕ) → next_numbers n (suc k) ≡ next_numbers n k ++ (n + k + 1) ∷ []
+    by n zero = let e : n + 1 ≡ n + 0 + 1 = omega arith in ap (λ x. x ∷ []) e
+    by n (suc k) = let e : (n + 1) + k + 1 ≡ n + suc k + 1 = omega arith in ap (λ l. (n + 1) ∷ l) (by (n + 1) k ∙ ap (λ x. next_numbers (n + 1) k ++ x ∷ []) e)
+
+pub number_within : (stored count index : ℕ) → stored + count ≤ most_comments → index < count → is_within most_comments (stored + index + 1) ≡ true
+number_within stored count index room below = within_from most_comments (stored + index + 1) (omega arith) (omega arith)

@@ -1,5 +1,5 @@
 -- What rows tell of a command on a change.
-use Rattle.std.specs.Prelude.{ℕ, ◌+◌, ◌==◌, ◌&&◌, ◌||◌, Bool, false, not, int_le, is_some, length, nat_le, nat_lt, List, [], ◌∷◌, ◌++◌, Option, Some, None}
+use Rattle.std.specs.Prelude.{ℕ, zero, suc, ◌+◌, ◌==◌, ◌&&◌, ◌||◌, Bool, false, not, int_le, is_some, length, nat_le, nat_lt, List, [], ◌∷◌, ◌++◌, Option, Some, None}
 use Rattle.std.specs.List.{filter, list_all, list_any}
 use Rattle.std.specs.Str.{bytes_eq}
 use Rattle.review_names.specs.Forms.{is_within, most_changes, most_comments}
@@ -72,3 +72,8 @@ review_list had rows caller r c = (is_within (current c) (reviewed r c), NoPatch
 abbrev pub LacksFile : Option File → List Given → Type 0
 LacksFile None (g ∷ gs) = Unit {0}
 LacksFile had given = ⊥
+
+-- so many numbers after one
+abbrev pub next_numbers : ℕ → ℕ → List ℕ
+next_numbers n zero = []
+next_numbers n (suc k) = (n + 1) ∷ next_numbers (n + 1) k

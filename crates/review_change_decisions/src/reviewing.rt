@@ -15,13 +15,15 @@ ghost use Rattle.review_rows.specs.Decisions.{IsUndecided};
 ghost use Rattle.review_rows.specs.Rows.{HasNoEffect};
 ghost use Rattle.review_rows.specs.Steps.{OfCommand};
 ghost use Rattle.review_rows.specs.View.{AreEnough, IsDecided};
-ghost use Rattle.review_change_decisions.specs.Facts.{LacksFile, given_in, given_of, review_list};
+ghost use Rattle.review_change_decisions.specs.Facts.{LacksFile, given_in, given_of, next_numbers, review_list};
 
 use crate::ranges::{are_in_range, has_labels, has_values};
+use review_change_rows::copied_change;
 use review_changes::{ChangeRows, State};
+use review_core::{ChangeFile, RowsFault};
 use review_file::ProjectFile;
 use review_rows::Rows;
-use review_words::{AccountNo, NewComment, NotTaken, Refusal, Review};
+use review_words::{AccountNo, CommentNo, CommentNumbers, NewComment, NotTaken, Refusal, Review};
 use std::alloc::{AllocError, Global};
 
 /// The first check of the values that a review gives which fails, where one does.
@@ -184,4 +186,41 @@ fn has_room(stored: usize, review: &Review) -> bool
     }
     let said = said_count(review);
     said <= 10_000 && stored <= 10_000 - said
+}
+
+/// The numbers of new comments, after those that are stored.
+#[tactic(auto, using(crate::proofs::Made::number_within, crate::proofs::Made::numbers_more))]
+fn new_numbers(alloc: Global, stored: usize, count: usize) -> Result<CommentNumbers, AllocError>
+    requires { stored + count ≤ most_comments }
+    ensures { IfOk result (λ n. n ≡ next_numbers stored count) }
+{
+    let mut numbers = Vec::new(alloc);
+    for index in 0..count {
+        numbers.push(comment_of(stored + index + 1))?;
+    }
+    Ok(CommentNumbers::from_vec(numbers))
+}
+
+/// The comment of a number.
+fn comment_of(number: usize) -> CommentNo
+    requires { is_within most_comments number ≡ true }
+    ensures { result ≡ number }
+{
+    match CommentNo::from_number(number as u64) {
+        Some(comment) => comment,
+        None => unreachable!(),
+    }
+}
+
+/// The change of rows that were loaded. Damaged only where they don't fit together.
+fn change_file(alloc: Global, found: &ChangeRows) -> Result<ChangeFile, NotTaken>
+    ensures file { IfOk result (λ f. seen f.rows ≡ seen found.now) }
+    ensures cause { IfErr result (λ e. (e ≡ Memory) ⊎ ((e ≡ Damaged) × (IsSound (seen found.now) → ⊥))) }
+{
+    let copy = copied_change(alloc, found)?;
+    match ChangeFile::from_rows(alloc, copy) {
+        Ok(file) => Ok(file),
+        Err(RowsFault::Broken) => Err(NotTaken::Damaged),
+        Err(RowsFault::Memory) => Err(NotTaken::Memory),
+    }
 }

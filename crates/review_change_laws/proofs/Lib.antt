@@ -3,3 +3,4 @@ pub mod Same
 pub mod Sent
 pub mod Grouped
 pub mod Sound
+pub mod Projects
