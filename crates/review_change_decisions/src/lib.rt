@@ -7,3 +7,4 @@ pub mod ranges;
 pub mod reviewing;
 
 pub use creating::create_change;
+pub use reviewing::review;

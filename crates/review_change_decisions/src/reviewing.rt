@@ -18,12 +18,15 @@ ghost use Rattle.review_rows.specs.View.{AreEnough, IsDecided};
 ghost use Rattle.review_change_decisions.specs.Facts.{LacksFile, given_in, given_of, next_numbers, review_list};
 
 use crate::ranges::{are_in_range, has_labels, has_values};
-use review_change_rows::copied_change;
+use review_account_decisions::{nothing, refused};
+use review_change_laws::changes_are_sound;
+use review_change_rows::{copied_change, edit_of};
 use review_changes::{ChangeRows, State};
 use review_core::{ChangeFile, RowsFault};
 use review_file::ProjectFile;
-use review_rows::Rows;
-use review_words::{AccountNo, CommentNo, CommentNumbers, NewComment, NotTaken, Refusal, Review};
+use review_project_laws::one_file;
+use review_rows::{Delta, Rows};
+use review_words::{AccountNo, Answer, ChangeNo, CommentNo, CommentNumbers, NewComment, NotTaken, Refusal, Reply, Review};
 use std::alloc::{AllocError, Global};
 
 /// The first check of the values that a review gives which fails, where one does.
@@ -223,4 +226,41 @@ fn change_file(alloc: Global, found: &ChangeRows) -> Result<ChangeFile, NotTaken
         Err(RowsFault::Broken) => Err(NotTaken::Damaged),
         Err(RowsFault::Memory) => Err(NotTaken::Memory),
     }
+}
+
+/// What an account says of a patch set of a change: a message, values on labels, comments. Refused for a change or a patch set that isn't
+/// there; where values are given for a closed change, an older patch set, a label that the project's file hasn't, a value that is none of
+/// its label's, or one outside the account's range, each over all values; then for an answer to a comment that isn't there, or the last
+/// number of a comment given, in this order. An error is want of memory, or Damaged, where the rows are those of no history.
+pub fn review(
+    alloc: Global,
+    had: Option<&ProjectFile>,
+    rows: &Rows,
+    caller: AccountNo,
+    change: ChangeNo,
+    review: &Review,
+) -> Result<(Delta, Reply), NotTaken>
+    ensures decided { IfOk result (λ r. (reading : Reading) (h : List Entry) → length h < most_requests → is_account h caller ≡ true → AreEnough reading h caller (OfCommand (ReviewCommand change review.now)) (option_copied had.entry) rows.now → IsDecided reading h caller (ReviewCommand change review.now) r.0 r.1) }
+    ensures cause { IfErr result (IsUndecided caller (ReviewCommand change review.now) (option_copied had.entry) rows.now) }
+    ensures stored { IfOk result (λ r. IsStored r.1) }
+    ensures refused { IfOk result (λ r. HasNoEffect r.1 r.0) }
+{
+    one_file();
+    changes_are_sound();
+    let Some(found) = rows.change(change) else {
+        return Ok(refused(alloc, Refusal::NoChange));
+    };
+    let file = change_file(alloc, found)?;
+    let refusal = review_refusal(alloc, had, rows, caller, review, file.rows())?;
+    if let Some(refusal) = refusal {
+        return Ok(refused(alloc, refusal));
+    }
+    let stored = file.rows().comments.len();
+    let numbers = new_numbers(alloc, stored, said_count(review))?;
+    let request = rows.requests().saturating_add(1);
+    let new = file.with_review(alloc, review, caller, request)?;
+    let edit = edit_of(alloc, change, found, new.rows())?;
+    let mut delta = nothing(alloc);
+    delta.changes.push(edit)?;
+    Ok((delta, Reply::Done(Answer::Reviewed(numbers))))
 }
