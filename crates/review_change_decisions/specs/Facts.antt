@@ -1,5 +1,5 @@
 -- What rows tell of a command on a change.
-use Rattle.std.specs.Prelude.{ℕ, zero, suc, ◌+◌, ◌==◌, ◌&&◌, ◌||◌, Bool, false, not, int_le, is_some, length, nat_le, nat_lt, List, [], ◌∷◌, ◌++◌, Option, Some, None}
+use Rattle.std.specs.Prelude.{ℕ, zero, suc, ◌+◌, ◌≡◌, min, ◌==◌, ◌&&◌, ◌||◌, Bool, false, not, int_le, is_some, length, nat_le, nat_lt, List, [], ◌∷◌, ◌++◌, Option, Some, None}
 use Rattle.std.specs.List.{filter, list_all, list_any}
 use Rattle.std.specs.Str.{bytes_eq}
 use Rattle.review_names.specs.Forms.{is_within, most_changes, most_comments}
@@ -12,9 +12,18 @@ use Rattle.review_words.specs.declared.reply.Refusal.TheVariants.{NoProject, NoB
 use Rattle.review_project.specs.Rights.{grants_of, greatest_of, groups_of, least_of}
 use Rattle.review_project.specs.declared.parts.Right.{Right}
 use Rattle.review_project.specs.declared.parts.Right.TheVariants as right
-use Rattle.review_changes.specs.Change.{Change, current, is_open, label_in, reviewed, said}
+use Rattle.review_changes.specs.Change.{Change, after_plain, current, is_open, label_in, reviewed, said}
 use Rattle.review_changes.specs.Sound.{answer_stored}
+use Rattle.review_words.specs.declared.reply.Answer.TheVariants.{Reviewed}
+use Rattle.review_words.specs.declared.reply.Reply.{Reply}
+use Rattle.review_words.specs.declared.reply.Reply.TheVariants.{Done}
+use Rattle.review_table.specs.Rows.{after_change}
+use Rattle.review_changes.specs.Parts.{Part, part_row}
+use Rattle.review_changes.specs.declared.commands.ChangeCommand.TheVariants.{Review as ReviewCommand}
 use Rattle.review_rows.specs.Answer.{is_value_of}
+use Rattle.review_rows.specs.Rows.{part_change}
+use Rattle.review_rows.specs.declared.rows.ChangeEdit.{ChangeEdit}
+use Rattle.review_rows.specs.declared.rows.Delta.{Delta}
 use Rattle.review_rows.specs.Files.{File}
 use Rattle.review_rows.specs.Known.{known, holder_of, is_so, number_of}
 use Rattle.review_rows.specs.declared.rows.Rows.{Rows}
@@ -77,3 +86,23 @@ LacksFile had given = ⊥
 abbrev pub next_numbers : ℕ → ℕ → List ℕ
 next_numbers n zero = []
 next_numbers n (suc k) = (n + 1) ∷ next_numbers (n + 1) k
+
+-- a delta with one edit of a change, and nothing else
+pub record EditsChange (e : ChangeEdit) (delta : Delta) : Type 0 where
+  pub accounts : delta.accounts.items ≡ []
+  pub members : delta.members.items ≡ []
+  pub file : delta.file ≡ None
+  pub base : delta.base ≡ None
+  pub changes : delta.changes.items ≡ e ∷ []
+
+-- one more, up to the greatest number of a request
+abbrev pub next_request : Rows → ℕ
+next_request rows = min (number_of (known rows want.Requests) + 1) 18446744073709551615
+
+-- a review is done: the change becomes what it makes of it, and the new comments have the next numbers
+pub record IsReviewed (change : ℕ) (r : ReviewOf) (caller : ℕ) (rows : Rows) (c : Change) (delta : Delta) (reply : Reply) : Type 0 where
+  pub edit : ChangeEdit
+  pub edits : EditsChange edit delta
+  pub named : edit.change ≡ change
+  pub becomes : (part : Part) → after_change (part_change edit part) (part_row c part) ≡ part_row (after_plain (ReviewCommand r) caller (next_request rows) c) part
+  pub reply_is : reply ≡ Done (Reviewed (next_numbers (length c.comments) (length (said r))))

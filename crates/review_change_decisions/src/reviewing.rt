@@ -6,16 +6,19 @@ ghost use Rattle.review_words.specs.Texts.{IsStored};
 ghost use Rattle.review_words.specs.History.{Entry, is_account};
 ghost use Rattle.review_words.specs.declared.command.Command.TheVariants.{Review as ReviewCommand};
 ghost use Rattle.review_words.specs.declared.reply.NotTaken.TheVariants.{Damaged, Memory};
-ghost use Rattle.review_changes.specs.Change.{current, is_open, reviewed, said};
+ghost use Rattle.review_changes.specs.Change.{after_plain, current, is_open, reviewed, said};
 ghost use Rattle.review_changes.specs.Seen.{seen};
-ghost use Rattle.review_changes.specs.Sound.{IsSound, answer_stored};
+ghost use Rattle.review_changes.specs.Sound.{IsSound, answer_stored, fits};
 ghost use Rattle.review_rows.specs.Answer.{first_refusal, most_requests, numbers_after};
 ghost use Rattle.review_rows.specs.Changes.{Reading};
 ghost use Rattle.review_rows.specs.Decisions.{IsUndecided};
-ghost use Rattle.review_rows.specs.Rows.{HasNoEffect};
+ghost use Rattle.review_changes.specs.Parts.{Part, part_row};
+ghost use Rattle.review_changes.specs.declared.commands.ChangeCommand.TheVariants.{Review as ReviewOf};
+ghost use Rattle.review_table.specs.Rows.{after_change};
+ghost use Rattle.review_rows.specs.Rows.{HasNoEffect, part_change};
 ghost use Rattle.review_rows.specs.Steps.{OfCommand};
 ghost use Rattle.review_rows.specs.View.{AreEnough, IsDecided};
-ghost use Rattle.review_change_decisions.specs.Facts.{LacksFile, given_in, given_of, next_numbers, review_list};
+ghost use Rattle.review_change_decisions.specs.Facts.{EditsChange, IsReviewed, LacksFile, given_in, given_of, next_numbers, review_list};
 
 use crate::ranges::{are_in_range, has_labels, has_values};
 use review_account_decisions::{nothing, refused};
@@ -25,7 +28,7 @@ use review_changes::{ChangeRows, State};
 use review_core::{ChangeFile, RowsFault};
 use review_file::ProjectFile;
 use review_project_laws::one_file;
-use review_rows::{Delta, Rows};
+use review_rows::{ChangeEdit, Delta, Rows};
 use review_words::{AccountNo, Answer, ChangeNo, CommentNo, CommentNumbers, NewComment, NotTaken, Refusal, Reply, Review};
 use std::alloc::{AllocError, Global};
 
@@ -216,16 +219,54 @@ fn comment_of(number: usize) -> CommentNo
 }
 
 /// The change of rows that were loaded. Damaged only where they don't fit together.
-fn change_file(alloc: Global, found: &ChangeRows) -> Result<ChangeFile, NotTaken>
+pub fn change_file(alloc: Global, found: &ChangeRows) -> Result<ChangeFile, NotTaken>
     ensures file { IfOk result (λ f. seen f.rows ≡ seen found.now) }
+    ensures sound { IfOk result (λ f. IsSound (seen found.now)) }
     ensures cause { IfErr result (λ e. (e ≡ Memory) ⊎ ((e ≡ Damaged) × (IsSound (seen found.now) → ⊥))) }
 {
     let copy = copied_change(alloc, found)?;
     match ChangeFile::from_rows(alloc, copy) {
-        Ok(file) => Ok(file),
+        Ok(file) => Ok(told_sound(file)),
         Err(RowsFault::Broken) => Err(NotTaken::Damaged),
         Err(RowsFault::Memory) => Err(NotTaken::Memory),
     }
+}
+
+/// The same change, which is sound.
+fn told_sound(file: ChangeFile) -> ChangeFile
+    ensures same { result.rows ≡ file.rows }
+    ensures sound { IsSound (seen file.rows) }
+{
+    let _rows = file.rows();
+    file
+}
+
+/// The delta of one edit.
+pub fn edited(alloc: Global, edit: ChangeEdit) -> Result<Delta, AllocError>
+    ensures { IfOk result (EditsChange edit) }
+{
+    let mut delta = nothing(alloc);
+    delta.changes.push(edit)?;
+    Ok(delta)
+}
+
+/// What a review makes of a change.
+fn with_review(
+    alloc: Global,
+    change: ChangeNo,
+    found: &ChangeRows,
+    file: ChangeFile,
+    review: &Review,
+    caller: AccountNo,
+    request: u64,
+) -> Result<ChangeEdit, AllocError>
+    requires same { seen file.rows ≡ seen found.now }
+    requires fits { fits (ReviewOf review.now) (seen found.now) ≡ true }
+    ensures change { IfOk result (λ e. e.change ≡ change) }
+    ensures becomes { IfOk result (λ e. (part : Part) → after_change (part_change e part) (part_row (seen found.now) part) ≡ part_row (after_plain (ReviewOf review.now) caller request (seen found.now)) part) }
+{
+    let new = file.with_review(alloc, review, caller, request)?;
+    edit_of(alloc, change, found, new.rows())
 }
 
 /// What an account says of a patch set of a change: a message, values on labels, comments. Refused for a change or a patch set that isn't
@@ -251,16 +292,32 @@ pub fn review(
         return Ok(refused(alloc, Refusal::NoChange));
     };
     let file = change_file(alloc, found)?;
-    let refusal = review_refusal(alloc, had, rows, caller, review, file.rows())?;
+    let refusal = review_refusal(alloc, had, rows, caller, review, found)?;
     if let Some(refusal) = refusal {
         return Ok(refused(alloc, refusal));
     }
-    let stored = file.rows().comments.len();
-    let numbers = new_numbers(alloc, stored, said_count(review))?;
+    Ok(reviewed(alloc, rows, caller, change, found, file, review)?)
+}
+
+/// The answer to a review that no check refuses, and what it changes.
+fn reviewed(
+    alloc: Global,
+    rows: &Rows,
+    caller: AccountNo,
+    change: ChangeNo,
+    found: &ChangeRows,
+    file: ChangeFile,
+    review: &Review,
+) -> Result<(Delta, Reply), AllocError>
+    requires same { seen file.rows ≡ seen found.now }
+    requires fits { fits (ReviewOf review.now) (seen found.now) ≡ true }
+    ensures made { IfOk result (λ r. IsReviewed change review.now caller rows.now (seen found.now) r.0 r.1) }
+    ensures stored { IfOk result (λ r. IsStored r.1) }
+    ensures refused { IfOk result (λ r. HasNoEffect r.1 r.0) }
+{
+    let numbers = new_numbers(alloc, found.comments.len(), said_count(review))?;
     let request = rows.requests().saturating_add(1);
-    let new = file.with_review(alloc, review, caller, request)?;
-    let edit = edit_of(alloc, change, found, new.rows())?;
-    let mut delta = nothing(alloc);
-    delta.changes.push(edit)?;
+    let edit = with_review(alloc, change, found, file, review, caller, request)?;
+    let delta = edited(alloc, edit)?;
     Ok((delta, Reply::Done(Answer::Reviewed(numbers))))
 }
