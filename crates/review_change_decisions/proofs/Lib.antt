@@ -1,3 +1,4 @@
 pub mod Told
 pub mod Made
 pub mod Created
+mod Reviewed

@@ -1,0 +1,72 @@
+-- A review.
+use Rattle.std.proofs.Common.{◌≡◌, ℕ, zero, suc, ◌+◌, ◌≤◌, ◌<◌, List, [], ◌∷◌, ◌++◌, length, Option, Some, None, Bool, true, false, ◌&&◌, refl, sym, ap, ◌∙◌, subst, arith}
+use Rattle.std.specs.Prelude.{nat_le}
+use Rattle.std.specs.List.{AllByRecursion}
+use Rattle.std.proofs.lemmas.Bool.{and_from, and_parts}
+use Rattle.std.proofs.lemmas.Bool.Decides.{nat_tests}
+use Rattle.std.proofs.lemmas.List.{append-nil}
+use Rattle.review_names.specs.Forms.{is_within, most_comments, most_patches}
+use Rattle.review_words.specs.Texts.{IsCommentNumber}
+use Rattle.review_words.specs.History.{Entry, is_account}
+use Rattle.review_words.specs.declared.changes.Review.{Review as ReviewOf}
+use Rattle.review_words.specs.declared.command.Command.TheVariants.{Review}
+use Rattle.review_words.specs.declared.reply.Refusal.{Refusal}
+use Rattle.review_words.specs.declared.reply.Refusal.TheVariants.{UnknownCaller, NoChange, NoPatchSet, NoComment, Limit}
+use Rattle.review_changes.specs.Change.{Change, after_plain, current, reviewed, said}
+use Rattle.review_changes.specs.Seen.{seen}
+use Rattle.review_changes.specs.Sound.{IsSound, answer_stored, fits}
+use Rattle.review_changes.specs.declared.commands.ChangeCommand.TheVariants.{Review as ReviewCommand}
+use Rattle.review_changes.specs.declared.rows.ChangeRows.{ChangeRows}
+use Rattle.review_changes.proofs.Within.{within_parts}
+use Rattle.review_rows.specs.Answer.{first_refusal, of_change, refused_by, review_checks}
+use Rattle.review_rows.specs.Changes.{Reading, change}
+use Rattle.review_rows.specs.Files.{File}
+use Rattle.review_rows.specs.declared.rows.Rows.{Rows}
+use Rattle.review_change_laws.proofs.Sound.{Passes, all_pass}
+use Rattle.review_change_rows.specs.Edits.{GoesOn}
+use Rattle.review_change_decisions.specs.Facts.{given_of, next_numbers, review_list}
+
+-- patch sets stay
+stays : {X : Type 0} (most : ℕ) (old new : List X) → new ≡ old → length old ≤ most → GoesOn most old new
+stays most old new same within = record {
+  more = [];
+  is = same ∙ sym (append-nil old);
+  within = subst (λ l. length l ≤ most) (sym same) within;
+}
+
+-- a review sends no patch set
+pub patches_stay : (found new : ChangeRows) (r : ReviewOf) (caller request : ℕ) → IsSound (seen found) → seen new ≡ after_plain (ReviewCommand r) caller request (seen found) →
+    GoesOn most_patches found.patches.items new.patches.items
+patches_stay found new r caller request sound is =
+    stays most_patches found.patches.items new.patches.items (ap (λ (c : Change). c.patches) is) (within_parts most_patches (length found.patches.items) sound.patches).1
+
+-- so many numbers are so many
+pub numbers_count : (n k : ℕ) → length (next_numbers n k) ≡ k
+numbers_count n zero = refl
+numbers_count n (suc k) = ap suc (numbers_count (n + 1) k)
+
+pub numbers_fit : (n k : ℕ) → n + k ≤ most_comments → AllByRecursion IsCommentNumber (next_numbers n k)
+numbers_fit n zero room = tt
+numbers_fit n (suc k) room = ((omega arith, omega arith), numbers_fit (n + 1) k (omega arith))
+
+-- there is room for the comments of a review that fits
+pub room_for : (r : ReviewOf) (c : Change) → fits (ReviewCommand r) c ≡ true → length c.comments + length (said r) ≤ most_comments
+room_for r c all = below (length c.comments + length (said r)) (and_parts _ _ (and_parts _ _ all).1).1
+  where
+    below : (n : ℕ) → nat_le n most_comments ≡ true → n ≤ most_comments
+    below n is = grind (arith, nat_tests)
+
+-- where no check refuses a review, it fits
+pub passed_fits : (had : Option File) (rows : Rows) (caller : ℕ) (r : ReviewOf) (c : Change) → first_refusal (review_list had rows caller r c) ≡ None → fits (ReviewCommand r) c ≡ true
+passed_fits had rows caller r c passes =
+    let all = all_pass (review_list had rows caller r c) passes in
+    let last = rest (given_of had rows caller r c) (answer_stored (length c.comments) r.comments) (nat_le (length c.comments + length (said r)) most_comments) all.1 in
+    and_from (is_within (current c) (reviewed r c)) _ all.0 (and_from _ _ last.0 last.1)
+  where
+    rest : (xs : List (Bool × Refusal)) (a b : Bool) → AllByRecursion Passes (xs ++ (a, NoComment) ∷ (b, Limit) ∷ []) → (a ≡ true) × (b ≡ true)
+    rest [] a b all = (all.0, all.1.0)
+    rest (x ∷ xs) a b all = rest xs a b all.1
+
+-- a review of a change that isn't there
+pub none_there : (reading : Reading) (h : List Entry) (caller n : ℕ) (r : ReviewOf) → is_account h caller ≡ true → change reading h n ≡ None → refused_by reading h caller (Review n r) ≡ Some NoChange
+none_there reading h caller n r account none = λ i. first_refusal ((account i, UnknownCaller) ∷ of_change (review_checks reading h caller r) (none i))

@@ -1,0 +1,23 @@
+use Rattle.std.proofs.Common.{◌≡◌, ◌∙◌, ap, sym, subst, None, Some, length, true}
+use Rattle.std.specs.Option.{option_copied}
+use Rattle.std.specs.Prelude.{option_map}
+use Rattle.review_words.specs.declared.command.Command.TheVariants.{Review}
+use Rattle.review_words.specs.declared.reply.Refusal.TheVariants.{NoChange}
+use Rattle.review_changes.specs.Seen.{seen}
+use Rattle.review_account_decisions.proofs.Decided.{asked_beside, refused_pair}
+use Rattle.review_change_decisions.proofs.Reviewed.{none_there, passed_fits}
+use Rattle.review_change_decisions.proofs.Told.{change_told}
+use Rattle.review_change_decisions.proofs.reviewing.review.Goals as goal
+
+pub returns-in_default-clause-decided : goal.returns-in_default-clause-decided
+returns-in_default-clause-decided c = λ reading h room known l.
+    let a = c.args in
+    let command = Review a.change a.review.now in
+    refused_pair h a.caller command c.refused.result NoChange c.refused.ensures.empty c.refused.ensures.reply
+    (none_there reading h a.caller a.change a.review.now known
+    (sym (change_told reading h a.rows.now a.change l.agree (asked_beside h a.caller command a.rows.now l).0) ∙ (sym c.change.ensures ∙ ap (λ o. option_map (λ r. seen r) (option_copied o)) c.in_default.is)))
+
+pub reviewed-requires-clause-fits : goal.reviewed-requires-clause-fits
+reviewed-requires-clause-fits c =
+    let a = c.args in
+    passed_fits (option_copied a.had) a.rows.now a.caller a.review.now (seen c.in-Some.found.now) (sym c.in_ok-refusal.ensures.refusal ∙ c.in_default-refusal.is)

@@ -1,0 +1,33 @@
+use Rattle.std.proofs.Common.{◌≡◌, ◌≤◌, ◌+◌, ◌∙◌, ap, sym, subst, length, arith}
+use Rattle.std.specs.List.{AllByRecursion}
+use Rattle.review_names.specs.Forms.{most_comments}
+use Rattle.review_words.specs.Texts.{IsCommentNumber}
+use Rattle.review_words.specs.declared.reply.Answer.TheVariants.{Reviewed}
+use Rattle.review_words.specs.declared.reply.Reply.TheVariants.{Done}
+use Rattle.review_changes.specs.Change.{after_plain, said}
+use Rattle.review_changes.specs.Parts.{part_row}
+use Rattle.review_changes.specs.Seen.{seen}
+use Rattle.review_changes.specs.declared.commands.ChangeCommand.TheVariants.{Review as ReviewOf}
+use Rattle.review_change_decisions.specs.Facts.{next_numbers}
+use Rattle.review_change_decisions.proofs.Reviewed.{numbers_count, numbers_fit, room_for}
+use Rattle.review_change_decisions.proofs.reviewing.reviewed.Goals as goal
+
+pub returns-clause-made : goal.returns-clause-made
+returns-clause-made c =
+    let a = c.args in
+    let request = c.saturating_add-request.ensures in
+    record {
+      edit = c.in_ok-edit.edit;
+      edits = c.in_ok-delta.ensures;
+      named = c.in_ok-edit.ensures.change;
+      becomes = ?;
+      reply_is = ?;
+    }
+
+pub returns-clause-stored : goal.returns-clause-stored
+returns-clause-stored c =
+    let a = c.args in
+    let is = c.in_ok-numbers.ensures ∙ (λ i. next_numbers (c.len.ensures i) (c.said_count.ensures i)) in
+    let room = room_for a.review.now (seen a.found.now) c.requires.fits in
+    subst (λ l. (length l ≤ most_comments) × AllByRecursion IsCommentNumber l) (sym is)
+    (subst (λ n. n ≤ most_comments) (sym (numbers_count (length a.found.now.comments.items) (length (said a.review.now)))) (omega arith), numbers_fit (length a.found.now.comments.items) (length (said a.review.now)) room)
