@@ -48,7 +48,7 @@ checks_are : (reading : Reading) (h : List Entry) (caller : ℕ) (new : NewChang
 checks_are reading h caller new a b c d e f g p q r s t u v = λ i. refusal_of (p i) (q i) (r i) (s i) (t i) (u i) (v i)
 
 -- no file is read where there is no text, and one where there is one
-no_text : (text : Option (List ℕ)) → HasFile text None → text ≡ None
+pub no_text : (text : Option (List ℕ)) → HasFile text None → text ≡ None
 no_text None has = refl
 no_text (Some t) has = let bad = has.2 in absurd (cc)
 

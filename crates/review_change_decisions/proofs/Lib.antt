@@ -1,4 +1,5 @@
 pub mod Told
 pub mod Made
 pub mod Created
-mod Reviewed
+pub mod Reviewed
+pub mod Undecided

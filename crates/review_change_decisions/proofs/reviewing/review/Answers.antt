@@ -6,6 +6,7 @@ use Rattle.review_words.specs.declared.reply.Refusal.TheVariants.{NoChange}
 use Rattle.review_changes.specs.Seen.{seen}
 use Rattle.review_account_decisions.proofs.Decided.{asked_beside, refused_pair}
 use Rattle.review_change_decisions.proofs.Reviewed.{none_there, passed_fits}
+use Rattle.review_change_decisions.proofs.Undecided.{err_with, missing_undecided, unsound_undecided}
 use Rattle.review_change_decisions.proofs.Told.{change_told}
 use Rattle.review_change_decisions.proofs.reviewing.review.Goals as goal
 
@@ -21,3 +22,17 @@ pub reviewed-requires-clause-fits : goal.reviewed-requires-clause-fits
 reviewed-requires-clause-fits c =
     let a = c.args in
     passed_fits (option_copied a.had) a.rows.now a.caller a.review.now (seen c.in-Some.found.now) (sym c.in_ok-refusal.ensures.refusal ∙ c.in_default-refusal.is)
+
+pub returns-in_err-file-clause-cause : goal.returns-in_err-file-clause-cause
+returns-in_err-file-clause-cause c =
+    let a = c.args in
+    let there = sym c.change.ensures ∙ ap (λ o. option_map (λ r. seen r) (option_copied o)) c.in-Some.is in
+    err_with _ c.from_residual.result c.in_err-file.field-0.0 c.from_residual.ensures
+    (unsound_undecided c.changes_are_sound.ensures a.caller a.change a.review.now (option_copied a.had) a.rows.now (seen c.in-Some.found.now) c.in_err-file.field-0.0 there c.in_err-file.ensures.cause)
+
+pub returns-in_err-refusal-clause-cause : goal.returns-in_err-refusal-clause-cause
+returns-in_err-refusal-clause-cause c =
+    let a = c.args in
+    let there = sym c.change.ensures ∙ ap (λ o. option_map (λ r. seen r) (option_copied o)) c.in-Some.is in
+    err_with _ c.from_residual-in_err-refusal.result c.in_err-refusal.field-0.0 c.from_residual-in_err-refusal.ensures
+    (missing_undecided a.caller a.change a.review.now (option_copied a.had) a.rows.now (seen c.in-Some.found.now) c.in_err-refusal.field-0.0 there c.in_err-refusal.ensures.cause)

@@ -1,0 +1,71 @@
+-- What a review is told that isn't decided.
+use Rattle.std.proofs.Common.{◌≡◌, ◌⊎◌, ℕ, List, [], ◌∷◌, Option, Some, None, Bool, true, false, refl, sym, ap, ◌∙◌, subst, ⊎_elim}
+use Rattle.std.specs.Prelude.{is_some, option_map, IfErr, Result}
+use Rattle.std.specs.Result.{IsErr, IsErrAnd}
+use Rattle.std.specs.List.{AllByRecursion}
+use Rattle.std.proofs.lemmas.Result.{err_from_is_err_and}
+use Rattle.review_words.specs.History.{Entry, file_text, is_project}
+use Rattle.review_words.specs.declared.changes.Given.{Given}
+use Rattle.review_words.specs.declared.changes.Review.{Review as ReviewOf}
+use Rattle.review_words.specs.declared.command.Command.TheVariants.{Review}
+use Rattle.review_words.specs.declared.reply.NotTaken.{NotTaken as Cause}
+use Rattle.review_words.specs.declared.reply.NotTaken.TheVariants.{Damaged, Memory}
+use Rattle.review_changes.specs.Change.{Change}
+use Rattle.review_changes.specs.Sound.{IsSound}
+use Rattle.review_rows.specs.Answer.{IsHistory}
+use Rattle.review_rows.specs.Changes.{Reading, Reads, change}
+use Rattle.review_rows.specs.Decisions.{IsUndecided}
+use Rattle.review_rows.specs.Files.{File}
+use Rattle.review_rows.specs.Known.{IsKnown, known, change_in}
+use Rattle.review_rows.specs.Steps.{HasFile, OfCommand, given_wants, text_in}
+use Rattle.review_rows.specs.View.{AreEnough}
+use Rattle.review_rows.specs.declared.rows.Rows.{Rows}
+use Rattle.review_rows.specs.declared.rows.Want.TheVariants as want
+use Rattle.review_rows.proofs.Asked.{change_asked}
+use Rattle.review_account_decisions.proofs.Decided.{asked_beside}
+use Rattle.review_account_decisions.proofs.Told.{text_told}
+use Rattle.review_change_laws.proofs.Projects.{has_project}
+use Rattle.review_change_decisions.specs.Facts.{LacksFile}
+use Rattle.review_change_decisions.proofs.Created.{no_text}
+use Rattle.review_change_decisions.proofs.Told.{change_told}
+
+-- every change of a history is sound
+abbrev pub ChangesAreSound : Type 0
+ChangesAreSound = (reading : Reading) (h : List Entry) (n : ℕ) (c : Change) → IsHistory h → Reads reading h → change reading h n ≡ Some c → IsSound c
+
+-- an error that is known
+pub err_with : {T : Type 0} (P : Cause → Type 0) (r : Result T Cause) (e : Cause) → IsErr r × IsErrAnd r (λ d. d ≡ e) → P e → IfErr r P
+err_with P r e is p = let q = err_from_is_err_and r is.1 in subst (λ x. IfErr x P) (sym q.1) (subst P (sym q.2) p)
+
+-- the change that rows know is that of the history
+change_is : (reading : Reading) (h : List Entry) (caller n : ℕ) (r : ReviewOf) (had : Option File) (rows : Rows) (c : Change) → change_in (known rows (want.Change n)) ≡ Some c →
+    AreEnough reading h caller (OfCommand (Review n r)) had rows → change reading h n ≡ Some c
+change_is reading h caller n r had rows c found l = sym (change_told reading h rows n l.agree (asked_beside h caller (Review n r) rows l).0) ∙ found
+
+-- no rows of a history show a change that isn't sound
+pub unsound_undecided : ChangesAreSound → (caller n : ℕ) (r : ReviewOf) (had : Option File) (rows : Rows) (c : Change) (e : Cause) → change_in (known rows (want.Change n)) ≡ Some c →
+    (e ≡ Memory) ⊎ ((e ≡ Damaged) × (IsSound c → ⊥)) → IsUndecided caller (Review n r) had rows e
+unsound_undecided law caller n r had rows c e found =
+    ⊎_elim (λ m. subst (λ x. IsUndecided caller (Review n r) had rows x) (sym m) tt)
+    (λ d. subst (λ x. IsUndecided caller (Review n r) had rows x) (sym d.0)
+    (λ reading h history l. d.1 (law reading h n c history l.reads (change_is reading h caller n r had rows c found l))))
+
+-- no change is of a project without a file
+has_file : (caller n : ℕ) (r : ReviewOf) (had : Option File) (rows : Rows) (c : Change) (given : List Given) → r.labels ≡ given → change_in (known rows (want.Change n)) ≡ Some c → LacksFile had given →
+    (reading : Reading) (h : List Entry) → IsHistory h → AreEnough reading h caller (OfCommand (Review n r)) had rows → ⊥
+has_file caller n r (Some f) rows c given labels found lacks reading h history l = lacks
+has_file caller n r None rows c [] labels found lacks reading h history l = lacks
+has_file caller n r None rows c (g ∷ gs) labels found lacks reading h history l =
+    let asked = change_asked None rows caller (OfCommand (Review n r)) l.nothing_left in
+    let there : IsKnown rows (want.File c.project) = (subst (AllByRecursion (IsKnown rows)) (λ i. given_wants (labels i) (found i)) asked).0 in
+    let text = ap (λ o. text_in rows (option_map (λ (x : Change). x.project) o)) found ∙ text_told reading h rows c.project l.agree there in
+    let none = no_text (file_text h c.project) (subst (λ t. HasFile t None) text l.file_is) in
+    let some : is_some (file_text h c.project) ≡ true = has_project reading h n c history l.reads (change_is reading h caller n r None rows c found l) in
+    let bad : false ≡ true = sym (ap is_some none) ∙ some in
+    absurd (cc)
+
+pub missing_undecided : (caller n : ℕ) (r : ReviewOf) (had : Option File) (rows : Rows) (c : Change) (e : Cause) → change_in (known rows (want.Change n)) ≡ Some c →
+    (e ≡ Memory) ⊎ ((e ≡ Damaged) × LacksFile had r.labels) → IsUndecided caller (Review n r) had rows e
+missing_undecided caller n r had rows c e found =
+    ⊎_elim (λ m. subst (λ x. IsUndecided caller (Review n r) had rows x) (sym m) tt)
+    (λ d. subst (λ x. IsUndecided caller (Review n r) had rows x) (sym d.0) (λ reading h history l. has_file caller n r had rows c r.labels refl found d.1 reading h history l))
