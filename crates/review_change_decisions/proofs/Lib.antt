@@ -3,3 +3,4 @@ pub mod Made
 pub mod Created
 pub mod Reviewed
 pub mod Undecided
+pub mod Judged

@@ -38,7 +38,7 @@ pub err_with : {T : Type 0} (P : Cause → Type 0) (r : Result T Cause) (e : Cau
 err_with P r e is p = let q = err_from_is_err_and r is.1 in subst (λ x. IfErr x P) (sym q.1) (subst P (sym q.2) p)
 
 -- the change that rows know is that of the history
-change_is : (reading : Reading) (h : List Entry) (caller n : ℕ) (r : ReviewOf) (had : Option File) (rows : Rows) (c : Change) → change_in (known rows (want.Change n)) ≡ Some c →
+pub change_is : (reading : Reading) (h : List Entry) (caller n : ℕ) (r : ReviewOf) (had : Option File) (rows : Rows) (c : Change) → change_in (known rows (want.Change n)) ≡ Some c →
     AreEnough reading h caller (OfCommand (Review n r)) had rows → change reading h n ≡ Some c
 change_is reading h caller n r had rows c found l = sym (change_told reading h rows n l.agree (asked_beside h caller (Review n r) rows l).0) ∙ found
 

@@ -1,5 +1,5 @@
 //! Reviews.
-ghost use Rattle.std.specs.Prelude.{◌≡◌, ◌≤◌, ◌<◌, ◌+◌, ◌⊎◌, nat_le, None, List, Option, IfOk, IfErr, Some, length, option_copied, true, ◌==◌};
+ghost use Rattle.std.specs.Prelude.{◌≡◌, ◌≤◌, ◌<◌, ◌+◌, ◌⊎◌, nat_le, None, List, Option, IfOk, IfErr, Some, length, option_copied, true, false, ◌==◌};
 ghost use Rattle.std.specs.Option.{option_map_or};
 ghost use Rattle.review_names.specs.Forms.{is_within, most_comments, most_patches};
 ghost use Rattle.review_words.specs.Texts.{IsStored};
@@ -150,7 +150,7 @@ fn review_refusal(
 ) -> Result<Option<Refusal>, NotTaken>
     requires { is_within most_patches (current (seen change.now)) ≡ true }
     ensures refusal { IfOk result (λ r. r ≡ first_refusal (review_list (option_copied had.entry) rows.now caller review.now (seen change.now))) }
-    ensures judged { IfOk result (λ r. r ≡ None → LacksFile (option_copied had.entry) review.now.labels → ⊥) }
+    ensures judged { IfOk result (λ r. LacksFile (option_copied had.entry) review.now.labels → is_within (current (seen change.now)) (reviewed review.now (seen change.now)) ≡ false) }
     ensures cause { IfErr result (λ e. (e ≡ Memory) ⊎ ((e ≡ Damaged) × LacksFile (option_copied had.entry) review.now.labels)) }
 {
     if !has_reviewed(review, change) {

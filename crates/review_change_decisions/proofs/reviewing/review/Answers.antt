@@ -7,6 +7,7 @@ use Rattle.review_changes.specs.Seen.{seen}
 use Rattle.review_account_decisions.proofs.Decided.{asked_beside, refused_pair}
 use Rattle.review_change_decisions.proofs.Reviewed.{none_there, passed_fits}
 use Rattle.review_change_decisions.proofs.Undecided.{err_with, missing_undecided, unsound_undecided}
+use Rattle.review_change_decisions.proofs.Judged.{review_told}
 use Rattle.review_change_decisions.proofs.Told.{change_told}
 use Rattle.review_change_decisions.proofs.reviewing.review.Goals as goal
 
@@ -36,3 +37,11 @@ returns-in_err-refusal-clause-cause c =
     let there = sym c.change.ensures ∙ ap (λ o. option_map (λ r. seen r) (option_copied o)) c.in-Some.is in
     err_with _ c.from_residual-in_err-refusal.result c.in_err-refusal.field-0.0 c.from_residual-in_err-refusal.ensures
     (missing_undecided a.caller a.change a.review.now (option_copied a.had) a.rows.now (seen c.in-Some.found.now) c.in_err-refusal.field-0.0 there c.in_err-refusal.ensures.cause)
+
+pub returns-in-Some-refusal-clause-decided : goal.returns-in-Some-refusal-clause-decided
+returns-in-Some-refusal-clause-decided c = λ reading h room account l.
+    let a = c.args in
+    let there = sym c.change.ensures ∙ ap (λ o. option_map (λ r. seen r) (option_copied o)) c.in-Some.is in
+    refused_pair h a.caller (Review a.change a.review.now) c.refused-in-Some-refusal.result c.in-Some-refusal.refusal c.refused-in-Some-refusal.ensures.empty c.refused-in-Some-refusal.ensures.reply
+    (review_told c.one_file.ensures.trees reading h a.caller a.change a.review.now (option_copied a.had) a.rows.now (seen c.in-Some.found.now) account there l c.in_ok-refusal.ensures.judged
+    ∙ (sym c.in_ok-refusal.ensures.refusal ∙ c.in-Some-refusal.is))
