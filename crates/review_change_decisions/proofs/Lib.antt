@@ -4,3 +4,4 @@ pub mod Created
 pub mod Reviewed
 pub mod Undecided
 pub mod Judged
+pub mod Written

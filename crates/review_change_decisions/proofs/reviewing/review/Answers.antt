@@ -6,9 +6,10 @@ use Rattle.review_words.specs.declared.reply.Refusal.TheVariants.{NoChange}
 use Rattle.review_changes.specs.Seen.{seen}
 use Rattle.review_account_decisions.proofs.Decided.{asked_beside, refused_pair}
 use Rattle.review_change_decisions.proofs.Reviewed.{none_there, passed_fits}
-use Rattle.review_change_decisions.proofs.Undecided.{err_with, missing_undecided, unsound_undecided}
+use Rattle.review_change_decisions.proofs.Undecided.{change_is, err_with, missing_undecided, unsound_undecided}
 use Rattle.review_change_decisions.proofs.Judged.{review_told}
 use Rattle.review_change_decisions.proofs.Told.{change_told}
+use Rattle.review_change_decisions.proofs.Written.{request_is, review_decided}
 use Rattle.review_change_decisions.proofs.reviewing.review.Goals as goal
 
 pub returns-in_default-clause-decided : goal.returns-in_default-clause-decided
@@ -45,3 +46,13 @@ returns-in-Some-refusal-clause-decided c = λ reading h room account l.
     refused_pair h a.caller (Review a.change a.review.now) c.refused-in-Some-refusal.result c.in-Some-refusal.refusal c.refused-in-Some-refusal.ensures.empty c.refused-in-Some-refusal.ensures.reply
     (review_told c.one_file.ensures.trees reading h a.caller a.change a.review.now (option_copied a.had) a.rows.now (seen c.in-Some.found.now) account there l c.in_ok-refusal.ensures.judged
     ∙ (sym c.in_ok-refusal.ensures.refusal ∙ c.in-Some-refusal.is))
+
+pub returns-clause-decided : goal.returns-clause-decided
+returns-clause-decided c = λ reading h room account l.
+    let a = c.args in
+    let there = sym c.change.ensures ∙ ap (λ o. option_map (λ r. seen r) (option_copied o)) c.in-Some.is in
+    let passes = review_told c.one_file.ensures.trees reading h a.caller a.change a.review.now (option_copied a.had) a.rows.now (seen c.in-Some.found.now) account there l c.in_ok-refusal.ensures.judged
+        ∙ (sym c.in_ok-refusal.ensures.refusal ∙ c.in_default-refusal.is) in
+    review_decided reading h a.caller a.change a.review.now a.rows.now (seen c.in-Some.found.now) c.in_ok-reviewed.field-0.0 c.in_ok-reviewed.field-0.1 passes
+    (change_is reading h a.caller a.change a.review.now (option_copied a.had) a.rows.now (seen c.in-Some.found.now) there l)
+    (request_is reading h a.caller a.change a.review.now (option_copied a.had) a.rows.now room l) c.in_ok-reviewed.ensures.made
