@@ -1,13 +1,12 @@
 -- A new change.
-use Rattle.std.proofs.Common.{◌≡◌, ℕ, ◌+◌, ◌==◌, List, [], ◌∷◌, length, Option, Some, None, Bool, true, false, cond, not, ◌&&◌, refl, sym, ap, ◌∙◌, subst, ⊎_elim, eqb-true, arith}
+use Rattle.std.proofs.Common.{◌≡◌, ℕ, ◌+◌, ◌==◌, List, [], ◌∷◌, length, Option, Some, None, Bool, true, false, cond, not, refl, sym, ap, ◌∙◌, subst, eqb-true, arith}
 use Rattle.std.specs.Prelude.{is_some, nat_le, nat_lt, option_map}
 use Rattle.std.specs.List.{AllByRecursion}
 use Rattle.std.specs.Ordering.{nat_cmp}
-use Rattle.std.proofs.lemmas.Bool.{cases_Bool}
 use Rattle.std.proofs.lemmas.Bool.Decides.{nat_tests}
 use Rattle.review_names.specs.Forms.{most_changes}
 use Rattle.review_table.specs.Rows.{after_change, change_of}
-use Rattle.review_words.specs.History.{Entry, bases, base_count, file_text, is_account, is_branch, is_project, project_count}
+use Rattle.review_words.specs.History.{Entry, base_count, file_text, is_account, is_branch, is_project, project_count}
 use Rattle.review_words.specs.declared.changes.NewChange.{NewChange}
 use Rattle.review_words.specs.declared.command.Command.TheVariants.{CreateChange}
 use Rattle.review_words.specs.declared.reply.Answer.TheVariants as made
@@ -20,7 +19,7 @@ use Rattle.review_changes.specs.Parts.{Part, part_row}
 use Rattle.review_rows.specs.Answer.{first_refusal, has_right, refused_by}
 use Rattle.review_rows.specs.Changes.{Reading, change, change_count, is_known}
 use Rattle.review_rows.specs.Files.{File}
-use Rattle.review_rows.specs.Known.{known, IsKnown, number_of, part_of, text_of}
+use Rattle.review_rows.specs.Known.{known, IsKnown, number_of, part_of}
 use Rattle.review_rows.specs.Rows.{Key, AccountKey, MemberKey, FileKey, BaseKey, PartKey, OddKey, APart, Count, Projects, BasesOf, account_change, member_change, file_after, base_after, edited, projects_after, bases_after, after, count_after, part_change, member_cmp}
 use Rattle.review_rows.specs.Steps.{HasFile, OfCommand, command_wants, file_wants}
 use Rattle.review_rows.specs.View.{AreEnough, IsDecided, counted, fact}

@@ -1,5 +1,5 @@
 -- What refuses a review is what rows tell.
-use Rattle.std.proofs.Common.{◌≡◌, ℕ, ℤ, List, [], ◌∷◌, ◌++◌, Option, Some, None, Bool, true, false, cond, ◌==◌, ◌&&◌, ◌||◌, refl, sym, ap, ◌∙◌, subst, map, length, unwrap_or}
+use Rattle.std.proofs.Common.{◌≡◌, ℕ, List, [], ◌∷◌, ◌++◌, Option, Some, None, Bool, true, false, cond, ◌==◌, ◌&&◌, ◌||◌, refl, sym, ap, ◌∙◌, subst, map, unwrap_or}
 use Rattle.std.specs.Ordering.{int_eq}
 use Rattle.std.specs.Prelude.{is_some, int_le, option_map}
 use Rattle.std.specs.List.{AllByRecursion, filter, find, list_all, list_any}
@@ -12,7 +12,7 @@ use Rattle.review_words.specs.History.{Entry, file_text, is_account}
 use Rattle.review_words.specs.declared.changes.Given.{Given}
 use Rattle.review_words.specs.declared.changes.Review.{Review as ReviewOf}
 use Rattle.review_words.specs.declared.command.Command.TheVariants.{Review}
-use Rattle.review_words.specs.declared.reply.Refusal.TheVariants.{UnknownCaller, NoPatchSet, NoComment, Closed, StalePatchSet, NoLabel, ValueOut, VoteRestricted}
+use Rattle.review_words.specs.declared.reply.Refusal.TheVariants.{UnknownCaller, NoPatchSet, Closed, StalePatchSet, NoLabel, ValueOut, VoteRestricted}
 use Rattle.review_expr.specs.declared.expr.Expr.{Expr}
 use Rattle.review_project.specs.Rights.{grants_of, greatest_of, least_of}
 use Rattle.review_project.specs.Trees.{ExprTree, file_trees, label_trees}
@@ -20,19 +20,18 @@ use Rattle.review_project.specs.View.{LabelView}
 use Rattle.review_project.specs.declared.parts.Grant.{Grant}
 use Rattle.review_changes.specs.Change.{Change, current, is_open, label_in, reviewed}
 use Rattle.review_rows.specs.Answer.{first_refusal, given_checks, is_in_range, is_value_of, of_change, refused_by, review_checks}
-use Rattle.review_rows.specs.Changes.{Reading, Reads, change, file_of, groups_of, setting_of}
-use Rattle.review_rows.specs.Files.{File, IsRead}
+use Rattle.review_rows.specs.Changes.{Reading, Reads, file_of, groups_of, setting_of}
+use Rattle.review_rows.specs.Files.{File}
 use Rattle.review_rows.specs.Known.{IsKnown, known, change_in}
 use Rattle.review_rows.specs.Steps.{HasFile, OfCommand, caller_in, given_wants, granted_groups, text_in}
 use Rattle.review_rows.specs.View.{AreEnough}
 use Rattle.review_rows.specs.declared.rows.Rows.{Rows}
-use Rattle.review_rows.specs.declared.rows.Want.{Want}
 use Rattle.review_rows.specs.declared.rows.Want.TheVariants as want
 use Rattle.review_rows.proofs.Asked.{change_asked, file_asked}
 use Rattle.review_rows.proofs.Readings.{read_of}
 use Rattle.review_account_decisions.proofs.Told.{Agree, member_told, text_told}
 use Rattle.review_change_laws.proofs.Grouped.{in_group}
-use Rattle.review_change_decisions.specs.Facts.{LacksFile, given_in, given_of, in_rows, range_in, review_list, said_checks}
+use Rattle.review_change_decisions.specs.Facts.{LacksFile, given_in, in_rows, range_in, review_list, said_checks}
 use Rattle.review_change_decisions.proofs.Told.{OneFile}
 use Rattle.review_change_decisions.proofs.Undecided.{change_is}
 
@@ -80,7 +79,7 @@ range_told : (reading : Reading) (h : List Entry) (rows : Rows) (project : List 
     AllByRecursion (IsKnown rows) (caller_in account (map (λ x. x.group) (grants_of f g.label))) → range_in rows f account g ≡ is_in_range (setting_of reading h project) account g
 range_told reading h rows project f account g agree same all =
     let few = granted_told reading h rows account (grants_of f g.label) agree all
-        ∙ ap (filter (λ x. has_account (groups_of h) x.group account)) (same_label (λ l. l.grants) [] g.label f (file_of reading h project) same) in
+    ∙ ap (filter (λ x. has_account (groups_of h) x.group account)) (same_label (λ l. l.grants) [] g.label f (file_of reading h project) same) in
     λ i. int_le (least_of (few i)) g.value && int_le g.value (greatest_of (few i))
 
 -- wants of one list and of another
@@ -117,7 +116,7 @@ values_told one reading h caller n r f rows c (g ∷ gs) labels found l =
     let groups = subst (λ x. AllByRecursion (IsKnown rows) (caller_in caller (granted_groups f x))) labels (file_asked (Some f) rows caller (OfCommand (Review n r)) l.nothing_left) in
     let named = all_same (λ x. is_some (label_in f x.label)) (λ x. is_some (label_in (file_of reading h c.project) x.label)) (g ∷ gs) (λ x. has_label x.label f (file_of reading h c.project) same) in
     let valued = all_same (is_value_of f) (is_value_of (file_of reading h c.project)) (g ∷ gs)
-        (λ x. same_label (λ l. list_any (λ v. int_eq v.0 x.value) l.values) false x.label f (file_of reading h c.project) same) in
+    (λ x. same_label (λ l. list_any (λ v. int_eq v.0 x.value) l.values) false x.label f (file_of reading h c.project) same) in
     let ranged = ranges_told reading h rows c.project f caller (g ∷ gs) l.agree same groups in
     sym (λ i. (is_open c.state, Closed) ∷ (reviewed r c == current c, StalePatchSet) ∷ (named i, NoLabel) ∷ (valued i, ValueOut) ∷ (ranged i, VoteRestricted) ∷ [])
 

@@ -1,13 +1,12 @@
 -- What a command on a change makes of the rows.
-use Rattle.std.proofs.Common.{◌≡◌, ℕ, zero, suc, ◌+◌, ◌==◌, ◌≤◌, ◌<◌, List, [], ◌∷◌, ◌++◌, length, Option, Some, None, Bool, true, false, cond, ◌&&◌, refl, sym, ap, ◌∙◌, subst, ⊎_elim, arith, eqb-true}
+use Rattle.std.proofs.Common.{◌≡◌, ℕ, zero, suc, ◌+◌, ◌==◌, ◌≤◌, ◌<◌, List, [], ◌∷◌, ◌++◌, Option, Some, None, Bool, true, false, cond, refl, sym, ap, ◌∙◌, ⊎_elim, arith}
 use Rattle.std.specs.Prelude.{is_some, nat_le, nat_lt, option_map}
-use Rattle.std.specs.Ordering.{nat_cmp}
 use Rattle.std.proofs.lemmas.Bool.{cases_Bool}
 use Rattle.std.proofs.lemmas.Bool.Decides.{nat_tests}
 use Rattle.review_names.specs.Forms.{is_within, most_changes, most_comments, most_patches}
-use Rattle.review_table.specs.Rows.{after_change, change_of}
+use Rattle.review_table.specs.Rows.{after_change}
 use Rattle.review_changes.specs.Change.{Change}
-use Rattle.review_changes.specs.Parts.{Part, PartRow, part_row}
+use Rattle.review_changes.specs.Parts.{Part, part_row}
 use Rattle.review_changes.proofs.Within.{within_from, within_next, within_parts}
 use Rattle.review_words.specs.declared.reply.Refusal.{Refusal}
 use Rattle.review_rows.specs.Answer.{first_refusal}

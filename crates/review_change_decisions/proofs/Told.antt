@@ -1,11 +1,11 @@
 -- What rows that agree with a history tell of its changes.
-use Rattle.std.proofs.Common.{◌≡◌, ℕ, List, [], ◌∷◌, Option, Some, None, Bool, true, false, ◌||◌, refl, sym, ap, ◌∙◌, map, length, unwrap_or}
+use Rattle.std.proofs.Common.{◌≡◌, ℕ, List, [], ◌∷◌, Option, Some, None, ◌||◌, refl, sym, ap, ◌∙◌, unwrap_or}
 use Rattle.std.specs.Prelude.{is_some, nat_le}
 use Rattle.std.specs.List.{AllByRecursion, list_any}
 use Rattle.std.specs.Str.{bytes_eq}
 use Rattle.review_names.specs.Groups.{has_account}
 use Rattle.review_names.specs.Names.{registered_users}
-use Rattle.review_words.specs.History.{Entry, bases, file_text, is_branch}
+use Rattle.review_words.specs.History.{Entry, file_text, is_branch}
 use Rattle.review_project.specs.Rights.{groups_of as right_groups}
 use Rattle.review_project.specs.Trees.{file_trees}
 use Rattle.review_project.specs.declared.parts.Right.{Right}
@@ -16,7 +16,6 @@ use Rattle.review_rows.specs.Known.{known, IsKnown, change_in, holder_of, number
 use Rattle.review_rows.specs.Steps.{HasFile, caller_in}
 use Rattle.review_rows.specs.View.{view}
 use Rattle.review_rows.specs.declared.rows.Base.{Base}
-use Rattle.review_rows.specs.declared.rows.BranchKey.{BranchKey as Branch}
 use Rattle.review_rows.specs.declared.rows.Rows.{Rows}
 use Rattle.review_rows.specs.declared.rows.Want.TheVariants as want
 use Rattle.review_rows.proofs.Asked.{found_of}

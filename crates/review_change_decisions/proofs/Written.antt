@@ -1,16 +1,15 @@
 -- A review that is done.
-use Rattle.std.proofs.Common.{◌≡◌, ℕ, zero, suc, ◌+◌, ◌<◌, ◌==◌, min, List, [], ◌∷◌, length, Option, Some, None, Bool, true, false, cond, refl, sym, ap, ◌∙◌, subst, eqb-true, arith}
+use Rattle.std.proofs.Common.{◌≡◌, ℕ, ◌+◌, ◌<◌, ◌==◌, min, List, [], ◌∷◌, length, Option, Some, None, Bool, true, false, cond, refl, sym, ap, ◌∙◌, subst, eqb-true, arith}
 use Rattle.std.specs.Prelude.{option_map}
 use Rattle.std.specs.Ordering.{nat_cmp}
 use Rattle.review_table.specs.Rows.{after_change, change_of}
-use Rattle.review_words.specs.History.{Entry, base_count, is_account, project_count}
+use Rattle.review_words.specs.History.{Entry, base_count, project_count}
 use Rattle.review_words.specs.declared.changes.Review.{Review as ReviewOf}
 use Rattle.review_words.specs.declared.command.Command.TheVariants.{Review}
 use Rattle.review_words.specs.declared.reply.Answer.TheVariants.{Reviewed}
 use Rattle.review_words.specs.declared.reply.Reply.{Reply}
 use Rattle.review_words.specs.declared.reply.Reply.TheVariants.{Done}
 use Rattle.review_changes.specs.Change.{Change, after_plain, said}
-use Rattle.review_changes.specs.Parts.{Part}
 use Rattle.review_changes.specs.declared.commands.ChangeCommand.TheVariants.{Review as ReviewCommand}
 use Rattle.review_rows.specs.Answer.{comment_numbers, most_requests, numbers_after, refused_by}
 use Rattle.review_rows.specs.Changes.{Reading, change}

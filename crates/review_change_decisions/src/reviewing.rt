@@ -29,7 +29,10 @@ use review_core::{ChangeFile, RowsFault};
 use review_file::ProjectFile;
 use review_project_laws::one_file;
 use review_rows::{ChangeEdit, Delta, Rows};
-use review_words::{AccountNo, Answer, ChangeNo, CommentNo, CommentNumbers, NewComment, NotTaken, Refusal, Reply, Review};
+use review_words::{
+    AccountNo, Answer, ChangeNo, CommentNo, CommentNumbers, NewComment, NotTaken, Refusal, Reply,
+    Review,
+};
 use std::alloc::{AllocError, Global};
 
 /// The first check of the values that a review gives which fails, where one does.

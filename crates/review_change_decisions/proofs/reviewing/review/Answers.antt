@@ -1,4 +1,4 @@
-use Rattle.std.proofs.Common.{◌≡◌, ◌∙◌, ap, sym, subst, None, Some, length, true}
+use Rattle.std.proofs.Common.{◌∙◌, ap, sym}
 use Rattle.std.specs.Option.{option_copied}
 use Rattle.std.specs.Prelude.{option_map}
 use Rattle.review_words.specs.declared.command.Command.TheVariants.{Review}
@@ -52,7 +52,7 @@ returns-clause-decided c = λ reading h room account l.
     let a = c.args in
     let there = sym c.change.ensures ∙ ap (λ o. option_map (λ r. seen r) (option_copied o)) c.in-Some.is in
     let passes = review_told c.one_file.ensures.trees reading h a.caller a.change a.review.now (option_copied a.had) a.rows.now (seen c.in-Some.found.now) account there l c.in_ok-refusal.ensures.judged
-        ∙ (sym c.in_ok-refusal.ensures.refusal ∙ c.in_default-refusal.is) in
+    ∙ (sym c.in_ok-refusal.ensures.refusal ∙ c.in_default-refusal.is) in
     review_decided reading h a.caller a.change a.review.now a.rows.now (seen c.in-Some.found.now) c.in_ok-reviewed.field-0.0 c.in_ok-reviewed.field-0.1 passes
     (change_is reading h a.caller a.change a.review.now (option_copied a.had) a.rows.now (seen c.in-Some.found.now) there l)
     (request_is reading h a.caller a.change a.review.now (option_copied a.had) a.rows.now room l) c.in_ok-reviewed.ensures.made

@@ -1,4 +1,4 @@
-use Rattle.std.proofs.Common.{◌≡◌, ◌∙◌, ap, sym, subst}
+use Rattle.std.proofs.Common.{◌∙◌, ap, subst}
 use Rattle.review_changes.specs.Change.{after_plain}
 use Rattle.review_changes.specs.Seen.{seen}
 use Rattle.review_changes.specs.Sound.{IsSound}
