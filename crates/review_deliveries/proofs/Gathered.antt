@@ -1,5 +1,6 @@
 -- Rows that are gathered step by step.
-use Rattle.std.proofs.Common.{◌≡◌, ◌⊎◌, inl, inr, ℕ, ◌<◌, List, [], ◌∷◌, Option, Some, None, refl, sym, ◌∙◌, subst}
+use Rattle.std.proofs.Common.{◌≡◌, inl, inr, ℕ, ◌<◌, List, [], ◌∷◌, Option, Some, None, true, refl, sym, ap, ◌∙◌, subst}
+use Rattle.std.specs.Prelude.{is_some}
 use Rattle.std.specs.Option.{option_or}
 use Rattle.std.specs.List.{All}
 use Rattle.review_rows.specs.declared.rows.Want.{Want}
@@ -7,24 +8,26 @@ use Rattle.review_rows.specs.declared.rows.Rows.{Rows}
 use Rattle.review_rows.specs.declared.shelf.ShelfFault.{ShelfFault}
 use Rattle.review_rows.specs.Rows.{Tables}
 use Rattle.review_rows.specs.Known.{Found, IsFound, known, IsKnown, Agrees, AreAdded}
+use Rattle.review_rows.specs.Files.{File}
 use Rattle.review_rows.specs.Steps.{Topic, next, left, unless_none}
 use Rattle.review_rows.specs.Shelf.{Shows, LeavesBy, Blames, cause_of}
 use Rattle.review_rows.proofs.Asked.{asking_lowers, asks_first}
+use Rattle.review_deliveries.specs.Gathered.{IsSoFar, StaysKnown}
 
 -- a step that loads what is asked next leaves less to ask
-pub step_lowers : (rows more both : Rows) (caller : ℕ) (topic : Topic) (ws : List Want) → Some ws ≡ unless_none (next rows caller topic) → All (IsKnown more) ws →
-    AreAdded rows more both → left both caller topic < left rows caller topic
-step_lowers rows more both caller topic ws is all added = at (next rows caller topic) refl is
+pub step_lowers : (file : Option File) (rows more both : Rows) (caller : ℕ) (topic : Topic) (ws : List Want) → Some ws ≡ unless_none (next file rows caller topic) → All (IsKnown more) ws →
+    AreAdded rows more both → left file both caller topic < left file rows caller topic
+step_lowers file rows more both caller topic ws is all added = at (next file rows caller topic) refl is
   where
-    at : (asked : List Want) → next rows caller topic ≡ asked → Some ws ≡ unless_none asked → left both caller topic < left rows caller topic
+    at : (asked : List Want) → next file rows caller topic ≡ asked → Some ws ≡ unless_none asked → left file both caller topic < left file rows caller topic
     at [] here is = absurd (cc)
     at (w ∷ vs) here is =
         let same : ws ≡ w ∷ vs = cc in
-        asking_lowers rows more both caller topic w vs here (subst (All (IsKnown more)) same all) added
+        asking_lowers file rows more both caller topic w vs here (subst (All (IsKnown more)) same all) added
 
 -- where nothing is asked, nothing is left
-pub none_asked : (rows : Rows) (caller : ℕ) (topic : Topic) → None ≡ unless_none (next rows caller topic) → next rows caller topic ≡ []
-none_asked rows caller topic is = at (next rows caller topic) is
+pub none_asked : (file : Option File) (rows : Rows) (caller : ℕ) (topic : Topic) → None ≡ unless_none (next file rows caller topic) → next file rows caller topic ≡ []
+none_asked file rows caller topic is = at (next file rows caller topic) is
   where
     at : (asked : List Want) → None ≡ unless_none asked → asked ≡ []
     at [] is = refl
@@ -42,19 +45,24 @@ or_nothing : {X : Type 0} (a b c : Option X) → c ≡ option_or a b → a ≡ N
 or_nothing None b c is none = is
 or_nothing (Some x) b c is none = absurd (cc)
 
--- what was gathered so far: nothing, or what is so in the tables
-abbrev pub IsSoFar : Option Tables → Rows → Type 0
-IsSoFar tables rows = ((w : Want) → known rows w ≡ None) ⊎ Shows tables (λ t. Agrees t rows)
-
 pub so_far_added : (tables : Option Tables) (rows more both : Rows) → IsSoFar tables rows → Shows tables (λ t. Agrees t more) → AreAdded rows more both → IsSoFar tables both
 so_far_added None rows more both so found added = absurd found
 so_far_added (Some t) rows more both (inl nothing) found added = inr (λ w f is. found w f (sym (or_nothing (known rows w) (known more w) (known both w) (added w) (nothing w)) ∙ is))
 so_far_added (Some t) rows more both (inr agree) found added = inr (agrees_added t rows more both agree found added)
 
 -- once nothing is left to ask, the rows agree with the tables
-pub so_far_shown : (tables : Option Tables) (rows : Rows) (caller : ℕ) (topic : Topic) → IsSoFar tables rows → next rows caller topic ≡ [] → Shows tables (λ t. Agrees t rows)
-so_far_shown tables rows caller topic (inl nothing) left = absurd (asks_first rows caller topic nothing left)
-so_far_shown tables rows caller topic (inr agree) left = agree
+pub so_far_shown : (tables : Option Tables) (file : Option File) (rows : Rows) (caller : ℕ) (topic : Topic) → IsSoFar tables rows → next file rows caller topic ≡ [] → Shows tables (λ t. Agrees t rows)
+so_far_shown tables file rows caller topic (inl nothing) left = absurd (asks_first file rows caller topic nothing left)
+so_far_shown tables file rows caller topic (inr agree) left = agree
+
+or_stays : {X : Type 0} (a b : Option X) → is_some a ≡ true → option_or a b ≡ a
+or_stays None b there = absurd (cc)
+or_stays (Some x) b there = refl
+
+-- what the first rows know stays
+pub stays_added : (first rows more both : Rows) → StaysKnown first rows → AreAdded rows more both → StaysKnown first both
+stays_added first rows more both stays added w there =
+    added w ∙ or_stays (known rows w) (known more w) (ap is_some (stays w there) ∙ there) ∙ stays w there
 
 -- a fault leaves or blames the tables that stood before
 pub left_before : (f : ShelfFault) (old mid new : Option Tables) → mid ≡ old → LeavesBy (cause_of f) mid new → LeavesBy (cause_of f) old new

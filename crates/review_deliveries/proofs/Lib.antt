@@ -1,5 +1,8 @@
 pub mod Gathered
+pub mod Bounds
+pub mod Stored
 pub mod Histories
+pub mod Filed
 pub mod Served
 pub mod Effects
 pub mod Going
