@@ -1,4 +1,4 @@
-pub mod Gathered
+pub mod Asking
 pub mod Bounds
 pub mod Stored
 pub mod Histories
@@ -6,5 +6,6 @@ pub mod Filed
 pub mod Served
 pub mod Effects
 pub mod Going
+pub mod Votes
 pub mod Outcomes
 pub mod Restarting

@@ -66,9 +66,9 @@ abbrev pub RefusesBadValue : Reply → Type 0
 RefusesBadValue (Refused (BadFile fault)) = IsBadValue fault
 RefusesBadValue _ = ⊥
 
--- A command has one answer, unless its answer is free: then of two different ones, one refuses the file for a bad value in an expression.
+-- A command has one answer after a history, unless its answer is free: then of two different ones, one refuses the file for a bad value in an expression.
 abbrev pub OneAnswer : Type 0
-OneAnswer = (h : List Entry) (caller : ℕ) (command : Command) (r s : Reply) → IsAnswer h caller command r → IsAnswer h caller command s →
+OneAnswer = (h : List Entry) (caller : ℕ) (command : Command) (r s : Reply) → IsHistory h → IsAnswer h caller command r → IsAnswer h caller command s →
     (r ≡ s) ⊎ (IsFree command × (RefusesBadValue r ⊎ RefusesBadValue s))
 
 -- a delivery whose answer leaves no choice
@@ -81,11 +81,11 @@ abbrev pub AreSettled : List Delivery → Type 0
 AreSettled [] = Unit {0}
 AreSettled (d ∷ ds) = IsSettled d × AreSettled ds
 
--- Where the rest of a run leaves no choice: where some first part of a run stood when it stopped, the whole run from there gives the same
--- history and the same replies to writes.
+-- Where the rest of a run leaves no choice: where some first part of a run stood when it stopped, the whole run from there, which left a history,
+-- gives the same history and the same replies to writes.
 abbrev pub RestartCompletes : Type 0
 RestartCompletes = (h0 h : List Entry) (ds1 ds2 : List Delivery) (rs1 rs2 ss : List Reply) (counts others : List (ℕ × ℕ)) →
-    IsHistory h → h ≡ history_after h0 ds1 rs1 → length rs1 ≡ length ds1 → AreSettled ds2 →
+    IsHistory (history_after h (ds1 ++ ds2) ss) → h ≡ history_after h0 ds1 rs1 → length rs1 ≡ length ds1 → AreSettled ds2 →
     AreRight h0 (ds1 ++ ds2) (rs1 ++ rs2) counts → WereTaken (rs1 ++ rs2) → AreRight h (ds1 ++ ds2) ss others → WereTaken ss →
     AgreeOnWrites (ds1 ++ ds2) (rs1 ++ rs2) ss × (history_after h (ds1 ++ ds2) ss ≡ history_after h0 (ds1 ++ ds2) (rs1 ++ rs2))
 
