@@ -1,6 +1,7 @@
 -- The project file by which a command is judged, as it is gathered.
-use Rattle.std.proofs.Common.{◌≡◌, ◌×◌, ℕ, List, [], ◌∷◌, Option, Some, None, true, refl, sym, ap, ◌∙◌, subst}
-use Rattle.std.specs.Prelude.{is_some, option_map, IsSomeAnd}
+use Rattle.std.proofs.Common.{◌≡◌, ℕ, List, [], ◌∷◌, Option, Some, None, true, Result, Ok, Err, refl, sym, ap, ◌∙◌, subst}
+use Rattle.std.specs.Prelude.{is_some, option_map, IsSomeAnd, IfErr}
+use Rattle.std.specs.Result.{IsErr, IsErrAnd}
 use Rattle.review_words.specs.History.{Entry, file_text}
 use Rattle.review_words.specs.declared.command.Command.{Command}
 use Rattle.review_words.specs.declared.command.Command.TheVariants.{CreateAccount, PutGroup, PutProject, RecordBase, CreateChange, Upload, Review}
@@ -147,3 +148,8 @@ unread_is (Some t) rows topic cause agree unread = at (text_for rows topic) refl
     at (Some text) is Damaged unread = damaged t rows topic text agree is unread
     at None is Full unread = absurd unread
     at (Some text) is Full unread = absurd unread
+
+-- a cause that a `?` passed on
+pub passed_on : {X : Type 0} (IsSo : Cause → Type 0) (r : Result X Cause) (c : Cause) → IsErr r × IsErrAnd r (λ d. d ≡ c) → IsSo c → IfErr r IsSo
+passed_on IsSo (Ok x) c e so = let f = e.0 in absurd (cc)
+passed_on IsSo (Err d) c e so = subst IsSo (sym e.1) so

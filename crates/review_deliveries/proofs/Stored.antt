@@ -1,8 +1,8 @@
 -- Each answer of a history is stored with numbers of their forms.
-use Rattle.std.proofs.Common.{◌≡◌, ℕ, ◌+◌, ◌<◌, ◌≤◌, List, [], ◌∷◌, ◌++◌, length, Option, Some, None, Bool, true, false, cond, refl, sym, ap, ◌∙◌, subst, ⊎_elim, inl, inr, arith}
+use Rattle.std.proofs.Common.{◌≡◌, ℕ, suc, ◌+◌, ◌<◌, ◌≤◌, List, [], ◌∷◌, ◌++◌, length, Option, Some, None, Bool, true, false, cond, refl, sym, ap, ◌∙◌, subst, ⊎_elim, inl, inr, arith}
 use Rattle.std.specs.Prelude.{is_some, nat_le, nat_lt, MatchOption, option_map}
 use Rattle.std.specs.List.{AllByRecursion}
-use Rattle.std.proofs.lemmas.Bool.{cases_Bool, ltb-true}
+use Rattle.std.proofs.lemmas.Bool.{cases_Bool, ltb-true, leb-true}
 use Rattle.review_names.specs.Forms.{most_changes, most_comments, most_patches}
 use Rattle.review_words.specs.Texts.{IsStored, IsStoredAnswer, IsCommentNumber}
 use Rattle.review_words.specs.declared.changes.Given.{Given}
@@ -12,7 +12,7 @@ use Rattle.review_words.specs.declared.command.Command.{Command}
 use Rattle.review_words.specs.declared.command.Command.TheVariants.{CreateAccount, PutGroup, PutProject, RecordBase, CreateChange, Upload, Review}
 use Rattle.review_words.specs.declared.reply.Reply.{Reply}
 use Rattle.review_words.specs.declared.reply.Reply.TheVariants.{Done, Refused}
-use Rattle.review_words.specs.declared.reply.Answer.TheVariants.{Nothing}
+use Rattle.review_words.specs.declared.reply.Answer.TheVariants.{Nothing, Reviewed}
 use Rattle.review_words.specs.declared.reply.Refusal.{Refusal}
 use Rattle.review_words.specs.declared.reply.Refusal.TheVariants.{UnknownCaller}
 use Rattle.review_words.specs.History.{Entry, is_account, account_count, file_text}
@@ -72,7 +72,7 @@ refused_or_stored (Some r) stored = stored r refl
 -- the numbers after some are so many, and stay below a limit
 numbers_long : {X : Type 0} (n : ℕ) (xs : List X) → length (numbers_after n xs) ≡ length xs
 numbers_long n [] = refl
-numbers_long n (x ∷ xs) = ap (λ k. k + 1) (numbers_long (n + 1) xs)
+numbers_long n (x ∷ xs) = ap suc (numbers_long (n + 1) xs)
 
 numbers_within : {X : Type 0} (n : ℕ) (xs : List X) → n + length xs ≤ most_comments → AllByRecursion IsCommentNumber (numbers_after n xs)
 numbers_within n [] below = tt
@@ -91,10 +91,10 @@ uploaded_stored : (reading : Reading) (h : List Entry) (caller n : ℕ) (patch :
     AllByRecursion Passes (of_change (upload_checks reading h caller patch) o) → IsOf (λ c. IsUploadAnswer reading h caller n patch c reply) o → IsStored reply
 uploaded_stored reading h caller n patch None reply history reads there pass is = absurd is
 uploaded_stored reading h caller n patch (Some c) reply history reads there pass is =
-    let number = change_bound reading h n c history there in
+    let number = change_bound reading h n c reads history there in
     let below : current c < most_patches = ltb-true (current c) most_patches pass.1.1.1.1.0 in
     let votes = votes_bound reading h caller n patch c reply history reads there is in
-    subst IsStored (sym is.reply_is) (number.0, (number.1, (omega arith, (omega arith, (votes.0, votes.1)))))
+    subst IsStored (sym is.reply_is) (number.0, number.1, omega arith, omega arith, votes.0, votes.1)
 
 outcome_stored : (reading : Reading) (h : List Entry) (caller : ℕ) (command : Command) (reply : Reply) → IsHistory h → Reads reading h → AllByRecursion Passes (checks reading h caller command) →
     IsOutcome reading h caller command reply → IsStored reply
@@ -108,7 +108,7 @@ outcome_stored reading h caller (PutProject project text) reply history reads al
     subst IsStored (sym f.2) (refused_or_stored (first_refusal (file_checks h project old f.0)) (λ r is. first_stored (file_checks h project old f.0) r (tt, (tt, tt)) is))
 outcome_stored reading h caller (CreateChange new) reply history reads all is =
     let below : change_count h < most_changes = ltb-true (change_count h) most_changes all.1.1.1.1.1.0 in
-    subst IsStored (sym is) (omega arith, (omega arith, (omega arith, omega arith)))
+    subst IsStored (sym is) (omega arith, omega arith, omega arith, omega arith)
 outcome_stored reading h caller (Upload n patch) reply history reads all is = uploaded_stored reading h caller n patch (change reading h n) reply history reads refl all is
 outcome_stored reading h caller (Review n review) reply history reads all is = subst IsStored (sym is) (reviewed_stored reading h caller review (change reading h n) all)
 

@@ -20,10 +20,13 @@ without_long : (u : ℕ) (l : List ℕ) (ks : List VoteKey) → has_vote ks u l 
 without_long u l [] there = absurd (cc)
 without_long u l (k ∷ ks) there =
     ⊎_elim
-    (λ (t : is_vote k u l ≡ true). ap (λ b. length (cond b ks (k ∷ without u l ks)) + 1) t)
+    (λ (t : is_vote k u l ≡ true).
+    let now : length (without u l (k ∷ ks)) ≡ length ks = ap (λ b. length (cond b ks (k ∷ without u l ks))) t in omega arith)
     (λ (f : is_vote k u l ≡ false).
     let rest : has_vote ks u l ≡ true = sym (ap (λ b. b || has_vote ks u l) f) ∙ there in
-    ap (λ b. length (cond b ks (k ∷ without u l ks)) + 1) f ∙ ap (λ n. n + 1) (without_long u l ks rest))
+    let before = without_long u l ks rest in
+    let now : length (without u l (k ∷ ks)) ≡ length (k ∷ without u l ks) = ap (λ b. length (cond b ks (k ∷ without u l ks))) f in
+    omega arith)
     (cases_Bool (is_vote k u l))
 
 or_or : (b c : Bool) → c ≡ true → (b || c) ≡ true

@@ -155,7 +155,7 @@ returns-in_err-rows-clause-served g c = λ honest h hist v fresh.
     let cause = c.in_err-rows.field-0.0 in
     let old = g.S.Shelf.state a.shelf.now in
     let new = g.S.Shelf.state c.gathered.new.shelf in
-    subst (λ r. IsServed h (Write a.caller a.id.now a.command.now) r old new) (err_reply c.from_residual-in_err-rows.result cause c.from_residual-in_err-rows.ensures)
+    subst (λ r. IsServed h (Write a.caller a.id.now a.command.now) r old new) (err_reply c.from_residual.result cause c.from_residual.ensures)
     (ungathered_served h a.caller a.id.now a.command.now cause old new hist v fresh (x.cause honest) (x.tables honest) x.counted (x.stops honest))
 
 pub returns-in_err-rows-clause-unchanged : goal.returns-in_err-rows-clause-unchanged
@@ -164,12 +164,12 @@ returns-in_err-rows-clause-unchanged g c = λ honest none.
     let cause = c.in_err-rows.field-0.0 in
     let old = (g.S.Shelf.state a.shelf.now).tables in
     let new = (g.S.Shelf.state c.gathered.new.shelf).tables in
-    subst (λ r. KeepsUntaken (Write a.caller a.id.now a.command.now) r old new) (err_reply c.from_residual-in_err-rows.result cause c.from_residual-in_err-rows.ensures)
+    subst (λ r. KeepsUntaken (Write a.caller a.id.now a.command.now) r old new) (err_reply c.from_residual.result cause c.from_residual.ensures)
     (ungathered_keeps a.caller a.id.now a.command.now cause old new (c.in_err-rows.ensures.cause honest) (c.in_err-rows.ensures.tables honest))
 
 pub returns-in_err-rows-clause-counted : goal.returns-in_err-rows-clause-counted
 returns-in_err-rows-clause-counted g c =
     let before = (g.S.Shelf.state c.args.shelf.now).faults in
     let after = (g.S.Shelf.state c.gathered.new.shelf).faults in
-    subst (λ r. CountsReply r before after) (err_reply c.from_residual-in_err-rows.result c.in_err-rows.field-0.0 c.from_residual-in_err-rows.ensures)
+    subst (λ r. CountsReply r before after) (err_reply c.from_residual.result c.in_err-rows.field-0.0 c.from_residual.ensures)
     c.in_err-rows.ensures.counted

@@ -1,3 +1,4 @@
+use Rattle.std.proofs.Common.{subst}
 use Rattle.review_words.specs.declared.command.Delivery.TheVariants.{Read}
 use Rattle.review_file.specs.Texts.{file_read}
 use Rattle.review_deliveries.specs.Replies.{IsServed, KeepsUntaken, CountsReply}
@@ -27,7 +28,7 @@ returns-in_err-rows-clause-served g c = λ honest h hist v.
     let cause = c.in_err-rows.field-0.0 in
     let old = g.S.Shelf.state a.shelf.now in
     let new = g.S.Shelf.state c.gathered.new.shelf in
-    subst (λ r. IsServed h (Read a.caller a.query.now) r old new) (err_reply c.from_residual-in_err-rows.result cause c.from_residual-in_err-rows.ensures)
+    subst (λ r. IsServed h (Read a.caller a.query.now) r old new) (err_reply c.from_residual.result cause c.from_residual.ensures)
     (unread_served h a.caller a.query.now cause old new hist v (x.cause honest) (x.tables honest) x.counted (x.stops honest))
 
 pub returns-in_err-rows-clause-unchanged : goal.returns-in_err-rows-clause-unchanged
@@ -35,12 +36,12 @@ returns-in_err-rows-clause-unchanged g c = λ honest.
     let a = c.args in
     let old = (g.S.Shelf.state a.shelf.now).tables in
     let new = (g.S.Shelf.state c.gathered.new.shelf).tables in
-    subst (λ r. KeepsUntaken (Read a.caller a.query.now) r old new) (err_reply c.from_residual-in_err-rows.result c.in_err-rows.field-0.0 c.from_residual-in_err-rows.ensures)
+    subst (λ r. KeepsUntaken (Read a.caller a.query.now) r old new) (err_reply c.from_residual.result c.in_err-rows.field-0.0 c.from_residual.ensures)
     (c.in_err-rows.ensures.tables honest)
 
 pub returns-in_err-rows-clause-counted : goal.returns-in_err-rows-clause-counted
 returns-in_err-rows-clause-counted g c =
     let before = (g.S.Shelf.state c.args.shelf.now).faults in
     let after = (g.S.Shelf.state c.gathered.new.shelf).faults in
-    subst (λ r. CountsReply r before after) (err_reply c.from_residual-in_err-rows.result c.in_err-rows.field-0.0 c.from_residual-in_err-rows.ensures)
+    subst (λ r. CountsReply r before after) (err_reply c.from_residual.result c.in_err-rows.field-0.0 c.from_residual.ensures)
     c.in_err-rows.ensures.counted
