@@ -150,6 +150,6 @@ unread_is (Some t) rows topic cause agree unread = at (text_for rows topic) refl
     at (Some text) is Full unread = absurd unread
 
 -- a cause that a `?` passed on
-pub passed_on : {X : Type 0} (IsSo : Cause → Type 0) (r : Result X Cause) (c : Cause) → IsErr r × IsErrAnd r (λ d. d ≡ c) → IsSo c → IfErr r IsSo
-passed_on IsSo (Ok x) c e so = let f = e.0 in absurd (cc)
-passed_on IsSo (Err d) c e so = subst IsSo (sym e.1) so
+pub passed_on : {X : Type 0} (Holds : Cause → Type 0) (r : Result X Cause) (c : Cause) → IsErr r × IsErrAnd r (λ d. d ≡ c) → Holds c → IfErr r Holds
+passed_on Holds (Ok x) c e so = let f = e.0 in absurd (cc)
+passed_on Holds (Err d) c e so = subst Holds (sym e.1) so

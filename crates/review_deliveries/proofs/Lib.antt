@@ -1,4 +1,6 @@
 pub mod Asking
+pub mod Votes
+pub mod Voted
 pub mod Bounds
 pub mod Stored
 pub mod Histories
@@ -6,6 +8,5 @@ pub mod Filed
 pub mod Served
 pub mod Effects
 pub mod Going
-pub mod Votes
 pub mod Outcomes
 pub mod Restarting

@@ -8,13 +8,14 @@ use Rattle.review_rows.specs.View.{IsDecided, answer_row}
 use Rattle.review_rows.specs.Changes.{Reading, Reads}
 use Rattle.review_file.specs.Texts.{file_read}
 use Rattle.review_rows.specs.Steps.{OfCommand}
-use Rattle.review_rows.specs.Shelf.{IsCommitted, Shows, cause_of}
+use Rattle.review_rows.specs.Shelf.{IsCommitted, IsCounted, Shows, cause_of}
 use Rattle.review_words.specs.declared.reply.Reply.TheVariants.{NotTaken}
 use Rattle.review_deliveries.specs.Replies.{entry_of, IsServed, KeepsUntaken, CountsReply}
 use Rattle.review_deliveries.proofs.Histories.{history_length, enough_shown, requests_told}
 use Rattle.review_deliveries.proofs.Served.{undecided_lawful, undecided_keeps, undecided_counts, first_served, not_taken_served, fault_served, ungathered_served, ungathered_keeps, after_read, views_stay, effect, err_reply}
 use Rattle.review_words.specs.History.{Identity}
-use Rattle.review_deliveries.proofs.Effects.{stores_once, stored_shown, full_keeps}
+use Rattle.review_deliveries.proofs.Effects.{stores_once, stored_shown, full_keeps, decided_keeps, fault_keeps, fault_counts}
+use Rattle.review_deliveries.proofs.Asking.{left_before}
 use Rattle.review_deliveries.proofs.deliveries.first_arrival.Goals as goal
 
 pub returns-then-requests-ge-MOST_REQUESTS-clause-served : goal.returns-then-requests-ge-MOST_REQUESTS-clause-served
@@ -173,3 +174,41 @@ returns-in_err-rows-clause-counted g c =
     let after = (g.S.Shelf.state c.gathered.new.shelf).faults in
     subst (λ r. CountsReply r before after) (err_reply c.from_residual.result c.in_err-rows.field-0.0 c.from_residual.ensures)
     c.in_err-rows.ensures.counted
+
+pub returns-in_err-text-clause-unchanged : goal.returns-in_err-text-clause-unchanged
+returns-in_err-text-clause-unchanged g c = λ honest none.
+    let a = c.args in
+    let old = (g.S.Shelf.state a.shelf.now).tables in
+    let new = (g.S.Shelf.state c.gathered.new.shelf).tables in
+    subst (λ r. KeepsUntaken (Write a.caller a.id.now a.command.now) r old new) (err_reply c.from_residual-in_err-text.result Memory c.from_residual-in_err-text.ensures)
+    (tt, c.in_ok-rows.ensures.tables honest)
+
+pub returns-in_err-text-clause-counted : goal.returns-in_err-text-clause-counted
+returns-in_err-text-clause-counted g c =
+    let before = (g.S.Shelf.state c.args.shelf.now).faults in
+    let after = (g.S.Shelf.state c.gathered.new.shelf).faults in
+    subst (λ r. CountsReply r before after) (err_reply c.from_residual-in_err-text.result Memory c.from_residual-in_err-text.ensures) c.in_ok-rows.ensures.counted
+
+pub returns-in_err-commit-clause-unchanged : goal.returns-in_err-commit-clause-unchanged
+returns-in_err-commit-clause-unchanged g c = λ honest none.
+    let a = c.args in
+    let y = c.in_err-commit.ensures in
+    let fault = c.in_err-commit.field-0.0 in
+    let old = (g.S.Shelf.state a.shelf.now).tables in
+    let mid = (g.S.Shelf.state c.gathered.new.shelf).tables in
+    let new = (g.S.Shelf.state c.commit.new.self).tables in
+    subst (λ r. KeepsUntaken (Write a.caller a.id.now a.command.now) r old new) (err_reply c.from_residual-in_err-commit.result (cause_of fault) c.from_residual-in_err-commit.ensures)
+    (fault_keeps a.caller a.id.now a.command.now fault old new (left_before fault old mid new (c.in_ok-rows.ensures.tables (y.honest honest)) (y.undone honest)))
+
+pub returns-in_err-commit-clause-counted : goal.returns-in_err-commit-clause-counted
+returns-in_err-commit-clause-counted g c =
+    let fault = c.in_err-commit.field-0.0 in
+    let before = (g.S.Shelf.state c.args.shelf.now).faults in
+    let after = (g.S.Shelf.state c.commit.new.self).faults in
+    subst (λ r. CountsReply r before after) (err_reply c.from_residual-in_err-commit.result (cause_of fault) c.from_residual-in_err-commit.ensures)
+    (fault_counts fault before after (subst (λ n. IsCounted fault n after) c.in_ok-rows.ensures.counted c.in_err-commit.ensures.counted))
+
+pub returns-clause-unchanged : goal.returns-clause-unchanged
+returns-clause-unchanged g c = λ honest none.
+    let a = c.args in
+    decided_keeps a.caller a.id.now a.command.now c.in_ok-delta.reply (g.S.Shelf.state a.shelf.now).tables (g.S.Shelf.state c.commit.new.self).tables c.in_ok-delta.ensures.stored
