@@ -1,6 +1,6 @@
 -- Whose votes a change has, and on which labels: accounts vote, on labels of the file of the change's project.
 use Rattle.std.proofs.Common.{◌≡◌, ℕ, ℤ, pos, ◌+◌, ◌==◌, ◌≤◌, List, [], ◌∷◌, ◌++◌, length, Option, Some, None, Bool, true, false, cond, not, ◌&&◌, ◌||◌, refl, sym, ap, ◌∙◌, subst, ⊎_elim, arith, eqb-true}
-use Rattle.std.specs.Prelude.{find, is_some, nat_le, option_map, unwrap_or, MatchOption}
+use Rattle.std.specs.Prelude.{find, is_some, nat_le, nat_lt, option_map, unwrap_or, MatchOption}
 use Rattle.std.specs.List.{AllByRecursion, list_all, list_any}
 use Rattle.std.specs.Option.{option_map_or}
 use Rattle.std.specs.Str.{bytes_eq}
@@ -17,7 +17,7 @@ use Rattle.review_words.specs.declared.reply.Refusal.{Refusal}
 use Rattle.review_words.specs.declared.reply.Refusal.TheVariants.{BadFile, UnknownCaller, NoProject, NoComment, Limit, LabelNarrowed}
 use Rattle.review_words.specs.declared.reply.Reply.{Reply}
 use Rattle.review_words.specs.declared.reply.Reply.TheVariants.{Done, Refused, IdentityReused, NotTaken}
-use Rattle.review_words.specs.History.{Entry, accepted, if_done, account_count, counted, file_text, is_account, is_project, text_put}
+use Rattle.review_words.specs.History.{Entry, accepted, if_done, account_count, counted, file_text, is_account, is_project, project_count, text_put}
 use Rattle.review_project.specs.Rights.{has_values, is_covered}
 use Rattle.review_project.specs.View.{LabelView}
 use Rattle.review_expr.specs.declared.expr.Expr.{Expr}
@@ -25,11 +25,11 @@ use Rattle.review_project_laws.proofs.Together.{same_covers}
 use Rattle.review_changes.specs.Change.{Change, Copying, Setting, after, begun, carried, copying, current, given_or, label_in, reviewed, vote_by}
 use Rattle.review_changes.specs.Votes.{voted}
 use Rattle.review_changes.specs.declared.commands.ChangeCommand.TheVariants as on
-use Rattle.review_changes.proofs.Voters.{where_true, where_false}
 use Rattle.review_change_laws.proofs.Sound.{Passes, all_pass, checks_pass, done_passes}
 use Rattle.review_rows.specs.Answer.{IsAnswerBy, IsFaultAnswer, IsFileAnswer, IsHistory, IsOutcome, checks, file_checks, first_refusal, given_checks, refused_by, refused_or, review_checks, upload_checks}
 use Rattle.review_rows.specs.Changes.{Reading, Reads, IsReadRight, change, change_by, change_count, file_of, setting_of}
 use Rattle.review_rows.specs.Files.{File, IsRead, covers}
+use Rattle.review_rows.specs.Limits.{most_projects}
 
 -- ---- labels of a file that covers another
 
@@ -83,7 +83,7 @@ put_covers reading h caller project text a read answer =
     ⊎_elim
     (λ (fault : IsFaultAnswer text (Done a)). let e : Done a ≡ Refused (BadFile fault.0) = fault.2 in absurd (cc))
     (λ (file : IsFileAnswer reading h project text (Done a)).
-    same (option_map reading (file_text h project)) file.0 file.1 (first_passes (option_map_or (λ f. covers f file.0) (option_map reading (file_text h project)) true) LabelNarrowed _ a file.2))
+    same (option_map reading (file_text h project)) file.0 file.1 (first_passes (option_map_or (λ f. covers f file.0) (option_map reading (file_text h project)) true) LabelNarrowed ((is_project h project || nat_lt (project_count h) most_projects, Limit) ∷ []) a file.2))
     (not_fault (refused_by reading h caller (PutProject project text)) a answer)
   where
     same : (o : Option File) (new : File) → IsRead text new → option_map_or (λ f. covers f new) o true ≡ true → option_map_or (λ f. covers f (reading text)) o true ≡ true
