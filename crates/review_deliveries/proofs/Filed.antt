@@ -1,5 +1,5 @@
 -- The project file by which a command is judged, as it is gathered.
-use Rattle.std.proofs.Common.{◌≡◌, ℕ, List, [], ◌∷◌, Option, Some, None, true, Result, Ok, Err, refl, sym, ap, ◌∙◌, subst}
+use Rattle.std.proofs.Common.{◌≡◌, ℕ, List, Option, Some, None, true, Result, Ok, Err, refl, sym, ap, ◌∙◌, subst}
 use Rattle.std.specs.Prelude.{is_some, option_map, IsSomeAnd, IfErr}
 use Rattle.std.specs.Result.{IsErr, IsErrAnd}
 use Rattle.review_words.specs.History.{Entry, file_text}
@@ -10,15 +10,14 @@ use Rattle.review_words.specs.declared.reply.NotTaken.TheVariants.{Memory, Store
 use Rattle.review_changes.specs.Change.{Change}
 use Rattle.review_rows.specs.declared.rows.Rows.{Rows}
 use Rattle.review_rows.specs.declared.rows.Want.TheVariants as want
-use Rattle.review_rows.specs.Answer.{IsHistory}
-use Rattle.review_rows.specs.Changes.{Reading, Reads, change}
+use Rattle.review_rows.specs.Changes.{Reading, change}
 use Rattle.review_rows.specs.Decisions.{HasPatternIn, IsUnread, judging_project}
 use Rattle.review_rows.specs.Files.{File, HasPattern}
-use Rattle.review_rows.specs.Known.{Found, Number, Name, Holder, IsSo, Members, Text, Commits, AChange, part_of, known, Agrees, IsKnown, change_in, text_of}
+use Rattle.review_rows.specs.Known.{Found, Number, Name, Holder, IsSo, Members, Text, Commits, AChange, part_of, known, Agrees, change_in, text_of}
 use Rattle.review_rows.specs.Rows.{APart, Tables}
 use Rattle.review_rows.specs.Shelf.{Shows, IsDamaged}
 use Rattle.review_rows.specs.Steps.{Topic, OfCommand, OfQuery, HasFile, project_of, text_in, text_for}
-use Rattle.review_rows.specs.View.{IsView, view}
+use Rattle.review_rows.specs.View.{view}
 use Rattle.review_rows.proofs.Readings.{reading_of, read_of}
 use Rattle.review_account_decisions.proofs.Told.{text_told}
 use Rattle.review_change_laws.proofs.Same.{rows_tell}

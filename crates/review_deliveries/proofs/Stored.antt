@@ -1,10 +1,10 @@
 -- Each answer of a history is stored with numbers of their forms.
 use Rattle.std.proofs.Common.{◌≡◌, ℕ, suc, ◌+◌, ◌<◌, ◌≤◌, List, [], ◌∷◌, ◌++◌, length, Option, Some, None, Bool, true, false, cond, refl, sym, ap, ◌∙◌, subst, ⊎_elim, inl, inr, arith}
-use Rattle.std.specs.Prelude.{is_some, nat_le, nat_lt, MatchOption, option_map}
+use Rattle.std.specs.Prelude.{MatchOption, option_map}
 use Rattle.std.specs.List.{AllByRecursion}
 use Rattle.std.proofs.lemmas.Bool.{cases_Bool, ltb-true, leb-true}
 use Rattle.review_names.specs.Forms.{most_changes, most_comments, most_patches}
-use Rattle.review_words.specs.Texts.{IsStored, IsStoredAnswer, IsCommentNumber}
+use Rattle.review_words.specs.Texts.{IsStored, IsCommentNumber}
 use Rattle.review_words.specs.declared.changes.Given.{Given}
 use Rattle.review_words.specs.declared.changes.NewPatch.{NewPatch}
 use Rattle.review_words.specs.declared.changes.Review.{Review as ReviewOf}
@@ -18,7 +18,7 @@ use Rattle.review_words.specs.declared.reply.Refusal.TheVariants.{UnknownCaller}
 use Rattle.review_words.specs.History.{Entry, is_account, account_count, file_text}
 use Rattle.review_project_laws.proofs.Placed.{placed}
 use Rattle.review_changes.specs.Change.{Change, Setting, current, said}
-use Rattle.review_change_laws.proofs.Sound.{Passes, all_pass, later_pass, checks_pass}
+use Rattle.review_change_laws.proofs.Sound.{Passes, all_pass, later_pass}
 use Rattle.review_rows.specs.Answer.{IsHistory, IsAnswer, IsAnswerBy, IsOutcome, IsOf, IsUploadAnswer, checks, comment_numbers, file_checks, first_refusal, given_checks, numbers_after, of_change, refused_by, refused_or, review_checks, upload_checks}
 use Rattle.review_rows.specs.Changes.{Reading, Reads, change, change_count, setting_of}
 use Rattle.review_rows.proofs.Readings.{reading_of}

@@ -1,5 +1,5 @@
 -- Whose votes a change has, and on which labels: accounts vote, on labels of the file of the change's project.
-use Rattle.std.proofs.Common.{◌≡◌, ℕ, ℤ, pos, ◌+◌, ◌==◌, ◌≤◌, List, [], ◌∷◌, ◌++◌, length, Option, Some, None, Bool, true, false, cond, not, ◌&&◌, ◌||◌, refl, sym, ap, ◌∙◌, subst, ⊎_elim, arith, eqb-true}
+use Rattle.std.proofs.Common.{◌≡◌, ℕ, ℤ, pos, ◌+◌, ◌==◌, ◌≤◌, List, [], ◌∷◌, ◌++◌, length, Option, Some, None, Bool, true, false, cond, ◌&&◌, ◌||◌, refl, sym, ap, ◌∙◌, subst, ⊎_elim, arith, eqb-true}
 use Rattle.std.specs.Prelude.{find, is_some, nat_le, nat_lt, option_map, unwrap_or, MatchOption}
 use Rattle.std.specs.List.{AllByRecursion, list_all, list_any}
 use Rattle.std.specs.Option.{option_map_or}
@@ -14,7 +14,7 @@ use Rattle.review_words.specs.declared.command.Command.TheVariants.{CreateAccoun
 use Rattle.review_words.specs.declared.reply.Answer.{Answer}
 use Rattle.review_words.specs.declared.reply.Answer.TheVariants.{Nothing}
 use Rattle.review_words.specs.declared.reply.Refusal.{Refusal}
-use Rattle.review_words.specs.declared.reply.Refusal.TheVariants.{BadFile, UnknownCaller, NoProject, NoComment, Limit, LabelNarrowed}
+use Rattle.review_words.specs.declared.reply.Refusal.TheVariants.{BadFile, UnknownCaller, Limit, LabelNarrowed}
 use Rattle.review_words.specs.declared.reply.Reply.{Reply}
 use Rattle.review_words.specs.declared.reply.Reply.TheVariants.{Done, Refused, IdentityReused, NotTaken}
 use Rattle.review_words.specs.History.{Entry, accepted, if_done, account_count, counted, file_text, is_account, is_project, project_count, text_put}
@@ -22,11 +22,11 @@ use Rattle.review_project.specs.Rights.{has_values, is_covered}
 use Rattle.review_project.specs.View.{LabelView}
 use Rattle.review_expr.specs.declared.expr.Expr.{Expr}
 use Rattle.review_project_laws.proofs.Together.{same_covers}
-use Rattle.review_changes.specs.Change.{Change, Copying, Setting, after, begun, carried, copying, current, given_or, label_in, reviewed, vote_by}
+use Rattle.review_changes.specs.Change.{Change, Copying, Setting, after, begun, carried, copying, current, given_or, label_in, reviewed}
 use Rattle.review_changes.specs.Votes.{voted}
 use Rattle.review_changes.specs.declared.commands.ChangeCommand.TheVariants as on
 use Rattle.review_change_laws.proofs.Sound.{Passes, all_pass, checks_pass, done_passes}
-use Rattle.review_rows.specs.Answer.{IsAnswerBy, IsFaultAnswer, IsFileAnswer, IsHistory, IsOutcome, checks, file_checks, first_refusal, given_checks, refused_by, refused_or, review_checks, upload_checks}
+use Rattle.review_rows.specs.Answer.{IsAnswerBy, IsFaultAnswer, IsFileAnswer, IsHistory, checks, first_refusal, given_checks, refused_by, refused_or, review_checks}
 use Rattle.review_rows.specs.Changes.{Reading, Reads, IsReadRight, change, change_by, change_count, file_of, setting_of}
 use Rattle.review_rows.specs.Files.{File, IsRead, covers}
 use Rattle.review_rows.specs.Limits.{most_projects}
