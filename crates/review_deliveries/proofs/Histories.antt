@@ -67,7 +67,7 @@ outcome_given reading h caller (CreateChange new) reply is = subst IsDoneOrRefus
 outcome_given reading h caller (Upload n patch) reply is = upload_given reading h caller n patch (change reading h n) reply is
 outcome_given reading h caller (Review n review) reply is = subst IsDoneOrRefused (sym is) tt
 
-answer_given_by : (reading : Reading) (h : List Entry) (caller : ℕ) (command : Command) (reply : Reply) → IsAnswerBy reading h caller command reply → IsDoneOrRefused reply
+pub answer_given_by : (reading : Reading) (h : List Entry) (caller : ℕ) (command : Command) (reply : Reply) → IsAnswerBy reading h caller command reply → IsDoneOrRefused reply
 answer_given_by reading h caller command reply is = at (refused_by reading h caller command) is
   where
     at : (o : Option Refusal) → MatchOption o (IsOutcome reading h caller command reply) (λ refusal. reply ≡ Refused refusal) → IsDoneOrRefused reply

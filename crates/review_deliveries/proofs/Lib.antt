@@ -7,6 +7,7 @@ pub mod Histories
 pub mod Filed
 pub mod Served
 pub mod Effects
+pub mod Readable
 pub mod Going
 pub mod Outcomes
 pub mod Restarting

@@ -18,7 +18,7 @@ use Rattle.review_changes.specs.declared.commands.ChangeCommand.TheVariants as c
 use Rattle.review_changes.specs.Votes.{voted}
 use Rattle.review_rows.specs.Changes.{Reading, change, setting_of}
 use Rattle.review_rows.specs.Files.{File, IsRead, covers, HasDeepPattern}
-use Rattle.review_rows.specs.Answer.{IsOf, IsOutcome, IsUploadAnswer, first_refusal, refused_by, refused_or}
+use Rattle.review_rows.specs.Answer.{IsAnswerBy, IsOf, IsOutcome, IsUploadAnswer, first_refusal, refused_by, refused_or}
 use Rattle.review_rows.proofs.Readings.{reading_of}
 use Rattle.review_deliveries.specs.Restart.{IsFree, RefusesBadValue, OneAnswer}
 use Rattle.review_deliveries.proofs.Votes.{one_count}
@@ -64,12 +64,16 @@ one_outcome reading h caller (CreateChange new) r s a b = inl (a ∙ sym b)
 one_outcome reading h caller (Upload n patch) r s a b = inl (one_upload reading h caller n patch (change reading h n) r s a b)
 one_outcome reading h caller (Review n review) r s a b = inl (a ∙ sym b)
 
+-- one answer, by one reading
+pub one_answer_by : (reading : Reading) (h : List Entry) (caller : ℕ) (command : Command) (r s : Reply) → IsAnswerBy reading h caller command r → IsAnswerBy reading h caller command s →
+    (r ≡ s) ⊎ (IsFree command × (RefusesBadValue r ⊎ RefusesBadValue s))
+one_answer_by reading h caller command r s a b = at (refused_by reading h caller command) a b
+  where
+    at : (o : Option Refusal) → MatchOption o (IsOutcome reading h caller command r) (λ x. r ≡ Refused x) → MatchOption o (IsOutcome reading h caller command s) (λ x. s ≡ Refused x) →
+        (r ≡ s) ⊎ (IsFree command × (RefusesBadValue r ⊎ RefusesBadValue s))
+    at None a b = one_outcome reading h caller command r s a b
+    at (Some x) a b = inl (a ∙ sym b)
+
 pub one_answer : OneAnswer
 one_answer h caller command r s history a b =
-    let reading = reading_of h history in
-    at reading.0 (refused_by reading.0 h caller command) (a reading.0 reading.1) (b reading.0 reading.1)
-  where
-    at : (reading : Reading) (o : Option Refusal) → MatchOption o (IsOutcome reading h caller command r) (λ x. r ≡ Refused x) → MatchOption o (IsOutcome reading h caller command s) (λ x. s ≡ Refused x) →
-        (r ≡ s) ⊎ (IsFree command × (RefusesBadValue r ⊎ RefusesBadValue s))
-    at reading None a b = one_outcome reading h caller command r s a b
-    at reading (Some x) a b = inl (a ∙ sym b)
+    let reading = reading_of h history in one_answer_by reading.0 h caller command r s (a reading.0 reading.1) (b reading.0 reading.1)

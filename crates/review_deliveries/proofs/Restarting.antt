@@ -14,7 +14,9 @@ use Rattle.review_words.specs.History.{Entry, Identity, stored, is_same}
 use Rattle.review_rows.specs.Answer.{IsHistory, IsAnswer}
 use Rattle.review_rows.specs.Rows.{Tables}
 use Rattle.review_rows.specs.View.{IsView}
-use Rattle.review_deliveries.proofs.Outcomes.{one_answer}
+use Rattle.review_rows.proofs.Readings.{reading_of}
+use Rattle.review_deliveries.proofs.Outcomes.{one_answer_by}
+use Rattle.review_deliveries.proofs.Readable.{HasReading, read_on}
 use Rattle.review_deliveries.specs.Replies.{IsTold, IsRight, AreRight, IsToldOfStored, history_after, with_entries as hist, has_identity, first_arrivals as first, arrivals_after as first_after, taken, with_taken, entry_of, HasEffect}
 use Rattle.review_deliveries.specs.Restart.{IsFree, RefusesBadValue, IsSettled, AreSettled, WasTaken, WereTaken, AgreeFor, AgreeOnWrites, RunsAsFrom, RestartIsRun, RestartAfterStop, RestartCompletes, RestartKeepsHistory, RepliesFollowHistory}
 use Rattle.review_deliveries.proofs.Histories.{answer_given, earlier, stored_stays, stored_here, stored_there, same_to}
@@ -55,17 +57,17 @@ one_repeat e command r s a b =
     ⊎_elim (λ (c : command ≡ e.command). a.equal c ∙ sym (b.equal c)) (λ (n : command ≡ e.command → ⊥). a.other n ∙ sym (b.other n)) (same_command command e.command)
 
 -- one answer to each command that leaves no choice
-settled_answer : (h : List Entry) (caller : ℕ) (command : Command) (r s : Reply) → (IsFree command → ⊥) → IsHistory h → IsAnswer h caller command r → IsAnswer h caller command s → r ≡ s
-settled_answer h caller command r s settled history a b =
-    ⊎_elim (λ (same : r ≡ s). same) (λ (free : IsFree command × (RefusesBadValue r ⊎ RefusesBadValue s)). absurd (settled free.0)) (one_answer h caller command r s history a b)
+settled_answer : (h : List Entry) (caller : ℕ) (command : Command) (r s : Reply) → (IsFree command → ⊥) → HasReading h → IsAnswer h caller command r → IsAnswer h caller command s → r ≡ s
+settled_answer h caller command r s settled reading a b =
+    ⊎_elim (λ (same : r ≡ s). same) (λ (free : IsFree command × (RefusesBadValue r ⊎ RefusesBadValue s)). absurd (settled free.0)) (one_answer_by reading.0 h caller command r s (a reading.0 reading.1) (b reading.0 reading.1))
 
 -- one right reply
-one_told : (h : List Entry) (d : Delivery) (r s : Reply) → IsSettled d → IsHistory h → IsTold h d r → IsTold h d s → r ≡ s
-one_told h (Read caller query) r s settled history a b = a ∙ sym b
-one_told h (Write caller id command) r s settled history a b = at (stored h (record { caller = caller; id = id })) refl
+one_told : (h : List Entry) (d : Delivery) (r s : Reply) → IsSettled d → HasReading h → IsTold h d r → IsTold h d s → r ≡ s
+one_told h (Read caller query) r s settled reading a b = a ∙ sym b
+one_told h (Write caller id command) r s settled reading a b = at (stored h (record { caller = caller; id = id })) refl
   where
     at : (o : Option Entry) → stored h (record { caller = caller; id = id }) ≡ o → r ≡ s
-    at None is = settled_answer h caller command r s settled history (told_at h caller id command r None is a) (told_at h caller id command s None is b)
+    at None is = settled_answer h caller command r s settled reading (told_at h caller id command r None is a) (told_at h caller id command s None is b)
     at (Some e) is = one_repeat e command r s (told_at h caller id command r (Some e) is a) (told_at h caller id command s (Some e) is b)
 
 agrees : (d : Delivery) (r s : Reply) → r ≡ s → AgreeFor d r s
@@ -73,19 +75,17 @@ agrees (Read caller query) r s e = tt
 agrees (Write caller id command) r s e = e
 
 -- from one history, everything is the same
-same_run : (h : List Entry) (ds : List Delivery) (rs ss : List Reply) → AreSettled ds → IsHistory (history_after h ds ss) → AreTold h ds rs → AreTold h ds ss →
-    AgreeOnWrites ds rs ss × (history_after h ds ss ≡ history_after h ds rs)
-same_run h [] [] [] settled history a b = (tt, refl)
-same_run h [] (r ∷ rs) ss settled history a b = absurd a
-same_run h [] [] (s ∷ ss) settled history a b = absurd b
-same_run h (d ∷ ds) [] ss settled history a b = absurd a
-same_run h (d ∷ ds) (r ∷ rs) [] settled history a b = absurd b
-same_run h (d ∷ ds) (r ∷ rs) (s ∷ ss) settled history a b =
-    let e = one_told h d r s settled.0 (began h (d ∷ ds) (s ∷ ss) history) a.1 b.1 in
-    let later = history_cons h d ds s ss ∙ ap (λ x. history_after (history_after h (d ∷ []) (x ∷ [])) ds ss) (sym e) in
-    let rest = same_run (history_after h (d ∷ []) (r ∷ [])) ds rs ss settled.1 (subst IsHistory later history) a.2 (subst (λ x. AreTold (history_after h (d ∷ []) (x ∷ [])) ds ss) (sym e) b.2) in (
+same_run : (h : List Entry) (ds : List Delivery) (rs ss : List Reply) → AreSettled ds → HasReading h → AreTold h ds rs → AreTold h ds ss → AgreeOnWrites ds rs ss × (history_after h ds ss ≡ history_after h ds rs)
+same_run h [] [] [] settled reading a b = (tt, refl)
+same_run h [] (r ∷ rs) ss settled reading a b = absurd a
+same_run h [] [] (s ∷ ss) settled reading a b = absurd b
+same_run h (d ∷ ds) [] ss settled reading a b = absurd a
+same_run h (d ∷ ds) (r ∷ rs) [] settled reading a b = absurd b
+same_run h (d ∷ ds) (r ∷ rs) (s ∷ ss) settled reading a b =
+    let e = one_told h d r s settled.0 reading a.1 b.1 in
+    let rest = same_run (history_after h (d ∷ []) (r ∷ [])) ds rs ss settled.1 (read_on h d r reading a.1) a.2 (subst (λ x. AreTold (history_after h (d ∷ []) (x ∷ [])) ds ss) (sym e) b.2) in (
       (agrees d r s e, rest.0),
-      later ∙ rest.1 ∙ sym (history_cons h d ds r rs),
+      history_cons h d ds s ss ∙ ap (λ x. history_after (history_after h (d ∷ []) (x ∷ [])) ds ss) (sym e) ∙ rest.1 ∙ sym (history_cons h d ds r rs),
     )
 
 -- a delivery of the part that stood gets the same reply again, and changes nothing
@@ -116,14 +116,14 @@ again g h more (Write caller id command) r s hist is a b = at (stored g i) refl
         (one_repeat e command r s (told_at g caller id command r (Some e) old a) (told_at h caller id command s (Some e) some b), same_history h caller id command s e some)
 
 restart_told : (h0 h : List Entry) (ds1 ds2 : List Delivery) (rs1 rs2 ss : List Reply) →
-    IsHistory (history_after h (ds1 ++ ds2) ss) → h ≡ history_after h0 ds1 rs1 → length rs1 ≡ length ds1 → AreSettled ds2 → AreTold h0 (ds1 ++ ds2) (rs1 ++ rs2) → AreTold h (ds1 ++ ds2) ss →
+    IsHistory h → h ≡ history_after h0 ds1 rs1 → length rs1 ≡ length ds1 → AreSettled ds2 → AreTold h0 (ds1 ++ ds2) (rs1 ++ rs2) → AreTold h (ds1 ++ ds2) ss →
     AgreeOnWrites (ds1 ++ ds2) (rs1 ++ rs2) ss × (history_after h (ds1 ++ ds2) ss ≡ history_after h0 (ds1 ++ ds2) (rs1 ++ rs2))
-restart_told g h [] ds2 [] rs2 ss hist is same settled a b = same_run' g h ds2 rs2 ss settled is hist a b
+restart_told g h [] ds2 [] rs2 ss hist is same settled a b = same_run' g h ds2 rs2 ss settled is (reading_of h hist) a b
   where
-    same_run' : (g h : List Entry) (ds : List Delivery) (rs ss : List Reply) → AreSettled ds → h ≡ g → IsHistory (history_after h ds ss) → AreTold g ds rs → AreTold h ds ss →
+    same_run' : (g h : List Entry) (ds : List Delivery) (rs ss : List Reply) → AreSettled ds → h ≡ g → HasReading h → AreTold g ds rs → AreTold h ds ss →
         AgreeOnWrites ds rs ss × (history_after h ds ss ≡ history_after g ds rs)
-    same_run' g h ds rs ss settled is hist a b =
-        let s = same_run g ds rs ss settled (subst (λ x. IsHistory (history_after x ds ss)) is hist) a (subst (λ x. AreTold x ds ss) is b) in
+    same_run' g h ds rs ss settled is reading a b =
+        let s = same_run g ds rs ss settled (subst HasReading is reading) a (subst (λ x. AreTold x ds ss) is b) in
         (s.0, ap (λ x. history_after x ds ss) is ∙ s.1)
 restart_told g h [] ds2 (r ∷ rs1) rs2 ss hist is same settled a b = absurd (omega arith)
 restart_told g h (d ∷ ds1) ds2 [] rs2 ss hist is same settled a b = absurd (omega arith)
@@ -132,11 +132,10 @@ restart_told g h (d ∷ ds1) ds2 (r ∷ rs1) rs2 (s ∷ ss) hist is same settled
     let g1 = history_after g (d ∷ []) (r ∷ []) in
     let later : h ≡ history_after g1 ds1 rs1 = is ∙ history_cons g d ds1 r rs1 in
     let more = grown g1 (first g1 (taken ds1 rs1)) in
-    let one = again g h more.0 d r s (began h (d ∷ (ds1 ++ ds2)) (s ∷ ss) hist) (later ∙ more.1) a.1 b.1 in
-    let here = history_cons h d (ds1 ++ ds2) s ss ∙ ap (λ x. history_after x (ds1 ++ ds2) ss) one.1 in
-    let rest = restart_told g1 h ds1 ds2 rs1 rs2 ss (subst IsHistory here hist) later (omega arith) settled a.2 (subst (λ x. AreTold x (ds1 ++ ds2) ss) one.1 b.2) in (
+    let one = again g h more.0 d r s hist (later ∙ more.1) a.1 b.1 in
+    let rest = restart_told g1 h ds1 ds2 rs1 rs2 ss hist later (omega arith) settled a.2 (subst (λ x. AreTold x (ds1 ++ ds2) ss) one.1 b.2) in (
       (one.0, rest.0),
-      here ∙ rest.1 ∙ sym (history_cons g d (ds1 ++ ds2) r (rs1 ++ rs2)),
+      history_cons h d (ds1 ++ ds2) s ss ∙ ap (λ x. history_after x (ds1 ++ ds2) ss) one.1 ∙ rest.1 ∙ sym (history_cons g d (ds1 ++ ds2) r (rs1 ++ rs2)),
     )
 
 -- what is stored stays stored

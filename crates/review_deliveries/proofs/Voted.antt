@@ -68,8 +68,8 @@ more_accounts n m u grows is =
     let below : u ≤ n = leb-true u n p.1 in
     and_from (nat_le 1 u) (nat_le u m) p.0 (le-leb u m (omega arith))
 
--- the file that is put covers the one that was there
-not_fault : {A : Type 0} (o : Option Refusal) (a : Answer) → MatchOption o A (λ r. Done a ≡ Refused r) → A
+-- an answer that is no refusal is given where no check refuses
+pub not_fault : {A : Type 0} (o : Option Refusal) (a : Answer) → MatchOption o A (λ r. Done a ≡ Refused r) → A
 not_fault None a outcome = outcome
 not_fault (Some r) a refused = absurd (cc)
 
@@ -77,6 +77,7 @@ first_passes : (b : Bool) (r : Refusal) (cs : List (Bool × Refusal)) (a : Answe
 first_passes true r cs a is = refl
 first_passes false r cs a is = absurd (cc)
 
+-- the file that is put covers the one that was there
 put_covers : (reading : Reading) (h : List Entry) (caller : ℕ) (project text : List ℕ) (a : Answer) → IsRead text (reading text) → IsAnswerBy reading h caller (PutProject project text) (Done a) →
     option_map_or (λ f. covers f (reading text)) (option_map reading (file_text h project)) true ≡ true
 put_covers reading h caller project text a read answer =

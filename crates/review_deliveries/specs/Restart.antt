@@ -81,11 +81,11 @@ abbrev pub AreSettled : List Delivery → Type 0
 AreSettled [] = Unit {0}
 AreSettled (d ∷ ds) = IsSettled d × AreSettled ds
 
--- Where the rest of a run leaves no choice: where some first part of a run stood when it stopped, the whole run from there, which left a history,
--- gives the same history and the same replies to writes.
+-- Where the rest of a run leaves no choice: where some first part of a run stood when it stopped, the whole run from there gives the same
+-- history and the same replies to writes.
 abbrev pub RestartCompletes : Type 0
 RestartCompletes = (h0 h : List Entry) (ds1 ds2 : List Delivery) (rs1 rs2 ss : List Reply) (counts others : List (ℕ × ℕ)) →
-    IsHistory (history_after h (ds1 ++ ds2) ss) → h ≡ history_after h0 ds1 rs1 → length rs1 ≡ length ds1 → AreSettled ds2 →
+    IsHistory h → h ≡ history_after h0 ds1 rs1 → length rs1 ≡ length ds1 → AreSettled ds2 →
     AreRight h0 (ds1 ++ ds2) (rs1 ++ rs2) counts → WereTaken (rs1 ++ rs2) → AreRight h (ds1 ++ ds2) ss others → WereTaken ss →
     AgreeOnWrites (ds1 ++ ds2) (rs1 ++ rs2) ss × (history_after h (ds1 ++ ds2) ss ≡ history_after h0 (ds1 ++ ds2) (rs1 ++ rs2))
 

@@ -40,5 +40,7 @@ loop-rows-preserved g c =
 pub returns-clause-found : goal.returns-clause-found
 returns-clause-found g c = λ h so_far.
     let file = file_read (option_copied c.args.read) in
-    so_far_shown (g.S.Shelf.state c.args.shelf.now).tables file c.loop-rows.rows c.args.caller (topic_of c.args.matter) (c.loop-rows.invariant.found h so_far)
-    (none_asked file c.loop-rows.rows c.args.caller (topic_of c.args.matter) (ap wants_in (sym c.in_default.is) ∙ c.in_ok-need.ensures))
+    let rows = c.loop-rows.rows in
+    let topic = topic_of c.args.matter in
+    so_far_shown (g.S.Shelf.state c.args.shelf.now).tables file rows c.args.caller topic (c.loop-rows.invariant.found h so_far)
+    (none_asked file rows c.args.caller topic _ c.in_default.is c.in_ok-need.ensures)
