@@ -9,6 +9,7 @@ use Rattle.review_rows.specs.declared.rows.Delta.{Delta}
 use Rattle.review_rows.specs.declared.rows.Rows.{Rows}
 use Rattle.review_rows.specs.Rows.{Key, Count, AnswerRow, Answered, Tables, HasNoEffect, after, count_after}
 use Rattle.review_rows.specs.declared.rows.Want.TheVariants.{Requests}
+use Rattle.review_rows.specs.Files.{File}
 use Rattle.review_rows.specs.Known.{Agrees, known, number_of}
 use Rattle.review_rows.specs.Steps.{OfCommand, next}
 use Rattle.review_rows.proofs.Asked.{requests_are}
@@ -30,11 +31,11 @@ kept IdentityReused delta t u none rows counts = tt
 kept (NotTaken cause) delta t u none rows counts = tt
 
 -- a first arrival whose request was stored
-stored_request : (i : Identity) (command : Command) (reply : Reply) (delta : Delta) (rows : Rows) (row : AnswerRow) (t u : Tables) →
-    t.answer i ≡ None → Agrees t rows → next rows i.caller (OfCommand command) ≡ [] → HasNoEffect reply delta → IsCommitted t delta row u →
+stored_request : (i : Identity) (command : Command) (reply : Reply) (delta : Delta) (file : Option File) (rows : Rows) (row : AnswerRow) (t u : Tables) →
+    t.answer i ≡ None → Agrees t rows → next file rows i.caller (OfCommand command) ≡ [] → HasNoEffect reply delta → IsCommitted t delta row u →
     ((n : ℕ) → number_of (known rows Requests) ≡ n → row ≡ answer_row (record { identity = i; command = command; reply = reply }) (n + 1)) → StoresRequest i command reply t u
-stored_request i command reply delta rows row t u none agree left quiet c is =
-    let same : row ≡ answer_row (record { identity = i; command = command; reply = reply }) (t.requests + 1) = is t.requests (requests_are t rows i.caller command agree left) in
+stored_request i command reply delta file rows row t u none agree left quiet c is =
+    let same : row ≡ answer_row (record { identity = i; command = command; reply = reply }) (t.requests + 1) = is t.requests (requests_are t file rows i.caller command agree left) in
     record {
       new = none;
       answer_is = λ j. c.answer_is j ∙ (λ k. cond (is_same (same k).identity j) (Some (Answered (same k))) (t.answer j));
@@ -43,18 +44,18 @@ stored_request i command reply delta rows row t u none agree left quiet c is =
       rows = kept reply delta t u quiet c.row_is c.count_is;
     }
 
-pub stored_shown : (i : Identity) (command : Command) (reply : Reply) (delta : Delta) (rows : Rows) (row : AnswerRow) (old mid new : Option Tables) →
-    mid ≡ old → Shows old (λ t. t.answer i ≡ None) → Shows old (λ t. Agrees t rows) → next rows i.caller (OfCommand command) ≡ [] → HasNoEffect reply delta → Shows mid (λ t. Shows new (IsCommitted t delta row)) →
+pub stored_shown : (i : Identity) (command : Command) (reply : Reply) (delta : Delta) (file : Option File) (rows : Rows) (row : AnswerRow) (old mid new : Option Tables) →
+    mid ≡ old → Shows old (λ t. t.answer i ≡ None) → Shows old (λ t. Agrees t rows) → next file rows i.caller (OfCommand command) ≡ [] → HasNoEffect reply delta → Shows mid (λ t. Shows new (IsCommitted t delta row)) →
     ((n : ℕ) → number_of (known rows Requests) ≡ n → row ≡ answer_row (record { identity = i; command = command; reply = reply }) (n + 1)) →
     IsFoundOrStored i command reply old new
-stored_shown i command reply delta rows row old mid new stays none agree left quiet c is =
+stored_shown i command reply delta file rows row old mid new stays none agree left quiet c is =
     inr (both old new none agree (subst (λ (m : Option Tables). Shows m (λ t. Shows new (IsCommitted t delta row))) stays c))
   where
     both : (old new : Option Tables) → Shows old (λ t. t.answer i ≡ None) → Shows old (λ t. Agrees t rows) → Shows old (λ t. Shows new (IsCommitted t delta row)) →
         Shows old (λ t. Shows new (StoresRequest i command reply t))
     both None new none agree c = absurd c
     both (Some t) None none agree c = absurd c
-    both (Some t) (Some u) none agree c = stored_request i command reply delta rows row t u none agree left quiet c is
+    both (Some t) (Some u) none agree c = stored_request i command reply delta file rows row t u none agree left quiet c is
 
 pub stores_once : (caller : ℕ) (id : List ℕ) (command : Command) (reply : Reply) (old new : Option Tables) →
     IsFoundOrStored (record { caller = caller; id = id }) command reply old new → StoresOnce (Write caller id command) reply old new
@@ -105,12 +106,12 @@ fault_keeps caller id command fault.Store old new stays = (tt, stays)
 fault_keeps caller id command fault.Damaged old new stays = (tt, stays)
 
 -- a new identity after the last number
-pub full_keeps : (caller : ℕ) (id : List ℕ) (command : Command) (rows : Rows) (old new : Option Tables) →
-    Shows old (λ t. t.answer (record { caller = caller; id = id }) ≡ None) → Shows old (λ t. Agrees t rows) → next rows caller (OfCommand command) ≡ [] →
+pub full_keeps : (caller : ℕ) (id : List ℕ) (command : Command) (file : Option File) (rows : Rows) (old new : Option Tables) →
+    Shows old (λ t. t.answer (record { caller = caller; id = id }) ≡ None) → Shows old (λ t. Agrees t rows) → next file rows caller (OfCommand command) ≡ [] →
     most_requests ≤ number_of (known rows Requests) → new ≡ old →
     KeepsUntaken (Write caller id command) (NotTaken Full) old new
-full_keeps caller id command rows None new none agree left most stays = absurd none
-full_keeps caller id command rows (Some t) new none agree left most stays = ((none, subst (λ n. most_requests ≤ n) (requests_are t rows caller command agree left) most), stays)
+full_keeps caller id command file rows None new none agree left most stays = absurd none
+full_keeps caller id command file rows (Some t) new none agree left most stays = ((none, subst (λ n. most_requests ≤ n) (requests_are t file rows caller command agree left) most), stays)
 
 -- an answer that is stored says nothing of faults
 pub stored_counts : (reply : Reply) (before after : ℕ) → IsStored reply → after ≡ before → CountsReply reply before after

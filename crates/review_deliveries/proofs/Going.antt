@@ -221,15 +221,15 @@ run_none h s history view = record {
 }
 
 -- one delivery is a run
-pub run_one : (h : List Entry) (d : Delivery) (r : Reply) (old new : Shown) → IsServed h d r old new → IsRun h (d ∷ []) (r ∷ []) old new
-run_one h d r old new served = record {
+pub run_one : (h : List Entry) (d : Delivery) (r : Reply) (old new : Shown) → IsHistory h → IsServed h d r old new → IsRun h (d ∷ []) (r ∷ []) old new
+run_one h d r old new history served = record {
   history = served.history;
   view = served.view;
   counts = (old.faults, new.faults) ∷ [];
   right = record { replies = refl; counted = refl; each = only };
   follow = (refl, refl);
   stops = λ t x. ⊎_elim (λ (y : old.stops t). inl y) (λ (e : HasEffect h d t). inr (0, d, omega arith, e)) (served.stops t x);
-  since = leaves_since h d r old new served;
+  since = leaves_since h d r old new history served;
 }
   where
     only : (i : ℕ) (c : Delivery) (s : Reply) (n : ℕ × ℕ) → i < length (d ∷ []) →

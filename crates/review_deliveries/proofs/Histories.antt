@@ -1,27 +1,35 @@
 -- Identities in histories, and the tables of a history with one more entry.
-use Rattle.std.proofs.Common.{◌≡◌, ℕ, ◌+◌, ◌≤◌, List, [], ◌∷◌, ◌++◌, length, Option, Some, None, Bool, true, false, cond, refl, sym, ap, ◌∙◌, subst, ⊎_elim, inl, inr, arith, eqb-true, eq-eqb, ◌==◌}
-use Rattle.std.specs.Prelude.{MatchOption}
+use Rattle.std.proofs.Common.{◌≡◌, ℕ, ◌+◌, ◌≤◌, List, [], ◌∷◌, ◌++◌, length, Option, Some, None, true, false, cond, refl, sym, ap, ◌∙◌, subst, ⊎_elim, inl, inr, arith, eqb-true, eq-eqb, ◌==◌}
+use Rattle.std.specs.Prelude.{MatchOption, option_map}
 use Rattle.std.specs.Str.{bytes_eq}
-use Rattle.std.proofs.lemmas.Bool.{and_parts, and_from, cases_Bool, ltb-true}
+use Rattle.std.proofs.lemmas.Bool.{and_parts, and_from, cases_Bool}
 use Rattle.std.proofs.lemmas.Slice.Eq.{bytes_eq-Decides}
 use Rattle.review_words.specs.Texts.{content_text, reply_text, IsStored}
 use Rattle.review_words.specs.declared.command.Command.{Command}
-use Rattle.review_words.specs.declared.command.Command.TheVariants.{CreateAccount, PutGroup, PutProject, RecordBase}
+use Rattle.review_words.specs.declared.command.Command.TheVariants.{CreateAccount, PutGroup, PutProject, RecordBase, CreateChange, Upload, Review}
+use Rattle.review_words.specs.declared.changes.NewPatch.{NewPatch}
 use Rattle.review_words.specs.declared.reply.Reply.{Reply}
-use Rattle.review_words.specs.declared.reply.Reply.TheVariants.{Refused}
+use Rattle.review_words.specs.declared.reply.Reply.TheVariants.{Done, Refused, IdentityReused, NotTaken}
 use Rattle.review_words.specs.declared.reply.Answer.TheVariants.{Nothing}
 use Rattle.review_words.specs.declared.reply.Refusal.{Refusal}
-use Rattle.review_words.specs.declared.reply.Refusal.TheVariants.{UnknownCaller}
-use Rattle.review_words.specs.History.{Entry, Identity, stored, is_same, is_account, account_count}
-use Rattle.review_project_laws.proofs.Placed.{placed}
+use Rattle.review_words.specs.History.{Entry, Identity, stored, is_same, file_text}
+use Rattle.review_changes.specs.Change.{Change}
 use Rattle.review_rows.specs.declared.rows.Delta.{Delta}
 use Rattle.review_rows.specs.declared.rows.Rows.{Rows}
 use Rattle.review_rows.specs.Rows.{AnswerRow, Answered, Tables, after, count_after}
-use Rattle.review_rows.specs.Known.{Agrees}
-use Rattle.review_rows.specs.Steps.{Topic, next}
-use Rattle.review_rows.specs.Answer.{IsHistory, IsAnswer, IsOutcome, checks, file_checks, first_refusal, refused_by, refused_or, most_requests}
-use Rattle.review_rows.specs.View.{AreEnough, IsView, IsDecided, view, fact, stored_answer, answer_row}
+use Rattle.review_rows.specs.declared.rows.Want.TheVariants.{Requests}
+use Rattle.review_rows.specs.Known.{Agrees, known, number_of}
+use Rattle.review_rows.specs.Steps.{Topic, OfCommand}
+use Rattle.review_rows.specs.Changes.{Reading, Reads, change}
+use Rattle.review_rows.specs.Decisions.{IsDoneOrRefused}
+use Rattle.review_rows.specs.Files.{File}
+use Rattle.review_rows.specs.Answer.{IsHistory, IsAnswer, IsAnswerBy, IsOf, IsOutcome, IsUploadAnswer, file_checks, first_refusal, refused_by, refused_or, most_requests}
+use Rattle.review_rows.specs.View.{AreEnough, IsView, IsViewBy, IsDecided, view, fact, stored_answer, answer_row}
 use Rattle.review_rows.specs.Shelf.{IsCommitted, Shows, Views}
+use Rattle.review_rows.proofs.Asked.{requests_are}
+use Rattle.review_rows.proofs.Readings.{reading_of}
+use Rattle.review_deliveries.specs.Gathered.{IsAllAsked}
+use Rattle.review_deliveries.proofs.Stored.{answer_stored}
 
 pub same_from : (a b : Identity) → is_same a b ≡ true → a ≡ b
 same_from a b t =
@@ -39,59 +47,43 @@ stored_here e h i t = ap (λ b. cond b (Some e) (stored h i)) t
 pub stored_there : (e : Entry) (h : List Entry) (i : Identity) → is_same e.identity i ≡ false → stored (e ∷ h) i ≡ stored h i
 stored_there e h i f = ap (λ b. cond b (Some e) (stored h i)) f
 
--- the checks of a command that is done
-abbrev AllPass : List (Bool × Refusal) → Type 0
-AllPass [] = Unit {0}
-AllPass (c ∷ cs) = (c.0 ≡ true) × AllPass cs
+-- an answer is done or refused
+file_given : (o : Option Refusal) → IsDoneOrRefused (refused_or o Nothing)
+file_given None = tt
+file_given (Some r) = tt
 
-all_pass : (cs : List (Bool × Refusal)) → first_refusal cs ≡ None → AllPass cs
-all_pass [] none = tt
-all_pass (c ∷ cs) none =
-    ⊎_elim
-    (λ (t : c.0 ≡ true). (t, all_pass cs (sym (ap (λ b. cond b (first_refusal cs) (Some c.1)) t) ∙ none)))
-    (λ (f : c.0 ≡ false). let some = sym (ap (λ b. cond b (first_refusal cs) (Some c.1)) f) ∙ none in absurd (cc))
-    (cases_Bool c.0)
+upload_given : (reading : Reading) (h : List Entry) (caller n : ℕ) (patch : NewPatch) (o : Option Change) (reply : Reply) → IsOf (λ c. IsUploadAnswer reading h caller n patch c reply) o → IsDoneOrRefused reply
+upload_given reading h caller n patch None reply is = absurd is
+upload_given reading h caller n patch (Some c) reply is = subst IsDoneOrRefused (sym is.reply_is) tt
 
--- the refusals of checks are stored
-abbrev AllStored : List (Bool × Refusal) → Type 0
-AllStored [] = Unit {0}
-AllStored (c ∷ cs) = IsStored (Refused c.1) × AllStored cs
+outcome_given : (reading : Reading) (h : List Entry) (caller : ℕ) (command : Command) (reply : Reply) → IsOutcome reading h caller command reply → IsDoneOrRefused reply
+outcome_given reading h caller (CreateAccount name) reply is = subst IsDoneOrRefused (sym is) tt
+outcome_given reading h caller (PutGroup group members) reply is = subst IsDoneOrRefused (sym is) tt
+outcome_given reading h caller (RecordBase project branch commit) reply is = subst IsDoneOrRefused (sym is) tt
+outcome_given reading h caller (PutProject project text) reply (inl f) = subst IsDoneOrRefused (sym f.2) tt
+outcome_given reading h caller (PutProject project text) reply (inr f) =
+    subst IsDoneOrRefused (sym f.2) (file_given (first_refusal (file_checks h project (option_map reading (file_text h project)) f.0)))
+outcome_given reading h caller (CreateChange new) reply is = subst IsDoneOrRefused (sym is) tt
+outcome_given reading h caller (Upload n patch) reply is = upload_given reading h caller n patch (change reading h n) reply is
+outcome_given reading h caller (Review n review) reply is = subst IsDoneOrRefused (sym is) tt
 
-first_stored : (cs : List (Bool × Refusal)) (r : Refusal) → AllStored cs → first_refusal cs ≡ Some r → IsStored (Refused r)
-first_stored [] r all is = absurd (cc)
-first_stored (c ∷ cs) r all is =
-    ⊎_elim
-    (λ (t : c.0 ≡ true). first_stored cs r all.1 (sym (ap (λ b. cond b (first_refusal cs) (Some c.1)) t) ∙ is))
-    (λ (f : c.0 ≡ false).
-    let some : Some c.1 ≡ Some r = sym (ap (λ b. cond b (first_refusal cs) (Some c.1)) f) ∙ is in
-    let same : c.1 ≡ r = cc in subst (λ x. IsStored (Refused x)) same all.0)
-    (cases_Bool c.0)
-
-checks_stored : (h : List Entry) (caller : ℕ) (command : Command) → AllStored (checks h caller command)
-checks_stored h caller (CreateAccount name) = (tt, (tt, (tt, tt)))
-checks_stored h caller (PutGroup group members) = (tt, (tt, (tt, tt)))
-checks_stored h caller (PutProject project text) = (tt, tt)
-checks_stored h caller (RecordBase project branch commit) = (tt, (tt, (tt, (tt, tt))))
-
-refused_or_stored : (o : Option Refusal) → ((r : Refusal) → o ≡ Some r → IsStored (Refused r)) → IsStored (refused_or o Nothing)
-refused_or_stored None stored = tt
-refused_or_stored (Some r) stored = stored r refl
-
-outcome_stored : (h : List Entry) (caller : ℕ) (command : Command) (reply : Reply) → AllPass (checks h caller command) → IsOutcome h command reply → IsStored reply
-outcome_stored h caller (CreateAccount name) reply all is =
-    let below = ltb-true (account_count h) 1000000 all.1.1.0 in subst IsStored (sym is) (omega arith, omega arith)
-outcome_stored h caller (PutGroup group members) reply all is = subst IsStored (sym is) tt
-outcome_stored h caller (RecordBase project branch commit) reply all is = subst IsStored (sym is) tt
-outcome_stored h caller (PutProject project text) reply all (inl f) = subst IsStored (sym f.2) (placed text f.0 f.1)
-outcome_stored h caller (PutProject project text) reply all (inr f) =
-    subst IsStored (sym f.4) (refused_or_stored (first_refusal (file_checks h project f.1 f.0)) (λ r is. first_stored (file_checks h project f.1 f.0) r (tt, (tt, tt)) is))
-
-pub answer_stored : (h : List Entry) (caller : ℕ) (command : Command) (reply : Reply) → IsAnswer h caller command reply → IsStored reply
-answer_stored h caller command reply is = at (refused_by h caller command) refl is
+pub answer_given_by : (reading : Reading) (h : List Entry) (caller : ℕ) (command : Command) (reply : Reply) → IsAnswerBy reading h caller command reply → IsDoneOrRefused reply
+answer_given_by reading h caller command reply is = at (refused_by reading h caller command) is
   where
-    at : (o : Option Refusal) → refused_by h caller command ≡ o → MatchOption o (IsOutcome h command reply) (λ refusal. reply ≡ Refused refusal) → IsStored reply
-    at None none is = outcome_stored h caller command reply (all_pass ((is_account h caller, UnknownCaller) ∷ checks h caller command) none).1 is
-    at (Some r) some is = subst IsStored (sym is) (first_stored ((is_account h caller, UnknownCaller) ∷ checks h caller command) r (tt, checks_stored h caller command) some)
+    at : (o : Option Refusal) → MatchOption o (IsOutcome reading h caller command reply) (λ refusal. reply ≡ Refused refusal) → IsDoneOrRefused reply
+    at None is = outcome_given reading h caller command reply is
+    at (Some r) is = subst IsDoneOrRefused (sym is) tt
+
+pub answer_given : (h : List Entry) (caller : ℕ) (command : Command) (reply : Reply) → IsHistory h → IsAnswer h caller command reply → IsDoneOrRefused reply
+answer_given h caller command reply history is =
+    let r = reading_of h history in answer_given_by r.0 h caller command reply (is r.0 r.1)
+
+-- a reply that is stored is done or refused
+pub stored_given : (reply : Reply) → IsStored reply → IsDoneOrRefused reply
+stored_given (Done a) stored = tt
+stored_given (Refused r) stored = tt
+stored_given IdentityReused stored = absurd stored
+stored_given (NotTaken cause) stored = absurd stored
 
 pub history_length : (h : List Entry) → IsHistory h → length h ≤ most_requests
 history_length [] hist = omega arith
@@ -110,7 +102,7 @@ recalled (e ∷ h) a i hist there =
       stored_here e h i t,
       sym (ap (λ (r : AnswerRow). r.content) row),
       sym (ap (λ (r : AnswerRow). r.reply) row),
-      answer_stored h e.identity.caller e.command e.reply hist.1,
+      answer_stored h e.identity.caller e.command e.reply hist.3 hist.1,
     ))
     (λ (f : is_same e.identity i ≡ false).
     let r = recalled h a i hist.3 (sym (ap (λ b. cond b (Some (Answered (answer_row e (length h + 1)))) (stored_answer h i)) f) ∙ there) in
@@ -153,14 +145,20 @@ stored_stays (m ∷ more) h i e hist some =
     (λ (f : is_same m.identity i ≡ false). stored_there m (more ++ h) i f ∙ there)
     (cases_Bool (is_same m.identity i))
 
+-- a list that goes on from another is a history only where that is one
+pub earlier : (more h : List Entry) → IsHistory (more ++ h) → IsHistory h
+earlier [] h history = history
+earlier (e ∷ more) h history = earlier more h history.3
+
 -- a commit of what was decided gives the tables of the history with the entry
 pub view_grows : (h : List Entry) (t new : Tables) (delta : Delta) (row : AnswerRow) (caller : ℕ) (id : List ℕ) (command : Command) (reply : Reply) →
-    IsView h t → IsDecided h caller command delta reply → IsCommitted t delta row new →
+    IsView h t → ((reading : Reading) → Reads reading h → IsDecided reading h caller command delta reply) → IsCommitted t delta row new →
     row ≡ answer_row (record { identity = record { caller = caller; id = id }; command = command; reply = reply }) (length h + 1) →
     IsView (record { identity = record { caller = caller; id = id }; command = command; reply = reply } ∷ h) new
-view_grows h t new delta row caller id command reply v d c is =
-    let e : Entry = record { identity = record { caller = caller; id = id }; command = command; reply = reply } in
-    let row : t.row ≡ fact h = λ i k. v.row_is k i in
+view_grows h t new delta row caller id command reply view decided c is reading reads =
+    let v : IsViewBy reading h t = view reading reads.1 in
+    let d : IsDecided reading h caller command delta reply = decided reading reads.1 in
+    let row : t.row ≡ fact reading h = λ i k. v.row_is k i in
     record {
       row_is = λ k. c.row_is k ∙ (ap (after delta k) (v.row_is k) ∙ sym (d.row_is id k));
       count_is = λ n. c.count_is n ∙ ((λ i. count_after delta (row i) n (v.count_is n i)) ∙ sym (d.count_is id n));
@@ -170,8 +168,8 @@ view_grows h t new delta row caller id command reply v d c is =
     }
 
 -- the tables that are a history's view are its view
-pub view_of : (h : List Entry) (t : Tables) → IsView h t → t ≡ view h
-view_of h t v = λ i. record {
+pub view_of : (reading : Reading) (h : List Entry) (t : Tables) → IsViewBy reading h t → t ≡ view reading h
+view_of reading h t v = λ i. record {
   row = λ k. v.row_is k i;
   count = λ c. v.count_is c i;
   answer = λ a. v.answer_is a i;
@@ -180,10 +178,20 @@ view_of h t v = λ i. record {
 }
 
 -- rows that agree with the tables in use decide after the history whose view these are
-pub enough_shown : (h : List Entry) (tables : Option Tables) (caller : ℕ) (topic : Topic) (rows : Rows) → Views h tables →
-    Shows tables (λ t. Agrees t rows) → next rows caller topic ≡ [] → AreEnough h caller topic rows
-enough_shown h None caller topic rows v found left = absurd found
-enough_shown h (Some t) caller topic rows v found left = record {
-  agree = subst (λ (u : Tables). Agrees u rows) (view_of h t v) found;
-  nothing_left = left;
+pub enough_shown : (reading : Reading) (h : List Entry) (tables : Option Tables) (caller : ℕ) (topic : Topic) (file : Option File) (rows : Rows) → Reads reading h → Views h tables →
+    Shows tables (λ t. Agrees t rows) → IsAllAsked caller topic file rows → AreEnough reading h caller topic file rows
+enough_shown reading h None caller topic file rows reads v found asked = absurd found
+enough_shown reading h (Some t) caller topic file rows reads v found asked = record {
+  reads = reads;
+  agree = subst (λ (u : Tables). Agrees u rows) (view_of reading h t (v reading reads)) found;
+  file_is = asked.1;
+  nothing_left = asked.0;
 }
+
+-- how many requests the history has, as rows say that decide after it
+pub requests_told : (h : List Entry) (tables : Option Tables) (caller : ℕ) (command : Command) (file : Option File) (rows : Rows) → IsHistory h → Views h tables →
+    Shows tables (λ t. Agrees t rows) → IsAllAsked caller (OfCommand command) file rows → number_of (known rows Requests) ≡ length h
+requests_told h tables caller command file rows history v found asked =
+    let r = reading_of h history in
+    let enough = enough_shown r.0 h tables caller (OfCommand command) file rows r.1 v found asked in
+    requests_are (view r.0 h) file rows caller command enough.agree asked.0

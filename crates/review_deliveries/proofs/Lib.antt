@@ -1,7 +1,13 @@
-pub mod Gathered
+pub mod Asking
+pub mod Votes
+pub mod Voted
+pub mod Bounds
+pub mod Stored
 pub mod Histories
+pub mod Filed
 pub mod Served
 pub mod Effects
+pub mod Readable
 pub mod Going
 pub mod Outcomes
 pub mod Restarting

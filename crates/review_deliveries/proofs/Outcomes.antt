@@ -1,56 +1,79 @@
 -- One answer to each command, unless a pattern nests too deep.
-use Rattle.std.proofs.Common.{◌≡◌, ◌⊎◌, ℕ, List, [], ◌∷◌, Option, Some, None, true, ◌||◌, ◌∙◌, sym, ap, subst, inl, inr}
-use Rattle.std.specs.Prelude.{nat_lt, MatchOption}
+use Rattle.std.proofs.Common.{◌≡◌, ◌⊎◌, ℕ, List, [], ◌∷◌, Option, Some, None, true, ◌+◌, ◌||◌, ◌∙◌, sym, ap, inl, inr, refl, subst}
+use Rattle.std.specs.Prelude.{nat_lt, option_map, MatchOption}
 use Rattle.std.specs.Option.{option_map_or}
+use Rattle.review_words.specs.declared.changes.NewPatch.{NewPatch}
 use Rattle.review_words.specs.declared.command.Command.{Command}
-use Rattle.review_words.specs.declared.command.Command.TheVariants.{CreateAccount, PutGroup, PutProject, RecordBase}
+use Rattle.review_words.specs.declared.command.Command.TheVariants.{CreateAccount, PutGroup, PutProject, RecordBase, CreateChange, Upload, Review}
 use Rattle.review_words.specs.declared.reply.Reply.{Reply}
-use Rattle.review_words.specs.declared.reply.Reply.TheVariants.{Refused}
-use Rattle.review_words.specs.declared.reply.Answer.TheVariants.{Nothing}
+use Rattle.review_words.specs.declared.reply.Reply.TheVariants.{Done, Refused}
+use Rattle.review_words.specs.declared.reply.Answer.TheVariants.{Nothing, Patch}
 use Rattle.review_words.specs.declared.reply.Refusal.{Refusal}
 use Rattle.review_words.specs.declared.reply.Refusal.TheVariants.{BadFile, LabelNarrowed, Limit}
 use Rattle.review_words.specs.History.{Entry, is_project, project_count, file_text}
 use Rattle.review_project.specs.Reading.{IsBadValue}
 use Rattle.review_project_laws.proofs.Together.{same_covers, never_both, one_refusal}
+use Rattle.review_changes.specs.Change.{Change, carried, copying, current, is_lost}
+use Rattle.review_changes.specs.declared.commands.ChangeCommand.TheVariants as change_asked
+use Rattle.review_changes.specs.Votes.{voted}
+use Rattle.review_rows.specs.Changes.{Reading, change, setting_of}
 use Rattle.review_rows.specs.Files.{File, IsRead, covers, HasDeepPattern}
-use Rattle.review_rows.specs.Answer.{IsOutcome, HasFile, first_refusal, refused_by, refused_or}
+use Rattle.review_rows.specs.Answer.{IsAnswerBy, IsOf, IsOutcome, IsUploadAnswer, first_refusal, refused_by, refused_or}
+use Rattle.review_rows.proofs.Readings.{reading_of}
 use Rattle.review_deliveries.specs.Restart.{IsFree, RefusesBadValue, OneAnswer}
+use Rattle.review_deliveries.proofs.Votes.{one_count}
 
--- what the old file covers, whichever of those is taken that its text and the new one spell
-same_cover : (had : Option (List ℕ)) (text : List ℕ) (old other : Option File) (new next : File) → HasFile had old → HasFile had other → IsRead text new → IsRead text next →
-    option_map_or (λ f. covers f new) old true ≡ option_map_or (λ f. covers f next) other true
-same_cover None text old other new next a b r s = ap (λ o. option_map_or (λ f. covers f new) o true) a ∙ sym (ap (λ o. option_map_or (λ f. covers f next) o true) b)
-same_cover (Some had) text old other new next a b r s =
-    ap (λ o. option_map_or (λ f. covers f new) o true) a.2
-    ∙ ((same_covers had a.0 b.0 a.1 b.1 new).0 ∙ (same_covers text new next r s b.0).1)
-    ∙ sym (ap (λ o. option_map_or (λ f. covers f next) o true) b.2)
+-- what the old file covers, whichever of those is put that the text spells
+same_cover : (old : Option File) (text : List ℕ) (new next : File) → IsRead text new → IsRead text next → option_map_or (λ f. covers f new) old true ≡ option_map_or (λ f. covers f next) old true
+same_cover None text new next r s = refl
+same_cover (Some f) text new next r s = (same_covers text new next r s f).1
 
-one_put : (h : List Entry) (project text : List ℕ) (r s : Reply) → IsOutcome h (PutProject project text) r → IsOutcome h (PutProject project text) s →
+one_put : (reading : Reading) (h : List Entry) (caller : ℕ) (project text : List ℕ) (r s : Reply) → IsOutcome reading h caller (PutProject project text) r → IsOutcome reading h caller (PutProject project text) s →
     (r ≡ s) ⊎ (HasDeepPattern text × (RefusesBadValue r ⊎ RefusesBadValue s))
-one_put h project text r s (inl f) (inl g) = by (one_refusal text f.0 g.0 f.1 g.1)
+one_put reading h caller project text r s (inl f) (inl g) = by (one_refusal text f.0 g.0 f.1 g.1)
   where
     by : (f.0 ≡ g.0) ⊎ ((IsBadValue f.0 ⊎ IsBadValue g.0) × HasDeepPattern text) → (r ≡ s) ⊎ (HasDeepPattern text × (RefusesBadValue r ⊎ RefusesBadValue s))
     by (inl same) = inl (f.2 ∙ ap (λ x. Refused (BadFile x)) same ∙ sym g.2)
     by (inr (inl bad, deep)) = inr (deep, inl (subst RefusesBadValue (sym f.2) bad))
     by (inr (inr bad, deep)) = inr (deep, inr (subst RefusesBadValue (sym g.2) bad))
-one_put h project text r s (inl f) (inr g) = absurd (never_both text g.0 f.0 g.2 f.1)
-one_put h project text r s (inr f) (inl g) = absurd (never_both text f.0 g.0 f.2 g.1)
-one_put h project text r s (inr f) (inr g) =
-    inl (f.4
+one_put reading h caller project text r s (inl f) (inr g) = absurd (never_both text g.0 f.0 g.1 f.1)
+one_put reading h caller project text r s (inr f) (inl g) = absurd (never_both text f.0 g.0 f.1 g.1)
+one_put reading h caller project text r s (inr f) (inr g) =
+    inl (f.2
     ∙ ap (λ b. refused_or (first_refusal ((b, LabelNarrowed) ∷ (is_project h project || nat_lt (project_count h) 1000, Limit) ∷ [])) Nothing)
-    (same_cover (file_text h project) text f.1 g.1 f.0 g.0 f.3 g.3 f.2 g.2)
-    ∙ sym g.4)
+    (same_cover (option_map reading (file_text h project)) text f.0 g.0 f.1 g.1)
+    ∙ sym g.2)
 
-one_outcome : (h : List Entry) (command : Command) (r s : Reply) → IsOutcome h command r → IsOutcome h command s → (r ≡ s) ⊎ (IsFree command × (RefusesBadValue r ⊎ RefusesBadValue s))
-one_outcome h (CreateAccount name) r s a b = inl (a ∙ sym b)
-one_outcome h (PutGroup group members) r s a b = inl (a ∙ sym b)
-one_outcome h (RecordBase project branch commit) r s a b = inl (a ∙ sym b)
-one_outcome h (PutProject project text) r s a b = one_put h project text r s a b
+-- one count of the votes that are copied, and one of those that are not
+one_upload : (reading : Reading) (h : List Entry) (caller n : ℕ) (patch : NewPatch) (o : Option Change) (r s : Reply) →
+    IsOf (λ c. IsUploadAnswer reading h caller n patch c r) o → IsOf (λ c. IsUploadAnswer reading h caller n patch c s) o → r ≡ s
+one_upload reading h caller n patch None r s a b = absurd a
+one_upload reading h caller n patch (Some c) r s a b =
+    let k = copying (setting_of reading h c.project) (change_asked.Upload patch) caller c in
+    let copied = one_count (λ l u. voted (carried k c l u)) a.copied b.copied a.many_copied b.many_copied in
+    let outdated = one_count (λ l u. is_lost k c u l) a.outdated b.outdated a.many_outdated b.many_outdated in
+    a.reply_is ∙ ((λ i. Done (Patch n (current c + 1) (copied i) (outdated i))) ∙ sym b.reply_is)
+
+one_outcome : (reading : Reading) (h : List Entry) (caller : ℕ) (command : Command) (r s : Reply) → IsOutcome reading h caller command r → IsOutcome reading h caller command s →
+    (r ≡ s) ⊎ (IsFree command × (RefusesBadValue r ⊎ RefusesBadValue s))
+one_outcome reading h caller (CreateAccount name) r s a b = inl (a ∙ sym b)
+one_outcome reading h caller (PutGroup group members) r s a b = inl (a ∙ sym b)
+one_outcome reading h caller (RecordBase project branch commit) r s a b = inl (a ∙ sym b)
+one_outcome reading h caller (PutProject project text) r s a b = one_put reading h caller project text r s a b
+one_outcome reading h caller (CreateChange new) r s a b = inl (a ∙ sym b)
+one_outcome reading h caller (Upload n patch) r s a b = inl (one_upload reading h caller n patch (change reading h n) r s a b)
+one_outcome reading h caller (Review n review) r s a b = inl (a ∙ sym b)
+
+-- one answer, by one reading
+pub one_answer_by : (reading : Reading) (h : List Entry) (caller : ℕ) (command : Command) (r s : Reply) → IsAnswerBy reading h caller command r → IsAnswerBy reading h caller command s →
+    (r ≡ s) ⊎ (IsFree command × (RefusesBadValue r ⊎ RefusesBadValue s))
+one_answer_by reading h caller command r s a b = at (refused_by reading h caller command) a b
+  where
+    at : (o : Option Refusal) → MatchOption o (IsOutcome reading h caller command r) (λ x. r ≡ Refused x) → MatchOption o (IsOutcome reading h caller command s) (λ x. s ≡ Refused x) →
+        (r ≡ s) ⊎ (IsFree command × (RefusesBadValue r ⊎ RefusesBadValue s))
+    at None a b = one_outcome reading h caller command r s a b
+    at (Some x) a b = inl (a ∙ sym b)
 
 pub one_answer : OneAnswer
-one_answer h caller command r s a b = at (refused_by h caller command) a b
-  where
-    at : (o : Option Refusal) → MatchOption o (IsOutcome h command r) (λ x. r ≡ Refused x) → MatchOption o (IsOutcome h command s) (λ x. s ≡ Refused x) →
-        (r ≡ s) ⊎ (IsFree command × (RefusesBadValue r ⊎ RefusesBadValue s))
-    at None a b = one_outcome h command r s a b
-    at (Some x) a b = inl (a ∙ sym b)
+one_answer h caller command r s history a b =
+    let reading = reading_of h history in one_answer_by reading.0 h caller command r s (a reading.0 reading.1) (b reading.0 reading.1)

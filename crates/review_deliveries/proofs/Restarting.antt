@@ -4,7 +4,7 @@ use Rattle.std.specs.Prelude.{is_some, MatchOption}
 use Rattle.std.proofs.lemmas.Bool.{cases_Bool}
 use Rattle.std.proofs.lemmas.List.{length-take-le}
 use mathlib.Core.List.{append_assoc}
-use Rattle.review_words.specs.Texts.{IsStored}
+use Rattle.review_rows.specs.Decisions.{IsDoneOrRefused}
 use Rattle.review_words.specs.declared.command.Command.{Command}
 use Rattle.review_words.specs.declared.command.Delivery.{Delivery}
 use Rattle.review_words.specs.declared.command.Delivery.TheVariants.{Write, Read}
@@ -14,10 +14,12 @@ use Rattle.review_words.specs.History.{Entry, Identity, stored, is_same}
 use Rattle.review_rows.specs.Answer.{IsHistory, IsAnswer}
 use Rattle.review_rows.specs.Rows.{Tables}
 use Rattle.review_rows.specs.View.{IsView}
-use Rattle.review_deliveries.proofs.Outcomes.{one_answer}
+use Rattle.review_rows.proofs.Readings.{reading_of}
+use Rattle.review_deliveries.proofs.Outcomes.{one_answer_by}
+use Rattle.review_deliveries.proofs.Readable.{HasReading, read_on}
 use Rattle.review_deliveries.specs.Replies.{IsTold, IsRight, AreRight, IsToldOfStored, history_after, with_entries as hist, has_identity, first_arrivals as first, arrivals_after as first_after, taken, with_taken, entry_of, HasEffect}
 use Rattle.review_deliveries.specs.Restart.{IsFree, RefusesBadValue, IsSettled, AreSettled, WasTaken, WereTaken, AgreeFor, AgreeOnWrites, RunsAsFrom, RestartIsRun, RestartAfterStop, RestartCompletes, RestartKeepsHistory, RepliesFollowHistory}
-use Rattle.review_deliveries.proofs.Histories.{answer_stored, stored_stays, stored_here, stored_there, same_to}
+use Rattle.review_deliveries.proofs.Histories.{answer_given, earlier, stored_stays, stored_here, stored_there, same_to}
 use Rattle.review_deliveries.proofs.Served.{new_history, same_history, same_command}
 use Rattle.review_deliveries.proofs.Going.{HasSince, since_old, since_new, or_false, with_taken-append, first-append, history_after-append}
 
@@ -40,6 +42,12 @@ grown h (e ∷ es) =
     let g = grown (e ∷ h) es in
     (g.0 ++ e ∷ [], g.1 ∙ sym (append_assoc g.0 (e ∷ []) h))
 
+-- a list from which a run leaves a history is one
+began : (h : List Entry) (ds : List Delivery) (rs : List Reply) → IsHistory (history_after h ds rs) → IsHistory h
+began h ds rs history =
+    let more = grown h (first h (taken ds rs)) in
+    earlier more.0 h (subst IsHistory more.1 history)
+
 told_at : (h : List Entry) (caller : ℕ) (id : List ℕ) (command : Command) (reply : Reply) (o : Option Entry) → stored h (record { caller = caller; id = id }) ≡ o →
     IsTold h (Write caller id command) reply → MatchOption o (IsAnswer h caller command reply) (λ e. IsToldOfStored e command reply)
 told_at h caller id command reply o is told = subst (λ o. MatchOption o (IsAnswer h caller command reply) (λ e. IsToldOfStored e command reply)) is told
@@ -49,17 +57,17 @@ one_repeat e command r s a b =
     ⊎_elim (λ (c : command ≡ e.command). a.equal c ∙ sym (b.equal c)) (λ (n : command ≡ e.command → ⊥). a.other n ∙ sym (b.other n)) (same_command command e.command)
 
 -- one answer to each command that leaves no choice
-settled_answer : (h : List Entry) (caller : ℕ) (command : Command) (r s : Reply) → (IsFree command → ⊥) → IsAnswer h caller command r → IsAnswer h caller command s → r ≡ s
-settled_answer h caller command r s settled a b =
-    ⊎_elim (λ (same : r ≡ s). same) (λ (free : IsFree command × (RefusesBadValue r ⊎ RefusesBadValue s)). absurd (settled free.0)) (one_answer h caller command r s a b)
+settled_answer : (h : List Entry) (caller : ℕ) (command : Command) (r s : Reply) → (IsFree command → ⊥) → HasReading h → IsAnswer h caller command r → IsAnswer h caller command s → r ≡ s
+settled_answer h caller command r s settled reading a b =
+    ⊎_elim (λ (same : r ≡ s). same) (λ (free : IsFree command × (RefusesBadValue r ⊎ RefusesBadValue s)). absurd (settled free.0)) (one_answer_by reading.0 h caller command r s (a reading.0 reading.1) (b reading.0 reading.1))
 
 -- one right reply
-one_told : (h : List Entry) (d : Delivery) (r s : Reply) → IsSettled d → IsTold h d r → IsTold h d s → r ≡ s
-one_told h (Read caller query) r s settled a b = a ∙ sym b
-one_told h (Write caller id command) r s settled a b = at (stored h (record { caller = caller; id = id })) refl
+one_told : (h : List Entry) (d : Delivery) (r s : Reply) → IsSettled d → HasReading h → IsTold h d r → IsTold h d s → r ≡ s
+one_told h (Read caller query) r s settled reading a b = a ∙ sym b
+one_told h (Write caller id command) r s settled reading a b = at (stored h (record { caller = caller; id = id })) refl
   where
     at : (o : Option Entry) → stored h (record { caller = caller; id = id }) ≡ o → r ≡ s
-    at None is = settled_answer h caller command r s settled (told_at h caller id command r None is a) (told_at h caller id command s None is b)
+    at None is = settled_answer h caller command r s settled reading (told_at h caller id command r None is a) (told_at h caller id command s None is b)
     at (Some e) is = one_repeat e command r s (told_at h caller id command r (Some e) is a) (told_at h caller id command s (Some e) is b)
 
 agrees : (d : Delivery) (r s : Reply) → r ≡ s → AgreeFor d r s
@@ -67,15 +75,15 @@ agrees (Read caller query) r s e = tt
 agrees (Write caller id command) r s e = e
 
 -- from one history, everything is the same
-same_run : (h : List Entry) (ds : List Delivery) (rs ss : List Reply) → AreSettled ds → AreTold h ds rs → AreTold h ds ss → AgreeOnWrites ds rs ss × (history_after h ds ss ≡ history_after h ds rs)
-same_run h [] [] [] settled a b = (tt, refl)
-same_run h [] (r ∷ rs) ss settled a b = absurd a
-same_run h [] [] (s ∷ ss) settled a b = absurd b
-same_run h (d ∷ ds) [] ss settled a b = absurd a
-same_run h (d ∷ ds) (r ∷ rs) [] settled a b = absurd b
-same_run h (d ∷ ds) (r ∷ rs) (s ∷ ss) settled a b =
-    let e = one_told h d r s settled.0 a.1 b.1 in
-    let rest = same_run (history_after h (d ∷ []) (r ∷ [])) ds rs ss settled.1 a.2 (subst (λ x. AreTold (history_after h (d ∷ []) (x ∷ [])) ds ss) (sym e) b.2) in (
+same_run : (h : List Entry) (ds : List Delivery) (rs ss : List Reply) → AreSettled ds → HasReading h → AreTold h ds rs → AreTold h ds ss → AgreeOnWrites ds rs ss × (history_after h ds ss ≡ history_after h ds rs)
+same_run h [] [] [] settled reading a b = (tt, refl)
+same_run h [] (r ∷ rs) ss settled reading a b = absurd a
+same_run h [] [] (s ∷ ss) settled reading a b = absurd b
+same_run h (d ∷ ds) [] ss settled reading a b = absurd a
+same_run h (d ∷ ds) (r ∷ rs) [] settled reading a b = absurd b
+same_run h (d ∷ ds) (r ∷ rs) (s ∷ ss) settled reading a b =
+    let e = one_told h d r s settled.0 reading a.1 b.1 in
+    let rest = same_run (history_after h (d ∷ []) (r ∷ [])) ds rs ss settled.1 (read_on h d r reading a.1) a.2 (subst (λ x. AreTold (history_after h (d ∷ []) (x ∷ [])) ds ss) (sym e) b.2) in (
       (agrees d r s e, rest.0),
       history_cons h d ds s ss ∙ ap (λ x. history_after (history_after h (d ∷ []) (x ∷ [])) ds ss) (sym e) ∙ rest.1 ∙ sym (history_cons h d ds r rs),
     )
@@ -98,7 +106,8 @@ again g h more (Write caller id command) r s hist is a b = at (stored g i) refl
     at None none =
         let e : Entry = entry_of caller id command r in
         let answered = told_at g caller id command r None none a in
-        let kept : IsStored r = answer_stored g caller command r answered in
+        let past : IsHistory (history_after g (Write caller id command ∷ []) (r ∷ [])) = earlier more (history_after g (Write caller id command ∷ []) (r ∷ [])) (subst IsHistory is hist) in
+        let kept : IsDoneOrRefused r = answer_given g caller command r (began g (Write caller id command ∷ []) (r ∷ []) past) answered in
         let some = there e (ap (λ x. stored x (record { caller = caller; id = id })) (new_history g caller id command r kept none)
         ∙ stored_here e g (record { caller = caller; id = id }) (same_to (record { caller = caller; id = id }) (record { caller = caller; id = id }) refl)) in
         (sym ((told_at h caller id command s (Some e) some b).equal refl), same_history h caller id command s e some)
@@ -109,11 +118,12 @@ again g h more (Write caller id command) r s hist is a b = at (stored g i) refl
 restart_told : (h0 h : List Entry) (ds1 ds2 : List Delivery) (rs1 rs2 ss : List Reply) →
     IsHistory h → h ≡ history_after h0 ds1 rs1 → length rs1 ≡ length ds1 → AreSettled ds2 → AreTold h0 (ds1 ++ ds2) (rs1 ++ rs2) → AreTold h (ds1 ++ ds2) ss →
     AgreeOnWrites (ds1 ++ ds2) (rs1 ++ rs2) ss × (history_after h (ds1 ++ ds2) ss ≡ history_after h0 (ds1 ++ ds2) (rs1 ++ rs2))
-restart_told g h [] ds2 [] rs2 ss hist is same settled a b = same_run' g h ds2 rs2 ss settled is a b
+restart_told g h [] ds2 [] rs2 ss hist is same settled a b = same_run' g h ds2 rs2 ss settled is (reading_of h hist) a b
   where
-    same_run' : (g h : List Entry) (ds : List Delivery) (rs ss : List Reply) → AreSettled ds → h ≡ g → AreTold g ds rs → AreTold h ds ss → AgreeOnWrites ds rs ss × (history_after h ds ss ≡ history_after g ds rs)
-    same_run' g h ds rs ss settled is a b =
-        let s = same_run g ds rs ss settled a (subst (λ x. AreTold x ds ss) is b) in
+    same_run' : (g h : List Entry) (ds : List Delivery) (rs ss : List Reply) → AreSettled ds → h ≡ g → HasReading h → AreTold g ds rs → AreTold h ds ss →
+        AgreeOnWrites ds rs ss × (history_after h ds ss ≡ history_after g ds rs)
+    same_run' g h ds rs ss settled is reading a b =
+        let s = same_run g ds rs ss settled (subst HasReading is reading) a (subst (λ x. AreTold x ds ss) is b) in
         (s.0, ap (λ x. history_after x ds ss) is ∙ s.1)
 restart_told g h [] ds2 (r ∷ rs1) rs2 ss hist is same settled a b = absurd (omega arith)
 restart_told g h (d ∷ ds1) ds2 [] rs2 ss hist is same settled a b = absurd (omega arith)
@@ -192,7 +202,8 @@ told_by g h more (Write caller id command) r hist is a = at (stored g (record { 
     at : (o : Option Entry) → stored g (record { caller = caller; id = id }) ≡ o → IsToldBy h (Write caller id command) r
     at None none =
         let e : Entry = entry_of caller id command r in
-        let kept : IsStored r = answer_stored g caller command r (told_at g caller id command r None none a) in
+        let past : IsHistory (history_after g (Write caller id command ∷ []) (r ∷ [])) = earlier more (history_after g (Write caller id command ∷ []) (r ∷ [])) (subst IsHistory is hist) in
+        let kept : IsDoneOrRefused r = answer_given g caller command r (began g (Write caller id command ∷ []) (r ∷ []) past) (told_at g caller id command r None none a) in
         stays e (ap (λ x. stored x (record { caller = caller; id = id })) (new_history g caller id command r kept none)
         ∙ stored_here e g (record { caller = caller; id = id }) (same_to (record { caller = caller; id = id }) (record { caller = caller; id = id }) refl))
         (record { equal = λ _. refl; other = λ n. absurd (n refl) })
@@ -357,11 +368,11 @@ runs_as h0 h ds1 ds2 rs1 hist is told = λ ss others right given.
 pub restart_is_run : RestartIsRun
 restart_is_run h0 h ds1 ds2 rs1 counts hist is right given = runs_as h0 h ds1 ds2 rs1 hist is (told_right h0 ds1 rs1 counts right given)
 
-stored_taken : (r : Reply) → IsStored r → WasTaken r
-stored_taken (Done a) is = tt
-stored_taken (Refused x) is = tt
-stored_taken IdentityReused is = tt
-stored_taken (NotTaken c) is = absurd is
+answer_taken : (r : Reply) → IsDoneOrRefused r → WasTaken r
+answer_taken (Done a) is = tt
+answer_taken (Refused x) is = tt
+answer_taken IdentityReused is = tt
+answer_taken (NotTaken c) is = absurd is
 
 -- the whole effect of a first arrival is that of some answer to it
 effect_told : (g : List Entry) (d : Delivery) (t : Tables) → HasEffect g d t →
@@ -371,13 +382,13 @@ effect_told g (Write caller id command) t effect =
     let r = effect.0 in
     let none : stored g (record { caller = caller; id = id }) ≡ None = effect.1.0 in
     let answer : IsAnswer g caller command r = effect.1.1 in
-    let kept : IsStored r = answer_stored g caller command r answer in
+    let kept : IsDoneOrRefused r = answer_given g caller command r effect.1.3 answer in
     let now : history_after g (Write caller id command ∷ []) (r ∷ []) ≡ entry_of caller id command r ∷ g = new_history g caller id command r kept none in
     let told : IsTold g (Write caller id command) r =
     subst (λ (o : Option Entry). MatchOption o (IsAnswer g caller command r) (λ e. IsToldOfStored e command r)) (sym none) answer in
     let P : List Entry → Type 0 = λ h. IsHistory h × IsView h t in
     let made : P (history_after g (Write caller id command ∷ []) (r ∷ [])) = subst P (sym now) (effect.1, effect.2) in
-    (r, stored_taken r kept, told, made.0, made.1)
+    (r, answer_taken r kept, told, made.0, made.1)
 
 pub after_stop : RestartAfterStop
 after_stop h0 ds more rs counts left right given stop =

@@ -28,13 +28,17 @@ use Rattle.review_rows.specs.Steps.{OfCommand, OfQuery}
 use Rattle.review_rows.specs.Answer.{IsHistory, IsAnswer, query_answer, query_checks, first_refusal, refused_or, told as told_of_query, most_requests}
 use Rattle.review_rows.specs.View.{AreEnough, IsView, IsDecided, answer_row}
 use Rattle.review_rows.specs.Shelf.{IsCommitted, Shown, Shows, Views, LeavesBy, StopLeavesOwnTables, AddsNoStop, IsCounted, Blames, cause_of}
-use Rattle.review_rows.specs.Decisions.{IsUndecided}
-use Rattle.review_rows.specs.Decisions.{IsDoneOrRefused}
+use Rattle.review_rows.specs.Decisions.{IsUndecided, IsDoneOrRefused}
+use Rattle.review_rows.specs.Changes.{Reading, Reads}
+use Rattle.review_rows.specs.Files.{File}
+use Rattle.review_rows.specs.Known.{Agrees}
+use Rattle.review_rows.proofs.Readings.{reading_of}
+use Rattle.review_deliveries.specs.Gathered.{IsAllAsked, IsUngathered}
 use Rattle.review_deliveries.specs.Replies.{history_after, with_entries as hist, entry_of, IsRight, IsTold, IsToldOfStored, IsServed, IsToldAgain, IsLawful, reply_of, IsNew, HasEffect, StopGoesOnFrom, StopHasEntry, IsEntered, GoesOn, KeepsUntaken, CountsReply}
-use Rattle.review_deliveries.proofs.Histories.{recalled, not_recalled, view_grows, answer_stored, stored_stays, stored_here, same_to, stored_identity}
+use Rattle.review_deliveries.proofs.Histories.{recalled, not_recalled, view_grows, answer_given, stored_given, enough_shown, stored_stays, stored_here, same_to, stored_identity}
 
 -- a new identity adds its entry, and an old one nothing
-pub new_history : (h : List Entry) (caller : ℕ) (id : List ℕ) (command : Command) (reply : Reply) → IsStored reply → stored h (record { caller = caller; id = id }) ≡ None →
+pub new_history : (h : List Entry) (caller : ℕ) (id : List ℕ) (command : Command) (reply : Reply) → IsDoneOrRefused reply → stored h (record { caller = caller; id = id }) ≡ None →
     history_after h (Write caller id command ∷ []) (reply ∷ []) ≡ entry_of caller id command reply ∷ h
 new_history h caller id command (Done a) s none =
     let e : Entry = entry_of caller id command (Done a) in
@@ -58,12 +62,12 @@ same_history h caller id command IdentityReused old some =
     ap (λ o. hist h (cond (is_some o || false) [] (e ∷ []))) some
 same_history h caller id command (NotTaken c) old some = refl
 
-right_from_told : (h : List Entry) (d : Delivery) (reply : Reply) (before after : ℕ) → IsStored reply ⊎ (reply ≡ IdentityReused) → IsTold h d reply → after ≡ before → IsRight h d reply before after
+right_from_told : (h : List Entry) (d : Delivery) (reply : Reply) (before after : ℕ) → IsDoneOrRefused reply ⊎ (reply ≡ IdentityReused) → IsTold h d reply → after ≡ before → IsRight h d reply before after
 right_from_told h d (Done a) before after s told same = (told, same)
 right_from_told h d (Refused a) before after s told same = (told, same)
 right_from_told h d IdentityReused before after s told same = (told, same)
 right_from_told h d (NotTaken c) before after s told same =
-    ⊎_elim (λ (x : IsStored (NotTaken c)). absurd x) (λ (x : NotTaken c ≡ IdentityReused). absurd (cc)) s
+    ⊎_elim (λ (x : IsDoneOrRefused (NotTaken c)). absurd x) (λ (x : NotTaken c ≡ IdentityReused). absurd (cc)) s
 
 -- what only reads leaves the history's tables
 pub views_stay : (h : List Entry) (old new : Option Tables) → new ≡ old → Views h old → Views h new
@@ -124,25 +128,26 @@ fault_served h d f old new hist v stays blame counted stops =
 
 -- what a commit of what was decided leaves has the whole effect
 pub effect : (h : List Entry) (tables : Option Tables) (new : Tables) (delta : Delta) (row : AnswerRow) (caller : ℕ) (id : List ℕ) (command : Command) (reply : Reply) →
-    IsHistory h → Views h tables → stored h (record { caller = caller; id = id }) ≡ None → length h < most_requests → IsDecided h caller command delta reply →
+    IsHistory h → Views h tables → stored h (record { caller = caller; id = id }) ≡ None → length h < most_requests → ((reading : Reading) → Reads reading h → IsDecided reading h caller command delta reply) →
     row ≡ answer_row (entry_of caller id command reply) (length h + 1) → Shows tables (λ was. IsCommitted was delta row new) → HasEffect h (Write caller id command) new
 effect h None new delta row caller id command reply hist v none room d is c = absurd c
 effect h (Some t) new delta row caller id command reply hist v none room d is c =
-    (reply, (none, d.reply_is, room, hist), view_grows h t new delta row caller id command reply v d c is)
+    (reply, (none, (λ reading reads. (d reading reads).reply_is), room, hist), view_grows h t new delta row caller id command reply v d c is)
 
 -- a first arrival that was committed
 pub first_served : (h : List Entry) (delta : Delta) (row : AnswerRow) (caller : ℕ) (id : List ℕ) (command : Command) (reply : Reply) (old new : Shown) →
-    IsHistory h → Views h old.tables → stored h (record { caller = caller; id = id }) ≡ None → length h < most_requests → IsDecided h caller command delta reply →
+    IsHistory h → Views h old.tables → stored h (record { caller = caller; id = id }) ≡ None → length h < most_requests → ((reading : Reading) → Reads reading h → IsDecided reading h caller command delta reply) →
     row ≡ answer_row (entry_of caller id command reply) (length h + 1) → Shows old.tables (λ t. Shows new.tables (IsCommitted t delta row)) →
     StopLeavesOwnTables new → new.faults ≡ old.faults → ((t : Tables) → new.stops t → old.stops t ⊎ HasEffect h (Write caller id command) t) →
     IsServed h (Write caller id command) reply old new
 first_served h delta row caller id command reply old new hist v none room d is c alone same stops =
-    let s : IsStored reply = answer_stored h caller command reply d.reply_is in
+    let answer : IsAnswer h caller command reply = λ reading reads. (d reading reads).reply_is in
+    let s : IsDoneOrRefused reply = answer_given h caller command reply hist answer in
     let grown = new_history h caller id command reply s none in
     record {
       right = right_from_told h (Write caller id command) reply old.faults new.faults (inl s)
-          (subst (λ o. MatchOption o (IsAnswer h caller command reply) (λ e. IsToldOfStored e command reply)) (sym none) d.reply_is) same;
-      history = subst IsHistory (sym grown) (none, d.reply_is, room, hist);
+          (subst (λ o. MatchOption o (IsAnswer h caller command reply) (λ e. IsToldOfStored e command reply)) (sym none) answer) same;
+      history = subst IsHistory (sym grown) (none, answer, room, hist);
       view = subst (λ x. Views x new.tables) (sym grown) (shown old.tables new.tables v c);
       stops = stops;
       alone = λ n r. alone;
@@ -154,7 +159,7 @@ first_served h delta row caller id command reply old new hist v none room d is c
     shown (Some t) (Some u) v c = view_grows h t u delta row caller id command reply v d c is
 
 old_served : (h : List Entry) (caller : ℕ) (id : List ℕ) (command : Command) (reply : Reply) (e : Entry) (old new : Shown) →
-    IsHistory h → Views h new.tables → stored h (record { caller = caller; id = id }) ≡ Some e → IsStored reply ⊎ (reply ≡ IdentityReused) → IsToldOfStored e command reply →
+    IsHistory h → Views h new.tables → stored h (record { caller = caller; id = id }) ≡ Some e → IsDoneOrRefused reply ⊎ (reply ≡ IdentityReused) → IsToldOfStored e command reply →
     new.faults ≡ old.faults → AddsNoStop old new → IsServed h (Write caller id command) reply old new
 old_served h caller id command reply e old new hist v some kind told same adds =
     let stays = same_history h caller id command reply e some in
@@ -181,14 +186,16 @@ repeat_served h row caller id command result old new hist v there told stays qui
     found : (tables : Option Tables) → Views h tables → Shows tables (λ t. t.answer (record { caller = caller; id = id }) ≡ Some (Answered row)) →
         (e : Entry) × (stored h (record { caller = caller; id = id }) ≡ Some e) × (row.content ≡ content_text e.command) × (row.reply ≡ reply_text e.reply) × IsStored e.reply
     found None v there = absurd there
-    found (Some t) v there = recalled h row (record { caller = caller; id = id }) hist (sym (v.answer_is (record { caller = caller; id = id })) ∙ there)
+    found (Some t) v there =
+        let r = reading_of h hist in
+        recalled h row (record { caller = caller; id = id }) hist (sym ((v r.0 r.1).answer_is (record { caller = caller; id = id })) ∙ there)
 
     again : (result : Result Reply Cause) → (r : (e : Entry) × (stored h (record { caller = caller; id = id }) ≡ Some e) × (row.content ≡ content_text e.command) × (row.reply ≡ reply_text e.reply) × IsStored e.reply) →
         IsToldAgain row (content_text command) result → Views h new.tables → IsServed h (Write caller id command) (reply_of result) old new
     again (Ok reply) r (inl told) v =
         let command_is : command ≡ r.0.command = content_text-injective command r.0.command (sym told.0 ∙ r.2) in
         let reply_is : reply ≡ r.0.reply = reply_text-injective reply r.0.reply told.1 r.4 (told.2 ∙ r.3) in
-        old_served h caller id command reply r.0 old new hist v r.1 (inl told.1) (record { equal = λ _. reply_is; other = λ no. absurd (no command_is) }) quiet adds
+        old_served h caller id command reply r.0 old new hist v r.1 (inl (stored_given reply told.1)) (record { equal = λ _. reply_is; other = λ no. absurd (no command_is) }) quiet adds
     again (Ok reply) r (inr told) v =
         old_served h caller id command reply r.0 old new hist v r.1 (inr told.1) (record { equal = λ e. absurd (told.0 (r.2 ∙ ap content_text (sym e))); other = λ _. told.1 }) quiet adds
     again (Err Memory) r told v = not_taken_served h (Write caller id command) Memory old new hist v quiet (λ t x. inl (adds t x))
@@ -198,17 +205,17 @@ repeat_served h row caller id command result old new hist v there told stays qui
     again (Err Full) r told v = absurd told
 
 -- Stops. A delivery either grows the history by a first arrival, or leaves it.
-grows_or_stays : (h : List Entry) (d : Delivery) (reply : Reply) (before after : ℕ) → IsRight h d reply before after →
-    (IsNew h d × IsStored reply) ⊎ (history_after h (d ∷ []) (reply ∷ []) ≡ h)
-grows_or_stays h (Read caller query) reply before after right = inr refl
-grows_or_stays h (Write caller id command) reply before after right = at (stored h (record { caller = caller; id = id })) refl reply right
+grows_or_stays : (h : List Entry) (d : Delivery) (reply : Reply) (before after : ℕ) → IsHistory h → IsRight h d reply before after →
+    (IsNew h d × IsDoneOrRefused reply) ⊎ (history_after h (d ∷ []) (reply ∷ []) ≡ h)
+grows_or_stays h (Read caller query) reply before after history right = inr refl
+grows_or_stays h (Write caller id command) reply before after history right = at (stored h (record { caller = caller; id = id })) refl reply right
   where
-    kept : stored h (record { caller = caller; id = id }) ≡ None → (reply : Reply) → IsTold h (Write caller id command) reply → IsStored reply
+    kept : stored h (record { caller = caller; id = id }) ≡ None → (reply : Reply) → IsTold h (Write caller id command) reply → IsDoneOrRefused reply
     kept none reply told =
-        answer_stored h caller command reply (subst (λ o. MatchOption o (IsAnswer h caller command reply) (λ e. IsToldOfStored e command reply)) none told)
+        answer_given h caller command reply history (subst (λ o. MatchOption o (IsAnswer h caller command reply) (λ e. IsToldOfStored e command reply)) none told)
 
     at : (o : Option Entry) → stored h (record { caller = caller; id = id }) ≡ o → (reply : Reply) → IsRight h (Write caller id command) reply before after →
-        ((stored h (record { caller = caller; id = id }) ≡ None) × IsStored reply) ⊎ (history_after h (Write caller id command ∷ []) (reply ∷ []) ≡ h)
+        ((stored h (record { caller = caller; id = id }) ≡ None) × IsDoneOrRefused reply) ⊎ (history_after h (Write caller id command ∷ []) (reply ∷ []) ≡ h)
     at (Some e) some reply right = inr (same_history h caller id command reply e some)
     at None none (Done a) right = inl (none, kept none (Done a) right.0)
     at None none (Refused r) right = inl (none, kept none (Refused r) right.0)
@@ -220,14 +227,14 @@ effect_goes_on h (Read caller query) t e = absurd e
 effect_goes_on h (Write caller id command) t e = (entry_of caller id command e.0 ∷ [], e.1, e.2)
 
 -- what a stop leaves goes on from the history after the delivery
-pub leaves_since : (h : List Entry) (d : Delivery) (reply : Reply) (old new : Shown) → IsServed h d reply old new → StopGoesOnFrom h old →
+pub leaves_since : (h : List Entry) (d : Delivery) (reply : Reply) (old new : Shown) → IsHistory h → IsServed h d reply old new → StopGoesOnFrom h old →
     StopGoesOnFrom (history_after h (d ∷ []) (reply ∷ [])) new
-leaves_since h d reply old new s since t x =
+leaves_since h d reply old new history s since t x =
     ⊎_elim
-    (λ (grew : IsNew h d × IsStored reply). ([], s.history, alone_is (s.alone grew.0 grew.1 t x)))
+    (λ (grew : IsNew h d × IsDoneOrRefused reply). ([], s.history, alone_is (s.alone grew.0 grew.1 t x)))
     (λ (stays : history_after h (d ∷ []) (reply ∷ []) ≡ h).
     subst (λ g. GoesOn g t) (sym stays) (⊎_elim (λ (y : old.stops t). since t y) (λ (e : HasEffect h d t). effect_goes_on h d t e) (s.stops t x)))
-    (grows_or_stays h d reply old.faults new.faults s.right)
+    (grows_or_stays h d reply old.faults new.faults history s.right)
   where
     alone_is : new.tables ≡ Some t → IsView (history_after h (d ∷ []) (reply ∷ [])) t
     alone_is e = subst (Views (history_after h (d ∷ []) (reply ∷ []))) e s.view
@@ -241,22 +248,22 @@ same_command a b =
     inr (λ e. let t = (bytes_eq-Decides (content_text a) (content_text b)).1 (ap content_text e) in absurd (cc)))
     (cases_Bool (bytes_eq (content_text a) (content_text b)))
 
-told_of : (h : List Entry) (d : Delivery) (reply : Reply) (before after : ℕ) → IsStored reply → IsRight h d reply before after → IsTold h d reply
+told_of : (h : List Entry) (d : Delivery) (reply : Reply) (before after : ℕ) → IsDoneOrRefused reply → IsRight h d reply before after → IsTold h d reply
 told_of h d (Done a) before after s right = right.0
 told_of h d (Refused r) before after s right = right.0
 told_of h d IdentityReused before after s right = absurd s
 told_of h d (NotTaken c) before after s right = absurd s
 
 -- what is stored under the identity of a command that was told a stored reply is that command, with that reply
-repeat_is : (i : Identity) (e : Entry) (command : Command) (reply : Reply) → IsStored reply → e.identity ≡ i → IsToldOfStored e command reply → e ≡ record { identity = i; command = command; reply = reply }
+repeat_is : (i : Identity) (e : Entry) (command : Command) (reply : Reply) → IsDoneOrRefused reply → e.identity ≡ i → IsToldOfStored e command reply → e ≡ record { identity = i; command = command; reply = reply }
 repeat_is i e command reply s same told =
     ⊎_elim
     (λ (c : command ≡ e.command). let r = told.equal c in λ k. record { identity = same k; command = sym c k; reply = sym r k })
-    (λ (n : command ≡ e.command → ⊥). absurd (subst IsStored (told.other n) s))
+    (λ (n : command ≡ e.command → ⊥). absurd (subst IsDoneOrRefused (told.other n) s))
     (same_command command e.command)
 
 -- after Done or Refused the write is an entry
-entered : (h : List Entry) (d : Delivery) (reply : Reply) (old new : Shown) → IsServed h d reply old new → IsStored reply → IsEntered d reply (history_after h (d ∷ []) (reply ∷ []))
+entered : (h : List Entry) (d : Delivery) (reply : Reply) (old new : Shown) → IsServed h d reply old new → IsDoneOrRefused reply → IsEntered d reply (history_after h (d ∷ []) (reply ∷ []))
 entered h (Read caller query) reply old new s r = tt
 entered h (Write caller id command) reply old new s r = at (stored h (record { caller = caller; id = id })) refl
   where
@@ -273,16 +280,16 @@ entered_stays : (more h : List Entry) (d : Delivery) (reply : Reply) → IsHisto
 entered_stays more h (Read caller query) reply hist e = tt
 entered_stays more h (Write caller id command) reply hist e = stored_stays more h (record { caller = caller; id = id }) (entry_of caller id command reply) hist e
 
-pub leaves_entered : (h : List Entry) (d : Delivery) (reply : Reply) (old new : Shown) → IsServed h d reply old new → StopGoesOnFrom h old → StopHasEntry d reply new
-leaves_entered h d reply old new s since r t x =
-    let g = leaves_since h d reply old new s since t x in
+pub leaves_entered : (h : List Entry) (d : Delivery) (reply : Reply) (old new : Shown) → IsHistory h → IsServed h d reply old new → StopGoesOnFrom h old → StopHasEntry d reply new
+leaves_entered h d reply old new history s since r t x =
+    let g = leaves_since h d reply old new history s since t x in
     (g.0 ++ history_after h (d ∷ []) (reply ∷ []), g.1, g.2, entered_stays g.0 (history_after h (d ∷ []) (reply ∷ [])) d reply g.1 (entered h d reply old new s r))
 
 -- an identity with no stored row is new
 pub unrecalled : (h : List Entry) (tables : Option Tables) (i : Identity) → IsHistory h → Views h tables →
     Shows tables (λ t. t.answer i ≡ None) → stored h i ≡ None
 unrecalled h None i hist v none = absurd none
-unrecalled h (Some t) i hist v none = not_recalled h i (sym (v.answer_is i) ∙ none)
+unrecalled h (Some t) i hist v none = let r = reading_of h hist in not_recalled h i (sym ((v r.0 r.1).answer_is i) ∙ none)
 
 -- a cause that a `?` passed on
 pub err_reply : (r : Result Reply Cause) (c : Cause) → IsErr r × IsErrAnd r (λ d. d ≡ c) → NotTaken c ≡ reply_of r
@@ -290,44 +297,102 @@ err_reply (Ok x) c e = let f = e.0 in absurd (cc)
 err_reply (Err d) c e = ap NotTaken (sym e.1)
 
 -- both that are said of stops
-pub stopped : (h : List Entry) (d : Delivery) (reply : Reply) (old new : Shown) → IsServed h d reply old new → StopGoesOnFrom h old →
+pub stopped : (h : List Entry) (d : Delivery) (reply : Reply) (old new : Shown) → IsHistory h → IsServed h d reply old new → StopGoesOnFrom h old →
     StopGoesOnFrom (history_after h (d ∷ []) (reply ∷ [])) new × StopHasEntry d reply new
-stopped h d reply old new s since = (leaves_since h d reply old new s since, leaves_entered h d reply old new s since)
+stopped h d reply old new history s since = (leaves_since h d reply old new history s since, leaves_entered h d reply old new history s since)
 
 -- a shelf that shows the tables of a history, and leaves them alone at a stop, leaves only those
 pub alone_since : (h : List Entry) (s : Shown) → IsHistory h → Views h s.tables → StopLeavesOwnTables s → StopGoesOnFrom h s
 alone_since h s hist v alone t x = ([], hist, subst (Views h) (alone t x) v)
 
 -- a command that was not decided
-pub undecided_lawful : (h : List Entry) (caller : ℕ) (id : List ℕ) (command : Command) (rows : Rows) (cause : Cause) (before after : ℕ) → IsHistory h → AreEnough h caller (OfCommand command) rows →
-    stored h (record { caller = caller; id = id }) ≡ None → IsUndecided caller command rows cause → after ≡ before → IsLawful h (Write caller id command) cause before after
-undecided_lawful h caller id command rows Memory before after hist l none u same = same
-undecided_lawful h caller id command rows Pattern before after hist l none u same = (none, u h hist l, same)
-undecided_lawful h caller id command rows Damaged before after hist l none u same = absurd (u h hist l)
-undecided_lawful h caller id command rows Store before after hist l none u same = absurd u
-undecided_lawful h caller id command rows Full before after hist l none u same = absurd u
+pub undecided_lawful : (h : List Entry) (caller : ℕ) (id : List ℕ) (command : Command) (file : Option File) (rows : Rows) (cause : Cause) (before after : ℕ) → IsHistory h →
+    ((reading : Reading) → Reads reading h → AreEnough reading h caller (OfCommand command) file rows) →
+    stored h (record { caller = caller; id = id }) ≡ None → IsUndecided caller command file rows cause → after ≡ before → IsLawful h (Write caller id command) cause before after
+undecided_lawful h caller id command file rows Memory before after hist l none u same = same
+undecided_lawful h caller id command file rows Pattern before after hist l none u same = (none, (λ reading reads. inl u), same)
+undecided_lawful h caller id command file rows Damaged before after hist l none u same = let r = reading_of h hist in absurd (u r.0 h hist (l r.0 r.1))
+undecided_lawful h caller id command file rows Store before after hist l none u same = absurd u
+undecided_lawful h caller id command file rows Full before after hist l none u same = absurd u
 
-pub undecided_keeps : (caller : ℕ) (id : List ℕ) (command : Command) (rows : Rows) (cause : Cause) (old new : Option Tables) → IsUndecided caller command rows cause → new ≡ old →
+pub undecided_keeps : (caller : ℕ) (id : List ℕ) (command : Command) (file : Option File) (rows : Rows) (cause : Cause) (old new : Option Tables) → IsUndecided caller command file rows cause → new ≡ old →
     KeepsUntaken (Write caller id command) (NotTaken cause) old new
-undecided_keeps caller id command rows Memory old new u same = (tt, same)
-undecided_keeps caller id command rows Pattern old new u same = (tt, same)
-undecided_keeps caller id command rows Damaged old new u same = (tt, same)
-undecided_keeps caller id command rows Store old new u same = absurd u
-undecided_keeps caller id command rows Full old new u same = absurd u
+undecided_keeps caller id command file rows Memory old new u same = (tt, same)
+undecided_keeps caller id command file rows Pattern old new u same = (tt, same)
+undecided_keeps caller id command file rows Damaged old new u same = (tt, same)
+undecided_keeps caller id command file rows Store old new u same = absurd u
+undecided_keeps caller id command file rows Full old new u same = absurd u
 
-pub undecided_counts : (caller : ℕ) (command : Command) (rows : Rows) (cause : Cause) (before after : ℕ) → IsUndecided caller command rows cause → after ≡ before → CountsReply (NotTaken cause) before after
-undecided_counts caller command rows Memory before after u same = same
-undecided_counts caller command rows Pattern before after u same = same
-undecided_counts caller command rows Damaged before after u same = same
-undecided_counts caller command rows Store before after u same = absurd u
-undecided_counts caller command rows Full before after u same = absurd u
+pub undecided_counts : (caller : ℕ) (command : Command) (file : Option File) (rows : Rows) (cause : Cause) (before after : ℕ) → IsUndecided caller command file rows cause → after ≡ before → CountsReply (NotTaken cause) before after
+undecided_counts caller command file rows Memory before after u same = same
+undecided_counts caller command file rows Pattern before after u same = same
+undecided_counts caller command file rows Damaged before after u same = same
+undecided_counts caller command file rows Store before after u same = absurd u
+undecided_counts caller command file rows Full before after u same = absurd u
+
+-- why not all was gathered
+ungathered_lawful : (h : List Entry) (caller : ℕ) (id : List ℕ) (command : Command) (tables : Option Tables) (cause : Cause) (before after : ℕ) → IsHistory h → Views h tables →
+    stored h (record { caller = caller; id = id }) ≡ None → IsUngathered (OfCommand command) tables cause → CountsReply (NotTaken cause) before after → IsLawful h (Write caller id command) cause before after
+ungathered_lawful h caller id command tables Memory before after hist v none u counted = counted
+ungathered_lawful h caller id command tables Store before after hist v none u counted = counted
+ungathered_lawful h caller id command None Damaged before after hist v none u counted = absurd u
+ungathered_lawful h caller id command (Some t) Damaged before after hist v none u counted = absurd (u h hist v)
+ungathered_lawful h caller id command None Pattern before after hist v none u counted = absurd u
+ungathered_lawful h caller id command (Some t) Pattern before after hist v none u counted = (none, (λ reading reads. inr (u reading h reads v)), counted)
+ungathered_lawful h caller id command tables Full before after hist v none u counted = absurd u
+
+unread_lawful : (h : List Entry) (caller : ℕ) (query : Query) (tables : Option Tables) (cause : Cause) (before after : ℕ) → IsHistory h → Views h tables →
+    IsUngathered (OfQuery query) tables cause → CountsReply (NotTaken cause) before after → IsLawful h (Read caller query) cause before after
+unread_lawful h caller query tables Memory before after hist v u counted = counted
+unread_lawful h caller query tables Store before after hist v u counted = counted
+unread_lawful h caller query None Damaged before after hist v u counted = absurd u
+unread_lawful h caller query (Some t) Damaged before after hist v u counted = absurd (u h hist v)
+unread_lawful h caller query None Pattern before after hist v u counted = absurd u
+unread_lawful h caller query (Some t) Pattern before after hist v u counted = absurd u
+unread_lawful h caller query tables Full before after hist v u counted = absurd u
+
+-- what is left where not all was gathered views the history as before
+views_left_by : (h : List Entry) (cause : Cause) (old new : Option Tables) → LeavesBy cause old new → Views h old → Views h new
+views_left_by h Memory old new e v = subst (Views h) (sym e) v
+views_left_by h Damaged old new e v = subst (Views h) (sym e) v
+views_left_by h Pattern old new e v = subst (Views h) (sym e) v
+views_left_by h Full old new e v = subst (Views h) (sym e) v
+views_left_by h Store old new (inl e) v = subst (Views h) (sym e) v
+views_left_by h Store old new (inr e) v = subst (Views h) (sym e) tt
+
+-- a command for which not all was gathered
+pub ungathered_served : (h : List Entry) (caller : ℕ) (id : List ℕ) (command : Command) (cause : Cause) (old new : Shown) → IsHistory h → Views h old.tables →
+    stored h (record { caller = caller; id = id }) ≡ None → IsUngathered (OfCommand command) old.tables cause → LeavesBy cause old.tables new.tables →
+    CountsReply (NotTaken cause) old.faults new.faults → AddsNoStop old new → IsServed h (Write caller id command) (NotTaken cause) old new
+ungathered_served h caller id command cause old new hist v none u left counted adds =
+    not_taken_served h (Write caller id command) cause old new hist (views_left_by h cause old.tables new.tables left v)
+    (ungathered_lawful h caller id command old.tables cause old.faults new.faults hist v none u counted) (λ t x. inl (adds t x))
+
+-- and a question
+pub unread_served : (h : List Entry) (caller : ℕ) (query : Query) (cause : Cause) (old new : Shown) → IsHistory h → Views h old.tables →
+    IsUngathered (OfQuery query) old.tables cause → LeavesBy cause old.tables new.tables →
+    CountsReply (NotTaken cause) old.faults new.faults → AddsNoStop old new → IsServed h (Read caller query) (NotTaken cause) old new
+unread_served h caller query cause old new hist v u left counted adds =
+    not_taken_served h (Read caller query) cause old new hist (views_left_by h cause old.tables new.tables left v)
+    (unread_lawful h caller query old.tables cause old.faults new.faults hist v u counted) (λ t x. inl (adds t x))
+
+pub ungathered_keeps : (caller : ℕ) (id : List ℕ) (command : Command) (cause : Cause) (old new : Option Tables) → IsUngathered (OfCommand command) old cause → LeavesBy cause old new →
+    KeepsUntaken (Write caller id command) (NotTaken cause) old new
+ungathered_keeps caller id command Memory old new u left = (tt, left)
+ungathered_keeps caller id command Store old new u left = (tt, left)
+ungathered_keeps caller id command Damaged old new u left = (tt, left)
+ungathered_keeps caller id command Pattern old new u left = (tt, left)
+ungathered_keeps caller id command Full old new u left = absurd u
 
 -- a question, answered or not for want of memory
-pub shown_served : (h : List Entry) (caller : ℕ) (query : Query) (r : Result Reply Cause) (rows : Rows) (old new : Shown) → IsHistory h → Views h old.tables → AreEnough h caller (OfQuery query) rows →
-    IfOk r (λ reply. (h : List Entry) → AreEnough h caller (OfQuery query) rows → reply ≡ query_answer h caller query) → IfErr r (λ e. e ≡ Memory) →
+pub shown_served : (h : List Entry) (caller : ℕ) (query : Query) (r : Result Reply Cause) (file : Option File) (rows : Rows) (old new : Shown) → IsHistory h → Views h old.tables →
+    Shows old.tables (λ t. Agrees t rows) → IsAllAsked caller (OfQuery query) file rows →
+    IfOk r (λ reply. (reading : Reading) (h : List Entry) → AreEnough reading h caller (OfQuery query) file rows → reply ≡ query_answer h caller query) → IfErr r (λ e. e ≡ Memory) →
     new.tables ≡ old.tables → new.faults ≡ old.faults → AddsNoStop old new → IsServed h (Read caller query) (reply_of r) old new
-shown_served h caller query (Ok reply) rows old new hist v l shown cause stays quiet adds = read_served h caller query reply old new hist v (shown h l) stays quiet adds
-shown_served h caller query (Err e) rows old new hist v l shown cause stays quiet adds =
+shown_served h caller query (Ok reply) file rows old new hist v found asked shown cause stays quiet adds =
+    let r = reading_of h hist in
+    read_served h caller query reply old new hist v (shown r.0 h (enough_shown r.0 h old.tables caller (OfQuery query) file rows r.1 v found asked)) stays quiet adds
+shown_served h caller query (Err e) file rows old new hist v found asked shown cause stays quiet adds =
     subst (λ c. IsServed h (Read caller query) (NotTaken c) old new) (sym cause)
     (not_taken_served h (Read caller query) Memory old new hist (views_stay h old.tables new.tables stays v) quiet (λ t x. inl (adds t x)))
 

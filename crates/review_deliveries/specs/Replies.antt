@@ -12,7 +12,8 @@ use Rattle.review_words.specs.Texts.{content_text, reply_text, IsStored}
 use Rattle.review_rows.specs.Answer.{IsHistory, IsAnswer, query_answer, most_requests}
 use Rattle.review_rows.specs.Rows.{Key, Count, Tables, AnswerRow, Answered}
 use Rattle.review_rows.specs.View.{IsView, answer_row}
-use Rattle.review_rows.specs.Decisions.{ReadsPattern}
+use Rattle.review_rows.specs.Changes.{Reading, Reads}
+use Rattle.review_rows.specs.Decisions.{ReadsPattern, IsDoneOrRefused}
 use Rattle.review_rows.specs.Shelf.{greatest_count, Shown, Shows, Views, LeavesBy, StopLeavesOwnTables}
 
 -- a delivery that was taken, as an entry
@@ -65,7 +66,7 @@ abbrev pub IsLawful : List Entry → Delivery → Cause → ℕ → ℕ → Type
 IsLawful h d Memory before after = after ≡ before
 IsLawful h d Store before after = (before < after) ⊎ ((before ≡ greatest_count) × (after ≡ before))
 IsLawful h d Damaged before after = ⊥
-IsLawful h (Write caller id command) Pattern before after = (stored h (record { caller = caller; id = id }) ≡ None) × ReadsPattern h command × (after ≡ before)
+IsLawful h (Write caller id command) Pattern before after = (stored h (record { caller = caller; id = id }) ≡ None) × ((reading : Reading) → Reads reading h → ReadsPattern reading h command) × (after ≡ before)
 IsLawful h (Write caller id command) Full before after = (stored h (record { caller = caller; id = id }) ≡ None) × (length h ≡ most_requests) × (after ≡ before)
 IsLawful h (Read caller query) Pattern before after = ⊥
 IsLawful h (Read caller query) Full before after = ⊥
@@ -116,7 +117,7 @@ pub record IsServed (h : List Entry) (d : Delivery) (reply : Reply) (old new : S
   pub history : IsHistory (history_after h (d ∷ []) (reply ∷ []))
   pub view : Views (history_after h (d ∷ []) (reply ∷ [])) new.tables
   pub stops : (t : Tables) → new.stops t → old.stops t ⊎ HasEffect h d t
-  pub alone : IsNew h d → IsStored reply → StopLeavesOwnTables new
+  pub alone : IsNew h d → IsDoneOrRefused reply → StopLeavesOwnTables new
 
 -- the tables of a history that goes on from this one
 abbrev pub GoesOn : List Entry → Tables → Type 0
@@ -133,7 +134,7 @@ IsEntered (Read caller query) reply h = Unit {0}
 
 -- once it was answered, a stop leaves only tables of histories that have the write
 abbrev pub StopHasEntry : Delivery → Reply → Shown → Type 0
-StopHasEntry d reply s = IsStored reply → (t : Tables) → s.stops t → (h : List Entry) × IsHistory h × IsView h t × IsEntered d reply h
+StopHasEntry d reply s = IsDoneOrRefused reply → (t : Tables) → s.stops t → (h : List Entry) × IsHistory h × IsView h t × IsEntered d reply h
 
 -- the tables after some first part of the deliveries and the whole effect of the next
 abbrev pub StopsWithin : List Entry → List Delivery → List Reply → Tables → Type 0

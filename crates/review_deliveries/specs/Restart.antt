@@ -66,9 +66,9 @@ abbrev pub RefusesBadValue : Reply → Type 0
 RefusesBadValue (Refused (BadFile fault)) = IsBadValue fault
 RefusesBadValue _ = ⊥
 
--- A command has one answer, unless its answer is free: then of two different ones, one refuses the file for a bad value in an expression.
+-- A command has one answer after a history, unless its answer is free: then of two different ones, one refuses the file for a bad value in an expression.
 abbrev pub OneAnswer : Type 0
-OneAnswer = (h : List Entry) (caller : ℕ) (command : Command) (r s : Reply) → IsAnswer h caller command r → IsAnswer h caller command s →
+OneAnswer = (h : List Entry) (caller : ℕ) (command : Command) (r s : Reply) → IsHistory h → IsAnswer h caller command r → IsAnswer h caller command s →
     (r ≡ s) ⊎ (IsFree command × (RefusesBadValue r ⊎ RefusesBadValue s))
 
 -- a delivery whose answer leaves no choice

@@ -8,7 +8,7 @@ ghost use Rattle.review_rows.specs.Rows.{kept_row};
 ghost use Rattle.review_rows.specs.Shelf.{Shows, Views};
 ghost use Rattle.review_deliveries.specs.Replies.{IsServed, IsToldAgain, KeepsUntaken, StoresOnce, CountsReply, StopGoesOnFrom, StopHasEntry, history_after, reply_of};
 
-use crate::gathering::gather;
+use crate::gathering::gathered;
 use crate::rules::Rules;
 use review_rows::{Kept, Matter, Shelf};
 use review_texts::{BadReply, content_text, read_reply, reply_text};
@@ -118,8 +118,8 @@ fn read<S: Shelf, R: Rules>(
     ensures unchanged { (S.state shelf.new).is_honest → KeepsUntaken (Read caller query.now) (reply_of result) (S.state shelf.old).tables (S.state shelf.new).tables }
     ensures counted { CountsReply (reply_of result) (S.state shelf.old).faults (S.state shelf.new).faults }
 {
-    let rows = gather(alloc, shelf, rules, caller, Matter::Query(query))?;
-    rules.show(alloc, &rows, caller, query)
+    let (rows, read) = gathered(alloc, shelf, rules, caller, Matter::Query(query))?;
+    rules.show(alloc, read, &rows, caller, query)
 }
 
 // What a request is told whose identity is stored.
@@ -157,12 +157,12 @@ fn first_arrival<S: Shelf, R: Rules>(
         StoresOnce (Write caller id.now command.now) (reply_of result) (S.state shelf.old).tables (S.state shelf.new).tables }
     ensures counted { CountsReply (reply_of result) (S.state shelf.old).faults (S.state shelf.new).faults }
 {
-    let rows = gather(alloc, shelf, rules, caller, Matter::Command(command))?;
+    let (rows, read) = gathered(alloc, shelf, rules, caller, Matter::Command(command))?;
     let requests = rows.requests();
     if requests >= MOST_REQUESTS {
         return Err(NotTaken::Full);
     }
-    let (delta, reply) = rules.decide(alloc, &rows, caller, command)?;
+    let (delta, reply) = rules.decide(alloc, read, &rows, caller, command)?;
     let id = id.copy(alloc)?;
     let text = reply_text(alloc, &reply)?;
     let kept = Kept {

@@ -13,7 +13,7 @@ pub mod rules;
 pub mod runs;
 
 pub use deliveries::deliver;
-pub use gathering::gather;
+pub use gathering::{gather, gathered};
 pub use laws::{one_answer, restart_completes, runs_compose};
 pub use rules::Rules;
 pub use runs::{Stopped, run};

@@ -1,54 +1,70 @@
 //! What decides deliveries.
+use review_file::ReadText;
 use review_rows::{Delta, Matter, Need, Rows};
 use review_words::{AccountNo, Command, NotTaken, Query, Reply};
 use std::alloc::{AllocError, Global};
 
-/// What a desk is told of commands and questions, from the rows that decide them. It may keep what it worked out before, of which no
-/// answer may depend.
+/// What a desk is told of commands and questions, from the rows that decide them and the project file by which they are judged. It may
+/// keep what it worked out before, of which no answer may depend.
 pub trait Rules {
-    ghost use Rattle.std.specs.Prelude.{◌≡◌, List, IfOk, IfErr};
+    ghost use Rattle.std.specs.Prelude.{◌≡◌, List, IfOk, IfErr, option_copied};
+    ghost use Rattle.review_file.specs.Texts.{file_read};
     ghost use Rattle.review_words.specs.Texts.{IsStored};
     ghost use Rattle.review_words.specs.History.{Entry};
     ghost use Rattle.review_words.specs.declared.reply.NotTaken.TheVariants.{Memory};
     ghost use Rattle.review_rows.specs.Answer.{query_answer};
+    ghost use Rattle.review_rows.specs.Changes.{Reading};
     ghost use Rattle.review_rows.specs.Rows.{HasNoEffect};
-    ghost use Rattle.review_rows.specs.Steps.{next, topic_of, wants_in, unless_none, OfCommand, OfQuery};
+    ghost use Rattle.review_rows.specs.Steps.{HasFile, next, text_for, topic_of, wants_in, unless_none, OfCommand, OfQuery};
     ghost use Rattle.review_rows.specs.View.{AreEnough, IsDecided};
-    ghost use Rattle.review_rows.specs.Decisions.{IsUndecided, NamesEachOnce, IsDoneOrRefused};
+    ghost use Rattle.review_rows.specs.Decisions.{IsUndecided, IsUnread, NamesEachOnce, IsDoneOrRefused};
 
-    /// What a command or a question asks of the tables next; nothing where the rows decide it.
+    /// What a command or a question asks of the tables next, where this file was read; nothing where the rows decide it.
     fn next_need(
         &mut self,
         alloc: Global,
+        read: Option<&ReadText>,
         rows: &Rows,
         caller: AccountNo,
         matter: Matter<'_>,
     ) -> Result<Option<Need>, AllocError>
-        ensures { IfOk result (λ need. wants_in need ≡ unless_none (next rows.now caller (topic_of matter.entry))) };
+        ensures { IfOk result (λ need. wants_in need ≡ unless_none (next (file_read (option_copied read.entry)) rows.now caller (topic_of matter.entry))) };
 
-    /// The reply to a command and what it changes.
+    /// Reads the file of the project by which a command or a question is judged, as rows know its text; none where there is none.
+    fn read(
+        &mut self,
+        alloc: Global,
+        rows: &Rows,
+        matter: Matter<'_>,
+    ) -> Result<Option<ReadText>, NotTaken>
+        ensures read { IfOk result (λ r. HasFile (text_for rows.now (topic_of matter.entry)) (file_read r)) }
+        ensures cause { IfErr result (IsUnread (text_for rows.now (topic_of matter.entry))) };
+
+    /// The reply to a command and what it changes, where this file was read.
     fn decide(
         &mut self,
         alloc: Global,
+        read: Option<ReadText>,
         rows: &Rows,
         caller: AccountNo,
         command: &Command,
     ) -> Result<(Delta, Reply), NotTaken>
-        ensures decided { IfOk result (λ r. (h : List Entry) → AreEnough h caller (OfCommand command.now) rows.now → IsDecided h caller command.now r.0 r.1) }
-        ensures cause { IfErr result (IsUndecided caller command.now rows.now) }
+        ensures decided { IfOk result (λ r. (reading : Reading) (h : List Entry) → AreEnough reading h caller (OfCommand command.now) (file_read read) rows.now → IsDecided reading h caller command.now r.0 r.1) }
+        ensures cause { IfErr result (IsUndecided caller command.now (file_read read) rows.now) }
         ensures stored { IfOk result (λ r. IsStored r.1) }
         ensures refused { IfOk result (λ r. HasNoEffect r.1 r.0) }
         ensures once { IfOk result (λ r. NamesEachOnce r.0) };
 
-    /// The answer to a question.
+    /// The answer to a question, where this file was read.
     fn show(
         &mut self,
         alloc: Global,
+        read: Option<ReadText>,
         rows: &Rows,
         caller: AccountNo,
         query: &Query,
     ) -> Result<Reply, NotTaken>
-        ensures shown { IfOk result (λ r. (h : List Entry) → AreEnough h caller (OfQuery query.now) rows.now → r ≡ query_answer h caller query.now) }
+        ensures shown { IfOk result (λ r. (reading : Reading) (h : List Entry) → AreEnough reading h caller (OfQuery query.now) (file_read read) rows.now → r ≡ query_answer h caller query.now) }
         ensures answered { IfOk result IsDoneOrRefused }
         ensures cause { IfErr result (λ e. e ≡ Memory) };
 }

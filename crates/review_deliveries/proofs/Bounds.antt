@@ -1,0 +1,232 @@
+-- How many changes and votes a history has at most.
+use Rattle.std.proofs.Common.{◌≡◌, ℕ, ℤ, pos, zero, suc, ◌*◌, ◌==◌, ◌<◌, ◌≤◌, List, [], ◌∷◌, ◌++◌, length, Option, Some, None, Bool, true, false, cond, not, ◌&&◌, ◌||◌, refl, sym, ap, ◌∙◌, subst, ⊎_elim, arith, eq-eqb, length-append}
+use Rattle.std.specs.Prelude.{is_some, nat_le, nat_lt, find, filter, codes, unwrap_or}
+use Rattle.std.specs.Str.{bytes_eq}
+use Rattle.std.proofs.lemmas.Bool.{and_parts, and_from, cases_Bool, cases_lt, ltb-true, ltb-false, leb-true}
+use Rattle.std.proofs.lemmas.List.{length-map}
+use Rattle.toml.specs.Data.{Data, table}
+use Rattle.review_names.specs.Forms.{is_label, most_changes}
+use Rattle.review_words.specs.declared.changes.NewPatch.{NewPatch}
+use Rattle.review_words.specs.declared.command.Command.{Command}
+use Rattle.review_words.specs.declared.command.Command.TheVariants.{CreateAccount, PutGroup, PutProject, RecordBase, CreateChange, Upload, Review}
+use Rattle.review_words.specs.declared.reply.Answer.{Answer}
+use Rattle.review_words.specs.declared.reply.Refusal.TheVariants.{UnknownCaller}
+use Rattle.review_words.specs.declared.reply.Reply.{Reply}
+use Rattle.review_words.specs.declared.reply.Reply.TheVariants.{Done, Refused, IdentityReused, NotTaken}
+use Rattle.review_words.specs.History.{Entry, if_done, account_count, counted, file_text, is_account, is_project}
+use Rattle.review_document.specs.Document.{members_at}
+use Rattle.review_document.specs.Limits.{most_parts}
+use Rattle.review_expr.specs.declared.expr.Expr.{Expr}
+use Rattle.review_project.specs.Expressions.{EachTo, IsLabel}
+use Rattle.review_project.specs.Spelled.{label_in, named, spelled}
+use Rattle.review_project.specs.View.{FileView, LabelView}
+use Rattle.review_changes.specs.Change.{Change, carried, copying, current, is_lost}
+use Rattle.review_changes.specs.Counts.{AreMany, has_vote}
+use Rattle.review_changes.specs.Votes.{voted}
+use Rattle.review_changes.specs.declared.commands.ChangeCommand.TheVariants as on
+use Rattle.review_changes.specs.declared.rows.VoteKey.{VoteKey}
+use Rattle.review_change_laws.proofs.Sound.{all_pass, done_passes}
+use Rattle.review_change_laws.proofs.There.{change_there}
+use Rattle.review_rows.specs.Answer.{IsAnswerBy, IsHistory, IsUploadAnswer, checks}
+use Rattle.review_rows.specs.Changes.{Reading, Reads, change, change_count, change_counted, file_of, setting_of}
+use Rattle.review_rows.specs.Files.{IsRead}
+use Rattle.review_rows.proofs.Readings.{read_of}
+use Rattle.review_deliveries.proofs.Voted.{have_voters}
+use Rattle.review_deliveries.proofs.Votes.{no_more}
+
+made : (reading : Reading) (h : List Entry) (caller : ℕ) (command : Command) (a : Answer) → IsAnswerBy reading h caller command (Done a) → change_count h ≤ most_changes →
+    change_counted (Some command) (change_count h) ≤ most_changes
+made reading h caller (CreateAccount name) a answer before = before
+made reading h caller (PutGroup group members) a answer before = before
+made reading h caller (PutProject project text) a answer before = before
+made reading h caller (RecordBase project branch commit) a answer before = before
+made reading h caller (CreateChange new) a answer before =
+    let all = (all_pass ((is_account h caller, UnknownCaller) ∷ checks reading h caller (CreateChange new)) (done_passes reading h caller (CreateChange new) a answer)).1 in
+    let below : change_count h < most_changes = ltb-true (change_count h) most_changes all.1.1.1.1.1.0 in
+    omega arith
+made reading h caller (Upload n patch) a answer before = before
+made reading h caller (Review n review) a answer before = before
+
+made_by : (reading : Reading) (h : List Entry) (caller : ℕ) (command : Command) (reply : Reply) → IsAnswerBy reading h caller command reply → change_count h ≤ most_changes →
+    change_counted (if_done reply command) (change_count h) ≤ most_changes
+made_by reading h caller command (Done a) answer before = made reading h caller command a answer before
+made_by reading h caller command (Refused r) answer before = before
+made_by reading h caller command IdentityReused answer before = before
+made_by reading h caller command (NotTaken cause) answer before = before
+
+-- a history has at most so many changes
+changes_bound : (reading : Reading) (h : List Entry) → Reads reading h → IsHistory h → change_count h ≤ most_changes
+changes_bound reading [] reads history = omega arith
+changes_bound reading (e ∷ h) reads history = made_by reading h e.identity.caller e.command e.reply (history.1 reading reads.1) (changes_bound reading h reads.1 history.3)
+
+-- the number of a change that is there
+pub change_bound : (reading : Reading) (h : List Entry) (n : ℕ) (c : Change) → Reads reading h → IsHistory h → change reading h n ≡ Some c → (1 ≤ n) × (n ≤ most_changes)
+change_bound reading h n c reads history there =
+    let most = changes_bound reading h reads history in
+    let p = and_parts (nat_le 1 n) (nat_le n (change_count h)) (sym (change_there reading h n) ∙ ap is_some there) in
+    let low : 1 ≤ n = leb-true 1 n p.0 in
+    let high : n ≤ change_count h = leb-true n (change_count h) p.1 in
+    (low, omega arith)
+
+-- ---- the votes that there can be
+
+-- the votes of the accounts up to a number on a label, and on some labels
+abbrev votes_on : List ℕ → ℕ → List VoteKey
+votes_on l zero = []
+votes_on l (suc n) = record { patch = 0; label = l; account = suc n } ∷ votes_on l n
+
+abbrev all_votes : List (LabelView Expr) → ℕ → List VoteKey
+all_votes [] n = []
+all_votes (x ∷ xs) n = votes_on x.name n ++ all_votes xs n
+
+votes_on_long : (l : List ℕ) (n : ℕ) → length (votes_on l n) ≡ n
+votes_on_long l zero = refl
+votes_on_long l (suc n) = ap suc (votes_on_long l n)
+
+all_votes_long : (xs : List (LabelView Expr)) (n : ℕ) → n ≤ 1000000 → length (all_votes xs n) ≤ length xs * 1000000
+all_votes_long [] n below = omega arith
+all_votes_long (x ∷ xs) n below =
+    let here = votes_on_long x.name n in
+    let rest = all_votes_long xs n below in
+    let both = length-append (votes_on x.name n) (all_votes xs n) in
+    omega arith
+
+in_both : (ks js : List VoteKey) (u : ℕ) (l : List ℕ) → has_vote (ks ++ js) u l ≡ (has_vote ks u l || has_vote js u l)
+in_both [] js u l = refl
+in_both (k ∷ ks) js u l = ap (λ b. (bytes_eq k.label l && (k.account == u)) || b) (in_both ks js u l) ∙ sym (or_assoc (bytes_eq k.label l && (k.account == u)) (has_vote ks u l) (has_vote js u l))
+  where
+    or_assoc : (a b c : Bool) → ((a || b) || c) ≡ (a || (b || c))
+    or_assoc true b c = refl
+    or_assoc false b c = refl
+
+or_left : (a b : Bool) → a ≡ true → (a || b) ≡ true
+or_left true b is = refl
+or_left false b is = absurd (cc)
+
+or_right : (a b : Bool) → b ≡ true → (a || b) ≡ true
+or_right true b is = refl
+or_right false b is = is
+
+votes_on_there : (m l : List ℕ) (n u : ℕ) → bytes_eq m l ≡ true → 1 ≤ u → u ≤ n → has_vote (votes_on m n) u l ≡ true
+votes_on_there m l zero u same low high = absurd (omega arith)
+votes_on_there m l (suc n) u same low high =
+    ⊎_elim
+    (λ (t : (suc n == u) ≡ true). or_left (bytes_eq m l && (suc n == u)) (has_vote (votes_on m n) u l) (and_from (bytes_eq m l) (suc n == u) same t))
+    (λ (f : (suc n == u) ≡ false).
+    let other : (suc n ≡ u) → ⊥ = λ e. let t = eq-eqb (suc n) u e in absurd (cc) in
+    let below : u ≤ n = ⊎_elim (λ (lt : u < suc n). omega arith) (λ (ge : suc n ≤ u). absurd (other (omega arith))) (cases_lt u (suc n)) in
+    or_right (bytes_eq m l && (suc n == u)) (has_vote (votes_on m n) u l) (votes_on_there m l n u same low below))
+    (cases_Bool (suc n == u))
+
+all_votes_there : (xs : List (LabelView Expr)) (l : List ℕ) (n u : ℕ) → is_some (find (λ x. bytes_eq x.name l) xs) ≡ true → 1 ≤ u → u ≤ n → has_vote (all_votes xs n) u l ≡ true
+all_votes_there [] l n u there low high = absurd (cc)
+all_votes_there (x ∷ xs) l n u there low high =
+    in_both (votes_on x.name n) (all_votes xs n) u l
+    ∙ ⊎_elim
+    (λ (t : bytes_eq x.name l ≡ true). or_left (has_vote (votes_on x.name n) u l) (has_vote (all_votes xs n) u l) (votes_on_there x.name l n u t low high))
+    (λ (f : bytes_eq x.name l ≡ false).
+    or_right (has_vote (votes_on x.name n) u l) (has_vote (all_votes xs n) u l)
+    (all_votes_there xs l n u (sym (ap (λ b. is_some (cond b (Some x) (find (λ y. bytes_eq y.name l) xs))) f) ∙ there) low high))
+    (cases_Bool (bytes_eq x.name l))
+
+-- so many votes, each of an account on a label
+votes_below : (xs : List (LabelView Expr)) (accounts : ℕ) (test : List ℕ → ℕ → Bool) (n : ℕ) → length xs ≤ 64 → accounts ≤ 1000000 →
+    ((l : List ℕ) (u : ℕ) → test l u ≡ true → is_some (find (λ x. bytes_eq x.name l) xs) ≡ true) → ((l : List ℕ) (u : ℕ) → test l u ≡ true → (nat_le 1 u && nat_le u accounts) ≡ true) →
+    AreMany test n → n < 18446744073709551616
+votes_below xs accounts test n labels below named voters many =
+    let most = no_more many.keys (all_votes xs accounts) many.apart (λ u l there.
+    let is : test l u ≡ true = sym (many.each l u) ∙ there in
+    let p = and_parts (nat_le 1 u) (nat_le u accounts) (voters l u is) in
+    all_votes_there xs l accounts u (named l u is) (leb-true 1 u p.0) (leb-true u accounts p.1)) in
+    let long = all_votes_long xs accounts below in
+    let count = many.count in
+    omega arith
+
+-- ---- the labels of a file
+
+same_long : {A B : Type 0} (R : A → B → Type 0) (xs : List A) (ys : List B) → EachTo R xs ys → length ys ≡ length xs
+same_long R [] [] each = refl
+same_long R [] (y ∷ ys) each = absurd each
+same_long R (x ∷ xs) [] each = absurd each
+same_long R (x ∷ xs) (y ∷ ys) each = ap suc (same_long R xs ys each.1)
+
+filter_long : {X : Type 0} (p : X → Bool) (xs : List X) → length (filter p xs) ≤ length xs
+filter_long p [] = omega arith
+filter_long p (x ∷ xs) =
+    let rest = filter_long p xs in
+    ⊎_elim
+    (λ (t : p x ≡ true). let e : length (filter p (x ∷ xs)) ≡ length (x ∷ filter p xs) = ap (λ b. length (cond b (x ∷ filter p xs) (filter p xs))) t in omega arith)
+    (λ (f : p x ≡ false). let e : length (filter p (x ∷ xs)) ≡ length (filter p xs) = ap (λ b. length (cond b (x ∷ filter p xs) (filter p xs))) f in omega arith)
+    (cases_Bool (p x))
+
+first_false : (a b : Bool) → (a || b) ≡ false → a ≡ false
+first_false true b is = absurd (cc)
+first_false false b is = refl
+
+labels_bound : (text : List ℕ) (f : FileView Expr) → IsRead text f → length f.labels ≤ 64
+labels_bound text f (short, (ms, parsed, good)) =
+    let members = members_at (codes "label") (table ms) in
+    let within : nat_lt most_parts (length members) ≡ false = first_false (nat_lt most_parts (length members)) _ good.2 in
+    let few : length members ≤ 64 = ltb-false most_parts (length members) within in
+    let spelled_long : length (spelled (table ms)).labels ≡ length (named members) = length-map (named members) label_in in
+    let named_long = filter_long (λ (m : List ℕ × Data). is_label m.0) members in
+    let read_long = same_long IsLabel (spelled (table ms)).labels f.labels good.0.1.2 in
+    omega arith
+
+-- ---- accounts
+
+account_made : (reading : Reading) (h : List Entry) (caller : ℕ) (command : Command) (a : Answer) → IsAnswerBy reading h caller command (Done a) → account_count h ≤ 1000000 →
+    counted (Some command) (account_count h) ≤ 1000000
+account_made reading h caller (CreateAccount name) a answer before =
+    let all = (all_pass ((is_account h caller, UnknownCaller) ∷ checks reading h caller (CreateAccount name)) (done_passes reading h caller (CreateAccount name) a answer)).1 in
+    let below : account_count h < 1000000 = ltb-true (account_count h) 1000000 all.1.1.0 in
+    omega arith
+account_made reading h caller (PutGroup group members) a answer before = before
+account_made reading h caller (PutProject project text) a answer before = before
+account_made reading h caller (RecordBase project branch commit) a answer before = before
+account_made reading h caller (CreateChange new) a answer before = before
+account_made reading h caller (Upload n patch) a answer before = before
+account_made reading h caller (Review n review) a answer before = before
+
+account_by : (reading : Reading) (h : List Entry) (caller : ℕ) (command : Command) (reply : Reply) → IsAnswerBy reading h caller command reply → account_count h ≤ 1000000 →
+    counted (if_done reply command) (account_count h) ≤ 1000000
+account_by reading h caller command (Done a) answer before = account_made reading h caller command a answer before
+account_by reading h caller command (Refused r) answer before = before
+account_by reading h caller command IdentityReused answer before = before
+account_by reading h caller command (NotTaken cause) answer before = before
+
+-- a history has at most so many accounts
+accounts_bound : (reading : Reading) (h : List Entry) → Reads reading h → IsHistory h → account_count h ≤ 1000000
+accounts_bound reading [] reads history = omega arith
+accounts_bound reading (e ∷ h) reads history = account_by reading h e.identity.caller e.command e.reply (history.1 reading reads.1) (accounts_bound reading h reads.1 history.3)
+
+-- the file of a project that has one is read
+project_read : (reading : Reading) (h : List Entry) (project : List ℕ) → Reads reading h → is_project h project ≡ true → (text : List ℕ) × IsRead text (file_of reading h project)
+project_read reading h project reads there = at (file_text h project) refl there
+  where
+    at : (o : Option (List ℕ)) → file_text h project ≡ o → is_some o ≡ true → (text : List ℕ) × IsRead text (file_of reading h project)
+    at None is there = absurd (cc)
+    at (Some text) is there = (text, subst (λ o. IsRead text (reading (unwrap_or o []))) (sym is) (read_of reading h project text reads is))
+
+-- a vote that is carried was there
+carried_vote : (b : Bool) (v : ℤ) → voted (cond b v (pos 0)) ≡ true → voted v ≡ true
+carried_vote true v is = is
+carried_vote false v is = absurd (cc)
+
+-- the votes that an Upload counts
+pub votes_bound : (reading : Reading) (h : List Entry) (caller n : ℕ) (patch : NewPatch) (c : Change) (reply : Reply) → IsHistory h → Reads reading h → change reading h n ≡ Some c →
+    (is : IsUploadAnswer reading h caller n patch c reply) → (is.copied < 18446744073709551616) × (is.outdated < 18446744073709551616)
+votes_bound reading h caller n patch c reply history reads there is =
+    let has = have_voters reading h n c reads history there in
+    let file = file_of reading h c.project in
+    let read = project_read reading h c.project reads has.project in
+    let few = labels_bound read.0 file read.1 in
+    let below = accounts_bound reading h reads history in
+    let k = copying (setting_of reading h c.project) (on.Upload patch) caller c in
+    let was = λ (l : List ℕ) (u : ℕ) (v : voted (carried k c l u) ≡ true). carried_vote (k.copies l u (c.vote (current c) l u)) (c.vote (current c) l u) v in
+    let lost = λ (l : List ℕ) (u : ℕ) (v : is_lost k c u l ≡ true). (and_parts (voted (c.vote (current c) l u)) (not (k.copies l u (c.vote (current c) l u))) v).0 in (
+      votes_below file.labels (account_count h) (λ l u. voted (carried k c l u)) is.copied few below
+          (λ l u v. has.labels (current c) l u (was l u v)) (λ l u v. has.voters (current c) l u (was l u v)) is.many_copied,
+      votes_below file.labels (account_count h) (λ l u. is_lost k c u l) is.outdated few below
+          (λ l u v. has.labels (current c) l u (lost l u v)) (λ l u v. has.voters (current c) l u (lost l u v)) is.many_outdated,
+    )

@@ -1,0 +1,251 @@
+-- Whose votes a change has, and on which labels: accounts vote, on labels of the file of the change's project.
+use Rattle.std.proofs.Common.{◌≡◌, ℕ, ℤ, pos, ◌+◌, ◌==◌, ◌≤◌, List, [], ◌∷◌, ◌++◌, length, Option, Some, None, Bool, true, false, cond, ◌&&◌, ◌||◌, refl, sym, ap, ◌∙◌, subst, ⊎_elim, arith, eqb-true}
+use Rattle.std.specs.Prelude.{find, is_some, nat_le, nat_lt, option_map, unwrap_or, MatchOption}
+use Rattle.std.specs.List.{AllByRecursion, list_all, list_any}
+use Rattle.std.specs.Option.{option_map_or}
+use Rattle.std.specs.Str.{bytes_eq}
+use Rattle.std.proofs.lemmas.Bool.{and_parts, and_from, cases_Bool, leb-true, le-leb}
+use Rattle.std.proofs.lemmas.Slice.Eq.{bytes_eq-Decides}
+use Rattle.review_words.specs.declared.changes.Given.{Given}
+use Rattle.review_words.specs.declared.changes.NewPatch.{NewPatch}
+use Rattle.review_words.specs.declared.changes.Review.{Review as ReviewOf}
+use Rattle.review_words.specs.declared.command.Command.{Command}
+use Rattle.review_words.specs.declared.command.Command.TheVariants.{CreateAccount, PutGroup, PutProject, RecordBase, CreateChange, Upload, Review}
+use Rattle.review_words.specs.declared.reply.Answer.{Answer}
+use Rattle.review_words.specs.declared.reply.Answer.TheVariants.{Nothing}
+use Rattle.review_words.specs.declared.reply.Refusal.{Refusal}
+use Rattle.review_words.specs.declared.reply.Refusal.TheVariants.{BadFile, UnknownCaller, Limit, LabelNarrowed}
+use Rattle.review_words.specs.declared.reply.Reply.{Reply}
+use Rattle.review_words.specs.declared.reply.Reply.TheVariants.{Done, Refused, IdentityReused, NotTaken}
+use Rattle.review_words.specs.History.{Entry, accepted, if_done, account_count, counted, file_text, is_account, is_project, project_count, text_put}
+use Rattle.review_project.specs.Rights.{has_values, is_covered}
+use Rattle.review_project.specs.View.{LabelView}
+use Rattle.review_expr.specs.declared.expr.Expr.{Expr}
+use Rattle.review_project_laws.proofs.Together.{same_covers}
+use Rattle.review_changes.specs.Change.{Change, Copying, Setting, after, begun, carried, copying, current, given_or, label_in, reviewed}
+use Rattle.review_changes.specs.Votes.{voted}
+use Rattle.review_changes.specs.declared.commands.ChangeCommand.TheVariants as on
+use Rattle.review_change_laws.proofs.Sound.{Passes, all_pass, checks_pass, done_passes}
+use Rattle.review_rows.specs.Answer.{IsAnswerBy, IsFaultAnswer, IsFileAnswer, IsHistory, checks, first_refusal, given_checks, refused_by, refused_or, review_checks}
+use Rattle.review_rows.specs.Changes.{Reading, Reads, IsReadRight, change, change_by, change_count, file_of, setting_of}
+use Rattle.review_rows.specs.Files.{File, IsRead, covers}
+use Rattle.review_rows.specs.Limits.{most_projects}
+
+-- ---- labels of a file that covers another
+
+find_from : (l m : List ℕ) (f : LabelView Expr → Bool) (xs : List (LabelView Expr)) → m ≡ l → list_any (λ x. bytes_eq x.name m && f x) xs ≡ true → is_some (find (λ x. bytes_eq x.name l) xs) ≡ true
+find_from l m f [] same there = absurd (cc)
+find_from l m f (x ∷ xs) same there =
+    ⊎_elim
+    (λ (t : bytes_eq x.name l ≡ true). ap (λ b. is_some (cond b (Some x) (find (λ y. bytes_eq y.name l) xs))) t)
+    (λ (n : bytes_eq x.name l ≡ false).
+    let not_here : bytes_eq x.name m ≡ false = ap (bytes_eq x.name) same ∙ n in
+    let rest : list_any (λ y. bytes_eq y.name m && f y) xs ≡ true = sym (ap (λ b. (b && f x) || list_any (λ y. bytes_eq y.name m && f y) xs) not_here) ∙ there in
+    ap (λ b. is_some (cond b (Some x) (find (λ y. bytes_eq y.name l) xs))) n ∙ find_from l m f xs same rest)
+    (cases_Bool (bytes_eq x.name l))
+
+covered_label : (l : List ℕ) (new xs : List (LabelView Expr)) → list_all (is_covered new) xs ≡ true → is_some (find (λ x. bytes_eq x.name l) xs) ≡ true → is_some (find (λ x. bytes_eq x.name l) new) ≡ true
+covered_label l new [] all there = absurd (cc)
+covered_label l new (x ∷ xs) all there =
+    let p = and_parts (is_covered new x) (list_all (is_covered new) xs) all in
+    ⊎_elim
+    (λ (t : bytes_eq x.name l ≡ true). find_from l x.name (λ y. has_values y.values x.values) new ((bytes_eq-Decides x.name l).0 t) p.0)
+    (λ (n : bytes_eq x.name l ≡ false).
+    covered_label l new xs p.1 (sym (ap (λ b. is_some (cond b (Some x) (find (λ y. bytes_eq y.name l) xs))) n) ∙ there))
+    (cases_Bool (bytes_eq x.name l))
+
+-- ---- what stays when a command is done
+
+-- accounts, projects and labels of projects stay
+pub record Stay (reading : Reading) (h g : List Entry) : Type 0 where
+  pub accounts : (u : ℕ) → is_account h u ≡ true → is_account g u ≡ true
+  pub projects : (p : List ℕ) → is_project h p ≡ true → is_project g p ≡ true
+  pub labels : (p l : List ℕ) → is_project h p ≡ true → is_some (label_in (file_of reading h p) l) ≡ true → is_some (label_in (file_of reading g p) l) ≡ true
+
+more_accounts : (n m u : ℕ) → n ≤ m → (nat_le 1 u && nat_le u n) ≡ true → (nat_le 1 u && nat_le u m) ≡ true
+more_accounts n m u grows is =
+    let p = and_parts (nat_le 1 u) (nat_le u n) is in
+    let below : u ≤ n = leb-true u n p.1 in
+    and_from (nat_le 1 u) (nat_le u m) p.0 (le-leb u m (omega arith))
+
+-- an answer that is no refusal is given where no check refuses
+pub not_fault : {A : Type 0} (o : Option Refusal) (a : Answer) → MatchOption o A (λ r. Done a ≡ Refused r) → A
+not_fault None a outcome = outcome
+not_fault (Some r) a refused = absurd (cc)
+
+first_passes : (b : Bool) (r : Refusal) (cs : List (Bool × Refusal)) (a : Answer) → Done a ≡ refused_or (first_refusal ((b, r) ∷ cs)) Nothing → b ≡ true
+first_passes true r cs a is = refl
+first_passes false r cs a is = absurd (cc)
+
+-- the file that is put covers the one that was there
+put_covers : (reading : Reading) (h : List Entry) (caller : ℕ) (project text : List ℕ) (a : Answer) → IsRead text (reading text) → IsAnswerBy reading h caller (PutProject project text) (Done a) →
+    option_map_or (λ f. covers f (reading text)) (option_map reading (file_text h project)) true ≡ true
+put_covers reading h caller project text a read answer =
+    ⊎_elim
+    (λ (fault : IsFaultAnswer text (Done a)). let e : Done a ≡ Refused (BadFile fault.0) = fault.2 in absurd (cc))
+    (λ (file : IsFileAnswer reading h project text (Done a)).
+    same (option_map reading (file_text h project)) file.0 file.1 (first_passes (option_map_or (λ f. covers f file.0) (option_map reading (file_text h project)) true) LabelNarrowed ((is_project h project || nat_lt (project_count h) most_projects, Limit) ∷ []) a file.2))
+    (not_fault (refused_by reading h caller (PutProject project text)) a answer)
+  where
+    same : (o : Option File) (new : File) → IsRead text new → option_map_or (λ f. covers f new) o true ≡ true → option_map_or (λ f. covers f (reading text)) o true ≡ true
+    same None new is pass = refl
+    same (Some f) new is pass = sym (same_covers text new (reading text) is read f).1 ∙ pass
+
+-- the labels of a project that gets a file, or doesn't
+labels_put : (reading : Reading) (b : Bool) (text l : List ℕ) (o : Option (List ℕ)) → (b ≡ true → option_map_or (λ f. covers f (reading text)) (option_map reading o) true ≡ true) → is_some o ≡ true →
+    is_some (label_in (reading (unwrap_or o [])) l) ≡ true → is_some (label_in (reading (unwrap_or (cond b (Some text) o) [])) l) ≡ true
+labels_put reading b text l None covered is there = absurd (cc)
+labels_put reading true text l (Some old) covered is there = covered_label l (reading text).labels (reading old).labels (covered refl) there
+labels_put reading false text l (Some old) covered is there = there
+
+projects_put : (b : Bool) (text : List ℕ) (o : Option (List ℕ)) → is_some o ≡ true → is_some (cond b (Some text) o) ≡ true
+projects_put true text o is = refl
+projects_put false text o is = is
+
+stay_alike : (reading : Reading) (h g : List Entry) → account_count g ≡ account_count h → ((p : List ℕ) → file_text g p ≡ file_text h p) → Stay reading h g
+stay_alike reading h g accounts files = record {
+  accounts = λ u is. ap (λ n. nat_le 1 u && nat_le u n) accounts ∙ is;
+  projects = λ p is. ap is_some (files p) ∙ is;
+  labels = λ p l is there. ap (λ o. is_some (label_in (reading (unwrap_or o [])) l)) (files p) ∙ there;
+}
+
+stay_done : (reading : Reading) (h : List Entry) (e : Entry) (command : Command) (a : Answer) → accepted e ≡ Some command → IsReadRight reading (Some command) →
+    IsAnswerBy reading h e.identity.caller command (Done a) → Stay reading h (e ∷ h)
+stay_done reading h e (CreateAccount name) a is right answer =
+    let more : account_count (e ∷ h) ≡ account_count h + 1 = ap (λ o. counted o (account_count h)) is in
+    record {
+      accounts = λ u there. more_accounts (account_count h) (account_count (e ∷ h)) u (omega arith) there;
+      projects = λ p there. ap (λ o. is_some (text_put o p (file_text h p))) is ∙ there;
+      labels = λ p l there named. ap (λ o. is_some (label_in (reading (unwrap_or (text_put o p (file_text h p)) [])) l)) is ∙ named;
+    }
+stay_done reading h e (PutProject project text) a is right answer = record {
+  accounts = λ u there. ap (λ o. nat_le 1 u && nat_le u (counted o (account_count h))) is ∙ there;
+  projects = λ p there. ap (λ o. is_some (text_put o p (file_text h p))) is ∙ projects_put (bytes_eq project p) text (file_text h p) there;
+  labels = λ p l there named.
+      ap (λ o. is_some (label_in (reading (unwrap_or (text_put o p (file_text h p)) [])) l)) is
+      ∙ labels_put reading (bytes_eq project p) text l (file_text h p)
+      (λ same. subst (λ q. option_map_or (λ f. covers f (reading text)) (option_map reading (file_text h q)) true ≡ true) ((bytes_eq-Decides project p).0 same)
+      (put_covers reading h e.identity.caller project text a right answer)) there named;
+}
+stay_done reading h e (PutGroup group members) a is right answer = stay_alike reading h (e ∷ h) (ap (λ o. counted o (account_count h)) is) (λ p. ap (λ o. text_put o p (file_text h p)) is)
+stay_done reading h e (RecordBase project branch commit) a is right answer = stay_alike reading h (e ∷ h) (ap (λ o. counted o (account_count h)) is) (λ p. ap (λ o. text_put o p (file_text h p)) is)
+stay_done reading h e (CreateChange new) a is right answer = stay_alike reading h (e ∷ h) (ap (λ o. counted o (account_count h)) is) (λ p. ap (λ o. text_put o p (file_text h p)) is)
+stay_done reading h e (Upload n patch) a is right answer = stay_alike reading h (e ∷ h) (ap (λ o. counted o (account_count h)) is) (λ p. ap (λ o. text_put o p (file_text h p)) is)
+stay_done reading h e (Review n review) a is right answer = stay_alike reading h (e ∷ h) (ap (λ o. counted o (account_count h)) is) (λ p. ap (λ o. text_put o p (file_text h p)) is)
+
+stay_undone : (reading : Reading) (h : List Entry) (e : Entry) → accepted e ≡ None → Stay reading h (e ∷ h)
+stay_undone reading h e is = stay_alike reading h (e ∷ h) (ap (λ o. counted o (account_count h)) is) (λ p. ap (λ o. text_put o p (file_text h p)) is)
+
+-- ---- votes
+
+-- the project of a change is there, accounts voted on it, and on labels of its file
+pub record HasVoters (reading : Reading) (h : List Entry) (c : Change) : Type 0 where
+  pub project : is_project h c.project ≡ true
+  pub voters : (n : ℕ) (l : List ℕ) (u : ℕ) → voted (c.vote n l u) ≡ true → is_account h u ≡ true
+  pub labels : (n : ℕ) (l : List ℕ) (u : ℕ) → voted (c.vote n l u) ≡ true → is_some (label_in (file_of reading h c.project) l) ≡ true
+
+voters_stay : (reading : Reading) (h g : List Entry) (c : Change) → Stay reading h g → HasVoters reading h c → HasVoters reading g c
+voters_stay reading h g c stay has = record {
+  project = stay.projects c.project has.project;
+  voters = λ n l u is. stay.accounts u (has.voters n l u is);
+  labels = λ n l u is. stay.labels c.project l has.project (has.labels n l u is);
+}
+
+-- a vote after an Upload was there before
+uploaded_vote : (k : Copying) (b : Bool) (c : Change) (n : ℕ) (l : List ℕ) (u : ℕ) → voted (cond b (carried k c l u) (c.vote n l u)) ≡ true → (m : ℕ) × (voted (c.vote m l u) ≡ true)
+uploaded_vote k false c n l u is = (n, is)
+uploaded_vote k true c n l u is = (current c, copied (k.copies l u (c.vote (current c) l u)) is)
+  where
+    copied : (b : Bool) → voted (cond b (c.vote (current c) l u) (pos 0)) ≡ true → voted (c.vote (current c) l u) ≡ true
+    copied true is = is
+    copied false is = absurd (cc)
+
+uploaded : (reading : Reading) (h : List Entry) (s : Setting) (p : NewPatch) (caller request : ℕ) (c : Change) → HasVoters reading h c → HasVoters reading h (after s (on.Upload p) caller request c)
+uploaded reading h s p caller request c has = record {
+  project = has.project;
+  voters = λ n l u is. let v = uploaded_vote (copying s (on.Upload p) caller c) (current c + 1 == n) c n l u is in has.voters v.0 l u v.1;
+  labels = λ n l u is. let v = uploaded_vote (copying s (on.Upload p) caller c) (current c + 1 == n) c n l u is in has.labels v.0 l u v.1;
+}
+
+-- a vote on a label that was given, or was there before
+given_label : (file : File) (gs : List Given) (l : List ℕ) (v : ℤ) → list_all (λ x. is_some (label_in file x.label)) gs ≡ true → (voted v ≡ true → is_some (label_in file l) ≡ true) →
+    voted (given_or gs l v) ≡ true → is_some (label_in file l) ≡ true
+given_label file [] l v all before is = before is
+given_label file (g ∷ gs) l v all before is =
+    let p = and_parts (is_some (label_in file g.label)) (list_all (λ x. is_some (label_in file x.label)) gs) all in
+    given_label file gs l (cond (bytes_eq g.label l) g.value v) p.1 (now (bytes_eq g.label l) refl p.0) is
+  where
+    now : (b : Bool) → bytes_eq g.label l ≡ b → is_some (label_in file g.label) ≡ true → voted (cond b g.value v) ≡ true → is_some (label_in file l) ≡ true
+    now true same there is = subst (λ m. is_some (label_in file m) ≡ true) ((bytes_eq-Decides g.label l).0 same) there
+    now false other there is = before is
+
+labels_given : (s : Setting) (caller : ℕ) (r : ReviewOf) (c : Change) (gs : List Given) (rest : List (Bool × Refusal)) → AllByRecursion Passes (given_checks s caller r c gs ++ rest) →
+    list_all (λ x. is_some (label_in s.file x.label)) gs ≡ true
+labels_given s caller r c [] rest all = refl
+labels_given s caller r c (g ∷ gs) rest all = all.1.1.0
+
+review_voter : (b t : Bool) (x y : ℤ) {A : Type 0} → (t ≡ true → A) → (voted y ≡ true → A) → voted (cond (b && t) x y) ≡ true → A
+review_voter true true x y here there is = here refl
+review_voter true false x y here there is = there is
+review_voter false t x y here there is = there is
+
+review_label : (b : Bool) (x y : ℤ) {A : Type 0} → (voted x ≡ true → A) → (voted y ≡ true → A) → voted (cond b x y) ≡ true → A
+review_label true x y here there is = here is
+review_label false x y here there is = there is
+
+was_reviewed : (reading : Reading) (h : List Entry) (caller request : ℕ) (r : ReviewOf) (c : Change) → is_account h caller ≡ true → list_all (λ x. is_some (label_in (file_of reading h c.project) x.label)) r.labels ≡ true →
+    HasVoters reading h c → HasVoters reading h (after (setting_of reading h c.project) (on.Review r) caller request c)
+was_reviewed reading h caller request r c account given has = record {
+  project = has.project;
+  voters = λ n l u is. review_voter (reviewed r c == n) (caller == u) (given_or r.labels l (c.vote n l u)) (c.vote n l u)
+      (λ same. subst (λ x. is_account h x ≡ true) (eqb-true caller u same) account) (has.voters n l u) is;
+  labels = λ n l u is. review_label ((reviewed r c == n) && (caller == u)) (given_or r.labels l (c.vote n l u)) (c.vote n l u)
+      (given_label (file_of reading h c.project) r.labels l (c.vote n l u) given (has.labels n l u)) (has.labels n l u) is;
+}
+
+-- what becomes of a change that a request names, or that is made
+by_choice : (Is : Change → Type 0) (b : Bool) (o : Option Change) (f : Change → Change) (c : Change) → ((x : Change) → o ≡ Some x → Is x) → (b ≡ true → (x : Change) → o ≡ Some x → Is x → Is (f x)) →
+    cond b (option_map f o) o ≡ Some c → Is c
+by_choice Is true None f c before then is = absurd (cc)
+by_choice Is true (Some x) f c before then is = let same : f x ≡ c = cc in subst Is same (then refl x refl (before x refl))
+by_choice Is false o f c before then is = before c is
+
+by_making : (Is : Change → Type 0) (b : Bool) (o : Option Change) (new c : Change) → ((x : Change) → o ≡ Some x → Is x) → Is new → cond b (Some new) o ≡ Some c → Is c
+by_making Is true o new c before begins is = let same : new ≡ c = cc in subst Is same begins
+by_making Is false o new c before begins is = before c is
+
+voters_done : (reading : Reading) (h : List Entry) (caller n : ℕ) (c : Change) (command : Command) (a : Answer) → IsAnswerBy reading h caller command (Done a) →
+    ((x : Change) → change reading h n ≡ Some x → HasVoters reading h x) → change_by reading h caller (Some command) n (change reading h n) ≡ Some c → HasVoters reading h c
+voters_done reading h caller n c (CreateAccount name) a answer before is = before c is
+voters_done reading h caller n c (PutGroup group members) a answer before is = before c is
+voters_done reading h caller n c (PutProject project text) a answer before is = before c is
+voters_done reading h caller n c (RecordBase project branch commit) a answer before is = before c is
+voters_done reading h caller n c (CreateChange new) a answer before is =
+    let all = (all_pass ((is_account h caller, UnknownCaller) ∷ checks reading h caller (CreateChange new)) (done_passes reading h caller (CreateChange new) a answer)).1 in
+    by_making (HasVoters reading h) (change_count h + 1 == n) (change reading h n) (begun new caller (length h + 1)) c before
+    (record { project = all.0; voters = λ m l u none. absurd (cc); labels = λ m l u none. absurd (cc) }) is
+voters_done reading h caller n c (Upload m patch) a answer before is =
+    by_choice (HasVoters reading h) (m == n) (change reading h n) (λ x. after (setting_of reading h x.project) (on.Upload patch) caller (length h + 1) x) c before
+    (λ same x there has. uploaded reading h (setting_of reading h x.project) patch caller (length h + 1) x has) is
+voters_done reading h caller n c (Review m review) a answer before is =
+    let none = done_passes reading h caller (Review m review) a answer in
+    let account = (all_pass ((is_account h caller, UnknownCaller) ∷ checks reading h caller (Review m review)) none).0 in
+    by_choice (HasVoters reading h) (m == n) (change reading h n) (λ x. after (setting_of reading h x.project) (on.Review review) caller (length h + 1) x) c before
+    (λ same x there has.
+    let pass = checks_pass reading h caller (review_checks reading h caller review) (change reading h m) x (ap (change reading h) (eqb-true m n same) ∙ there) none in
+    was_reviewed reading h caller (length h + 1) review x account (labels_given (setting_of reading h x.project) caller review x review.labels _ pass.1) has) is
+
+-- one entry more
+voters_step : (reading : Reading) (h : List Entry) (e : Entry) (n : ℕ) (c : Change) (reply : Reply) → e.reply ≡ reply → IsReadRight reading (if_done reply e.command) → IsAnswerBy reading h e.identity.caller e.command reply →
+    ((x : Change) → change reading h n ≡ Some x → HasVoters reading h x) → change_by reading h e.identity.caller (if_done reply e.command) n (change reading h n) ≡ Some c → HasVoters reading (e ∷ h) c
+voters_step reading h e n c (Done a) of right answer before is =
+    voters_stay reading h (e ∷ h) c (stay_done reading h e e.command a (ap (λ r. if_done r e.command) of) right answer) (voters_done reading h e.identity.caller n c e.command a answer before is)
+voters_step reading h e n c (Refused r) of right answer before is = voters_stay reading h (e ∷ h) c (stay_undone reading h e (ap (λ r. if_done r e.command) of)) (before c is)
+voters_step reading h e n c IdentityReused of right answer before is = voters_stay reading h (e ∷ h) c (stay_undone reading h e (ap (λ r. if_done r e.command) of)) (before c is)
+voters_step reading h e n c (NotTaken cause) of right answer before is = voters_stay reading h (e ∷ h) c (stay_undone reading h e (ap (λ r. if_done r e.command) of)) (before c is)
+
+-- whose votes a change of a history has
+pub have_voters : (reading : Reading) (h : List Entry) (n : ℕ) (c : Change) → Reads reading h → IsHistory h → change reading h n ≡ Some c → HasVoters reading h c
+have_voters reading [] n c reads history is = absurd (cc)
+have_voters reading (e ∷ h) n c reads history is =
+    voters_step reading h e n c e.reply refl reads.0 (history.1 reading reads.1) (λ x there. have_voters reading h n x reads.1 history.3 there) is

@@ -1,0 +1,53 @@
+-- What is gathered of the tables before a command or a question is answered.
+use Rattle.std.specs.Prelude.{ℕ, ◌≡◌, ◌⊎◌, List, [], Option, None, Result, Ok, Err}
+use Rattle.review_words.specs.History.{Entry}
+use Rattle.review_words.specs.declared.reply.NotTaken.{NotTaken as Cause}
+use Rattle.review_words.specs.declared.reply.NotTaken.TheVariants.{Memory, Store, Damaged, Pattern, Full}
+use Rattle.review_words.specs.declared.reply.Reply.TheVariants.{NotTaken}
+use Rattle.review_rows.specs.declared.rows.Want.{Want}
+use Rattle.review_rows.specs.declared.rows.Rows.{Rows}
+use Rattle.review_rows.specs.Changes.{Reading, Reads}
+use Rattle.review_rows.specs.Decisions.{HasPatternIn, judging_project}
+use Rattle.review_rows.specs.Files.{File}
+use Rattle.review_rows.specs.Known.{known, IsKnown, Agrees}
+use Rattle.review_rows.specs.Rows.{Tables}
+use Rattle.review_rows.specs.Shelf.{Shows, LeavesBy, IsDamaged}
+use Rattle.review_rows.specs.Steps.{Topic, OfCommand, OfQuery, HasFile, next, text_for}
+use Rattle.review_rows.specs.View.{IsView}
+use Rattle.review_deliveries.specs.Replies.{CountsReply}
+
+-- what was gathered so far: nothing, or what is so in the tables
+abbrev pub IsSoFar : Option Tables → Rows → Type 0
+IsSoFar tables rows = ((w : Want) → known rows w ≡ None) ⊎ Shows tables (λ t. Agrees t rows)
+
+-- what the first rows know, the others know alike
+abbrev pub StaysKnown : Rows → Rows → Type 0
+StaysKnown first rows = (w : Want) → IsKnown first w → known rows w ≡ known first w
+
+-- nothing is left to ask, and the file is the one to be read
+abbrev pub IsAllAsked : ℕ → Topic → Option File → Rows → Type 0
+IsAllAsked caller topic file rows = (next file rows caller topic ≡ []) × HasFile (text_for rows topic) file
+
+-- a command is judged by a file with a pattern, in each history whose tables these are
+abbrev pub IsJudgedByPattern : Topic → Tables → Type 0
+IsJudgedByPattern (OfCommand command) t =
+    (reading : Reading) (h : List Entry) → Reads reading h → IsView h t → HasPatternIn h (judging_project reading h command)
+IsJudgedByPattern (OfQuery query) t = ⊥
+
+-- Why not all is gathered: want of memory, a fault of the store, tables that are those of no history, or a pattern that the engine may refuse.
+abbrev pub IsUngathered : Topic → Option Tables → Cause → Type 0
+IsUngathered topic tables Memory = Unit {0}
+IsUngathered topic tables Store = Unit {0}
+IsUngathered topic tables Damaged = Shows tables IsDamaged
+IsUngathered topic tables Pattern = Shows tables (IsJudgedByPattern topic)
+IsUngathered topic tables Full = ⊥
+
+-- what is left, also where it failed for a cause
+abbrev pub LeavesTables : {X : Type 0} → Result X Cause → Option Tables → Option Tables → Type 0
+LeavesTables (Ok x) old new = new ≡ old
+LeavesTables (Err cause) old new = LeavesBy cause old new
+
+-- the count of faults stays, but for the cause Store
+abbrev pub CountsCause : {X : Type 0} → Result X Cause → ℕ → ℕ → Type 0
+CountsCause (Ok x) before after = after ≡ before
+CountsCause (Err cause) before after = CountsReply (NotTaken cause) before after
