@@ -1,0 +1,4 @@
+pub mod Desk
+pub mod Content
+pub mod Ran
+pub mod Search

@@ -1,0 +1,7 @@
+//! The tables of a desk in SQLite.
+#![tactic(auto)]
+
+pub mod changes;
+pub mod reads;
+pub mod table;
+pub mod texts;
