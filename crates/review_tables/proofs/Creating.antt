@@ -9,7 +9,8 @@ use Rattle.sqlite_value.specs.declared.value.Value.TheVariants.{Int}
 use Rattle.std.proofs.Common.{pos}
 use Rattle.sqlite_sql.specs.declared.ops.BinaryOp.TheVariants.{Compare}
 use Rattle.sqlite_sql.specs.declared.ops.CompareOp.TheVariants.{Eq}
-use Rattle.review_tables.specs.Desk.{accounts, members, accounts_index, members_index, desk_schema}
+use Rattle.review_tables.specs.Desk.{accounts, members, projects, bases, changes, patches, votes, reviewers, comments, attention, answers, desk, accounts_index, members_index, projects_index, bases_index, patches_index, votes_index, reviewers_index, comments_index, attention_index, answers_index, requests_index, schema_of}
+use Rattle.review_tables.specs.declared.texts.TheConstants.{CREATE_ACCOUNTS, CREATE_MEMBERS, CREATE_PROJECTS, CREATE_BASES, CREATE_CHANGES, CREATE_PATCHES, CREATE_VOTES, CREATE_REVIEWERS, CREATE_COMMENTS, CREATE_ATTENTION, CREATE_ANSWERS, CREATE_DESK}
 use Rattle.review_tables.proofs.Queries.{over_table}
 use Rattle.sqlite_schema.specs.declared.schema.Table.{Table}
 use Rattle.sqlite_schema.specs.declared.schema.Schema.{Schema}
@@ -48,22 +49,7 @@ creates sql old new schema table has is text plain defined uncounted count h =
       others = subst (λ (d : Database). KeepsRows schema.tables old.now.trees d.trees) (sym now) (subst (λ (s : Schema). KeepsRows s.tables old.now.trees first.0.trees) has made.others);
     }
 
--- ---- the six tables, one after the other
-
-abbrev pub schema_of : List Table → List Index → Schema
-schema_of tables indexes = record { tables = tables; indexes = indexes; views = [] }
-
-abbrev pub create_accounts : List ℕ
-create_accounts = codes "CREATE TABLE accounts (number INTEGER PRIMARY KEY, name TEXT NOT NULL, UNIQUE (name))"
-
-abbrev pub schema_1 : Schema
-schema_1 = schema_of (accounts ∷ []) (accounts_index ∷ [])
-
-abbrev pub create_members : List ℕ
-create_members = codes "CREATE TABLE members (grp TEXT NOT NULL, account INTEGER NOT NULL, PRIMARY KEY (grp, account))"
-
-abbrev pub schema_2 : Schema
-schema_2 = schema_of (accounts ∷ members ∷ []) (accounts_index ∷ members_index ∷ [])
+-- ---- the twelve tables, one after the other
 
 -- what a CREATE text means over a schema, and which schema it leaves
 pub record MakesText (sql : List ℕ) (schema : Schema) (table : Table) (after : Schema) : Type 0 where
@@ -73,33 +59,92 @@ pub record MakesText (sql : List ℕ) (schema : Schema) (table : Table) (after :
   pub defines : table_defined_by sql ≡ Ok (record table { tree = 0 })
   pub uncounted : lacks_sequence (created schema (record table { tree = 0 })) ≡ false
   pub leaves : created schema (record table { tree = 0 }) ≡ after
+  pub place : next_tree schema ≡ table.tree
 
-pub accounts_made : MakesText create_accounts (schema_of [] []) accounts schema_1
+abbrev pub schema_0 : Schema
+schema_0 = schema_of [] []
+
+abbrev pub schema_1 : Schema
+schema_1 = schema_of (accounts ∷ []) (accounts_index ∷ [])
+
+abbrev pub schema_2 : Schema
+schema_2 = schema_of (accounts ∷ members ∷ []) (accounts_index ∷ members_index ∷ [])
+
+abbrev pub schema_3 : Schema
+schema_3 = schema_of (accounts ∷ members ∷ projects ∷ []) (accounts_index ∷ members_index ∷ projects_index ∷ [])
+
+abbrev pub schema_4 : Schema
+schema_4 = schema_of (accounts ∷ members ∷ projects ∷ bases ∷ []) (accounts_index ∷ members_index ∷ projects_index ∷ bases_index ∷ [])
+
+abbrev pub schema_5 : Schema
+schema_5 = schema_of (accounts ∷ members ∷ projects ∷ bases ∷ changes ∷ []) (accounts_index ∷ members_index ∷ projects_index ∷ bases_index ∷ [])
+
+abbrev pub schema_6 : Schema
+schema_6 = schema_of (accounts ∷ members ∷ projects ∷ bases ∷ changes ∷ patches ∷ []) (accounts_index ∷ members_index ∷ projects_index ∷ bases_index ∷ patches_index ∷ [])
+
+abbrev pub schema_7 : Schema
+schema_7 = schema_of (accounts ∷ members ∷ projects ∷ bases ∷ changes ∷ patches ∷ votes ∷ []) (accounts_index ∷ members_index ∷ projects_index ∷ bases_index ∷ patches_index ∷ votes_index ∷ [])
+
+abbrev pub schema_8 : Schema
+schema_8 = schema_of (accounts ∷ members ∷ projects ∷ bases ∷ changes ∷ patches ∷ votes ∷ reviewers ∷ []) (accounts_index ∷ members_index ∷ projects_index ∷ bases_index ∷ patches_index ∷ votes_index ∷ reviewers_index ∷ [])
+
+abbrev pub schema_9 : Schema
+schema_9 = schema_of (accounts ∷ members ∷ projects ∷ bases ∷ changes ∷ patches ∷ votes ∷ reviewers ∷ comments ∷ []) (accounts_index ∷ members_index ∷ projects_index ∷ bases_index ∷ patches_index ∷ votes_index ∷ reviewers_index ∷ comments_index ∷ [])
+
+abbrev pub schema_10 : Schema
+schema_10 = schema_of (accounts ∷ members ∷ projects ∷ bases ∷ changes ∷ patches ∷ votes ∷ reviewers ∷ comments ∷ attention ∷ []) (accounts_index ∷ members_index ∷ projects_index ∷ bases_index ∷ patches_index ∷ votes_index ∷ reviewers_index ∷ comments_index ∷ attention_index ∷ [])
+
+abbrev pub schema_11 : Schema
+schema_11 = schema_of (accounts ∷ members ∷ projects ∷ bases ∷ changes ∷ patches ∷ votes ∷ reviewers ∷ comments ∷ attention ∷ answers ∷ []) (accounts_index ∷ members_index ∷ projects_index ∷ bases_index ∷ patches_index ∷ votes_index ∷ reviewers_index ∷ comments_index ∷ attention_index ∷ answers_index ∷ requests_index ∷ [])
+
+abbrev pub schema_12 : Schema
+schema_12 = schema_of (accounts ∷ members ∷ projects ∷ bases ∷ changes ∷ patches ∷ votes ∷ reviewers ∷ comments ∷ attention ∷ answers ∷ desk ∷ []) (accounts_index ∷ members_index ∷ projects_index ∷ bases_index ∷ patches_index ∷ votes_index ∷ reviewers_index ∷ comments_index ∷ attention_index ∷ answers_index ∷ requests_index ∷ [])
+
+pub makes_accounts : MakesText CREATE_ACCOUNTS.now schema_0 accounts schema_1
 unfolding understood everything
-accounts_made = record { command = refl; text = refl; plain = (refl, refl); defines = refl; uncounted = refl; leaves = refl }
+makes_accounts = record { command = refl; text = refl; plain = (refl, refl); defines = refl; uncounted = refl; leaves = refl; place = refl }
 
-pub members_made : MakesText create_members schema_1 members schema_2
+pub makes_members : MakesText CREATE_MEMBERS.now schema_1 members schema_2
 unfolding understood everything
-members_made = record { command = refl; text = refl; plain = (refl, refl); defines = refl; uncounted = refl; leaves = refl }
+makes_members = record { command = refl; text = refl; plain = (refl, refl); defines = refl; uncounted = refl; leaves = refl; place = refl }
 
-pub creates_members : (old new : State) (count : ℕ) → old.now.schema ≡ schema_1 → Executes create_members [] old new (Ok count) → Makes schema_1 (record members { tree = 0 }) old new
-creates_members old new count has = creates create_members old new schema_1 (record members { tree = 0 }) has members_made.command members_made.text members_made.plain members_made.defines members_made.uncounted count
-
--- ---- other reads
-
-pub desk_read : command_of (understood desk_schema (codes "SELECT version, requests FROM desk")) ≡ Select (record { lets = []; body = over_table 11 [] (col 1 1 ∷ col 1 2 ∷ []) [] }) (codes "version" ∷ codes "requests" ∷ [])
+pub makes_projects : MakesText CREATE_PROJECTS.now schema_2 projects schema_3
 unfolding understood everything
-desk_read = refl
+makes_projects = record { command = refl; text = refl; plain = (refl, refl); defines = refl; uncounted = refl; leaves = refl; place = refl }
 
-pub group_read : command_of (understood desk_schema (codes "SELECT account FROM members WHERE grp = ?1")) ≡ Select (record { lets = []; body = over_table 2 (op2 (Compare Eq Binary) (col 1 1) (col 0 0) ∷ []) (col 1 2 ∷ []) [] }) (codes "account" ∷ [])
+pub makes_bases : MakesText CREATE_BASES.now schema_3 bases schema_4
 unfolding understood everything
-group_read = refl
+makes_bases = record { command = refl; text = refl; plain = (refl, refl); defines = refl; uncounted = refl; leaves = refl; place = refl }
 
-pub name_read : command_of (understood desk_schema (codes "SELECT number FROM accounts WHERE name = ?1")) ≡ Select (record { lets = []; body = over_table 0 (op2 (Compare Eq Binary) (col 1 2) (col 0 0) ∷ []) (col 1 0 ∷ []) [] }) (codes "number" ∷ [])
+pub makes_changes : MakesText CREATE_CHANGES.now schema_4 changes schema_5
 unfolding understood everything
-name_read = refl
+makes_changes = record { command = refl; text = refl; plain = (refl, refl); defines = refl; uncounted = refl; leaves = refl; place = refl }
 
-pub last_read : command_of (understood desk_schema (codes "SELECT number FROM accounts ORDER BY number DESC LIMIT 1"))
-    ≡ Select (record { lets = []; body = record (over_table 0 [] (col 1 0 ∷ []) ((col 1 0, record { collation = Binary; descending = true }) ∷ [])) { limit = lit (Int (pos 1)) } }) (codes "number" ∷ [])
+pub makes_patches : MakesText CREATE_PATCHES.now schema_5 patches schema_6
 unfolding understood everything
-last_read = refl
+makes_patches = record { command = refl; text = refl; plain = (refl, refl); defines = refl; uncounted = refl; leaves = refl; place = refl }
+
+pub makes_votes : MakesText CREATE_VOTES.now schema_6 votes schema_7
+unfolding understood everything
+makes_votes = record { command = refl; text = refl; plain = (refl, refl); defines = refl; uncounted = refl; leaves = refl; place = refl }
+
+pub makes_reviewers : MakesText CREATE_REVIEWERS.now schema_7 reviewers schema_8
+unfolding understood everything
+makes_reviewers = record { command = refl; text = refl; plain = (refl, refl); defines = refl; uncounted = refl; leaves = refl; place = refl }
+
+pub makes_comments : MakesText CREATE_COMMENTS.now schema_8 comments schema_9
+unfolding understood everything
+makes_comments = record { command = refl; text = refl; plain = (refl, refl); defines = refl; uncounted = refl; leaves = refl; place = refl }
+
+pub makes_attention : MakesText CREATE_ATTENTION.now schema_9 attention schema_10
+unfolding understood everything
+makes_attention = record { command = refl; text = refl; plain = (refl, refl); defines = refl; uncounted = refl; leaves = refl; place = refl }
+
+pub makes_answers : MakesText CREATE_ANSWERS.now schema_10 answers schema_11
+unfolding understood everything
+makes_answers = record { command = refl; text = refl; plain = (refl, refl); defines = refl; uncounted = refl; leaves = refl; place = refl }
+
+pub makes_desk : MakesText CREATE_DESK.now schema_11 desk schema_12
+unfolding understood everything
+makes_desk = record { command = refl; text = refl; plain = (refl, refl); defines = refl; uncounted = refl; leaves = refl; place = refl }
+
