@@ -16,7 +16,7 @@ use Rattle.review_tables.specs.Desk.{desk_schema}
 use Rattle.sqlite.specs.State.{FailsToQuery, FailsToShow, Shown, ShowsRows, IsNotRun, IsTooLate, State, HasCleanDisk, Survives, KeepsCommit, IsUnchanged, IsRolledBack, Executes, ExecutesInside, Shows, KeepsCounts}
 use Rattle.sqlite.proofs.StateLemmas.{survives_then}
 use Rattle.review_tables.specs.Content.{Then, Rises}
-use Rattle.review_tables.specs.Ran.{IsReady, IsReadyIfOpen, Inside, Transacts, Looks, Serves}
+use Rattle.review_tables.specs.Ran.{IsReady, IsReadyIfOpen, Within, OnDesk, Inside, Transacts, Looks, Serves}
 
 kept_unchanged : (old new : State) → IsUnchanged old new ⊎ IsRolledBack old new → KeepsCommit old new
 kept_unchanged old new (inl same) = record { was_open = λ _. same.0.was_open; committed = λ _. same.0.committed_is }
@@ -35,28 +35,37 @@ opened sql params old new (Err e) h = tt
 keeps_then : (a b c : State) → KeepsCommit a b → KeepsCommit b c → KeepsCommit a c
 keeps_then a b c p q = record { was_open = λ h. p.was_open (q.was_open h); committed = λ h. q.committed h ∙ p.committed (q.was_open h) }
 
--- one statement, of which is known what it does where it succeeds
-pub one : (sql : List ℕ) (params : Row) (old new : State) (r : Result ℕ Error) (R : Trees → Trees → Type 0)
-    → ((count : ℕ) → IsReady old → Executes sql params old new (Ok count) → IsReady new × R old.now.trees new.now.trees)
-    → (HasCleanDisk new → IsTrue old.in_transaction → ExecutesInside 0 sql params old new r) → Survives old new (λ _. ⊥) → Inside R old new r
+-- one statement, of which is known where it leads if it succeeds
+pub one : (sql : List ℕ) (params : Row) (old new : State) (r : Result ℕ Error) (R : Database → Database → Type 0)
+    → ((count : ℕ) → Executes sql params old new (Ok count) → R old.now new.now)
+    → (HasCleanDisk new → IsTrue old.in_transaction → ExecutesInside 0 sql params old new r) → Survives old new (λ _. ⊥) → Within R old new r
 one sql params old new r R does runs survives = record {
-  ran = λ clean on ready. by_result r (runs clean on) ready;
+  ran = λ clean on. by_result r (runs clean on);
   kept = λ clean on. keeps sql params old new r (runs clean on);
   survives = survives;
 }
   where
-    by_result : (r : Result ℕ Error) → ExecutesInside 0 sql params old new r → IsReadyIfOpen old → OnOk r (IsReadyIfOpen new × R old.now.trees new.now.trees)
-    by_result (Ok count) h ready = let it = does count (ready h.1.was_open) h.0 in (λ _. it.0, it.1)
-    by_result (Err e) h ready = tt
+    by_result : (r : Result ℕ Error) → ExecutesInside 0 sql params old new r → OnOk r (R old.now new.now)
+    by_result (Ok count) h = does count h.0
+    by_result (Err e) h = tt
 
-module _ {X Y : Type 0} (R Q : Trees → Trees → Type 0) (a b c : State) where
+-- one statement on the tables of a desk
+pub one_inside : (sql : List ℕ) (params : Row) (old new : State) (r : Result ℕ Error) (R : Trees → Trees → Type 0)
+    → ((count : ℕ) → IsReady old.now → Executes sql params old new (Ok count) → IsReady new.now × R old.now.trees new.now.trees)
+    → (HasCleanDisk new → IsTrue old.in_transaction → ExecutesInside 0 sql params old new r) → Survives old new (λ _. ⊥) → Inside R old new r
+one_inside sql params old new r R does runs survives = one sql params old new r (OnDesk R) (λ count h. record { ready = λ has. (does count has h).0; changes = λ has. (does count has h).1 }) runs survives
+
+-- one database after the other
+abbrev pub Next : (Database → Database → Type 0) → (Database → Database → Type 0) → Database → Database → Type 0
+Next First Last old new = (mid : Database) × First old mid × Last mid new
+
+module _ {X Y : Type 0} (R Q : Database → Database → Type 0) (a b c : State) where
   -- the first succeeded, and then the second ran
-  pub next : (x : X) (r : Result Y Error) → Inside R a b (Ok x) → Inside Q b c r → Inside (Then R Q) a c r
-  next x r one two = record {
-    ran = λ clean on ready.
+  pub follow : (x : X) (r : Result Y Error) → Within R a b (Ok x) → Within Q b c r → Within (Next R Q) a c r
+  follow x r one two = record {
+    ran = λ clean on.
         let earlier = back clean in
-        let first = one.ran earlier on ready in
-        by_result r first (two.ran clean (one.kept earlier on).1 first.0);
+        by_result r (one.ran earlier on) (two.ran clean (one.kept earlier on).1);
     kept = λ clean on.
         let earlier = back clean in
         let first = one.kept earlier on in
@@ -68,22 +77,41 @@ module _ {X Y : Type 0} (R Q : Trees → Trees → Type 0) (a b c : State) where
       back : HasCleanDisk c → HasCleanDisk b
       back clean = omega (arith, two.survives.clean)
 
-      by_result : (r : Result Y Error) → IsReadyIfOpen b × R a.now.trees b.now.trees → OnOk r (IsReadyIfOpen c × Q b.now.trees c.now.trees) → OnOk r (IsReadyIfOpen c × Then R Q a.now.trees c.now.trees)
-      by_result (Ok y) first second = (second.0, (b.now.trees, first.1, second.1))
+      by_result : (r : Result Y Error) → R a.now b.now → OnOk r (Q b.now c.now) → OnOk r (Next R Q a.now c.now)
+      by_result (Ok y) first second = (b.now, first, second)
       by_result (Err e) first second = tt
 
+-- the same, told otherwise, however it ended
+pub retold : {X : Type 0} (R Q : Database → Database → Type 0) (a b : State) (r : Result X Error) → ((old new : Database) → R old new → Q old new) → Within R a b r → Within Q a b r
+retold {X} R Q a b r f it = record { ran = λ clean on. by_result r (it.ran clean on); kept = it.kept; survives = it.survives }
+  where
+    by_result : (r : Result X Error) → OnOk r (R a.now b.now) → OnOk r (Q a.now b.now)
+    by_result (Ok x) h = f _ _ h
+    by_result (Err e) h = tt
+
+desk_next : (R Q : Trees → Trees → Type 0) (old new : Database) → Next (OnDesk R) (OnDesk Q) old new → OnDesk (Then R Q) old new
+desk_next R Q old new h = record { ready = λ has. h.2.ready (h.1.ready has); changes = λ has. (h.0.trees, h.1.changes has, h.2.changes (h.1.ready has)) }
+
+-- the first succeeded, and then the second ran, on the tables of a desk
+pub next : {X Y : Type 0} (R Q : Trees → Trees → Type 0) (a b c : State) (x : X) (r : Result Y Error) → Inside R a b (Ok x) → Inside Q b c r → Inside (Then R Q) a c r
+next R Q a b c x r one two = retold (Next (OnDesk R) (OnDesk Q)) (OnDesk (Then R Q)) a c r (desk_next R Q) (follow (OnDesk R) (OnDesk Q) a b c x r one two)
+
 -- the first failed, so the whole did
-pub stop : {X Y : Type 0} (R Q : Trees → Trees → Type 0) (a b : State) (e f : Error) → Inside {X = X} R a b (Err e) → Inside {X = Y} Q a b (Err f)
-stop R Q a b e f one = record { ran = λ _ _ _. tt; kept = λ clean on. ((one.kept clean on).0, tt); survives = one.survives }
+pub stop : {X Y : Type 0} (R Q : Database → Database → Type 0) (a b : State) (e f : Error) → Within {X = X} R a b (Err e) → Within {X = Y} Q a b (Err f)
+stop R Q a b e f one = record { ran = λ _ _. tt; kept = λ clean on. ((one.kept clean on).0, tt); survives = one.survives }
 
 -- the same, told otherwise
 pub told : {X Y : Type 0} (R Q : Trees → Trees → Type 0) (a b : State) (x : X) (y : Y) → ((old new : Trees) → R old new → Q old new) → Inside R a b (Ok x) → Inside Q a b (Ok y)
-told R Q a b x y f one = record { ran = λ clean on ready. let it = one.ran clean on ready in (it.0, f _ _ it.1); kept = one.kept; survives = one.survives }
+told R Q a b x y f one = record { ran = λ clean on. let it = one.ran clean on in record { ready = it.ready; changes = λ has. f _ _ (it.changes has) }; kept = one.kept; survives = one.survives }
+
+-- the same, told otherwise, however it ended
+pub weaker : {X : Type 0} (R Q : Trees → Trees → Type 0) (a b : State) (r : Result X Error) → ((old new : Trees) → R old new → Q old new) → Inside R a b r → Inside Q a b r
+weaker R Q a b r f it = retold (OnDesk R) (OnDesk Q) a b r (λ old new h. record { ready = h.ready; changes = λ has. f _ _ (h.changes has) }) it
 
 -- no statement
-pub still : {X : Type 0} (R : Trees → Trees → Type 0) (s : State) (x : X) → R s.now.trees s.now.trees → Inside R s s (Ok x)
+pub still : {X : Type 0} (R : Trees → Trees → Type 0) (s : State) (x : X) → ((db : Trees) → R db db) → Inside R s s (Ok x)
 still R s x same = record {
-  ran = λ clean on ready. (ready, same);
+  ran = λ clean on. record { ready = λ has. has; changes = λ has. same _ };
   kept = λ clean on. (record { was_open = λ h. h; committed = λ _. refl }, on);
   survives = record { clean = omega arith; shield = λ h. h; counts = omega arith; limit = refl; closes = λ clean h. inl h; crash = λ clean db h. inl h };
 }
@@ -116,54 +144,38 @@ survives_from s0 s3 P s = record { clean = s.clean; shield = s.shield; counts = 
 ready_begun : (s0 : State) → IsReadyIfOpen s0 → IsReadyIfOpen (begun s0)
 ready_begun s0 ready is_open = let it = ready is_open in record { schema = it.schema; rises = it.rises }
 
-module _ {X : Type 0} (R : Trees → Trees → Type 0) (s0 s2 s3 : State) (settled : IsTrue s0.is_open → s0.now ≡ s0.committed) (open_clean : IsTrue s3.is_open → HasCleanDisk s3) where
+module _ {X : Type 0} (R : Database → Database → Type 0) (s0 s2 s3 : State) (settled : IsTrue s0.is_open → s0.now ≡ s0.committed) (open_clean : IsTrue s3.is_open → HasCleanDisk s3) where
   -- a statement failed, and what was written is rolled back
-  pub failed : {Y : Type 0} (e f : Error) → Inside {X = X} R (begun s0) s2 (Err e) → (HasCleanDisk s3 → IsRolledBack s2 s3) → Survives s2 s3 (λ _. ⊥) → Transacts {X = Y} R s0 s3 (Err f)
+  pub failed : {Y : Type 0} (e f : Error) → Within {X = X} R (begun s0) s2 (Err e) → (HasCleanDisk s3 → IsRolledBack s2 s3) → Survives s2 s3 (λ _. ⊥) → Transacts {X = Y} R s0 s3 (Err f)
   failed e f inside undone last = record {
-    done = λ _ _. tt;
+    done = λ _. tt;
     undone = λ is_open.
         let clean = open_clean is_open in
         taken_back s0 s2 s3 settled (inside.kept (omega (arith, last.clean, clean)) refl).0 (undone clean) is_open;
-    survives = λ _. survives_from s0 s3 _ (survives_then (begun s0) s2 s3 _ _ _ (λ _ db h. absurd h) (λ _ db h. absurd h) inside.survives last);
+    survives = survives_from s0 s3 _ (survives_then (begun s0) s2 s3 _ _ _ (λ _ db h. absurd h) (λ _ db h. absurd h) inside.survives last);
   }
 
   -- all was written, and the commit ended so
-  pub ended : (x : X) (r : Result (Unit {0}) Error) → Inside R (begun s0) s2 (Ok x) → (HasCleanDisk s2 → IsTrue s2.is_open)
+  pub ended : (x : X) (r : Result (Unit {0}) Error) → Within R (begun s0) s2 (Ok x) → (HasCleanDisk s2 → IsTrue s2.is_open)
       → (HasCleanDisk s3 → OnOk r (IsTrue s2.in_transaction × Shows s2 s3 s2.now s2.now false × KeepsCounts s2 s3 × (s3.marks ≡ [])))
       → (HasCleanDisk s3 → IfErr r (FailsToCommit s2 s3)) → Survives s2 s3 (λ db. db ≡ s2.now.trees) → Transacts R s0 s3 r
   ended x r inside opened ok err last = record {
-    done = λ clean ready. by_result r (ok clean) (inside.ran (back clean) refl (ready_begun s0 ready)) (inside.kept (back clean) refl).0;
+    done = λ clean. by_result r (ok clean) (inside.ran (back clean) refl) (inside.kept (back clean) refl).0;
     undone = λ is_open.
         let clean = open_clean is_open in
         let kept = inside.kept (back clean) refl in
         not_committed s0 s2 s3 r settled kept.0 kept.1 (err clean) is_open;
-    survives = λ ready. survives_from s0 s3 _ (survives_then (begun s0) s2 s3 _ _ _ (λ _ db h. absurd h)
-        (λ clean db is. ((inside.kept (back clean) refl).0.was_open (opened (back clean)), subst (R s0.now.trees) (sym is) (inside.ran (back clean) refl (ready_begun s0 ready)).1)) inside.survives last);
+    survives = survives_from s0 s3 _ (survives_then (begun s0) s2 s3 _ _ _ (λ _ db h. absurd h)
+        (λ clean db is. ((inside.kept (back clean) refl).0.was_open (opened (back clean)), (s2.now, is, inside.ran (back clean) refl))) inside.survives last);
   }
     where
       back : HasCleanDisk s3 → HasCleanDisk s2
       back clean = omega (arith, last.clean)
 
-      by_result : (r : Result (Unit {0}) Error) → OnOk r (IsTrue s2.in_transaction × Shows s2 s3 s2.now s2.now false × KeepsCounts s2 s3 × (s3.marks ≡ [])) → IsReadyIfOpen s2 × R s0.now.trees s2.now.trees
-          → KeepsCommit (begun s0) s2 → OnOk r (IsTrue s0.is_open × IsTrue s3.is_open × IsReady s3 × R s0.now.trees s3.now.trees)
+      by_result : (r : Result (Unit {0}) Error) → OnOk r (IsTrue s2.in_transaction × Shows s2 s3 s2.now s2.now false × KeepsCounts s2 s3 × (s3.marks ≡ [])) → R s0.now s2.now
+          → KeepsCommit (begun s0) s2 → OnOk r (IsTrue s0.is_open × IsTrue s3.is_open × R s0.now s3.now)
       by_result (Err e) h it kept = tt
-      by_result (Ok u) h it kept =
-          let shown = h.1 in
-          let trees = ap (λ (d : Database). d.trees) shown.now_is in
-          let ready = it.0 shown.was_open in (
-            kept.was_open shown.was_open,
-            shown.is_open,
-            record { schema = ap (λ (d : Database). d.schema) shown.now_is ∙ ready.schema; rises = subst (λ (t : Trees). (n : ℕ) → is_tree n ≡ true → Rises (t n)) (sym trees) ready.rises },
-            subst (R s0.now.trees) (sym trees) it.1,
-          )
-
--- the same, told otherwise, however it ended
-pub weaker : {X : Type 0} (R Q : Trees → Trees → Type 0) (a b : State) (r : Result X Error) → ((old new : Trees) → R old new → Q old new) → Inside R a b r → Inside Q a b r
-weaker {X} R Q a b r f it = record { ran = λ clean on ready. by_result r (it.ran clean on ready); kept = it.kept; survives = it.survives }
-  where
-    by_result : (r : Result X Error) → OnOk r (IsReadyIfOpen b × R a.now.trees b.now.trees) → OnOk r (IsReadyIfOpen b × Q a.now.trees b.now.trees)
-    by_result (Ok x) h = (h.0, f _ _ h.1)
-    by_result (Err e) h = tt
+      by_result (Ok u) h it kept = let shown = h.1 in (kept.was_open shown.was_open, shown.is_open, subst (R s0.now) (sym shown.now_is) it)
 
 -- ---- queries
 
@@ -209,7 +221,7 @@ shown_open sql params old new rows h = by_returning h.0.returning h.2
 
 -- one query, of which is known what it finds
 pub look : {X : Type 0} (view : X → List Row) (sql : List ℕ) (params : Row) (old new : State) (r : Result X Error) (Found : Trees → X → Type 0) → IsPlain (understood desk_schema sql)
-    → ((x : X) → IsReady old → Shown sql params old new (view x) → Found old.now.trees x)
+    → ((x : X) → IsReady old.now → Shown sql params old new (view x) → Found old.now.trees x)
     → (HasCleanDisk new → IfOk r (λ x. Shown sql params old new (view x)))
     → (HasCleanDisk new → IfErr r (λ e. FailsToQuery sql params old new e ⊎ IsTooLate sql params old new e)) → Survives old new (λ _. ⊥) → Looks Found old new r
 look {X} view sql params old new r Found plain finds ok err survives = record {

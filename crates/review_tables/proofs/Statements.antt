@@ -90,7 +90,7 @@ spare_others tree old new (x ∷ tables) all t is other = elim (or_cases _ _ is)
   | inr later ↦ spare_others tree old new tables all.1 t later other
 ]
 
-pub ready_after : (tree : ℕ) (old new : State) → IsReady old → new.now.schema ≡ old.now.schema → Rises (new.now.trees tree) → SparesOthers tree old.now.trees new.now.trees → IsReady new
+pub ready_after : (tree : ℕ) (old new : State) → IsReady old.now → new.now.schema ≡ old.now.schema → Rises (new.now.trees tree) → SparesOthers tree old.now.trees new.now.trees → IsReady new.now
 ready_after tree old new has schema up others = record {
   schema = schema ∙ has.schema;
   rises = λ t is. elim (cases_Bool (eqb t tree)) [
@@ -162,7 +162,7 @@ module _ (name : List ℕ) (tree : ℕ) (columns : List Column) (key : Option �
         (ap (λ (d : Database). d.schema) now, it.0, it.1, subst (λ (d : Database). Sets db.schema the db.trees d.trees (without_all (db.trees tree) (ids_of it.0))) (sym now) it.2)
 
   -- what the whole statement does
-  module _ (sql : List ℕ) (params : Row) (old new : State) (has : IsReady old) (plain : IsPlain (understood desk_schema sql))
+  module _ (sql : List ℕ) (params : Row) (old new : State) (has : IsReady old.now) (plain : IsPlain (understood desk_schema sql))
       (at : ℕ) (place : slice_get desk_schema.tables at ≡ Some the) (listed : is_tree tree ≡ true) where
     here : slice_get old.now.schema.tables at ≡ Some the
     here = rw (has.schema) place
@@ -176,7 +176,7 @@ module _ (name : List ℕ) (tree : ℕ) (columns : List Column) (key : Option �
     -- the statement adds this row
     pub inserts : (terms : List Term) (width : ℕ) → command_of (understood desk_schema sql) ≡ Insert at (Values terms width) → (count : ℕ) → Executes sql params old new (Ok count)
         → (row : Row) → (edit_of old.now.trees the [] Chosen 0 (value_rows params width (length terms / width) terms)).news ≡ row ∷ []
-        → IsReady new × Adds tree row old.now.trees new.now.trees
+        → IsReady new.now × Adds tree row old.now.trees new.now.trees
     inserts terms width is count h row news =
         let command = Insert at (Values terms width) in
         let w = runs_as sql params old new desk_schema has.schema command is plain count h in
@@ -193,7 +193,7 @@ module _ (name : List ℕ) (tree : ℕ) (columns : List Column) (key : Option �
     pub deletes : (tests : List Term) → command_of (understood desk_schema sql) ≡ Delete at (record { lets = []; body = over_table tree tests (col 1 0 ∷ []) [] })
         → overlay old.now.trees [] tree ≡ old.now.trees tree → (count : ℕ) → Executes sql params old new (Ok count)
         → (key : List (ℕ × Value)) → ((row : Row) → passes params tests row ≡ has_key key row)
-        → IsReady new × Removes tree key old.now.trees new.now.trees
+        → IsReady new.now × Removes tree key old.now.trees new.now.trees
     deletes tests is own count h key same =
         let q : Program = record { lets = []; body = over_table tree tests (col 1 0 ∷ []) [] } in
         let command = Delete at q in

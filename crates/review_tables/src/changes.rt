@@ -1,13 +1,12 @@
 //! What a table has at a key is looked up and changed, whatever the table.
 ghost use Rattle.std.specs.Prelude.{◌≡◌};
 ghost use Rattle.sqlite.specs.Held.{state};
-ghost use Rattle.review_tables.specs.Ran.{Inside, Looks};
-ghost use Rattle.review_tables.specs.Search.{row_at, SetsRow, SetsRows};
+ghost use Rattle.review_tables.specs.Ran.{Inside, Opens};
+ghost use Rattle.review_tables.specs.Search.{SetsRow, SetsRows};
 
 use crate::table::{Lookup, Table};
 use review_table::Change;
-use sqlite::{Alter, Error, Row, Transaction};
-use std::alloc::{AllocError, Global};
+use sqlite::{Alter, Error, Transaction};
 
 /// Gives a key this row, or none.
 pub fn change<T: Table, S: Alter>(
@@ -17,6 +16,7 @@ pub fn change<T: Table, S: Alter>(
 ) -> Result<(), Error>
     ensures same_reference { tx.new.conn.ghost_name ≡ tx.old.conn.ghost_name }
     ensures ran { Inside (SetsRow T.search key.now row.now) (state S.Store tx.old.conn.now) (state S.Store tx.new.conn.now) result }
+    ensures open { Opens (state S.Store tx.old.conn.now) (state S.Store tx.new.conn.now) result }
 {
     T::remove(tx, key)?;
     match row {

@@ -2,7 +2,7 @@
 ghost use Rattle.std.specs.Prelude.{◌≡◌, true, IfOk};
 ghost use Rattle.sqlite.specs.Held.{state};
 ghost use Rattle.review_tables.specs.Content.{Removes};
-ghost use Rattle.review_tables.specs.Ran.{Inside, Looks};
+ghost use Rattle.review_tables.specs.Ran.{Inside, Looks, Opens};
 ghost use Rattle.review_tables.specs.Search.{Finds, Puts};
 
 use sqlite::{Alter, Error, Row, Transaction};
@@ -46,12 +46,14 @@ pub trait Table: Lookup {
     ) -> Result<usize, Error>
         ensures same_reference { tx.new.conn.ghost_name ≡ tx.old.conn.ghost_name }
         ensures ran { Inside (Puts Self.search form key.now row.now) (state S.Store tx.old.conn.now) (state S.Store tx.new.conn.now) result }
+        ensures open { Opens (state S.Store tx.old.conn.now) (state S.Store tx.new.conn.now) result }
         ensures good { form.is_good row.now ≡ true };
 
     /// Takes the rows of a key away.
     fn remove<S: Alter>(tx: &mut Transaction<'_, S>, key: &Self::Key) -> Result<usize, Error>
         ensures same_reference { tx.new.conn.ghost_name ≡ tx.old.conn.ghost_name }
-        ensures ran { Inside (Removes Self.search.tree (Self.search.at key.now)) (state S.Store tx.old.conn.now) (state S.Store tx.new.conn.now) result };
+        ensures ran { Inside (Removes Self.search.tree (Self.search.at key.now)) (state S.Store tx.old.conn.now) (state S.Store tx.new.conn.now) result }
+        ensures open { Opens (state S.Store tx.old.conn.now) (state S.Store tx.new.conn.now) result };
 
     /// A row has one key, and reads as what was put in.
     ghost lawful: { IsLawful Self.search form };
