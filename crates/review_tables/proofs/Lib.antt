@@ -2,6 +2,6 @@ pub mod Lists
 pub mod Queries
 pub mod Statements
 pub mod Sequences
-pub mod Creating
+pub mod Made
 pub mod Keys
 pub mod Found

@@ -89,6 +89,10 @@ retold {X} R Q a b r f it = record { ran = λ clean on. by_result r (it.ran clea
     by_result (Ok x) h = f _ _ h
     by_result (Err e) h = tt
 
+-- the same, told otherwise, where it succeeded
+pub settled_as : {X Y : Type 0} (R Q : Database → Database → Type 0) (a b : State) (x : X) (y : Y) → ((old new : Database) → R old new → Q old new) → Within R a b (Ok x) → Within Q a b (Ok y)
+settled_as R Q a b x y f it = record { ran = λ clean on. f _ _ (it.ran clean on); kept = it.kept; survives = it.survives }
+
 desk_next : (R Q : Trees → Trees → Type 0) (old new : Database) → Next (OnDesk R) (OnDesk Q) old new → OnDesk (Then R Q) old new
 desk_next R Q old new h = record { ready = λ has. h.2.ready (h.1.ready has); changes = λ has. (h.0.trees, h.1.changes has, h.2.changes (h.1.ready has)) }
 

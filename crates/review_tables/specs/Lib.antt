@@ -2,3 +2,4 @@ pub mod Desk
 pub mod Content
 pub mod Ran
 pub mod Search
+pub mod Made

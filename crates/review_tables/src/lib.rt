@@ -2,6 +2,7 @@
 #![tactic(auto)]
 
 pub mod changes;
+pub mod creating;
 pub mod reads;
 pub mod table;
 pub mod texts;

@@ -1,0 +1,62 @@
+//! The tables are made.
+ghost use Rattle.std.specs.Prelude.{◌≡◌};
+ghost use Rattle.sqlite.specs.Held.{state};
+ghost use Rattle.review_tables.specs.Desk.{schema_0, schema_4, schema_8, desk_schema};
+ghost use Rattle.review_tables.specs.Made.{MakesBy, Grows};
+ghost use Rattle.review_tables.specs.Ran.{Within};
+
+use crate::texts;
+use sqlite::{Alter, Error, Transaction};
+
+fn make<S: Alter>(tx: &mut Transaction<'_, S>, sql: &str) -> Result<usize, Error>
+    ensures same_reference { tx.new.conn.ghost_name ≡ tx.old.conn.ghost_name }
+    ensures ran { Within (MakesBy sql.now) (state S.Store tx.old.conn.now) (state S.Store tx.new.conn.now) result }
+{
+    tx.execute(sql, &[])
+}
+
+// The tables of accounts and groups, projects and bases.
+fn create_people<S: Alter>(tx: &mut Transaction<'_, S>) -> Result<(), Error>
+    ensures same_reference { tx.new.conn.ghost_name ≡ tx.old.conn.ghost_name }
+    ensures ran { Within (Grows schema_0 schema_4) (state S.Store tx.old.conn.now) (state S.Store tx.new.conn.now) result }
+{
+    make(tx, texts::CREATE_ACCOUNTS)?;
+    make(tx, texts::CREATE_MEMBERS)?;
+    make(tx, texts::CREATE_PROJECTS)?;
+    make(tx, texts::CREATE_BASES)?;
+    Ok(())
+}
+
+// The tables of changes and what belongs to them.
+fn create_reviews<S: Alter>(tx: &mut Transaction<'_, S>) -> Result<(), Error>
+    ensures same_reference { tx.new.conn.ghost_name ≡ tx.old.conn.ghost_name }
+    ensures ran { Within (Grows schema_4 schema_8) (state S.Store tx.old.conn.now) (state S.Store tx.new.conn.now) result }
+{
+    make(tx, texts::CREATE_CHANGES)?;
+    make(tx, texts::CREATE_PATCHES)?;
+    make(tx, texts::CREATE_VOTES)?;
+    make(tx, texts::CREATE_REVIEWERS)?;
+    Ok(())
+}
+
+// The tables of the rest.
+fn create_rest<S: Alter>(tx: &mut Transaction<'_, S>) -> Result<(), Error>
+    ensures same_reference { tx.new.conn.ghost_name ≡ tx.old.conn.ghost_name }
+    ensures ran { Within (Grows schema_8 desk_schema) (state S.Store tx.old.conn.now) (state S.Store tx.new.conn.now) result }
+{
+    make(tx, texts::CREATE_COMMENTS)?;
+    make(tx, texts::CREATE_ATTENTION)?;
+    make(tx, texts::CREATE_ANSWERS)?;
+    make(tx, texts::CREATE_DESK)?;
+    Ok(())
+}
+
+/// Makes the twelve tables, where there is none.
+pub fn create_tables<S: Alter>(tx: &mut Transaction<'_, S>) -> Result<(), Error>
+    ensures same_reference { tx.new.conn.ghost_name ≡ tx.old.conn.ghost_name }
+    ensures ran { Within (Grows schema_0 desk_schema) (state S.Store tx.old.conn.now) (state S.Store tx.new.conn.now) result }
+{
+    create_people(tx)?;
+    create_reviews(tx)?;
+    create_rest(tx)
+}
