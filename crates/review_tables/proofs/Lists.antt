@@ -1,26 +1,20 @@
 -- Rows put into a tree, and taken out.
-use Rattle.std.proofs.Common.{◌≡◌, ◌∙◌, ℕ, ℤ, ◌+◌, ◌<ℤ◌, List, [], ◌∷◌, map, filter, fold, length, Bool, true, false, not, cond, Ordering, Less, Equal, Greater, refl, sym, ap, subst, IsTrue, arith, inl, inr, int_cmp, int_eq}
+use Rattle.std.proofs.Common.{◌≡◌, ◌∙◌, ℕ, ℤ, ◌+◌, List, [], ◌∷◌, map, filter, length, Bool, ◌||◌, true, false, not, cond, Ordering, Less, Equal, Greater, refl, sym, ap, IsTrue, arith, inl, inr}
 use Rattle.std.specs.List.{AllByRecursion, list_any}
 use Rattle.std.specs.List.Sorted.{IsPermutation}
-use Rattle.std.specs.Ordering.{is_eq, match_ordering}
+use Rattle.std.specs.Ordering.{is_eq, match_ordering, ordering_reverse}
 use Rattle.std.proofs.lemmas.Bool.{or_parts, cases_Bool}
-use Rattle.std.proofs.lemmas.Int.{ints}
+use Rattle.std.proofs.lemmas.Cmp.{tied_itself}
 use Rattle.std.proofs.lemmas.List.Sorted.{length_permutation}
-use Rattle.sqlite_value.specs.declared.value.Value.TheVariants.{Int}
+use Rattle.sqlite_value.specs.declared.value.Value.{Value}
 use Rattle.sqlite_value.specs.Order.{Row, value_cmp}
-use Rattle.sqlite_value.proofs.OrderLemmas.{value_cmp-Int}
+use Rattle.sqlite_value.proofs.OrderLemmas.{value_cmp_total}
 use Rattle.sqlite_trees.specs.Tree.{rowid, put_row, without_rowid, has_rowid}
 use Rattle.sqlite_trees.specs.View.{is_int}
-use Rattle.sqlite_trees.specs.declared.store.Shape.TheVariants.{Table}
-use Rattle.sqlite_trees.proofs.TreeLemmas.{IsShaped-filter, IsShaped-put_row}
 use Rattle.sqlite_rules.specs.Edit.{id_in, is_taken, without_all}
 use Rattle.sqlite_rules.proofs.TableLemmas.{int_is}
-use Rattle.sqlite_keyed.proofs.ListLemmas.{IsPermutation-filter, none_counted, filter_same, all_weaker, all-filter}
-use Rattle.sqlite_keyed.proofs.KeyedLemmas.{lt_from_Less}
-use Rattle.sqlite_keyed.proofs.WriteLemmas.{removes_delete}
-use Rattle.sqlite_keyed.specs.Keyed.{IsKeyedBy}
-use Rattle.sqlite_keyed.specs.Lists.{without_key}
-use Rattle.review_tables.specs.Content.{Rises, IsAdded}
+use Rattle.sqlite_keyed.proofs.ListLemmas.{IsPermutation-filter, none_counted, filter_same}
+use Rattle.review_tables.specs.Content.{AreApart, IsAdded}
 
 module _ (new : Row) (p : Row → Bool) where
   abbrev Put : Ordering → Row → List Row → List Row
@@ -69,40 +63,93 @@ added row rows free = record {
   count = λ p is. put_count row p rows free is;
 }
 
-pub rises_put : (row : Row) (rows : List Row) → IsTrue (is_int (rowid row)) → Rises rows → Rises (put_row row rows)
-rises_put row rows keyed up = IsShaped-put_row row rows keyed up
+is_eq_back : (o : Ordering) → is_eq (ordering_reverse o) ≡ is_eq o
+is_eq_back Less = refl
+is_eq_back Equal = refl
+is_eq_back Greater = refl
 
-pub rises_filter : (p : Row → Bool) (rows : List Row) → Rises rows → Rises (filter p rows)
-rises_filter p rows up = IsShaped-filter Table p rows up
+eq_back : (v w : Value) → is_eq (value_cmp v w) ≡ is_eq (value_cmp w v)
+eq_back v w = ap is_eq (value_cmp_total.antisymm v w) ∙ is_eq_back (value_cmp w v)
+
+either_false : (b c : Bool) → b ≡ false → c ≡ false → (b || c) ≡ false
+either_false b c p q = rw (p, q) refl
+
+-- a row whose rowid neither the new row nor one of the others has
+still_free : (r new : Row) (rows : List Row) → is_taken rows r ≡ false → is_eq (value_cmp (rowid new) (rowid r)) ≡ false → is_taken (put_row new rows) r ≡ false
+still_free r new [] free apart = either_false _ _ apart refl
+still_free r new (x ∷ rows) free apart = go (value_cmp (rowid x) (rowid new)) (still_free r new rows (or_parts _ _ free).1 apart)
+  where
+    go : (o : Ordering) → is_taken (put_row new rows) r ≡ false → is_taken (match_ordering o (x ∷ put_row new rows) (new ∷ rows) (new ∷ x ∷ rows)) r ≡ false
+    go Less more = either_false _ _ (or_parts _ _ free).0 more
+    go Equal more = either_false _ _ apart (or_parts _ _ free).1
+    go Greater more = either_false _ _ apart free
+
+pub apart_put : (row : Row) (rows : List Row) → IsTrue (is_int (rowid row)) → is_taken rows row ≡ false → AreApart rows → AreApart (put_row row rows)
+apart_put row [] keyed free all = (keyed, refl, tt)
+apart_put row (r ∷ rows) keyed free all = go (value_cmp (rowid r) (rowid row)) (or_parts _ _ free).0 (apart_put row rows keyed (or_parts _ _ free).1 all.2)
+  where
+    go : (o : Ordering) → is_eq o ≡ false → AreApart (put_row row rows) → AreApart (match_ordering o (r ∷ put_row row rows) (row ∷ rows) (row ∷ r ∷ rows))
+    go Less other more = (all.0, still_free r row rows all.1 (eq_back (rowid row) (rowid r) ∙ (or_parts _ _ free).0), more)
+    go Equal other more = absurd (cc)
+    go Greater other more = (keyed, free, all)
+
+free_filter : (p : Row → Bool) (r : Row) (rows : List Row) → is_taken rows r ≡ false → is_taken (filter p rows) r ≡ false
+free_filter p r [] free = refl
+free_filter p r (x ∷ rows) free = elim (p x) as (λ b. is_taken (cond b (x ∷ filter p rows) (filter p rows)) r ≡ false) [
+  | true ↦ either_false _ _ (or_parts _ _ free).0 (free_filter p r rows (or_parts _ _ free).1)
+  | false ↦ free_filter p r rows (or_parts _ _ free).1
+]
+
+pub apart_filter : (p : Row → Bool) (rows : List Row) → AreApart rows → AreApart (filter p rows)
+apart_filter p [] all = tt
+apart_filter p (r ∷ rows) all = elim (p r) as (λ b. AreApart (cond b (r ∷ filter p rows) (filter p rows))) [
+  | true ↦ (all.0, free_filter p r rows all.1, apart_filter p rows all.2)
+  | false ↦ apart_filter p rows all.2
+]
 
 abbrev pub id_of : Row → ℤ
 id_of r = id_in (rowid r)
 
-filter_on : (p q : Row → Bool) (xs : List Row) → AllByRecursion (λ x. p x ≡ q x) xs → filter p xs ≡ filter q xs
+-- whether one of these is the rowid
+abbrev has_one : List ℤ → Row → Bool
+has_one ids r = list_any (λ id. has_rowid id r) ids
+
+has_own : (r : Row) → IsTrue (is_int (rowid r)) → has_rowid (id_of r) r ≡ true
+has_own r keyed = ap (λ v. is_eq (value_cmp (rowid r) v)) (sym (int_is (rowid r) keyed)) ∙ ap is_eq (tied_itself value_cmp_total (rowid r))
+
+has_others : (x r : Row) → IsTrue (is_int (rowid x)) → is_eq (value_cmp (rowid x) (rowid r)) ≡ false → has_rowid (id_of x) r ≡ false
+has_others x r keyed apart = ap (λ v. is_eq (value_cmp (rowid r) v)) (sym (int_is (rowid x) keyed)) ∙ (eq_back (rowid r) (rowid x) ∙ apart)
+
+none_has : (p : Row → Bool) (r : Row) (rows : List Row) → AreApart rows → is_taken rows r ≡ false → has_one (map id_of (filter p rows)) r ≡ false
+none_has p r [] all free = refl
+none_has p r (x ∷ rows) all free = elim (p x) as (λ b. has_one (map id_of (cond b (x ∷ filter p rows) (filter p rows))) r ≡ false) [
+  | true ↦ either_false _ _ (has_others x r all.0 (or_parts _ _ free).0) (none_has p r rows all.2 (or_parts _ _ free).1)
+  | false ↦ none_has p r rows all.2 (or_parts _ _ free).1
+]
+
+-- the rowid of a row is among those of the rows that pass where the row passes
+passing : (p : Row → Bool) (rows : List Row) → AreApart rows → AllByRecursion (λ r. has_one (map id_of (filter p rows)) r ≡ p r) rows
+passing p [] all = tt
+passing p (r ∷ rows) all = (head (p r), whole (p r) (passing p rows all.2))
+  where
+    more : (xs : List Row) → is_taken xs r ≡ false → AllByRecursion (λ x. has_one (map id_of (filter p rows)) x ≡ p x) xs → AllByRecursion (λ x. has_one (id_of r ∷ map id_of (filter p rows)) x ≡ p x) xs
+    more [] free it = tt
+    more (x ∷ xs) free it = (ap (λ b. b || has_one (map id_of (filter p rows)) x) (has_others r x all.0 (eq_back (rowid r) (rowid x) ∙ (or_parts _ _ free).0)) ∙ it.0, more xs (or_parts _ _ free).1 it.1)
+
+    mine : Bool → List ℤ
+    mine b = map id_of (cond b (r ∷ filter p rows) (filter p rows))
+
+    head : (b : Bool) → has_one (mine b) r ≡ b
+    head true = ap (λ b. b || has_one (map id_of (filter p rows)) r) (has_own r all.0)
+    head false = none_has p r rows all.2 all.1
+
+    whole : (b : Bool) → AllByRecursion (λ x. has_one (map id_of (filter p rows)) x ≡ p x) rows → AllByRecursion (λ x. has_one (mine b) x ≡ p x) rows
+    whole true rest = more rows all.1 rest
+    whole false rest = rest
+
+filter_on : (p q : Row → Bool) (xs : List Row) → AllByRecursion (λ x. p x ≡ q x) xs → filter (λ x. not (p x)) xs ≡ filter (λ x. not (q x)) xs
 filter_on p q [] all = refl
 filter_on p q (x ∷ xs) all = rw (all.0, filter_on p q xs all.1) refl
-
-int_tests : (m n : ℤ) → is_eq (int_cmp m n) ≡ int_eq m n
-int_tests m n = refl
-
-by_id : (id : ℤ) (r : Row) → IsTrue (is_int (rowid r)) → not (has_rowid id r) ≡ not (int_eq (id_of r) id)
-by_id id r h = ap (λ v. not (is_eq (value_cmp v (Int id)))) (int_is (rowid r) h) ∙ ap (λ o. not (is_eq o)) (value_cmp-Int (id_of r) id) ∙ ap not (int_tests (id_of r) id)
-
-same_removal : (ids : List ℤ) (rows : List Row) → AllByRecursion (λ r. IsTrue (is_int (rowid r))) rows → without_all rows ids ≡ fold (without_key id_of) rows ids
-same_removal [] rows keyed = refl
-same_removal (id ∷ ids) rows keyed =
-    let e : without_rowid id rows ≡ without_key id_of rows id = filter_on _ _ rows (all_weaker _ (λ r. not (has_rowid id r) ≡ not (int_eq (id_of r) id)) (λ r h. by_id id r h) rows keyed) in
-    same_removal ids (without_rowid id rows) (all-filter _ _ rows keyed) ∙ ap (λ l. fold (without_key id_of) l ids) e
-
-keyed_by : (rows : List Row) → Rises rows → IsKeyedBy id_of rows
-keyed_by [] up = tt
-keyed_by (r ∷ rows) up =
-    (go rows up.0.0 up.1.1, keyed_by rows (up.0.1, up.1.1))
-  where
-    go : (xs : List Row) → AllByRecursion (λ b. value_cmp (rowid r) (rowid b) ≡ Less) xs → AllByRecursion (λ b. IsTrue (is_int (rowid b))) xs → AllByRecursion (λ b. id_of r <ℤ id_of b) xs
-    go [] low ints = tt
-    go (x ∷ xs) low keyed =
-        (lt_from_Less (id_of r) (id_of x) (sym (value_cmp-Int (id_of r) (id_of x)) ∙ (rw (int_is (rowid r) up.1.0, int_is (rowid x) keyed.0) at low.0)), go xs low.1 keyed.1)
 
 without_is : (ids : List ℤ) (rows : List Row) → without_all rows ids ≡ filter (λ r. not (list_any (λ id. has_rowid id r) ids)) rows
 without_is [] [] = refl
@@ -130,7 +177,7 @@ any_permuted q xs ys same =
     either false false e = refl
 
 -- what a DELETE takes out is what passed its test
-pub removed : (p : Row → Bool) (rows : List Row) (ids : List ℤ) → Rises rows → IsPermutation (map id_of (filter p rows)) ids → without_all rows ids ≡ filter (λ r. not (p r)) rows
-removed p rows ids up same =
+pub removed : (p : Row → Bool) (rows : List Row) (ids : List ℤ) → AreApart rows → IsPermutation (map id_of (filter p rows)) ids → without_all rows ids ≡ filter (λ r. not (p r)) rows
+removed p rows ids all same =
     let mine = map id_of (filter p rows) in
-    without_is ids rows ∙ (filter_same _ _ (λ r. ap not (any_permuted (λ id. has_rowid id r) mine ids same)) rows ∙ (sym (without_is mine rows) ∙ (same_removal mine rows up.1 ∙ removes_delete id_of p rows (keyed_by rows up))))
+    without_is ids rows ∙ (filter_same _ _ (λ r. ap not (any_permuted (λ id. has_rowid id r) mine ids same)) rows ∙ filter_on (has_one mine) p rows (passing p rows all))

@@ -3,7 +3,7 @@ use Rattle.std.proofs.Common.{◌≡◌, ℕ, List, [], codes, false, None, Ok, 
 use Rattle.std.proofs.Common.{◌∷◌, ◌++◌, true, inl, inr, eqb, eqb-true}
 use Rattle.std.proofs.lemmas.Bool.{or_cases}
 use Rattle.sqlite_trees.specs.Tree.{Trees}
-use Rattle.review_tables.specs.Content.{Rises}
+use Rattle.review_tables.specs.Content.{AreApart}
 use Rattle.review_tables.specs.Desk.{desk_schema}
 use Rattle.sqlite_schema.specs.declared.schema.Index.{Index}
 use Rattle.sqlite_schema.specs.declared.command.Command.TheVariants.{Select}
@@ -78,7 +78,7 @@ empty_at db (x ∷ tables) all t is = elim (or_cases _ _ is) [ inl here ↦ subs
 
 -- empty tables of a desk are tables of a desk
 pub ready_blank : (db : Database) → IsBlank desk_schema db → IsReady db
-ready_blank db it = record { schema = it.schema_is; rises = λ t is. subst Rises (sym (empty_at db.trees desk_schema.tables it.empty t is)) ((tt, tt)) }
+ready_blank db it = record { schema = it.schema_is; apart = λ t is. subst AreApart (sym (empty_at db.trees desk_schema.tables it.empty t is)) tt }
 
 -- ---- the twelve tables, one after the other
 

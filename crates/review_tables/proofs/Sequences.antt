@@ -15,7 +15,7 @@ use Rattle.sqlite.proofs.Callers.{IsPlain}
 use Rattle.review_tables.specs.Desk.{desk_schema}
 use Rattle.sqlite.specs.State.{FailsToQuery, FailsToShow, Shown, ShowsRows, IsNotRun, IsTooLate, State, HasCleanDisk, Survives, KeepsCommit, IsUnchanged, IsRolledBack, Executes, ExecutesInside, Shows, KeepsCounts}
 use Rattle.sqlite.proofs.StateLemmas.{survives_then}
-use Rattle.review_tables.specs.Content.{Then, Rises}
+use Rattle.review_tables.specs.Content.{Then, AreApart}
 use Rattle.review_tables.specs.Ran.{IsReady, IsReadyIfOpen, Within, OnDesk, Inside, Transacts, Looks, Serves}
 
 kept_unchanged : (old new : State) → IsUnchanged old new ⊎ IsRolledBack old new → KeepsCommit old new
@@ -146,7 +146,7 @@ survives_from : (s0 s3 : State) (P : Trees → Type 0) → Survives (begun s0) s
 survives_from s0 s3 P s = record { clean = s.clean; shield = s.shield; counts = s.counts; limit = s.limit; closes = s.closes; crash = s.crash }
 
 ready_begun : (s0 : State) → IsReadyIfOpen s0 → IsReadyIfOpen (begun s0)
-ready_begun s0 ready is_open = let it = ready is_open in record { schema = it.schema; rises = it.rises }
+ready_begun s0 ready is_open = let it = ready is_open in record { schema = it.schema; apart = it.apart }
 
 module _ {X : Type 0} (R : Database → Database → Type 0) (s0 s2 s3 : State) (settled : IsTrue s0.is_open → s0.now ≡ s0.committed) (open_clean : IsTrue s3.is_open → HasCleanDisk s3) where
   -- a statement failed, and what was written is rolled back

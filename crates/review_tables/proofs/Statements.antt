@@ -38,9 +38,9 @@ use Rattle.sqlite_sql.specs.Program.{overlay}
 use Rattle.sqlite_rules.specs.Edit.{id_in, have_rowids, are_fresh, left_by, put_all, is_taken}
 use Rattle.sqlite_keyed.proofs.ListLemmas.{map-map, filter_same}
 use Rattle.review_tables.specs.Desk.{desk_schema, is_tree}
-use Rattle.review_tables.specs.Content.{Rises, IsAdded, Adds, Removes, SparesOthers, has_key}
+use Rattle.review_tables.specs.Content.{AreApart, IsAdded, Adds, Removes, SparesOthers, has_key}
 use Rattle.review_tables.specs.Ran.{IsReady}
-use Rattle.review_tables.proofs.Lists.{id_of, added, removed, rises_put, rises_filter}
+use Rattle.review_tables.proofs.Lists.{id_of, added, removed, apart_put, apart_filter}
 use Rattle.review_tables.proofs.Queries.{over_table, passes, shows, selects}
 use Rattle.sqlite_schema.specs.declared.schema.Column.{Column}
 use Rattle.sqlite_value.specs.declared.keys.Order.{Order}
@@ -90,12 +90,12 @@ spare_others tree old new (x ∷ tables) all t is other = elim (or_cases _ _ is)
   | inr later ↦ spare_others tree old new tables all.1 t later other
 ]
 
-pub ready_after : (tree : ℕ) (old new : State) → IsReady old.now → new.now.schema ≡ old.now.schema → Rises (new.now.trees tree) → SparesOthers tree old.now.trees new.now.trees → IsReady new.now
+pub ready_after : (tree : ℕ) (old new : State) → IsReady old.now → new.now.schema ≡ old.now.schema → AreApart (new.now.trees tree) → SparesOthers tree old.now.trees new.now.trees → IsReady new.now
 ready_after tree old new has schema up others = record {
   schema = schema ∙ has.schema;
-  rises = λ t is. elim (cases_Bool (eqb t tree)) [
-    | inl same ↦ subst (λ n. Rises (new.now.trees n)) (sym (eqb-true t tree same)) up
-    | inr other ↦ subst Rises (sym (others t is (eqb-false t tree other))) (has.rises t is)
+  apart = λ t is. elim (cases_Bool (eqb t tree)) [
+    | inl same ↦ subst (λ n. AreApart (new.now.trees n)) (sym (eqb-true t tree same)) up
+    | inr other ↦ subst AreApart (sym (others t is (eqb-false t tree other))) (has.apart t is)
   ];
 }
 
@@ -185,7 +185,7 @@ module _ (name : List ℕ) (tree : ℕ) (columns : List Column) (key : Option �
         let keyed : IsTrue (is_int (rowid row)) = (and_parts _ _ (ap have_rowids (sym news) ∙ it.2.keyed)).0 in
         let free : is_taken (old.now.trees tree) row ≡ false = not-true _ (and_parts _ _ (ap (are_fresh (old.now.trees tree)) (sym news) ∙ it.2.fresh)).0 in
         let others = spares _ it.1 in (
-          ready_after tree old new has it.0 (subst Rises (sym rows) (rises_put row (old.now.trees tree) keyed (has.rises tree listed))) others,
+          ready_after tree old new has it.0 (subst AreApart (sym rows) (apart_put row (old.now.trees tree) keyed free (has.apart tree listed))) others,
           record { rows = subst (IsAdded row (old.now.trees tree)) (sym rows) (added row (old.now.trees tree) free); others = others },
         )
 
@@ -200,9 +200,9 @@ module _ (name : List ℕ) (tree : ℕ) (columns : List Column) (key : Option �
         let w = runs_as sql params old new desk_schema has.schema command is plain count h in
         let it = deletes_in old.step_limit params old.now (statement_of sql (understood desk_schema sql)) at here none w.tally new.now q w.changed in
         let found = selects tree tests (col 1 0 ∷ []) [] old.now.trees params it.1 own (it.2.answer Null) in
-        let up = has.rises tree listed in
+        let up = has.apart tree listed in
         let ids : IsPermutation (map id_of (filter (passes params tests) (old.now.trees tree))) (ids_of it.1) = subst (λ l. IsPermutation l (ids_of it.1)) (ids_shown params (filter (passes params tests) (old.now.trees tree))) (IsPermutation-map _ _ _ found) in
         let rows : new.now.trees tree ≡ filter (λ r. not (has_key key r)) (old.now.trees tree) =
         it.3.is ∙ (removed (passes params tests) (old.now.trees tree) (ids_of it.1) up ids ∙ filter_same _ _ (λ r. ap not (same r)) (old.now.trees tree)) in
         let others = spares _ it.3 in
-        (ready_after tree old new has it.0 (subst Rises (sym rows) (rises_filter _ _ up)) others, record { rows = rows; others = others })
+        (ready_after tree old new has it.0 (subst AreApart (sym rows) (apart_filter _ _ up)) others, record { rows = rows; others = others })

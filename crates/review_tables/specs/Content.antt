@@ -1,21 +1,23 @@
 -- What the rows of a table have at a key.
 use Rattle.std.specs.Prelude.{ℕ, ℤ, ◌≡◌, ◌≢◌, ◌+◌, Bool, true, false, not, List, [], ◌∷◌, filter, length, IsTrue}
-use Rattle.std.specs.List.{list_all, AllByRecursion}
+use Rattle.std.specs.List.{list_all}
 use Rattle.std.specs.Ordering.{is_eq}
 use Rattle.sqlite_value.specs.declared.value.Value.{Value}
 use Rattle.sqlite_value.specs.declared.value.Value.TheVariants.{Int}
 use Rattle.review_tables.specs.Desk.{is_tree}
 use Rattle.sqlite_value.specs.Order.{Row, column, value_cmp}
-use Rattle.sqlite_trees.specs.Tree.{Trees, rowid, IsTable}
+use Rattle.sqlite_trees.specs.Tree.{Trees, rowid}
+use Rattle.sqlite_rules.specs.Edit.{is_taken}
 use Rattle.sqlite_trees.specs.View.{is_int}
 
 -- whether the row has these values at these places, as SQL orders values
 abbrev pub has_key : List (ℕ × Value) → Row → Bool
 has_key key row = list_all (λ c. is_eq (value_cmp (column row c.0) c.1)) key
 
--- the rows of a tree rise by their rowids, which are integers
-abbrev pub Rises : List Row → Type 0
-Rises rows = IsTable rows × AllByRecursion (λ r. IsTrue (is_int (rowid r))) rows
+-- the rows have rowids, which are integers, and no two have one
+abbrev pub AreApart : List Row → Type 0
+AreApart [] = Unit {0}
+AreApart (r ∷ rows) = IsTrue (is_int (rowid r)) × (is_taken rows r ≡ false) × AreApart rows
 
 -- one row came to others, among which a test finds it
 pub record IsAdded (row : Row) (old new : List Row) : Type 0 where

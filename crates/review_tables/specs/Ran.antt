@@ -5,12 +5,12 @@ use Rattle.sqlite.specs.Effect.{Database}
 use Rattle.sqlite.specs.State.{State, HasCleanDisk, Survives, KeepsCommit}
 use Rattle.sqlite.specs.declared.error.Error.{Error}
 use Rattle.review_tables.specs.Desk.{desk_schema, is_tree}
-use Rattle.review_tables.specs.Content.{Rises}
+use Rattle.review_tables.specs.Content.{AreApart}
 
--- the tables are those that `create` makes, and the rowids of each rise
+-- the tables are those that `create` makes, and the rows of each have rowids of their own
 pub record IsReady (db : Database) : Type 0 where
   pub schema : db.schema ≡ desk_schema
-  pub rises : (t : ℕ) → is_tree t ≡ true → Rises (db.trees t)
+  pub apart : (t : ℕ) → is_tree t ≡ true → AreApart (db.trees t)
 
 -- nothing is known of a connection that a fault has shut
 abbrev pub IsReadyIfOpen : State → Type 0
