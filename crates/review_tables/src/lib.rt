@@ -4,5 +4,6 @@
 pub mod changes;
 pub mod creating;
 pub mod reads;
+mod schemas;
 pub mod table;
 pub mod texts;
