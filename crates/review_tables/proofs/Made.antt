@@ -28,7 +28,15 @@ use Rattle.sqlite.specs.State.{State, Executes, Writes}
 use Rattle.sqlite.proofs.Callers.{IsPlain, command_of, statement_of, runs_as}
 use Rattle.sqlite_tied.specs.Compute.{everything}
 use Rattle.review_tables.specs.Made.{MakesText, IsBlank, MakesBy, Grows}
-use Rattle.review_tables.specs.Ran.{IsReady}
+use Rattle.std.proofs.Common.{Bool}
+use Rattle.std.specs.Bool.{Decides}
+use Rattle.sqlite_trees.specs.declared.memory.MemStore.{MemStore}
+use Rattle.sqlite.specs.Held.{Held, state}
+use Rattle.sqlite.specs.Steps.{over_memory, IsEmpty}
+use Rattle.sqlite.proofs.Callers.{memory_is_clean}
+use Rattle.review_tables.specs.Desk.{simple}
+use Rattle.review_tables.specs.Plain.{IsPlainColumn, IsPlainForm, IsPlainSchema}
+use Rattle.review_tables.specs.Ran.{IsReady, Transacts}
 use Rattle.std.specs.List.{AllByRecursion, list_any}
 use Rattle.review_tables.proofs.Statements.{went, same_value}
 use Rattle.review_tables.proofs.Sequences.{Next}
@@ -141,3 +149,28 @@ made_reviews old new h was =
 pub made_rest : (old new : Database) → Next (Next (Next (MakesBy CREATE_COMMENTS.now) (MakesBy CREATE_ATTENTION.now)) (MakesBy CREATE_ANSWERS.now)) (MakesBy CREATE_DESK.now) old new → Grows schema_8 desk_schema old new
 made_rest old new h was =
     h.2 schema_11 desk desk_schema makes_desk (h.1.2 schema_10 answers schema_11 makes_answers (h.1.1.2 schema_9 attention schema_10 makes_attention (h.1.1.1 schema_8 comments schema_9 makes_comments was)))
+
+-- ---- whether a schema is that of a desk
+
+plain_form : (t : Table) → AllByRecursion IsPlainColumn t.columns → t ≡ simple t.name t.tree t.columns t.key t.primary t.uniques t.orders → IsPlainForm t
+plain_form t columns is = (
+  record {
+    checks = ap (λ (x : Table). x.checks) is;
+    references = ap (λ (x : Table). x.references) is;
+    computed = ap (λ (x : Table). x.computed) is;
+    places = ap (λ (x : Table). x.stamps.places) is;
+    terms = ap (λ (x : Table). x.stamps.terms) is;
+    formats = ap (λ (x : Table). x.stamps.formats) is;
+  },
+  columns,
+)
+
+pub desk_is_plain : IsPlainSchema desk_schema
+desk_is_plain = (refl, (plain_form accounts (refl, (refl, tt)) refl, (plain_form members (refl, (refl, tt)) refl, (plain_form projects (refl, (refl, tt)) refl, (plain_form bases (refl, (refl, (refl, (refl, tt)))) refl, (plain_form changes (refl, (refl, (refl, (refl, (refl, (refl, (refl, (refl, (refl, tt))))))))) refl, (plain_form patches (refl, (refl, (refl, (refl, (refl, (refl, (refl, tt))))))) refl, (plain_form votes (refl, (refl, (refl, (refl, (refl, tt))))) refl, (plain_form reviewers (refl, (refl, (refl, tt))) refl, (plain_form comments (refl, (refl, (refl, (refl, (refl, (refl, (refl, (refl, (refl, (refl, tt)))))))))) refl, (plain_form attention (refl, (refl, (refl, (refl, tt)))) refl, (plain_form answers (refl, (refl, (refl, (refl, (refl, tt))))) refl, (plain_form desk (refl, (refl, tt)) refl, tt)))))))))))))
+
+-- the tables that were made in memory
+pub made_in_memory : (old new : Held MemStore) (x : Unit {0}) → IsEmpty (state over_memory old) → Transacts (Grows schema_0 desk_schema) (state over_memory old) (state over_memory new) (Ok x) → new.schema ≡ desk_schema
+made_in_memory old new x empty acts = ((acts.done (memory_is_clean new)).2 (record { schema_is = empty.2; empty = tt })).schema_is
+
+pub decides_desk : (is : Bool) (schema plain : Schema) → plain ≡ desk_schema → Decides is ((schema ≡ plain) × IsPlainSchema plain) → Decides is (schema ≡ desk_schema)
+decides_desk is schema plain same d = (λ yes. (d.0 yes).0 ∙ same, λ it. d.1 (it ∙ sym same, subst IsPlainSchema (sym same) desk_is_plain))
