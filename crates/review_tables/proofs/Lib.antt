@@ -5,3 +5,16 @@ pub mod Sequences
 pub mod Made
 pub mod Keys
 pub mod Found
+pub mod Meaning
+pub mod AccountTexts
+pub mod MemberTexts
+pub mod ProjectTexts
+pub mod BaseTexts
+pub mod ChangeTexts
+pub mod PatchTexts
+pub mod VoteTexts
+pub mod ReviewerTexts
+pub mod CommentTexts
+pub mod AttentionTexts
+pub mod AnswerTexts
+pub mod DeskTexts

@@ -16,7 +16,7 @@ use Rattle.review_tables.specs.Desk.{desk_schema}
 use Rattle.sqlite.specs.State.{FailsToQuery, FailsToShow, Shown, ShowsRows, IsNotRun, IsTooLate, State, HasCleanDisk, Survives, KeepsCommit, IsUnchanged, IsRolledBack, Executes, ExecutesInside, Shows, KeepsCounts}
 use Rattle.sqlite.proofs.StateLemmas.{survives_then}
 use Rattle.review_tables.specs.Content.{Then, AreApart}
-use Rattle.review_tables.specs.Ran.{IsReady, IsReadyIfOpen, Within, OnDesk, Inside, Transacts, Looks, Serves}
+use Rattle.review_tables.specs.Ran.{IsReady, IsDeskIfOpen, Within, OnDesk, Inside, Transacts, Looks, Serves}
 
 kept_unchanged : (old new : State) → IsUnchanged old new ⊎ IsRolledBack old new → KeepsCommit old new
 kept_unchanged old new (inl same) = record { was_open = λ _. same.0.was_open; committed = λ _. same.0.committed_is }
@@ -145,9 +145,6 @@ not_committed s0 s2 s3 (Err e) settled kept on (inr late) is_open = absurd (let 
 survives_from : (s0 s3 : State) (P : Trees → Type 0) → Survives (begun s0) s3 P → Survives s0 s3 P
 survives_from s0 s3 P s = record { clean = s.clean; shield = s.shield; counts = s.counts; limit = s.limit; closes = s.closes; crash = s.crash }
 
-ready_begun : (s0 : State) → IsReadyIfOpen s0 → IsReadyIfOpen (begun s0)
-ready_begun s0 ready is_open = let it = ready is_open in record { schema = it.schema; apart = it.apart }
-
 module _ {X : Type 0} (R : Database → Database → Type 0) (s0 s2 s3 : State) (settled : IsTrue s0.is_open → s0.now ≡ s0.committed) (open_clean : IsTrue s3.is_open → HasCleanDisk s3) where
   -- a statement failed, and what was written is rolled back
   pub failed : {Y : Type 0} (e f : Error) → Within {X = X} R (begun s0) s2 (Err e) → (HasCleanDisk s3 → IsRolledBack s2 s3) → Survives s2 s3 (λ _. ⊥) → Transacts {X = Y} R s0 s3 (Err f)
@@ -225,7 +222,7 @@ shown_open sql params old new rows h = by_returning h.0.returning h.2
 
 -- one query, of which is known what it finds
 pub look : {X : Type 0} (view : X → List Row) (sql : List ℕ) (params : Row) (old new : State) (r : Result X Error) (Found : Trees → X → Type 0) → IsPlain (understood desk_schema sql)
-    → ((x : X) → IsReady old.now → Shown sql params old new (view x) → Found old.now.trees x)
+    → ((x : X) → old.now.schema ≡ desk_schema → Shown sql params old new (view x) → Found old.now.trees x)
     → (HasCleanDisk new → IfOk r (λ x. Shown sql params old new (view x)))
     → (HasCleanDisk new → IfErr r (λ e. FailsToQuery sql params old new e ⊎ IsTooLate sql params old new e)) → Survives old new (λ _. ⊥) → Looks Found old new r
 look {X} view sql params old new r Found plain finds ok err survives = record {
@@ -234,10 +231,10 @@ look {X} view sql params old new r Found plain finds ok err survives = record {
   survives = survives;
 }
   where
-    by_found : (r : Result X Error) → IfOk r (λ x. Shown sql params old new (view x)) → IsReadyIfOpen old → IfOk r (λ x. (new.now ≡ old.now) × IsTrue new.is_open × Found old.now.trees x)
+    by_found : (r : Result X Error) → IfOk r (λ x. Shown sql params old new (view x)) → IsDeskIfOpen old → IfOk r (λ x. (new.now ≡ old.now) × IsTrue new.is_open × Found old.now.trees x)
     by_found (Ok x) h ready =
         let it = ready (shown_open sql params old new (view x) h) in
-        let same = same_after sql params old new (view x) (subst (λ s. IsPlain (understood s sql)) (sym it.schema) plain) h in
+        let same = same_after sql params old new (view x) (subst (λ s. IsPlain (understood s sql)) (sym it) plain) h in
         (same.0.now_is, same.0.is_open, finds x it h)
     by_found (Err e) h ready = tt
 
@@ -262,14 +259,14 @@ module _ {X : Type 0} (Found : Trees → X → Type 0) (s0 s2 s3 : State) (settl
       → (HasCleanDisk s3 → OnOk r (IsTrue s2.in_transaction × Shows s2 s3 s2.now s2.now false × KeepsCounts s2 s3 × (s3.marks ≡ [])))
       → (HasCleanDisk s3 → IfErr r (FailsToCommit s2 s3)) → Survives s2 s3 (λ db. db ≡ s2.now.trees) → (q : Result X Error) → Follows x r q → Serves Found s0 s3 q
   look_ended x r inside ok err last q follows = record {
-    found = λ clean ready. by_found r q follows (ok clean) (inside.found (back clean) refl (ready_begun s0 ready)) (inside.kept (back clean) refl).0;
+    found = λ clean ready. by_found r q follows (ok clean) (inside.found (back clean) refl ready) (inside.kept (back clean) refl).0;
     undone = λ _ is_open.
         let clean = open_clean is_open in
         let kept = inside.kept (back clean) refl in
         by_undone r q follows (not_committed s0 s2 s3 r settled kept.0 kept.1 (err clean) is_open);
     survives = λ ready. survives_from s0 s3 _ (survives_then (begun s0) s2 s3 _ _ _ (λ _ db h. absurd h)
         (λ clean db is.
-        let it = inside.found (back clean) refl (ready_begun s0 ready) in
+        let it = inside.found (back clean) refl ready in
         ((inside.kept (back clean) refl).0.was_open it.1, is ∙ ap (λ (d : Database). d.trees) it.0))
         inside.survives last);
   }

@@ -16,6 +16,10 @@ pub record IsReady (db : Database) : Type 0 where
 abbrev pub IsReadyIfOpen : State → Type 0
 IsReadyIfOpen s = IsTrue s.is_open → IsReady s.now
 
+-- the tables have the form of those that `create` makes, where the connection is open
+abbrev pub IsDeskIfOpen : State → Type 0
+IsDeskIfOpen s = IsTrue s.is_open → s.now.schema ≡ desk_schema
+
 -- statements inside a transaction, which lead so from one database to the next where all of them succeed
 pub record Within {X : Type 0} (Leads : Database → Database → Type 0) (old new : State) (result : Result X Error) : Type 0 where
   pub ran : HasCleanDisk new → IsTrue old.in_transaction → OnOk result (Leads old.now new.now)
@@ -43,12 +47,12 @@ pub record Transacts {X : Type 0} (Leads : Database → Database → Type 0) (ol
 
 -- a query inside a transaction, which finds so much
 pub record Looks {X : Type 0} (Found : Trees → X → Type 0) (old new : State) (result : Result X Error) : Type 0 where
-  pub found : HasCleanDisk new → IsTrue old.in_transaction → IsReadyIfOpen old → IfOk result (λ x. (new.now ≡ old.now) × IsTrue new.is_open × Found old.now.trees x)
+  pub found : HasCleanDisk new → IsTrue old.in_transaction → IsDeskIfOpen old → IfOk result (λ x. (new.now ≡ old.now) × IsTrue new.is_open × Found old.now.trees x)
   pub kept : HasCleanDisk new → IsTrue old.in_transaction → KeepsCommit old new × OnOk result (IsTrue new.in_transaction)
   pub survives : Survives old new (λ _. ⊥)
 
 -- a call that only reads, and what it found
 pub record Serves {X : Type 0} (Found : Trees → X → Type 0) (old new : State) (result : Result X Error) : Type 0 where
-  pub found : HasCleanDisk new → IsReadyIfOpen old → IfOk result (λ x. IsTrue old.is_open × IsTrue new.is_open × (new.now ≡ old.now) × Found old.now.trees x)
-  pub undone : IsReadyIfOpen old → IsTrue new.is_open → OnErr result (IsTrue old.is_open × (new.now ≡ old.now))
-  pub survives : IsReadyIfOpen old → Survives old new (λ db. IsTrue old.is_open × (db ≡ old.now.trees))
+  pub found : HasCleanDisk new → IsDeskIfOpen old → IfOk result (λ x. IsTrue old.is_open × IsTrue new.is_open × (new.now ≡ old.now) × Found old.now.trees x)
+  pub undone : IsDeskIfOpen old → IsTrue new.is_open → OnErr result (IsTrue old.is_open × (new.now ≡ old.now))
+  pub survives : IsDeskIfOpen old → Survives old new (λ db. IsTrue old.is_open × (db ≡ old.now.trees))

@@ -4,7 +4,7 @@ use Rattle.std.specs.List.{list_any}
 use Rattle.std.specs.List.Sorted.{IsPermutation}
 use Rattle.sqlite_value.specs.declared.value.Value.{Value}
 use Rattle.sqlite_value.specs.Order.{Row as Raw}
-use Rattle.sqlite_trees.specs.Tree.{Trees}
+use Rattle.sqlite_trees.specs.Tree.{Trees, rowid}
 use Rattle.review_table.specs.declared.table.Change.{Change}
 use Rattle.review_tables.specs.Content.{has_key, SparesOthers, Adds}
 
@@ -30,6 +30,10 @@ reads s r = s.read (s.shown r)
 -- a look-up shows these rows, in any order
 abbrev pub Finds : {A X : Type 0} → Search A X → A → Trees → List Raw → Type 0
 Finds s a db rows = IsPermutation (map s.shown (rows_at (s.at a) (db s.tree))) rows
+
+-- the rowids of a table, in any order
+abbrev pub FindsIds : ℕ → Trees → List Raw → Type 0
+FindsIds tree db rows = IsPermutation (map (λ r. rowid r ∷ []) (db tree)) rows
 
 -- the one row as it reads, or none; what does not read, or is one of several, is odd
 abbrev pub only : {X : Type 0} → (Raw → Option X) → List Raw → Option (Option X)
