@@ -18,3 +18,4 @@ pub mod CommentTexts
 pub mod AttentionTexts
 pub mod AnswerTexts
 pub mod DeskTexts
+pub mod Ids

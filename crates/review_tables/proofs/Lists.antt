@@ -68,7 +68,7 @@ is_eq_back Less = refl
 is_eq_back Equal = refl
 is_eq_back Greater = refl
 
-eq_back : (v w : Value) → is_eq (value_cmp v w) ≡ is_eq (value_cmp w v)
+pub eq_back : (v w : Value) → is_eq (value_cmp v w) ≡ is_eq (value_cmp w v)
 eq_back v w = ap is_eq (value_cmp_total.antisymm v w) ∙ is_eq_back (value_cmp w v)
 
 either_false : (b c : Bool) → b ≡ false → c ≡ false → (b || c) ≡ false

@@ -4,3 +4,4 @@ pub mod Ran
 pub mod Search
 pub mod Made
 pub mod Plain
+pub mod Rowids

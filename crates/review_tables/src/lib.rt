@@ -4,6 +4,7 @@
 pub mod changes;
 pub mod creating;
 pub mod reads;
+pub mod rowids;
 mod schemas;
 pub mod table;
 pub mod texts;
