@@ -5,3 +5,4 @@ pub mod Search
 pub mod Made
 pub mod Plain
 pub mod Rowids
+pub mod Columns

@@ -2,6 +2,7 @@
 #![tactic(auto)]
 
 pub mod changes;
+pub mod columns;
 pub mod creating;
 pub mod reads;
 pub mod rowids;
