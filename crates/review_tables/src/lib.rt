@@ -9,3 +9,4 @@ pub mod rowids;
 mod schemas;
 pub mod table;
 pub mod texts;
+pub mod trees;

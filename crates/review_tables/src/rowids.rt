@@ -8,7 +8,7 @@ ghost use Rattle.review_tables.specs.Content.{AreApart};
 ghost use Rattle.review_tables.specs.Ran.{Looks};
 ghost use Rattle.review_tables.specs.Rowids.{AreIds, AreOwn, IsIdOf, firsts};
 
-use crate::table::Table;
+use crate::trees::Tree;
 use sqlite::types::ValueRef;
 use sqlite::{Alter, Error, Row, Transaction};
 use std::alloc::{AllocError, Global};
@@ -58,12 +58,12 @@ fn are_own(alloc: Global, rows: &[Row]) -> Result<bool, AllocError>
 }
 
 /// Whether the rows of a table have rowids of their own.
-pub fn are_apart<T: Table, S: Alter>(
+pub fn are_apart<T: Tree, S: Alter>(
     tx: &mut Transaction<'_, S>,
     alloc: Global,
 ) -> Result<bool, Error>
     ensures same_reference { tx.new.conn.ghost_name ≡ tx.old.conn.ghost_name }
-    ensures looks { Looks (λ db is. Decides is (AreApart (db T.search.tree))) (state S.Store tx.old.conn.now) (state S.Store tx.new.conn.now) result }
+    ensures looks { Looks (λ db is. Decides is (AreApart (db T.tree))) (state S.Store tx.old.conn.now) (state S.Store tx.new.conn.now) result }
 {
     let rows = T::select_ids(tx)?;
     Ok(are_own(alloc, &rows)?)

@@ -3,7 +3,7 @@ ghost use Rattle.std.specs.Prelude.{◌≡◌, true, IfOk};
 ghost use Rattle.sqlite.specs.Held.{state};
 ghost use Rattle.review_tables.specs.Content.{Removes};
 ghost use Rattle.review_tables.specs.Ran.{Inside, Looks, Opens};
-ghost use Rattle.review_tables.specs.Search.{Finds, FindsIds, Puts};
+ghost use Rattle.review_tables.specs.Search.{Finds, Puts};
 
 use sqlite::{Alter, Error, Row, Transaction};
 use std::alloc::{AllocError, Global};
@@ -54,11 +54,6 @@ pub trait Table: Lookup {
         ensures same_reference { tx.new.conn.ghost_name ≡ tx.old.conn.ghost_name }
         ensures ran { Inside (Removes Self.search.tree (Self.search.at key.now)) (state S.Store tx.old.conn.now) (state S.Store tx.new.conn.now) result }
         ensures open { Opens (state S.Store tx.old.conn.now) (state S.Store tx.new.conn.now) result };
-
-    /// All rowids.
-    fn select_ids<S: Alter>(tx: &mut Transaction<'_, S>) -> Result<Vec<Row>, Error>
-        ensures same_reference { tx.new.conn.ghost_name ≡ tx.old.conn.ghost_name }
-        ensures looks { Looks (λ db rows. FindsIds Self.search.tree db rows.items) (state S.Store tx.old.conn.now) (state S.Store tx.new.conn.now) result };
 
     /// A row has one key, and reads as what was put in.
     ghost lawful: { IsLawful Self.search form };

@@ -11,7 +11,7 @@ use Rattle.review_tables.proofs.rowids.are_apart.Goals as goal
 
 pub returns-clause-looks : goal.returns-clause-looks
 returns-clause-looks g c =
-    let tree = g.T.Lookup.search.tree in
+    let tree = g.T.Tree.tree in
     let F : Trees → Vec Row Global → Type 0 = λ db rows. FindsIds tree db rows.items in
     let a = state g.S.Store c.args.tx.now.conn.now in
     let m = state g.S.Store c.select_ids.new.tx.conn.now in
