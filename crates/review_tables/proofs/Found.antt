@@ -1,12 +1,15 @@
 -- What was found, as it reads.
-use Rattle.std.proofs.Common.{◌≡◌, ◌∙◌, ℕ, pos, ◌≤◌, List, [], ◌∷◌, map, length, not, Bool, true, false, Option, Some, None, Ok, Err, Result, IfOk, OnOk, refl, sym, ap, subst, arith, slice_get, is_some}
+use Rattle.std.proofs.Common.{◌≡◌, ◌∙◌, ℕ, pos, ◌≤◌, List, [], ◌∷◌, map, length, not, Bool, true, false, Option, Some, None, Ok, Err, Result, IfOk, OnOk, refl, sym, ap, subst, arith, slice_get, is_some, IsTrue}
 use Rattle.std.specs.List.{list_any}
 use Rattle.std.specs.List.Sorted.{IsPermutation}
 use Rattle.std.proofs.lemmas.List.Sorted.{length_permutation, IsPermutation-map}
 use Rattle.sqlite_value.specs.Order.{Row}
 use Rattle.sqlite_trees.specs.Tree.{Trees}
 use Rattle.sqlite_keyed.proofs.ListLemmas.{IsPermutation-filter, none_counted, map-map}
+use Rattle.sqlite.specs.Effect.{Database}
 use Rattle.sqlite.specs.State.{State, HasCleanDisk}
+use Rattle.sqlite.proofs.StateLemmas.{survives_then}
+use Rattle.review_tables.proofs.Sequences.{keeps_then}
 use Rattle.sqlite.specs.declared.error.Error.{Error}
 use Rattle.sqlite.proofs.Callers.{one_permutation}
 use Rattle.review_tables.specs.Ran.{Looks}
@@ -65,3 +68,27 @@ pub single : (rows : List Row) (row : Row) → slice_get rows 0 ≡ Some row →
 single [] row is short = absurd (cc)
 single (r ∷ []) row is short = let same : r ≡ row = cc in ap (λ x. x ∷ []) same
 single (r ∷ s ∷ rows) row is short = absurd (omega (arith, short))
+
+-- two queries, one after the other
+pub look_both : {X Y : Type 0} (F : Trees → X → Type 0) (G : Trees → Y → Type 0) (a b c : State) (x : X) (r : Result Y Error)
+    → Looks F a b (Ok x) → Looks G b c r → Looks (λ db y. F db x × G db y) a c r
+look_both {X} {Y} F G a b c x r one two = record {
+  found = λ clean on desk.
+      let earlier = back clean in
+      let first = one.found earlier on desk in
+      by_found r first (two.found clean (one.kept earlier on).1 (λ is_open. ap (λ (d : Database). d.schema) first.0 ∙ desk ((one.kept earlier on).0.was_open is_open)));
+  kept = λ clean on.
+      let earlier = back clean in
+      let first = one.kept earlier on in
+      let second = two.kept clean first.1 in
+      (keeps_then a b c first.0 second.0, second.1);
+  survives = survives_then a b c _ _ _ (λ _ db h. h) (λ _ db h. h) one.survives two.survives;
+}
+  where
+    back : HasCleanDisk c → HasCleanDisk b
+    back clean = omega (arith, two.survives.clean)
+
+    by_found : (r : Result Y Error) → (b.now ≡ a.now) × IsTrue b.is_open × F a.now.trees x → IfOk r (λ y. (c.now ≡ b.now) × IsTrue c.is_open × G b.now.trees y)
+        → IfOk r (λ y. (c.now ≡ a.now) × IsTrue c.is_open × (F a.now.trees x × G a.now.trees y))
+    by_found (Ok y) first second = (second.0 ∙ first.0, second.1, (first.2, subst (λ (t : Trees). G t y) (ap (λ (d : Database). d.trees) first.0) second.2))
+    by_found (Err e) first second = tt

@@ -1,11 +1,12 @@
 -- Rowids that were read, and what they say of the rows of a table.
-use Rattle.std.proofs.Common.{◌≡◌, ◌∙◌, ℕ, ℤ, suc, ◌+◌, ◌≤◌, List, [], ◌∷◌, map, length, Bool, true, false, not, cond, nat_eq, eqb-true, eq-eqb, Option, Some, None, refl, sym, ap, subst, IsTrue, arith, inl, inr}
+use Rattle.std.proofs.Common.{◌≡◌, ◌∙◌, ◌&&◌, ℕ, ℤ, suc, ◌+◌, ◌≤◌, List, [], ◌∷◌, map, length, Bool, true, false, not, cond, nat_eq, eqb-true, eq-eqb, Option, Some, None, refl, sym, ap, subst, IsTrue, arith, inl, inr}
 use Rattle.std.specs.Bool.{Decides}
 use Rattle.std.specs.List.{AllByRecursion, IsDistinct, list_any, dedup, dedup_from}
 use Rattle.std.specs.List.Retain.{IsFiltered, DiffersFromLast}
 use Rattle.std.specs.List.Sorted.{IsPermutation, IsSorted}
 use Rattle.std.specs.Ordering.{int_cmp, int_eq, is_eq}
 use Rattle.std.proofs.lemmas.Bool.{or_parts, cases_Bool}
+use Rattle.std.proofs.lemmas.Bool.Decides.{Decides-and, Decides-like}
 use Rattle.std.proofs.lemmas.Cmp.{int_cmp_total, int_eq_equiv}
 use Rattle.std.proofs.lemmas.List.Filters.{dedup_is}
 use Rattle.std.proofs.lemmas.List.Kept.{IsStrictlySortedBy-dedup}
@@ -21,6 +22,7 @@ use Rattle.sqlite_trees.proofs.ListLemmas.{all-permutation}
 use Rattle.sqlite_rules.specs.Edit.{is_taken}
 use Rattle.sqlite_keyed.proofs.ListLemmas.{map-map}
 use Rattle.review_tables.specs.Content.{AreApart}
+use Rattle.review_tables.specs.Desk.{desk_schema}
 use Rattle.review_tables.specs.Rowids.{firsts, is_same, AreOwn, AreIds}
 use Rattle.review_tables.specs.Search.{FindsIds}
 use Rattle.review_tables.proofs.Lists.{eq_back}
@@ -141,3 +143,24 @@ decides_apart tree db rows is found d =
       λ yes. apart_from_own (db tree) (own_permuted _ _ (IsPermutation-sym _ _ same) (d.0 yes)),
       λ apart. d.1 (own_permuted _ _ same (own_from_apart (db tree) apart)),
     )
+
+-- ---- several tables
+
+pub decides_four : (P Q R T : Type 0) (a b d e : Bool) → Decides a P → Decides b Q → Decides d R → Decides e T → Decides (a && (b && (d && e))) (P × (Q × (R × (T × Unit {0}))))
+decides_four P Q R T a b d e p q r t = Decides-and a (b && (d && e)) p (Decides-and b (d && e) q (Decides-and d e r (Decides-like e (λ x. (x, tt)) (λ x. x.0) t)))
+
+abbrev Apart : Trees → List ℕ → Type 0
+Apart db trees = AllByRecursion (λ tree. AreApart (db tree)) trees
+
+joined : (db : Trees) → Apart db (0 ∷ 2 ∷ 4 ∷ 6 ∷ []) × (Apart db (8 ∷ 9 ∷ 11 ∷ 13 ∷ []) × Apart db (15 ∷ 17 ∷ 19 ∷ 22 ∷ [])) → AllByRecursion (λ t. AreApart (db t.tree)) desk_schema.tables
+joined db h = (h.0.0, (h.0.1.0, (h.0.1.1.0, (h.0.1.1.1.0, (h.1.0.0, (h.1.0.1.0, (h.1.0.1.1.0, (h.1.0.1.1.1.0, (h.1.1.0, (h.1.1.1.0, (h.1.1.1.1.0, (h.1.1.1.1.1.0, tt))))))))))))
+
+parted : (db : Trees) → AllByRecursion (λ t. AreApart (db t.tree)) desk_schema.tables → Apart db (0 ∷ 2 ∷ 4 ∷ 6 ∷ []) × (Apart db (8 ∷ 9 ∷ 11 ∷ 13 ∷ []) × Apart db (15 ∷ 17 ∷ 19 ∷ 22 ∷ []))
+parted db h = (
+  (h.0, (h.1.0, (h.1.1.0, (h.1.1.1.0, tt)))),
+  (let r = h.1.1.1.1 in ((r.0, (r.1.0, (r.1.1.0, (r.1.1.1.0, tt)))), (let q = r.1.1.1.1 in (q.0, (q.1.0, (q.1.1.0, (q.1.1.1.0, tt))))))),
+)
+
+pub decides_all : (db : Trees) (a b d : Bool) → Decides a (Apart db (0 ∷ 2 ∷ 4 ∷ 6 ∷ [])) → Decides b (Apart db (8 ∷ 9 ∷ 11 ∷ 13 ∷ [])) → Decides d (Apart db (15 ∷ 17 ∷ 19 ∷ 22 ∷ []))
+    → Decides (a && (b && d)) (AllByRecursion (λ t. AreApart (db t.tree)) desk_schema.tables)
+decides_all db a b d p q r = Decides-like (a && (b && d)) (joined db) (parted db) (Decides-and a (b && d) p (Decides-and b d q r))

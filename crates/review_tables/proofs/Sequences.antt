@@ -32,7 +32,7 @@ pub opened : (sql : List ℕ) (params : Row) (old new : State) (r : Result ℕ E
 opened sql params old new (Ok count) h = h.1.is_open
 opened sql params old new (Err e) h = tt
 
-keeps_then : (a b c : State) → KeepsCommit a b → KeepsCommit b c → KeepsCommit a c
+pub keeps_then : (a b c : State) → KeepsCommit a b → KeepsCommit b c → KeepsCommit a c
 keeps_then a b c p q = record { was_open = λ h. p.was_open (q.was_open h); committed = λ h. q.committed h ∙ p.committed (q.was_open h) }
 
 -- one statement, of which is known where it leads if it succeeds

@@ -1,14 +1,18 @@
 //! Whether the rows of a table have rowids of their own. On it rests that a row that is taken away takes no other with it.
-ghost use Rattle.std.specs.Prelude.{◌≡◌, option_map, IfOk};
+ghost use Rattle.std.specs.Prelude.{◌≡◌, [], ◌∷◌, option_map, IfOk};
 ghost use Rattle.std.specs.Bool.{Decides};
-ghost use Rattle.std.specs.List.{IsDistinct};
+ghost use Rattle.std.specs.List.{AllByRecursion, IsDistinct};
 ghost use Rattle.std.specs.Ordering.{int_eq};
 ghost use Rattle.sqlite.specs.Held.{state};
 ghost use Rattle.review_tables.specs.Content.{AreApart};
+ghost use Rattle.review_tables.specs.Desk.{desk_schema};
 ghost use Rattle.review_tables.specs.Ran.{Looks};
 ghost use Rattle.review_tables.specs.Rowids.{AreIds, AreOwn, IsIdOf, firsts};
 
-use crate::trees::Tree;
+use crate::trees::{
+    Accounts, Answers, Attention, Bases, Changes, Comments, Desk, Members, Patches, Projects,
+    Reviewers, Tree, Votes,
+};
 use sqlite::types::ValueRef;
 use sqlite::{Alter, Error, Row, Transaction};
 use std::alloc::{AllocError, Global};
@@ -67,4 +71,29 @@ pub fn are_apart<T: Tree, S: Alter>(
 {
     let rows = T::select_ids(tx)?;
     Ok(are_own(alloc, &rows)?)
+}
+
+fn four_are_apart<A: Tree, B: Tree, C: Tree, D: Tree, S: Alter>(
+    tx: &mut Transaction<'_, S>,
+    alloc: Global,
+) -> Result<bool, Error>
+    ensures same_reference { tx.new.conn.ghost_name ≡ tx.old.conn.ghost_name }
+    ensures looks { Looks (λ db is. Decides is (AllByRecursion (λ tree. AreApart (db tree)) (A.tree ∷ B.tree ∷ C.tree ∷ D.tree ∷ []))) (state S.Store tx.old.conn.now) (state S.Store tx.new.conn.now) result }
+{
+    let first = are_apart::<A, S>(tx, alloc)?;
+    let second = are_apart::<B, S>(tx, alloc)?;
+    let third = are_apart::<C, S>(tx, alloc)?;
+    let fourth = are_apart::<D, S>(tx, alloc)?;
+    Ok(first & (second & (third & fourth)))
+}
+
+/// Whether the rows of each table have rowids of their own.
+pub fn are_all_apart<S: Alter>(tx: &mut Transaction<'_, S>, alloc: Global) -> Result<bool, Error>
+    ensures same_reference { tx.new.conn.ghost_name ≡ tx.old.conn.ghost_name }
+    ensures looks { Looks (λ db is. Decides is (AllByRecursion (λ t. AreApart (db t.tree)) desk_schema.tables)) (state S.Store tx.old.conn.now) (state S.Store tx.new.conn.now) result }
+{
+    let first = four_are_apart::<Accounts, Members, Projects, Bases, S>(tx, alloc)?;
+    let second = four_are_apart::<Changes, Patches, Votes, Reviewers, S>(tx, alloc)?;
+    let third = four_are_apart::<Comments, Attention, Answers, Desk, S>(tx, alloc)?;
+    Ok(first & (second & third))
 }
