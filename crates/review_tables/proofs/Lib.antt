@@ -19,3 +19,4 @@ pub mod AttentionTexts
 pub mod AnswerTexts
 pub mod DeskTexts
 pub mod Ids
+pub mod LookupTexts

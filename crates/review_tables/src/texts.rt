@@ -121,3 +121,15 @@ pub const DELETE_DESK: &str = "DELETE FROM desk";
 pub const FIND_DESK: &str = "SELECT version, requests FROM desk";
 
 pub const DESK_IDS: &str = "SELECT rowid FROM desk";
+
+// ---- other look-ups
+
+pub const FIND_ACCOUNT_NAMED: &str = "SELECT number FROM accounts WHERE name = ?1";
+
+pub const FIND_GROUP: &str = "SELECT account FROM members WHERE grp = ?1";
+
+pub const FIND_PROJECT_NAME: &str = "SELECT name FROM projects WHERE name = ?1";
+
+pub const FIND_BASE_COMMIT: &str = "SELECT place FROM bases WHERE project = ?1 AND branch = ?2 AND commit_name = ?3";
+
+pub const FIND_BRANCH: &str = "SELECT place, commit_name FROM bases WHERE project = ?1 AND branch = ?2";
