@@ -1,0 +1,34 @@
+-- The laws of the tables.
+use Rattle.std.proofs.Common.{◌≡◌, ◌∙◌, ◌&&◌, ℕ, ℤ, pos, List, Option, Some, Bool, true, refl, ap, sym}
+use Rattle.std.specs.Str.{is_utf8}
+use Rattle.std.proofs.lemmas.Bool.{and_parts}
+use Rattle.sqlite_value.specs.declared.value.Value.TheVariants.{Int, Text}
+use Rattle.sqlite_value.specs.Order.{column}
+use Rattle.review_names.specs.Names.{is_word}
+use Rattle.review_tables.specs.Columns.{text_in}
+use Rattle.review_tables.specs.Search.{IsLawful}
+use Rattle.review_tables.proofs.Keys.{itself, same_int, same_text}
+use Rattle.review_sql.specs.Forms.{where_is, accounts, account_form, members, member_form}
+
+-- a text of a form reads as itself
+reads_text : (form : List ℕ → Bool) (t : List ℕ) → (is_utf8 t && form t) ≡ true → where_is form (text_in (Text t)) ≡ Some t
+reads_text form t good = let parts = and_parts (is_utf8 t) (form t) good in rw (parts.0, parts.1) refl
+
+pub account_lawful : IsLawful accounts account_form
+account_lawful = record {
+  keyed = λ number name id. ap (λ b. b && true) (itself (Int (pos number)));
+  reads_back = λ number name id good. reads_text is_word name good;
+  exact = λ a b r p q. same_int (column r 0) a b (and_parts _ _ p).0 (and_parts _ _ q).0;
+}
+
+pub member_lawful : IsLawful members member_form
+member_lawful = record {
+  keyed = λ m row id. (λ i. itself (Text m.group) i && (itself (Int (pos m.account)) i && true));
+  reads_back = λ m row id good. refl;
+  exact = λ a b r p q.
+      let one = and_parts _ _ p in
+      let two = and_parts _ _ q in
+      let group : a.group ≡ b.group = same_text (column r 1) a.group b.group one.0 two.0 in
+      let account : a.account ≡ b.account = same_int (column r 2) a.account b.account (and_parts _ _ one.1).0 (and_parts _ _ two.1).0 in
+      (λ i. record { group = group i; account = account i });
+}
