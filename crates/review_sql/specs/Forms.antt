@@ -7,6 +7,7 @@ use Rattle.sqlite_value.specs.Order.{Row as Raw, column}
 use Rattle.review_names.specs.Names.{is_word}
 use Rattle.review_words.specs.History.{Identity}
 use Rattle.review_names.specs.Names.{is_account_number}
+use Rattle.review_names.specs.Places.{is_commit}
 use Rattle.review_rows.specs.declared.rows.MemberKey.{MemberKey}
 use Rattle.review_tables.specs.Columns.{number_in, text_in}
 use Rattle.review_tables.specs.Search.{Search, Form}
@@ -41,3 +42,85 @@ member_form = record { stored = λ m row id. Int id ∷ Text m.group ∷ Int (po
 -- the members of a group
 abbrev pub group_members : Search (List ℕ) ℕ
 group_members = record { tree = 2; at = λ group. (1, Text group) ∷ []; shown = λ r. column r 2 ∷ []; read = λ r. where_is is_account_number (number_in (column r 0)) }
+
+-- ---- projects
+
+-- a text as it stands
+abbrev pub as_text : Option (List ℕ) → Option (List ℕ)
+as_text o = o
+
+-- the file of a project
+abbrev pub projects : Search (List ℕ) (List ℕ)
+projects = record { tree = 4; at = λ project. (1, Text project) ∷ []; shown = λ r. column r 2 ∷ []; read = λ r. text_in (column r 0) }
+
+abbrev pub project_form : Form (List ℕ) (List ℕ)
+project_form = record { stored = λ project file id. Int id ∷ Text project ∷ Text file ∷ []; is_good = λ file. is_utf8 file }
+
+-- whether a project is there, without its file
+abbrev pub project_names : Search (List ℕ) (Unit {0})
+project_names = record { tree = 4; at = λ project. (1, Text project) ∷ []; shown = λ r. column r 1 ∷ []; read = λ r. Some tt }
+
+-- ---- bases
+
+-- a place of a branch
+pub record PlaceKey : Type 0 where
+  pub project : List ℕ
+  pub branch : List ℕ
+  pub place : ℕ
+
+-- the commit of a base, by its place
+abbrev pub bases : Search PlaceKey (List ℕ)
+bases = record {
+  tree = 6;
+  at = λ b. (1, Text b.project) ∷ (2, Text b.branch) ∷ (3, Int (pos b.place)) ∷ [];
+  shown = λ r. column r 4 ∷ [];
+  read = λ r. where_is is_commit (text_in (column r 0));
+}
+
+abbrev pub base_form : Form PlaceKey (List ℕ)
+base_form = record { stored = λ b commit id. Int id ∷ Text b.project ∷ Text b.branch ∷ Int (pos b.place) ∷ Text commit ∷ []; is_good = λ commit. is_utf8 commit && is_commit commit }
+
+-- ---- stored requests
+
+-- the rest of a stored request
+pub record Answered : Type 0 where
+  pub request : ℕ
+  pub content : List ℕ
+  pub reply : List ℕ
+
+-- a stored request, where its parts are there
+abbrev pub answered : Option ℕ → Option (List ℕ) → Option (List ℕ) → Option Answered
+answered (Some request) (Some content) (Some reply) = Some (record { request = request; content = content; reply = reply })
+answered _ _ _ = None
+
+abbrev pub answers : Search Identity Answered
+answers = record {
+  tree = 19;
+  at = λ i. (1, Int (pos i.caller)) ∷ (2, Text i.id) ∷ [];
+  shown = λ r. column r 3 ∷ column r 4 ∷ column r 5 ∷ [];
+  read = λ r. answered (number_in (column r 0)) (text_in (column r 1)) (text_in (column r 2));
+}
+
+abbrev pub answer_form : Form Identity Answered
+answer_form = record {
+  stored = λ i a id. Int id ∷ Int (pos i.caller) ∷ Text i.id ∷ Int (pos a.request) ∷ Text a.content ∷ Text a.reply ∷ [];
+  is_good = λ a. is_utf8 a.content && is_utf8 a.reply;
+}
+
+-- ---- the row of the desk
+
+-- what the row of the desk says
+pub record DeskRow : Type 0 where
+  pub version : ℕ
+  pub requests : ℕ
+
+-- the row, where its parts are there
+abbrev pub desk_row : Option ℕ → Option ℕ → Option DeskRow
+desk_row (Some version) (Some requests) = Some (record { version = version; requests = requests })
+desk_row _ _ = None
+
+abbrev pub desk : Search (Unit {0}) DeskRow
+desk = record { tree = 22; at = λ u. []; shown = λ r. column r 1 ∷ column r 2 ∷ []; read = λ r. desk_row (number_in (column r 0)) (number_in (column r 1)) }
+
+abbrev pub desk_form : Form (Unit {0}) DeskRow
+desk_form = record { stored = λ u d id. Int id ∷ Int (pos d.version) ∷ Int (pos d.requests) ∷ []; is_good = λ d. Rattle.std.specs.Prelude.true }

@@ -8,7 +8,8 @@ use Rattle.review_names.specs.Names.{is_word}
 use Rattle.review_tables.specs.Columns.{text_in}
 use Rattle.review_tables.specs.Search.{IsLawful}
 use Rattle.review_tables.proofs.Keys.{itself, same_int, same_text}
-use Rattle.review_sql.specs.Forms.{where_is, accounts, account_form, members, member_form}
+use Rattle.review_sql.specs.Forms.{where_is, accounts, account_form, members, member_form, projects, project_form, bases, base_form, answers, answer_form, desk, desk_form}
+use Rattle.review_names.specs.Places.{is_commit}
 
 -- a text of a form reads as itself
 reads_text : (form : List ℕ → Bool) (t : List ℕ) → (is_utf8 t && form t) ≡ true → where_is form (text_in (Text t)) ≡ Some t
@@ -32,3 +33,43 @@ member_lawful = record {
       let account : a.account ≡ b.account = same_int (column r 2) a.account b.account (and_parts _ _ one.1).0 (and_parts _ _ two.1).0 in
       (λ i. record { group = group i; account = account i });
 }
+
+reads_plain : (t : List ℕ) → is_utf8 t ≡ true → text_in (Text t) ≡ Some t
+reads_plain t good = rw good refl
+
+pub project_lawful : IsLawful projects project_form
+project_lawful = record {
+  keyed = λ project file id. ap (λ b. b && true) (itself (Text project));
+  reads_back = λ project file id good. reads_plain file good;
+  exact = λ a b r p q. same_text (column r 1) a b (and_parts _ _ p).0 (and_parts _ _ q).0;
+}
+
+pub base_lawful : IsLawful bases base_form
+base_lawful = record {
+  keyed = λ b commit id. (λ i. itself (Text b.project) i && (itself (Text b.branch) i && (itself (Int (pos b.place)) i && true)));
+  reads_back = λ b commit id good. reads_text is_commit commit good;
+  exact = λ a b r p q.
+      let one = and_parts _ _ p in
+      let two = and_parts _ _ q in
+      let one_more = and_parts _ _ one.1 in
+      let two_more = and_parts _ _ two.1 in
+      let project : a.project ≡ b.project = same_text (column r 1) a.project b.project one.0 two.0 in
+      let branch : a.branch ≡ b.branch = same_text (column r 2) a.branch b.branch one_more.0 two_more.0 in
+      let place : a.place ≡ b.place = same_int (column r 3) a.place b.place (and_parts _ _ one_more.1).0 (and_parts _ _ two_more.1).0 in
+      (λ i. record { project = project i; branch = branch i; place = place i });
+}
+
+pub answer_lawful : IsLawful answers answer_form
+answer_lawful = record {
+  keyed = λ i a id. (λ k. itself (Int (pos i.caller)) k && (itself (Text i.id) k && true));
+  reads_back = λ i a id good. let parts = and_parts (is_utf8 a.content) (is_utf8 a.reply) good in rw (parts.0, parts.1) refl;
+  exact = λ a b r p q.
+      let one = and_parts _ _ p in
+      let two = and_parts _ _ q in
+      let caller : a.caller ≡ b.caller = same_int (column r 1) a.caller b.caller one.0 two.0 in
+      let id : a.id ≡ b.id = same_text (column r 2) a.id b.id (and_parts _ _ one.1).0 (and_parts _ _ two.1).0 in
+      (λ k. record { caller = caller k; id = id k });
+}
+
+pub desk_lawful : IsLawful desk desk_form
+desk_lawful = record { keyed = λ u d id. refl; reads_back = λ u d id good. refl; exact = λ a b r p q. refl }

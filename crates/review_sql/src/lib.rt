@@ -4,3 +4,4 @@
 mod accounts;
 mod members;
 mod names;
+mod projects;

@@ -1,10 +1,10 @@
 //! What a table has at a key is looked up and changed, whatever the table.
-ghost use Rattle.std.specs.Prelude.{◌≡◌};
+ghost use Rattle.std.specs.Prelude.{◌≡◌, Some};
 ghost use Rattle.sqlite.specs.Held.{state};
 ghost use Rattle.review_tables.specs.Ran.{Inside, Opens};
 ghost use Rattle.review_tables.specs.Search.{SetsRow, SetsRows};
 
-use crate::table::{Lookup, Table};
+use crate::table::{Records, Table};
 use review_table::Change;
 use sqlite::{Alter, Error, Transaction};
 
@@ -42,5 +42,19 @@ pub fn change_all<T: Table, S: Alter>(
         let change = &changes[left];
         self::change::<T, S>(tx, &change.key, &change.row)?;
     }
+    Ok(())
+}
+
+/// Puts a record in the place of what its key has.
+pub fn put<T: Records, S: Alter>(
+    tx: &mut Transaction<'_, S>,
+    whole: &T::Record,
+) -> Result<(), Error>
+    ensures same_reference { tx.new.conn.ghost_name ≡ tx.old.conn.ghost_name }
+    ensures ran { Inside (SetsRow T.Lookup.search (T.Records.key whole.now) (Some (T.Records.item whole.now))) (state S.Store tx.old.conn.now) (state S.Store tx.new.conn.now) result }
+    ensures open { Opens (state S.Store tx.old.conn.now) (state S.Store tx.new.conn.now) result }
+{
+    T::remove_record(tx, whole)?;
+    T::insert_record(tx, whole)?;
     Ok(())
 }

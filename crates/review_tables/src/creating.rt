@@ -6,8 +6,8 @@ ghost use Rattle.review_tables.specs.Desk.{schema_0, schema_4, schema_8, desk_sc
 ghost use Rattle.review_tables.specs.Made.{MakesBy, Grows};
 ghost use Rattle.review_tables.specs.Ran.{Within, Opens, Transacts};
 
-use crate::texts;
 use crate::schemas::is_same_schema;
+use crate::texts;
 use sqlite::{Alter, Connection, Error, Transaction};
 use sqlite_schema::schema::Schema;
 use std::alloc::Global;

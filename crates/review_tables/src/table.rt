@@ -58,3 +58,42 @@ pub trait Table: Lookup {
     /// A row has one key, and reads as what was put in.
     ghost lawful: { IsLawful Self.search form };
 }
+
+/// A table whose rows are put as whole records, which have their keys in them.
+pub trait Records: Lookup {
+    ghost use Rattle.review_tables.specs.Search.{Form, IsLawful};
+
+    /// A row with its key.
+    type Record;
+
+    /// How a row is stored.
+    ghost form: { Form Self.Key Self.Item };
+
+    /// The key of a record.
+    ghost key: { Self.Record → Self.Key };
+
+    /// The row of a record.
+    ghost item: { Self.Record → Self.Item };
+
+    /// Puts a record in.
+    fn insert_record<S: Alter>(
+        tx: &mut Transaction<'_, S>,
+        whole: &Self::Record,
+    ) -> Result<usize, Error>
+        ensures same_reference { tx.new.conn.ghost_name ≡ tx.old.conn.ghost_name }
+        ensures ran { Inside (Puts Self.search form (key whole.now) (item whole.now)) (state S.Store tx.old.conn.now) (state S.Store tx.new.conn.now) result }
+        ensures open { Opens (state S.Store tx.old.conn.now) (state S.Store tx.new.conn.now) result }
+        ensures good { form.is_good (item whole.now) ≡ true };
+
+    /// Takes the rows of a record's key away.
+    fn remove_record<S: Alter>(
+        tx: &mut Transaction<'_, S>,
+        whole: &Self::Record,
+    ) -> Result<usize, Error>
+        ensures same_reference { tx.new.conn.ghost_name ≡ tx.old.conn.ghost_name }
+        ensures ran { Inside (Removes Self.search.tree (Self.search.at (key whole.now))) (state S.Store tx.old.conn.now) (state S.Store tx.new.conn.now) result }
+        ensures open { Opens (state S.Store tx.old.conn.now) (state S.Store tx.new.conn.now) result };
+
+    /// A row has one key, and reads as what was put in.
+    ghost lawful: { IsLawful Self.search form };
+}
