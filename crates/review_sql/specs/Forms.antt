@@ -5,9 +5,15 @@ use Rattle.std.specs.Str.{is_utf8}
 use Rattle.sqlite_value.specs.declared.value.Value.TheVariants.{Null, Int, Text}
 use Rattle.sqlite_value.specs.Order.{Row as Raw, column}
 use Rattle.review_names.specs.Names.{is_word}
-use Rattle.review_words.specs.History.{Identity}
 use Rattle.review_names.specs.Names.{is_account_number}
-use Rattle.review_names.specs.Places.{is_commit}
+use Rattle.review_names.specs.Forms.{is_commit}
+use Rattle.review_rows.specs.declared.rows.Base.{Base}
+use Rattle.review_rows.specs.declared.rows.BranchKey.{BranchKey}
+use Rattle.review_sql.specs.declared.rows.PlaceKey.{PlaceKey}
+use Rattle.review_sql.specs.declared.rows.Placed.{Placed}
+use Rattle.review_sql.specs.declared.rows.RequestKey.{RequestKey}
+use Rattle.review_sql.specs.declared.rows.Answered.{Answered}
+use Rattle.review_sql.specs.declared.rows.DeskRow.{DeskRow}
 use Rattle.review_rows.specs.declared.rows.MemberKey.{MemberKey}
 use Rattle.review_tables.specs.Columns.{number_in, text_in}
 use Rattle.review_tables.specs.Search.{Search, Form}
@@ -45,10 +51,6 @@ group_members = record { tree = 2; at = λ group. (1, Text group) ∷ []; shown 
 
 -- ---- projects
 
--- a text as it stands
-abbrev pub as_text : Option (List ℕ) → Option (List ℕ)
-as_text o = o
-
 -- the file of a project
 abbrev pub projects : Search (List ℕ) (List ℕ)
 projects = record { tree = 4; at = λ project. (1, Text project) ∷ []; shown = λ r. column r 2 ∷ []; read = λ r. text_in (column r 0) }
@@ -62,12 +64,6 @@ project_names = record { tree = 4; at = λ project. (1, Text project) ∷ []; sh
 
 -- ---- bases
 
--- a place of a branch
-pub record PlaceKey : Type 0 where
-  pub project : List ℕ
-  pub branch : List ℕ
-  pub place : ℕ
-
 -- the commit of a base, by its place
 abbrev pub bases : Search PlaceKey (List ℕ)
 bases = record {
@@ -80,20 +76,37 @@ bases = record {
 abbrev pub base_form : Form PlaceKey (List ℕ)
 base_form = record { stored = λ b commit id. Int id ∷ Text b.project ∷ Text b.branch ∷ Int (pos b.place) ∷ Text commit ∷ []; is_good = λ commit. is_utf8 commit && is_commit commit }
 
--- ---- stored requests
+-- the places of a commit in a branch
+abbrev pub base_commits : Search Base ℕ
+base_commits = record {
+  tree = 6;
+  at = λ b. (1, Text b.project) ∷ (2, Text b.branch) ∷ (4, Text b.commit) ∷ [];
+  shown = λ r. column r 3 ∷ [];
+  read = λ r. number_in (column r 0);
+}
 
--- the rest of a stored request
-pub record Answered : Type 0 where
-  pub request : ℕ
-  pub content : List ℕ
-  pub reply : List ℕ
+-- a commit at a place, where both are there
+abbrev pub placed : Option ℕ → Option (List ℕ) → Option Placed
+placed (Some place) (Some commit) = Some (record { place = place; commit = commit })
+placed _ _ = None
+
+-- the bases of a branch
+abbrev pub branch_bases : Search BranchKey Placed
+branch_bases = record {
+  tree = 6;
+  at = λ b. (1, Text b.project) ∷ (2, Text b.branch) ∷ [];
+  shown = λ r. column r 3 ∷ column r 4 ∷ [];
+  read = λ r. placed (number_in (column r 0)) (where_is is_commit (text_in (column r 1)));
+}
+
+-- ---- stored requests
 
 -- a stored request, where its parts are there
 abbrev pub answered : Option ℕ → Option (List ℕ) → Option (List ℕ) → Option Answered
 answered (Some request) (Some content) (Some reply) = Some (record { request = request; content = content; reply = reply })
 answered _ _ _ = None
 
-abbrev pub answers : Search Identity Answered
+abbrev pub answers : Search RequestKey Answered
 answers = record {
   tree = 19;
   at = λ i. (1, Int (pos i.caller)) ∷ (2, Text i.id) ∷ [];
@@ -101,18 +114,13 @@ answers = record {
   read = λ r. answered (number_in (column r 0)) (text_in (column r 1)) (text_in (column r 2));
 }
 
-abbrev pub answer_form : Form Identity Answered
+abbrev pub answer_form : Form RequestKey Answered
 answer_form = record {
   stored = λ i a id. Int id ∷ Int (pos i.caller) ∷ Text i.id ∷ Int (pos a.request) ∷ Text a.content ∷ Text a.reply ∷ [];
   is_good = λ a. is_utf8 a.content && is_utf8 a.reply;
 }
 
 -- ---- the row of the desk
-
--- what the row of the desk says
-pub record DeskRow : Type 0 where
-  pub version : ℕ
-  pub requests : ℕ
 
 -- the row, where its parts are there
 abbrev pub desk_row : Option ℕ → Option ℕ → Option DeskRow

@@ -9,7 +9,7 @@ use Rattle.review_tables.specs.Columns.{text_in}
 use Rattle.review_tables.specs.Search.{IsLawful}
 use Rattle.review_tables.proofs.Keys.{itself, same_int, same_text}
 use Rattle.review_sql.specs.Forms.{where_is, accounts, account_form, members, member_form, projects, project_form, bases, base_form, answers, answer_form, desk, desk_form}
-use Rattle.review_names.specs.Places.{is_commit}
+use Rattle.review_names.specs.Forms.{is_commit}
 
 -- a text of a form reads as itself
 reads_text : (form : List ℕ → Bool) (t : List ℕ) → (is_utf8 t && form t) ≡ true → where_is form (text_in (Text t)) ≡ Some t

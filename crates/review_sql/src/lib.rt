@@ -2,6 +2,11 @@
 #![tactic(auto)]
 
 mod accounts;
+mod answers;
+mod bases;
+mod desk;
 mod members;
 mod names;
+mod numbers;
 mod projects;
+mod rows;

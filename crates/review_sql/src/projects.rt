@@ -1,16 +1,11 @@
 //! The projects and their files.
-ghost use Rattle.std.specs.Prelude.{◌≡◌, tt};
-ghost use Rattle.sqlite.specs.Held.{state};
-ghost use Rattle.review_tables.specs.Ran.{Inside, Opens};
-ghost use Rattle.review_tables.specs.Search.{SetsRow};
-ghost use Rattle.review_sql.specs.Forms.{projects};
 
+use crate::rows::Text;
 use review_names::ProjectName;
 use review_rows::ProjectRow;
 use review_tables::columns::text_at;
-use review_tables::table::Lookup;
+use review_tables::table::{Lookup, Records};
 use review_tables::texts;
-use review_words::FileText;
 use sqlite::{Alter, Error, Row, Transaction, params};
 use std::alloc::{AllocError, Global};
 
@@ -22,7 +17,7 @@ impl Lookup for Projects {
 
     type Key = ProjectName;
 
-    type Item = FileText;
+    type Item = Text;
 
     ghost search = { projects };
 
@@ -33,12 +28,44 @@ impl Lookup for Projects {
         tx.query_all(texts::FIND_PROJECT, params![key.as_str()])
     }
 
-    fn read(alloc: Global, row: &Row) -> Result<Option<FileText>, AllocError> {
+    fn read(alloc: Global, row: &Row) -> Result<Option<Text>, AllocError> {
         let Some(text) = text_at(row, 0) else {
             return Ok(None);
         };
-        Ok(Some(FileText::new(String::from_str(alloc, text)?)))
+        Ok(Some(Text::copy(alloc, text)?))
     }
+}
+
+impl Records for Projects {
+    ghost use Rattle.review_sql.specs.Forms.{project_form};
+    ghost use Rattle.review_sql.specs.Laws.{project_lawful};
+
+    type Record = ProjectRow;
+
+    ghost form = { project_form };
+
+    ghost key = { λ r. r.project };
+
+    ghost item = { λ r. r.file };
+
+    fn insert_record<S: Alter>(
+        tx: &mut Transaction<'_, S>,
+        whole: &ProjectRow,
+    ) -> Result<usize, Error> {
+        tx.execute(
+            texts::INSERT_PROJECT,
+            params![whole.project.as_str(), whole.file.as_str()],
+        )
+    }
+
+    fn remove_record<S: Alter>(
+        tx: &mut Transaction<'_, S>,
+        whole: &ProjectRow,
+    ) -> Result<usize, Error> {
+        tx.execute(texts::DELETE_PROJECT, params![whole.project.as_str()])
+    }
+
+    ghost lawful = { project_lawful };
 }
 
 /// The projects without their files.

@@ -1,5 +1,5 @@
 //! Tables: how their rows are looked up, put and taken away.
-ghost use Rattle.std.specs.Prelude.{◌≡◌, true, IfOk};
+ghost use Rattle.std.specs.Prelude.{◌≡◌, true, IfOk, OnOk};
 ghost use Rattle.sqlite.specs.Held.{state};
 ghost use Rattle.review_tables.specs.Content.{Removes};
 ghost use Rattle.review_tables.specs.Ran.{Inside, Looks, Opens};
@@ -47,7 +47,7 @@ pub trait Table: Lookup {
         ensures same_reference { tx.new.conn.ghost_name ≡ tx.old.conn.ghost_name }
         ensures ran { Inside (Puts Self.search form key.now row.now) (state S.Store tx.old.conn.now) (state S.Store tx.new.conn.now) result }
         ensures open { Opens (state S.Store tx.old.conn.now) (state S.Store tx.new.conn.now) result }
-        ensures good { form.is_good row.now ≡ true };
+        ensures good { OnOk result (form.is_good row.now ≡ true) };
 
     /// Takes the rows of a key away.
     fn remove<S: Alter>(tx: &mut Transaction<'_, S>, key: &Self::Key) -> Result<usize, Error>
@@ -83,7 +83,7 @@ pub trait Records: Lookup {
         ensures same_reference { tx.new.conn.ghost_name ≡ tx.old.conn.ghost_name }
         ensures ran { Inside (Puts Self.search form (key whole.now) (item whole.now)) (state S.Store tx.old.conn.now) (state S.Store tx.new.conn.now) result }
         ensures open { Opens (state S.Store tx.old.conn.now) (state S.Store tx.new.conn.now) result }
-        ensures good { form.is_good (item whole.now) ≡ true };
+        ensures good { OnOk result (form.is_good (item whole.now) ≡ true) };
 
     /// Takes the rows of a record's key away.
     fn remove_record<S: Alter>(
