@@ -63,7 +63,8 @@ impl Records for Answers {
         whole: &Kept,
     ) -> Result<usize, Error> {
         let request = to_sql(whole.request)?;
-        let (content, reply) = (whole.content.as_str(), whole.reply.as_str());
+        let content = whole.content.as_str();
+        let reply = whole.reply.as_str();
         tx.execute(
             texts::INSERT_ANSWER,
             params![

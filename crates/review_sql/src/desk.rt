@@ -48,7 +48,8 @@ impl Records for Desk {
         tx: &mut Transaction<'_, S>,
         whole: &DeskRow,
     ) -> Result<usize, Error> {
-        let (version, requests) = (to_sql(whole.version)?, to_sql(whole.requests)?);
+        let version = to_sql(whole.version)?;
+        let requests = to_sql(whole.requests)?;
         tx.execute(texts::INSERT_DESK, params![version, requests])
     }
 

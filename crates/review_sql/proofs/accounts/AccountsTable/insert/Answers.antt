@@ -1,10 +1,11 @@
-use Rattle.std.proofs.Common.{pos}
+use Rattle.std.proofs.Common.{pos, to_z-of_z, w64}
 use Rattle.sqlite.specs.Held.{state}
 use Rattle.review_tables.proofs.AccountTexts.{adds}
 use Rattle.review_tables.proofs.Sequences.{one_inside, opened}
 use Rattle.std.proofs.Common.{subst, IsUtf8}
 use Rattle.std.proofs.lemmas.Bool.{and_from}
 use Rattle.std.proofs.lemmas.Str.{is_utf8-from_IsUtf8}
+use Rattle.review_sql.proofs.Good.{on_ok}
 use Rattle.review_sql.proofs.accounts.AccountsTable.insert.Goals as goal
 
 pub returns-clause-ran : goal.returns-clause-ran
@@ -20,4 +21,4 @@ returns-clause-open g c clean on =
     opened _ _ old new c.execute.result (c.execute.ensures.runs clean on)
 
 pub returns-clause-good : goal.returns-clause-good
-returns-clause-good g c = and_from _ _ (is_utf8-from_IsUtf8 c.args.row.now (subst IsUtf8 c.as_str.ensures.text c.as_str.utf8)) c.as_str.ensures.form
+returns-clause-good g c = on_ok c.execute.result (and_from _ _ (is_utf8-from_IsUtf8 c.args.row.now (subst IsUtf8 c.as_str.ensures.text c.as_str.utf8)) c.as_str.ensures.form)
