@@ -20,3 +20,4 @@ pub mod AnswerTexts
 pub mod DeskTexts
 pub mod Ids
 pub mod LookupTexts
+pub mod Changed

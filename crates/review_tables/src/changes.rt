@@ -2,7 +2,7 @@
 ghost use Rattle.std.specs.Prelude.{◌≡◌, Some};
 ghost use Rattle.sqlite.specs.Held.{state};
 ghost use Rattle.review_tables.specs.Ran.{Inside, Opens};
-ghost use Rattle.review_tables.specs.Search.{SetsRow, SetsRows};
+ghost use Rattle.review_tables.specs.Search.{SetsRow, SetsRows, SetsAny};
 
 use crate::table::{Records, Table};
 use review_table::Change;
@@ -57,4 +57,18 @@ pub fn put<T: Records, S: Alter>(
     T::remove_record(tx, whole)?;
     T::insert_record(tx, whole)?;
     Ok(())
+}
+
+/// Puts a record, where there is one.
+pub fn put_any<T: Records, S: Alter>(
+    tx: &mut Transaction<'_, S>,
+    whole: &Option<T::Record>,
+) -> Result<(), Error>
+    ensures same_reference { tx.new.conn.ghost_name ≡ tx.old.conn.ghost_name }
+    ensures ran { Inside (SetsAny T.Lookup.search T.Records.key T.Records.item whole.now) (state S.Store tx.old.conn.now) (state S.Store tx.new.conn.now) result }
+{
+    match whole {
+        Some(whole) => put::<T, S>(tx, whole),
+        None => Ok(()),
+    }
 }
