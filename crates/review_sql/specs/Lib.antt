@@ -1,2 +1,4 @@
 pub mod Forms
 pub mod Laws
+pub mod Tables
+pub mod Changes

@@ -10,3 +10,4 @@ mod names;
 mod numbers;
 mod projects;
 mod rows;
+mod writing;
