@@ -2,3 +2,4 @@ pub mod Forms
 pub mod Laws
 pub mod Tables
 pub mod Changes
+pub mod First

@@ -4,6 +4,7 @@
 mod accounts;
 mod answers;
 mod bases;
+mod creating;
 mod desk;
 mod members;
 mod names;

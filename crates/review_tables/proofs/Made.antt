@@ -80,7 +80,7 @@ makes_by sql old new count h schema table after it was =
     let all = all_more (λ t. new.now.trees t.tree ≡ []) schema.tables (record table { tree = next_tree schema }) (still_empty schema.tables old.now.trees new.now.trees made.others was.empty) made.empty in
     record { schema_is = made.schema_is ∙ it.leaves; empty = subst (λ (s : Schema). AllByRecursion (λ t. new.now.trees t.tree ≡ []) s.tables) it.leaves all }
 
-empty_at : (db : Trees) (tables : List Table) → AllByRecursion (λ t. db t.tree ≡ []) tables → (t : ℕ) → list_any (λ x. eqb x.tree t) tables ≡ true → db t ≡ []
+pub empty_at : (db : Trees) (tables : List Table) → AllByRecursion (λ t. db t.tree ≡ []) tables → (t : ℕ) → list_any (λ x. eqb x.tree t) tables ≡ true → db t ≡ []
 empty_at db [] all t is = absurd (cc)
 empty_at db (x ∷ tables) all t is = elim (or_cases _ _ is) [ inl here ↦ subst (λ n. db n ≡ []) (eqb-true x.tree t here) all.0 | inr later ↦ empty_at db tables all.1 t later ]
 
