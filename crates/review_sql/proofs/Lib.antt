@@ -1,3 +1,4 @@
 pub mod Good
 pub mod Commit
 pub mod Begin
+pub mod Staying

@@ -3,3 +3,4 @@ pub mod Laws
 pub mod Tables
 pub mod Changes
 pub mod First
+pub mod Shelf

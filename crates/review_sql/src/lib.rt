@@ -11,4 +11,5 @@ mod names;
 mod numbers;
 mod projects;
 mod rows;
+mod there;
 mod writing;

@@ -163,3 +163,20 @@ pub const FIND_BASE_COMMIT: &str =
 
 pub const FIND_BRANCH: &str =
     "SELECT place, commit_name FROM bases WHERE project = ?1 AND branch = ?2";
+
+// ---- whether a table is there
+
+pub const ANY_ROW: [&str; 12] = [
+    "SELECT 1 FROM accounts LIMIT 1",
+    "SELECT 1 FROM members LIMIT 1",
+    "SELECT 1 FROM projects LIMIT 1",
+    "SELECT 1 FROM bases LIMIT 1",
+    "SELECT 1 FROM changes LIMIT 1",
+    "SELECT 1 FROM patches LIMIT 1",
+    "SELECT 1 FROM votes LIMIT 1",
+    "SELECT 1 FROM reviewers LIMIT 1",
+    "SELECT 1 FROM comments LIMIT 1",
+    "SELECT 1 FROM attention LIMIT 1",
+    "SELECT 1 FROM answers LIMIT 1",
+    "SELECT 1 FROM desk LIMIT 1",
+];
