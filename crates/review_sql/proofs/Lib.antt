@@ -2,3 +2,4 @@ pub mod Good
 pub mod Commit
 pub mod Begin
 pub mod Staying
+pub mod Made

@@ -4,3 +4,4 @@ pub mod Tables
 pub mod Changes
 pub mod First
 pub mod Shelf
+pub mod Created

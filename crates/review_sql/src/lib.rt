@@ -11,5 +11,6 @@ mod names;
 mod numbers;
 mod projects;
 mod rows;
+pub mod shelf;
 mod there;
 mod writing;
