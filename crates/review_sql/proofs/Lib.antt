@@ -3,3 +3,4 @@ pub mod Commit
 pub mod Begin
 pub mod Staying
 pub mod Made
+pub mod Peeking

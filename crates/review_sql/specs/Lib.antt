@@ -5,3 +5,4 @@ pub mod Changes
 pub mod First
 pub mod Shelf
 pub mod Created
+pub mod Opened

@@ -9,6 +9,7 @@ mod desk;
 mod members;
 mod names;
 mod numbers;
+mod opening;
 mod projects;
 mod rows;
 pub mod shelf;

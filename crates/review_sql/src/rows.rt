@@ -74,3 +74,10 @@ pub struct DeskRow {
     pub version: u64,
     pub requests: u64,
 }
+
+/// What is seen of the tables before a desk is opened: the row of the desk, and whether the rows of each table have rowids of their own.
+#[derive(Drop)]
+pub struct Peeked {
+    pub desk: Option<Option<DeskRow>>,
+    pub is_apart: bool,
+}

@@ -126,7 +126,7 @@ abbrev pub begun : State → State
 begun s = record s { in_transaction = true }
 
 -- what is rolled back is what stood before
-taken_back : (s0 s2 s3 : State) → (IsTrue s0.is_open → s0.now ≡ s0.committed) → KeepsCommit (begun s0) s2 → IsRolledBack s2 s3 → IsTrue s3.is_open → IsTrue s0.is_open × (s3.now ≡ s0.now)
+pub taken_back : (s0 s2 s3 : State) → (IsTrue s0.is_open → s0.now ≡ s0.committed) → KeepsCommit (begun s0) s2 → IsRolledBack s2 s3 → IsTrue s3.is_open → IsTrue s0.is_open × (s3.now ≡ s0.now)
 taken_back s0 s2 s3 settled kept undone is_open =
     let was = undone.was_open is_open in
     (kept.was_open was, (undone.undone is_open).0 ∙ (kept.committed was ∙ sym (settled (kept.was_open was))))
@@ -142,7 +142,7 @@ not_committed s0 s2 s3 (Ok _) settled kept on h is_open = tt
 not_committed s0 s2 s3 (Err e) settled kept on (inl failed) is_open = taken_back s0 s2 s3 settled kept failed.3 is_open
 not_committed s0 s2 s3 (Err e) settled kept on (inr late) is_open = absurd (let f = late.1 in cc)
 
-survives_from : (s0 s3 : State) (P : Trees → Type 0) → Survives (begun s0) s3 P → Survives s0 s3 P
+pub survives_from : (s0 s3 : State) (P : Trees → Type 0) → Survives (begun s0) s3 P → Survives s0 s3 P
 survives_from s0 s3 P s = record { clean = s.clean; shield = s.shield; counts = s.counts; limit = s.limit; closes = s.closes; crash = s.crash }
 
 module _ {X : Type 0} (R : Database → Database → Type 0) (s0 s2 s3 : State) (settled : IsTrue s0.is_open → s0.now ≡ s0.committed) (open_clean : IsTrue s3.is_open → HasCleanDisk s3) where
