@@ -9,11 +9,15 @@ use Rattle.sqlite.specs.Held.{Held, state}
 use Rattle.sqlite.specs.declared.error.Error.{Error}
 use Rattle.review_tables.specs.Content.{AreApart}
 use Rattle.review_tables.specs.Desk.{desk_schema}
-use Rattle.review_tables.specs.Ran.{IsDeskIfOpen}
+use Rattle.review_tables.specs.Ran.{IsDeskIfOpen, IsReady}
 use Rattle.review_tables.specs.Search.{row_at}
 use Rattle.review_sql.specs.declared.rows.DeskRow.{DeskRow}
 use Rattle.review_sql.specs.declared.rows.Peeked.{Peeked}
+use Rattle.review_sql.specs.declared.rows.Seen.{Seen}
+use Rattle.review_sql.specs.declared.faults.DeskFault.{DeskFault}
+use Rattle.review_sql.specs.declared.faults.DeskFault.TheVariants.{NotADesk, WrongVersion, NotEmpty}
 use Rattle.review_sql.specs.Forms.{desk}
+use Rattle.review_sql.specs.Tables.{IsDesk}
 use Rattle.review_sql.specs.Shelf.{Kept, Stays}
 
 -- the rows of each table have rowids of their own
@@ -43,3 +47,14 @@ IsOtherVersion row = (d : DeskRow) × (row ≡ Some (Some d)) × (d.version ≢ 
 -- there is no row of the desk, or it is odd
 abbrev pub IsNoDesk : Option (Option DeskRow) → Type 0
 IsNoDesk row = (row ≡ None) ⊎ (row ≡ Some None)
+
+-- the tables are ours only where they are those of a desk with so many requests, and wherever they have the form and their rows rowids of their own
+pub record IsSeen (s : State) (seen : Seen) : Type 0 where
+  pub ready : seen.is_ours ≡ true → IsReady s.now × IsDesk seen.requests s.now.trees
+  pub ours : s.now.schema ≡ desk_schema → AreAllApart s.now.trees → seen.is_ours ≡ true
+
+-- why tables of the form of a desk's are refused
+pub record IsRefused (s : State) (fault : DeskFault) : Type 0 where
+  pub no_desk : s.now.schema ≡ desk_schema → fault ≡ NotADesk → IsNoDesk (row_at desk s.now.trees tt)
+  pub other_version : s.now.schema ≡ desk_schema → fault ≡ WrongVersion → IsOtherVersion (row_at desk s.now.trees tt)
+  pub not_empty : fault ≢ NotEmpty

@@ -6,6 +6,7 @@ mod answers;
 mod bases;
 mod creating;
 mod desk;
+pub mod faults;
 mod members;
 mod names;
 mod numbers;

@@ -81,3 +81,10 @@ pub struct Peeked {
     pub desk: Option<Option<DeskRow>>,
     pub is_apart: bool,
 }
+
+/// What a desk is opened with: whether its tables are ours, and how many requests are stored.
+#[derive(Clone, Copy, Debug, PartialEq, Eq)]
+pub struct Seen {
+    pub is_ours: bool,
+    pub requests: u64,
+}

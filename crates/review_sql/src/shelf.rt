@@ -6,8 +6,9 @@ ghost use Rattle.sqlite.specs.State.{HasCleanDisk};
 ghost use Rattle.review_tables.specs.Desk.{schema_0};
 
 use crate::creating::make_desk;
+use crate::faults::DeskFault;
 use crate::there::is_any_there;
-use sqlite::{Alter, Connection, Error, ErrorCode};
+use sqlite::{Alter, Connection};
 use sqlite_schema::schema::Schema;
 use std::alloc::Global;
 use std::marker::Model;
@@ -41,32 +42,6 @@ impl<S: Alter> Model for SqlShelf<S> {
     ghost view = { λ s. record { conn = s.conn; is_ours = s.is_ours; requests = s.requests; faults = s.faults } };
 
     ghost invariant = { λ s. Holds S.Store s.conn s.is_ours s.requests };
-}
-
-/// Why a desk was not made or opened.
-#[derive(Clone, Copy, Debug, PartialEq, Eq)]
-pub enum DeskFault {
-    /// The tables are not those of a desk.
-    NotADesk,
-    /// They are those of another version.
-    WrongVersion,
-    /// The store failed.
-    Store,
-    /// A table of one of the twelve names is there.
-    NotEmpty,
-    /// There was no memory for it.
-    Memory,
-}
-
-impl DeskFault {
-    fn of(error: Error) -> DeskFault
-        ensures store { (result ≢ DeskFault.NotADesk) × (result ≢ DeskFault.WrongVersion) × (result ≢ DeskFault.NotEmpty) }
-    {
-        match error {
-            Error::SqliteFailure(ErrorCode::OutOfMemory) => DeskFault::Memory,
-            _ => DeskFault::Store,
-        }
-    }
 }
 
 // Whether a schema has nothing.

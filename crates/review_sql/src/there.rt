@@ -36,3 +36,17 @@ pub fn is_any_there<S: Alter>(conn: &mut Connection<S>) -> Result<bool, Error>
     }
     Ok(false)
 }
+
+/// Whether the columns of the eleven tables of records are there.
+pub fn are_all_there<S: Alter>(conn: &mut Connection<S>) -> Result<bool, Error>
+    requires mode { conn.old.in_transaction ≡ false }
+    ensures mode { conn.new.in_transaction ≡ false }
+    ensures stays { Stays (state S.Store conn.old) (state S.Store conn.new) }
+{
+    for at in 0..11 {
+        if !is_understood(conn, texts::READ_ROWS[at])? {
+            return Ok(false);
+        }
+    }
+    Ok(true)
+}

@@ -180,3 +180,18 @@ pub const ANY_ROW: [&str; 12] = [
     "SELECT 1 FROM answers LIMIT 1",
     "SELECT 1 FROM desk LIMIT 1",
 ];
+
+/// Texts that read each column of a table, of the eleven tables of records.
+pub const READ_ROWS: [&str; 11] = [
+    FIND_ACCOUNT,
+    FIND_MEMBER,
+    FIND_PROJECT,
+    FIND_BASE,
+    FIND_CHANGE,
+    FIND_PATCH,
+    FIND_VOTE,
+    FIND_REVIEWER,
+    FIND_COMMENT,
+    FIND_ATTENTION,
+    FIND_ANSWER,
+];
