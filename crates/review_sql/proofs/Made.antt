@@ -13,6 +13,10 @@ use Rattle.review_tables.specs.Ran.{Transacts}
 use Rattle.review_sql.specs.First.{MakesDesk}
 use Rattle.review_sql.specs.Shelf.{Kept, Holds, Stays}
 use Rattle.review_sql.specs.Created.{IsCreated}
+use Rattle.review_tables.specs.Ran.{IsReady}
+use Rattle.review_sql.specs.declared.rows.Seen.{Seen}
+use Rattle.review_sql.specs.Opened.{IsOpened, IsSeen}
+use Rattle.review_sql.specs.Tables.{IsDesk}
 
 module _ {S : Type 0} (g : Ghosts S) (c0 c1 c2 : Held S) (is_ours : Bool) (decided : Decides is_ours (c1.schema ≡ schema_0)) (x : Unit {0}) (acts : Transacts MakesDesk (state g c1) (state g c2) (Ok x)) where
   blank : c1.schema ≡ schema_0 → IsBlank schema_0 (state g c1).now
@@ -37,3 +41,15 @@ module _ {S : Type 0} (g : Ghosts S) (c0 c1 c2 : Held S) (is_ours : Bool) (decid
     survives = survives_then (state g c0) (state g c1) (state g c2) _ _ _ (λ _ db h. absurd h)
         (λ clean db h. let was = stays.kept h.0 in (was.0, (h.1.0, h.1.1, subst (λ (d : Database). MakesDesk d h.1.0) was.1 h.1.2))) stays.survives acts.survives;
   }
+
+module _ {S : Type 0} (g : Ghosts S) (c0 c1 : Held S) (seen : Seen) where
+  pub holds_opened : c1.in_transaction ≡ false → Stays (state g c0) (state g c1) → (IsTrue (state g c1).is_open → IsSeen (state g c0) seen) → Holds g c1 seen.is_ours seen.requests
+  holds_opened mode stays it = record {
+    autocommit = mode;
+    ready = λ ours is_open.
+        let same = (stays.kept is_open).1 in
+        subst (λ (d : Database). IsReady d × IsDesk seen.requests d.trees) (sym same) ((it is_open).ready ours);
+  }
+
+  pub is_opened : Stays (state g c0) (state g c1) → (IsTrue (state g c1).is_open → IsSeen (state g c0) seen) → IsOpened g c0 (record { conn = c1; is_ours = seen.is_ours; requests = seen.requests; faults = 0 })
+  is_opened stays it = record { faults = refl; stays = stays; ours = λ is_open has all. (it is_open).ours has all }

@@ -7,6 +7,7 @@ ghost use Rattle.review_tables.specs.Desk.{schema_0};
 
 use crate::creating::make_desk;
 use crate::faults::DeskFault;
+use crate::opening::see;
 use crate::there::is_any_there;
 use sqlite::{Alter, Connection};
 use sqlite_schema::schema::Schema;
@@ -52,8 +53,9 @@ fn is_blank(schema: &Schema) -> bool
 }
 
 impl<S: Alter + Drop> SqlShelf<S> {
-    ghost use Rattle.review_sql.specs.Shelf.{IsAnyThere, IsUnmade};
+    ghost use Rattle.review_sql.specs.Shelf.{IsAnyThere, IsUnmade, Stays};
     ghost use Rattle.review_sql.specs.Created.{IsCreated};
+    ghost use Rattle.review_sql.specs.Opened.{IsOpened, IsRefused};
 
     /// Makes an empty desk, in one transaction. A refusal hands the connection back with its tables as they were.
     pub fn create(
@@ -82,6 +84,30 @@ impl<S: Alter + Drop> SqlShelf<S> {
                 faults: 0,
             }),
             Err(error) => Err((conn, DeskFault::of(error))),
+        }
+    }
+
+    /// Opens a desk. Nothing is written, and a refusal hands the connection back with its tables as they were. Of tables that `create` did
+    /// not make nothing is claimed.
+    pub fn open(
+        alloc: Global,
+        conn: Connection<S>,
+    ) -> Result<SqlShelf<S>, (Connection<S>, DeskFault)>
+        requires mode { conn.in_transaction ≡ false }
+        ensures opened { IfOk result (IsOpened S.Store conn) }
+        ensures mode { IfErr result (λ e. e.0.in_transaction ≡ false) }
+        ensures refused { IfErr result (λ e. Stays (state S.Store conn) (state S.Store e.0)) }
+        ensures cause { IfErr result (λ e. IsTrue (state S.Store e.0).is_open → IsRefused (state S.Store conn) e.1) }
+    {
+        let mut conn = conn;
+        match see(&mut conn, alloc) {
+            Ok(seen) => Ok(SqlShelf {
+                conn,
+                is_ours: seen.is_ours,
+                requests: seen.requests,
+                faults: 0,
+            }),
+            Err(fault) => Err((conn, fault)),
         }
     }
 
