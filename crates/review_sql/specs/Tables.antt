@@ -1,5 +1,5 @@
 -- A database as the tables of a desk.
-use Rattle.std.specs.Prelude.{ℕ, ◌+◌, ◌≡◌, List, [], ◌∷◌, length, Option, Some, None}
+use Rattle.std.specs.Prelude.{ℕ, ◌+◌, ◌≡◌, ◌≤◌, List, [], ◌∷◌, length, Option, Some, None}
 use Rattle.sqlite_value.specs.declared.value.Value.TheVariants.{Text}
 use Rattle.sqlite_trees.specs.Tree.{Trees}
 use Rattle.sqlite.specs.Effect.{Database}
@@ -11,6 +11,7 @@ use Rattle.review_rows.specs.declared.rows.Kept.{Kept}
 use Rattle.review_tables.specs.Ran.{IsReady}
 use Rattle.review_tables.specs.Search.{rows_at, row_at}
 use Rattle.review_sql.specs.declared.rows.DeskRow.{DeskRow}
+use Rattle.review_sql.specs.declared.rows.PlaceKey.{PlaceKey}
 use Rattle.review_sql.specs.declared.rows.Answered.{Answered as Rest}
 use Rattle.review_sql.specs.Forms.{accounts, members, projects, bases, answers, desk}
 
@@ -60,8 +61,13 @@ tables_at db = record {
 abbrev pub IsDesk : ℕ → Trees → Type 0
 IsDesk requests db = row_at desk db tt ≡ Some (Some (record { version = 1; requests = requests }))
 
+-- no two rows of the tables whose rows are counted have one key
+pub record AreSingle (db : Trees) : Type 0 where
+  pub projects_are : (project : List ℕ) → length (rows_at (projects.at project) (db 4)) ≤ 1
+  pub bases_are : (key : PlaceKey) → length (rows_at (bases.at key) (db 6)) ≤ 1
+
 -- the delta is applied and the request is stored, where the tables are a desk's and so many requests were
 pub record Commits (delta : Delta) (kept : Kept) (requests : ℕ) (old new : Database) : Type 0 where
   pub ready : IsReady old → IsReady new
-  pub committed : IsReady old → IsDesk requests old.trees → IsCommitted (tables_at old.trees) delta (kept_row kept) (tables_at new.trees)
+  pub committed : IsReady old → AreSingle old.trees → IsDesk requests old.trees → IsCommitted (tables_at old.trees) delta (kept_row kept) (tables_at new.trees)
   pub desk : IsReady old → IsDesk (requests + 1) new.trees
