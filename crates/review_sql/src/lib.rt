@@ -13,6 +13,7 @@ mod numbers;
 mod opening;
 mod projects;
 mod rows;
+mod serving;
 pub mod shelf;
 mod there;
 mod writing;
