@@ -4,3 +4,4 @@ pub mod Begin
 pub mod Staying
 pub mod Made
 pub mod Peeking
+pub mod Singles

@@ -21,3 +21,4 @@ pub mod DeskTexts
 pub mod Ids
 pub mod LookupTexts
 pub mod Changed
+pub mod Single

@@ -38,7 +38,7 @@ unfolding unary
 cast_null = either _ Null
 
 -- a comparison with a value that is not NULL
-told_true : (b : Bool) → is_true (from_truth (Some b)) ≡ b
+pub told_true : (b : Bool) → is_true (from_truth (Some b)) ≡ b
 told_true true = refl
 told_true false = refl
 
@@ -49,7 +49,7 @@ null_apart (Real x) there = rw (value_cmp-Null (Real x)) refl
 null_apart (Text t) there = rw (value_cmp-Null (Text t)) refl
 null_apart (Blob b) there = rw (value_cmp-Null (Blob b)) refl
 
-equals : (v w : Value) → is_null w ≡ false → is_true (binary (Compare Eq Binary) v w) ≡ is_eq (value_cmp v w)
+pub equals : (v w : Value) → is_null w ≡ false → is_true (binary (Compare Eq Binary) v w) ≡ is_eq (value_cmp v w)
 unfolding binary
 equals Null w there = null_apart w there
 equals (Int n) w there = rw there (told_true _)
