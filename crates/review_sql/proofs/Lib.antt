@@ -5,3 +5,4 @@ pub mod Staying
 pub mod Made
 pub mod Peeking
 pub mod Singles
+pub mod Shown

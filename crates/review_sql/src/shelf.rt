@@ -3,12 +3,19 @@ ghost use Rattle.std.specs.Prelude.{◌≡◌, ◌≢◌, ◌≤◌, true, false
 ghost use Rattle.std.specs.Bool.{Decides};
 ghost use Rattle.sqlite.specs.Held.{state};
 ghost use Rattle.sqlite.specs.State.{HasCleanDisk};
+ghost use Rattle.review_rows.specs.Rows.{kept_row};
+ghost use Rattle.review_rows.specs.Shelf.{IsCounted, greatest_count};
 ghost use Rattle.review_tables.specs.Desk.{schema_0};
 
 use crate::creating::make_desk;
 use crate::faults::DeskFault;
 use crate::opening::see;
 use crate::there::is_any_there;
+use crate::rows::{Answered, RequestKey};
+use crate::serving::find_stored;
+use crate::writing::transact;
+use review_names::{AccountNo, RequestId};
+use review_rows::{Delta, Kept, Need, Rows, Shelf, ShelfFault};
 use sqlite::{Alter, Connection};
 use sqlite_schema::schema::Schema;
 use std::alloc::Global;
@@ -123,5 +130,91 @@ impl<S: Alter + Drop> SqlShelf<S> {
             faults: _,
         } = self;
         conn
+    }
+}
+
+// Counts a call that the store refused.
+fn refuse(faults: &mut u64) -> ShelfFault
+    ensures counted { IsCounted result (min faults.old greatest_count) (min faults.new greatest_count) }
+    ensures store { result ≡ ShelfFault.Store }
+{
+    *faults = faults.saturating_add(1);
+    ShelfFault::Store
+}
+
+impl<S: Alter> Shelf for SqlShelf<S> {
+    ghost use Rattle.review_sql.specs.Shelf.{shown, count_fits};
+
+    ghost state = { shown S.Store };
+
+    fn recall(
+        &mut self,
+        alloc: Global,
+        caller: AccountNo,
+        id: &RequestId,
+    ) -> Result<Option<Kept>, ShelfFault> {
+        let key = RequestKey {
+            caller,
+            id: id.copy(alloc)?,
+        };
+        let _settled = self.conn.is_autocommit();
+        let found = match find_stored(&mut self.conn, alloc, &key) {
+            Ok(found) => found,
+            Err(_) => return Err(refuse(&mut self.faults)),
+        };
+        match found {
+            Some(Some(row)) => Ok(Some(kept_of(key, row))),
+            Some(None) => Err(ShelfFault::Damaged),
+            None => Ok(None),
+        }
+    }
+
+    // TODO: the look-ups of a need.
+    fn load(&mut self, alloc: Global, need: &Need) -> Result<Rows, ShelfFault> {
+        let _need = need;
+        let _ = alloc;
+        Err(refuse(&mut self.faults))
+    }
+
+    fn commit(&mut self, alloc: Global, delta: &Delta, kept: &Kept) -> Result<(), ShelfFault> {
+        let _ = alloc;
+        let requests = self.requests;
+        let Some(more) = requests.checked_add(1) else {
+            return Err(refuse(&mut self.faults));
+        };
+        let _live = self.conn.schema();
+        match transact(&mut self.conn, delta, kept, requests) {
+            Ok(()) => {
+                let _settled = self.conn.is_autocommit();
+                self.requests = more;
+                Ok(())
+            }
+            Err(_) => Err(refuse(&mut self.faults)),
+        }
+    }
+
+    fn faults(&self) -> u64 {
+        self.faults
+    }
+
+    ghost fits = { λ k. count_fits k.faults };
+}
+
+// A stored request with its identity.
+fn kept_of(key: RequestKey, row: Answered) -> Kept
+    ensures { kept_row result ≡ record { identity = record { caller = key.caller; id = key.id }; request = row.request; content = row.content; reply = row.reply } }
+{
+    let RequestKey { caller, id } = key;
+    let Answered {
+        request,
+        content,
+        reply,
+    } = row;
+    Kept {
+        caller,
+        id,
+        request,
+        content: content.into_string(),
+        reply: reply.into_string(),
     }
 }
