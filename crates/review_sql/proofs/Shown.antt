@@ -36,8 +36,8 @@ module _ {S : Type 0} (g : Ghosts S) (old new : Held S) where
   pub same_shown : IsTrue (state g old).is_open → IsTrue (state g new).is_open → (state g new).now ≡ (state g old).now → tables_of g new ≡ tables_of g old
   same_shown was is same = rw (was, is) (ap (λ (d : Database). Some (tables_at d.trees)) same)
 
-  pub shown_now : {P : Tables → Type 0} → IsTrue (state g old).is_open → P (tables_at (state g old).now.trees) → Shows (tables_of g old) P
-  shown_now was p = rw was p
+  pub shown_now : (P : Tables → Type 0) → IsTrue (state g old).is_open → P (tables_at (state g old).now.trees) → Shows (tables_of g old) P
+  shown_now P was p = rw was p
 
   module _ (is_ours : Bool) (requests : ℕ) (holds : Holds g old is_ours requests) where
     pub desk_if_open : IsTrue is_ours → IsDeskIfOpen (state g old)
@@ -74,7 +74,7 @@ module _ {S : Type 0} (g : Ghosts S) (old new : Held S) where
         | inl was ↦ inl (left.0, was, left.2)
         | inr made ↦
             let all = committed_from ours made.0 made.1.0 made.1.2 in
-            inr (shown_now made.0 (subst (λ x. IsCommitted (tables_at (state g old).now.trees) delta (kept_row kept) x) (sym (left.2 ∙ ap tables_at made.1.1)) all))
+            inr (shown_now (λ x. IsCommitted x delta (kept_row kept) t) made.0 (subst (λ x. IsCommitted (tables_at (state g old).now.trees) delta (kept_row kept) x) (sym (left.2 ∙ ap tables_at made.1.1)) all))
       ]
 
       done_as : r ≡ Ok (tt {0}) → HasCleanDisk (state g new) → IsTrue (state g old).is_open × IsTrue (state g new).is_open × Commits delta kept requests (state g old).now (state g new).now

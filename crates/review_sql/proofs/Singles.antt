@@ -3,15 +3,15 @@ use Rattle.std.proofs.Common.{◌≡◌, ◌≤◌, ◌&&◌, ℕ, pos, List, []
 use Rattle.std.specs.Ordering.{is_eq}
 use Rattle.std.proofs.lemmas.Bool.{and_parts, and_from}
 use Rattle.sqlite_value.specs.declared.value.Value.TheVariants.{Int, Text}
-use Rattle.sqlite_value.specs.Keys.{plain}
+use Rattle.sqlite_value.specs.Keys.{plain, first_key}
+use Rattle.sqlite_trees.specs.Tree.{Trees, rowid}
 use Rattle.sqlite_value.specs.Order.{Row, column, value_cmp}
-use Rattle.sqlite_trees.specs.Tree.{Trees}
 use Rattle.sqlite_schema.specs.Rules.{clashes, agree, differ}
 use Rattle.sqlite_rules.specs.Lists.{Has}
 use Rattle.sqlite_catalog.specs.Listing.{IsSound}
 use Rattle.sqlite_catalog.proofs.AlterLemmas.{keys_are_unique}
 use Rattle.sqlite.specs.Effect.{Database}
-use Rattle.review_tables.specs.Content.{has_key}
+use Rattle.review_tables.specs.Content.{has_key, AreApart}
 use Rattle.review_tables.specs.Desk.{desk_schema, projects as project_table, bases as base_table}
 use Rattle.review_tables.specs.Ran.{IsReady}
 use Rattle.review_tables.specs.Search.{rows_at}
@@ -21,16 +21,18 @@ use Rattle.review_sql.specs.Forms.{projects, bases}
 use Rattle.review_sql.specs.Tables.{AreSingle}
 
 module _ (db : Trees) (sound : IsSound desk_schema db) where
-  project_single : (p : List ℕ) → Rattle.review_tables.specs.Content.AreApart (db 4) → length (rows_at (projects.at p) (db 4)) ≤ 1
+  project_single : (p : List ℕ) → AreApart (db 4) → length (rows_at (projects.at p) (db 4)) ≤ 1
+  unfolding first_key
   project_single p apart =
-      one_passes (has_key (projects.at p)) (λ other row. agree plain (1 ∷ []) other (1 ∷ []) row && differ (Rattle.sqlite_trees.specs.Tree.rowid other) (Rattle.sqlite_trees.specs.Tree.rowid row)) (db 4)
+      one_passes (has_key (projects.at p)) (λ other row. agree plain (1 ∷ []) other (1 ∷ []) row && differ (rowid other) (rowid row)) (db 4)
       (λ row has. keys_are_unique desk_schema db project_table 0 (1 ∷ []) row sound (inr (inr (inl refl))) refl has)
       (λ r s keyed too other is it. and_from _ _ (and_from _ _ (equal_values (Text p) (column s 1) (column r 1) refl (and_parts _ _ it).0 (and_parts _ _ is).0) refl) (differ_ids s r too keyed other))
       (db 4) (λ x h. h) apart
 
-  base_single : (k : PlaceKey) → Rattle.review_tables.specs.Content.AreApart (db 6) → length (rows_at (bases.at k) (db 6)) ≤ 1
+  base_single : (k : PlaceKey) → AreApart (db 6) → length (rows_at (bases.at k) (db 6)) ≤ 1
+  unfolding first_key
   base_single k apart =
-      one_passes (has_key (bases.at k)) (λ other row. agree plain (1 ∷ 2 ∷ 3 ∷ []) other (1 ∷ 2 ∷ 3 ∷ []) row && differ (Rattle.sqlite_trees.specs.Tree.rowid other) (Rattle.sqlite_trees.specs.Tree.rowid row)) (db 6)
+      one_passes (has_key (bases.at k)) (λ other row. agree plain (1 ∷ 2 ∷ 3 ∷ []) other (1 ∷ 2 ∷ 3 ∷ []) row && differ (rowid other) (rowid row)) (db 6)
       (λ row has. keys_are_unique desk_schema db base_table 0 (1 ∷ 2 ∷ 3 ∷ []) row sound (inr (inr (inr (inl refl)))) refl has)
       (λ r s keyed too other is it.
           let a = and_parts _ _ is in
