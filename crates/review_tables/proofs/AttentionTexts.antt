@@ -1,5 +1,5 @@
 -- What the texts on attention mean.
-use Rattle.std.proofs.Common.{◌≡◌, ◌&&◌, ℕ, ℤ, List, [], ◌∷◌, codes, Ok, map, filter, Some, None, true, false, refl}
+use Rattle.std.proofs.Common.{◌≡◌, ◌&&◌, ℕ, ℤ, List, [], ◌∷◌, codes, Ok, map, filter, None, true, false, refl}
 use Rattle.std.specs.List.Sorted.{IsPermutation}
 use Rattle.sqlite_schema.specs.declared.command.Source.TheVariants.{Values}
 use Rattle.sqlite_schema.specs.declared.command.Command.TheVariants.{Insert, Select, Delete}
@@ -14,11 +14,11 @@ use Rattle.sqlite.specs.State.{State, Executes, Shown}
 use Rattle.sqlite.proofs.Callers.{IsPlain, command_of}
 use Rattle.review_tables.specs.declared.texts.TheConstants.{INSERT_ATTENTION, DELETE_ATTENTION, FIND_ATTENTION, ATTENTION_IDS}
 use Rattle.review_tables.specs.Desk.{desk_schema, attention}
-use Rattle.review_tables.specs.Content.{has_key, Adds, AddsValues, Removes}
+use Rattle.review_tables.specs.Content.{has_key, AddsValues, Removes}
 use Rattle.review_tables.specs.Ran.{IsReady}
 use Rattle.review_tables.proofs.Queries.{over_table, passes}
 use Rattle.review_tables.proofs.Statements.{inserts, deletes}
-use Rattle.review_tables.proofs.Meaning.{cast_null, cast_int, text_is, number_is, tested_text, tested_number, tested_id, finds, finds_ids}
+use Rattle.review_tables.proofs.Meaning.{cast_null, cast_int, number_is, tested_number, finds, finds_ids}
 
 abbrev insert_terms : List Term
 insert_terms = lit Null ∷ col 0 0 ∷ col 0 1 ∷ col 0 2 ∷ col 0 3 ∷ []

@@ -1,5 +1,5 @@
 -- What the texts on changes mean.
-use Rattle.std.proofs.Common.{◌≡◌, ◌&&◌, ℕ, ℤ, List, [], ◌∷◌, codes, Ok, map, filter, Some, None, true, false, refl}
+use Rattle.std.proofs.Common.{◌≡◌, ◌&&◌, ℕ, ℤ, List, [], ◌∷◌, codes, Ok, map, filter, Some, true, false, refl}
 use Rattle.std.specs.List.Sorted.{IsPermutation}
 use Rattle.sqlite_schema.specs.declared.command.Source.TheVariants.{Values}
 use Rattle.sqlite_schema.specs.declared.command.Command.TheVariants.{Insert, Select, Delete}
@@ -7,18 +7,17 @@ use Rattle.sqlite_value.specs.declared.value.Value.TheVariants.{Null, Int, Text}
 use Rattle.sqlite_value.specs.Order.{Row, column}
 use Rattle.sqlite_trees.specs.Tree.{rowid}
 use Rattle.sqlite_sql.specs.Term.{Term, lit, col}
-use Rattle.sqlite_rules.specs.Edit.{next_rowid}
 use Rattle.sqlite_tied.specs.Compute.{everything}
 use Rattle.sqlite.specs.Listing.{understood, reads_listing}
 use Rattle.sqlite.specs.State.{State, Executes, Shown}
 use Rattle.sqlite.proofs.Callers.{IsPlain, command_of}
 use Rattle.review_tables.specs.declared.texts.TheConstants.{INSERT_CHANGE, DELETE_CHANGE, FIND_CHANGE, CHANGE_IDS}
 use Rattle.review_tables.specs.Desk.{desk_schema, changes}
-use Rattle.review_tables.specs.Content.{has_key, Adds, AddsValues, Removes}
+use Rattle.review_tables.specs.Content.{has_key, Adds, Removes}
 use Rattle.review_tables.specs.Ran.{IsReady}
 use Rattle.review_tables.proofs.Queries.{over_table, passes}
 use Rattle.review_tables.proofs.Statements.{inserts, deletes}
-use Rattle.review_tables.proofs.Meaning.{cast_null, cast_int, text_is, number_is, tested_text, tested_number, tested_id, finds, finds_ids}
+use Rattle.review_tables.proofs.Meaning.{cast_null, cast_int, text_is, tested_id, finds, finds_ids}
 
 abbrev insert_terms : List Term
 insert_terms = col 0 0 ∷ lit Null ∷ col 0 1 ∷ col 0 2 ∷ col 0 3 ∷ col 0 4 ∷ col 0 5 ∷ col 0 6 ∷ col 0 7 ∷ col 0 8 ∷ []

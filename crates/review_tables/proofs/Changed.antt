@@ -1,13 +1,12 @@
 -- What changes leave at each key.
-use Rattle.std.proofs.Common.{◌≡◌, ◌≢◌, ◌∙◌, List, [], ◌∷◌, Bool, true, false, Ordering, Option, Some, None, option_map, refl, sym, ap, subst, inl, inr, filter, ℕ}
+use Rattle.std.proofs.Common.{◌≡◌, ◌∙◌, List, [], ◌∷◌, true, Ordering, Option, Some, None, option_map, sym, ap, subst, inl, inr}
 use Rattle.std.specs.BTreeMap.{is_at}
 use Rattle.std.proofs.lemmas.Bool.{cases_Bool, both_ways}
-use Rattle.sqlite_value.specs.Order.{Row as Raw}
 use Rattle.sqlite_trees.specs.Tree.{Trees}
 use Rattle.review_table.specs.declared.table.Change.{Change}
 use Rattle.review_table.specs.Rows.{change_of, after_change}
-use Rattle.review_tables.specs.Content.{has_key, SparesOthers}
-use Rattle.review_tables.specs.Search.{Search, row_at, SetsRow, SetsRows, SetsAny}
+use Rattle.review_tables.specs.Content.{SparesOthers}
+use Rattle.review_tables.specs.Search.{Search, row_at, SetsRows, SetsAny}
 use Rattle.review_tables.proofs.Keys.{spares_then}
 
 -- the order of keys tells them apart

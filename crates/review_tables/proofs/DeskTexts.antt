@@ -1,9 +1,9 @@
 -- What the texts on desk mean.
-use Rattle.std.proofs.Common.{◌≡◌, ◌&&◌, ℕ, ℤ, List, [], ◌∷◌, codes, Ok, map, filter, Some, None, true, false, refl}
+use Rattle.std.proofs.Common.{◌≡◌, ℕ, ℤ, List, [], ◌∷◌, codes, Ok, map, filter, None, false, refl}
 use Rattle.std.specs.List.Sorted.{IsPermutation}
 use Rattle.sqlite_schema.specs.declared.command.Source.TheVariants.{Values}
 use Rattle.sqlite_schema.specs.declared.command.Command.TheVariants.{Insert, Select, Delete}
-use Rattle.sqlite_value.specs.declared.value.Value.TheVariants.{Null, Int, Text}
+use Rattle.sqlite_value.specs.declared.value.Value.TheVariants.{Null, Int}
 use Rattle.sqlite_value.specs.Order.{Row, column}
 use Rattle.sqlite_trees.specs.Tree.{rowid}
 use Rattle.sqlite_sql.specs.Term.{Term, lit, col}
@@ -14,11 +14,11 @@ use Rattle.sqlite.specs.State.{State, Executes, Shown}
 use Rattle.sqlite.proofs.Callers.{IsPlain, command_of}
 use Rattle.review_tables.specs.declared.texts.TheConstants.{INSERT_DESK, DELETE_DESK, FIND_DESK, DESK_IDS}
 use Rattle.review_tables.specs.Desk.{desk_schema, desk}
-use Rattle.review_tables.specs.Content.{has_key, Adds, AddsValues, Removes}
+use Rattle.review_tables.specs.Content.{has_key, AddsValues, Removes}
 use Rattle.review_tables.specs.Ran.{IsReady}
 use Rattle.review_tables.proofs.Queries.{over_table, passes}
 use Rattle.review_tables.proofs.Statements.{inserts, deletes}
-use Rattle.review_tables.proofs.Meaning.{cast_null, cast_int, text_is, number_is, tested_text, tested_number, tested_id, finds, finds_ids}
+use Rattle.review_tables.proofs.Meaning.{cast_null, cast_int, finds, finds_ids}
 
 abbrev insert_terms : List Term
 insert_terms = lit Null ∷ col 0 0 ∷ col 0 1 ∷ []

@@ -1,21 +1,18 @@
 -- Rows at keys.
-use Rattle.std.proofs.Common.{◌≡◌, ◌≢◌, ◌∙◌, ◌+◌, ℕ, ℤ, pos, List, [], ◌∷◌, filter, length, map, Bool, true, false, not, Ordering, Less, Equal, Greater, Option, Some, None, refl, sym, ap, subst, inl, inr, nat_cmp, arith}
+use Rattle.std.proofs.Common.{◌≡◌, ◌≢◌, ◌∙◌, ◌+◌, ℕ, ℤ, pos, List, [], ◌∷◌, filter, length, Bool, true, false, not, Ordering, Less, Equal, Greater, Some, None, refl, sym, ap, inl, inr, arith}
 use Rattle.std.specs.Ordering.{is_eq}
-use Rattle.std.specs.BTreeMap.{is_at}
-use Rattle.std.proofs.lemmas.Bool.{cases_Bool, and_parts, both_ways}
+use Rattle.std.proofs.lemmas.Bool.{cases_Bool, both_ways}
 use Rattle.std.proofs.lemmas.Cmp.{tied_itself}
 use Rattle.std.proofs.lemmas.Map.Lookups.{exact_bytes}
 use Rattle.sqlite_value.specs.declared.value.Value.{Value}
 use Rattle.sqlite_value.specs.declared.value.Value.TheVariants.{Int, Text}
-use Rattle.sqlite_value.specs.Order.{Row, column, value_cmp}
+use Rattle.sqlite_value.specs.Order.{Row, value_cmp}
 use Rattle.sqlite_value.proofs.OrderLemmas.{value_cmp_total, value_cmp-Int, value_cmp-Text}
 use Rattle.sqlite_trees.specs.Tree.{Trees}
 use Rattle.sqlite_keyed.proofs.ListLemmas.{filter-filter}
 use Rattle.sqlite_keyed.proofs.KeyedLemmas.{same_int as whole}
-use Rattle.review_table.specs.declared.table.Change.{Change}
-use Rattle.review_table.specs.Rows.{change_of, after_change}
 use Rattle.review_tables.specs.Content.{has_key, Adds, Removes, Sets, SparesOthers, Then}
-use Rattle.review_tables.specs.Search.{At, rows_at, Search, reads, row_at, only, Form, IsLawful, Puts, SetsRow, SetsRows, count_of}
+use Rattle.review_tables.specs.Search.{At, Search, reads, only, Form, IsLawful, Puts, SetsRow}
 
 pub equal_is : (o : Ordering) → is_eq o ≡ true → o ≡ Equal
 equal_is Less h = absurd (cc)

@@ -1,21 +1,12 @@
 -- What a fixed CREATE TABLE does.
-use Rattle.std.proofs.Common.{◌≡◌, ℕ, List, [], codes, false, None, Ok, refl, sym, ap, subst, ◌∙◌}
+use Rattle.std.proofs.Common.{◌≡◌, ℕ, List, [], false, None, Ok, refl, sym, ap, subst, ◌∙◌}
 use Rattle.std.proofs.Common.{◌∷◌, ◌++◌, true, inl, inr, eqb, eqb-true}
 use Rattle.std.proofs.lemmas.Bool.{or_cases}
 use Rattle.sqlite_trees.specs.Tree.{Trees}
 use Rattle.review_tables.specs.Content.{AreApart}
 use Rattle.review_tables.specs.Desk.{desk_schema}
-use Rattle.sqlite_schema.specs.declared.schema.Index.{Index}
-use Rattle.sqlite_schema.specs.declared.command.Command.TheVariants.{Select}
-use Rattle.sqlite_value.specs.declared.keys.Collation.TheVariants.{Binary}
-use Rattle.sqlite_sql.specs.Term.{col, op2, lit}
-use Rattle.sqlite_value.specs.declared.value.Value.TheVariants.{Int}
-use Rattle.std.proofs.Common.{pos}
-use Rattle.sqlite_sql.specs.declared.ops.BinaryOp.TheVariants.{Compare}
-use Rattle.sqlite_sql.specs.declared.ops.CompareOp.TheVariants.{Eq}
-use Rattle.review_tables.specs.Desk.{accounts, members, projects, bases, changes, patches, votes, reviewers, comments, attention, answers, desk, accounts_index, members_index, projects_index, bases_index, patches_index, votes_index, reviewers_index, comments_index, attention_index, answers_index, requests_index, schema_of, schema_0, schema_1, schema_2, schema_3, schema_4, schema_5, schema_6, schema_7, schema_8, schema_9, schema_10, schema_11, schema_12}
+use Rattle.review_tables.specs.Desk.{accounts, members, projects, bases, changes, patches, votes, reviewers, comments, attention, answers, desk, schema_0, schema_1, schema_2, schema_3, schema_4, schema_5, schema_6, schema_7, schema_8, schema_9, schema_10, schema_11, schema_12}
 use Rattle.review_tables.specs.declared.texts.TheConstants.{CREATE_ACCOUNTS, CREATE_MEMBERS, CREATE_PROJECTS, CREATE_BASES, CREATE_CHANGES, CREATE_PATCHES, CREATE_VOTES, CREATE_REVIEWERS, CREATE_COMMENTS, CREATE_ATTENTION, CREATE_ANSWERS, CREATE_DESK}
-use Rattle.review_tables.proofs.Queries.{over_table}
 use Rattle.sqlite_schema.specs.declared.schema.Table.{Table}
 use Rattle.sqlite_schema.specs.declared.schema.Schema.{Schema}
 use Rattle.sqlite_schema.specs.declared.command.Command.TheVariants.{CreateTable}

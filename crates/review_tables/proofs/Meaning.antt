@@ -1,5 +1,5 @@
 -- What the parts of texts mean: the tests of a WHERE, and the values of an INSERT.
-use Rattle.std.proofs.Common.{◌≡◌, ◌∙◌, ℕ, ℤ, List, [], ◌∷◌, Bool, cond, Some, true, false, refl, ap, sym, map, filter, subst}
+use Rattle.std.proofs.Common.{◌≡◌, ◌∙◌, ℕ, ℤ, List, [], ◌∷◌, Bool, cond, Some, true, false, refl, ap, map, filter, subst}
 use Rattle.std.specs.Ordering.{is_eq}
 use Rattle.std.specs.List.Sorted.{IsPermutation}
 use Rattle.sqlite_schema.specs.declared.command.Command.TheVariants.{Select}
@@ -10,7 +10,7 @@ use Rattle.sqlite_value.specs.declared.keys.Collation.TheVariants.{Binary}
 use Rattle.sqlite_value.specs.Order.{Row, column, value_cmp}
 use Rattle.sqlite_value.proofs.OrderLemmas.{value_cmp-Null}
 use Rattle.sqlite_trees.specs.Tree.{rowid}
-use Rattle.sqlite_sql.specs.Term.{Term, lit, col, op1, op2, holds}
+use Rattle.sqlite_sql.specs.Term.{Term, col, op1, op2, holds}
 use Rattle.sqlite_sql.specs.Ops.{unary, binary, is_true, is_null, from_truth}
 use Rattle.sqlite_sql.specs.Program.{overlay}
 use Rattle.sqlite_sql.specs.declared.ops.BinaryOp.TheVariants.{Compare}

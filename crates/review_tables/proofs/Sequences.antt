@@ -2,7 +2,6 @@
 use Rattle.std.proofs.Common.{◌≡◌, ◌∙◌, ◌⊎◌, inl, inr, ℕ, List, true, false, refl, sym, ap, subst, IsTrue, Ok, Err, Result, OnOk, OnErr, IfErr, arith}
 use Rattle.std.proofs.Common.{[]}
 use Rattle.sqlite.specs.Effect.{Database}
-use Rattle.review_tables.specs.Desk.{is_tree}
 use Rattle.sqlite_value.specs.Order.{Row}
 use Rattle.sqlite_trees.specs.Tree.{Trees}
 use Rattle.sqlite.specs.declared.error.Error.{Error}
@@ -15,7 +14,7 @@ use Rattle.sqlite.proofs.Callers.{IsPlain}
 use Rattle.review_tables.specs.Desk.{desk_schema}
 use Rattle.sqlite.specs.State.{FailsToQuery, FailsToShow, Shown, ShowsRows, IsNotRun, IsTooLate, State, HasCleanDisk, Survives, KeepsCommit, IsUnchanged, IsRolledBack, Executes, ExecutesInside, Shows, KeepsCounts}
 use Rattle.sqlite.proofs.StateLemmas.{survives_then}
-use Rattle.review_tables.specs.Content.{Then, AreApart}
+use Rattle.review_tables.specs.Content.{Then}
 use Rattle.review_tables.specs.Ran.{IsReady, IsDeskIfOpen, Within, OnDesk, Inside, Transacts, Looks, Serves}
 
 kept_unchanged : (old new : State) → IsUnchanged old new ⊎ IsRolledBack old new → KeepsCommit old new

@@ -1,6 +1,5 @@
-use Rattle.std.proofs.Common.{rules, ◌≡◌, sym, subst, Some, None}
+use Rattle.std.proofs.Common.{rules, Some, None}
 use Rattle.sqlite.specs.Held.{state}
-use Rattle.review_tables.specs.Ran.{Inside}
 use Rattle.review_tables.specs.Search.{SetsRow}
 use Rattle.review_tables.proofs.Sequences.{next, told}
 use Rattle.review_tables.proofs.Keys.{row_gone, row_put}

@@ -1,4 +1,4 @@
-use Rattle.std.proofs.Common.{rules, ◌≡◌, nat_eq, length, subst, subst₂, sym}
+use Rattle.std.proofs.Common.{rules, ◌≡◌, nat_eq, length, subst₂, sym}
 use Rattle.std.specs.Bool.{Decides}
 use Rattle.std.specs.List.{IsDistinct}
 use Rattle.std.specs.Ordering.{int_eq}
