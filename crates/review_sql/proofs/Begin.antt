@@ -1,7 +1,6 @@
 -- A desk before its first request.
-use Rattle.std.proofs.Common.{◌≡◌, ◌≢◌, ◌∙◌, ◌==◌, ℕ, List, [], ◌∷◌, Option, Some, None, option_map, Bool, cond, true, false, refl, sym, ap, subst, arith, inl, inr, length, filter, eqb-true}
+use Rattle.std.proofs.Common.{◌≡◌, ◌≢◌, ◌∙◌, ◌==◌, ℕ, List, [], ◌∷◌, Some, None, option_map, cond, true, refl, sym, ap, subst, arith, inl, inr, length, eqb-true}
 use Rattle.std.specs.Str.{bytes_eq}
-use Rattle.std.specs.List.{list_any}
 use Rattle.std.proofs.lemmas.Bool.{cases_Bool, both_ways, eqb-false}
 use Rattle.std.proofs.lemmas.Cmp.{nat_list_eq_equiv}
 use Rattle.std.proofs.lemmas.Map.Lookups.{exact_bytes}
@@ -12,20 +11,20 @@ use Rattle.sqlite_value.specs.declared.value.Value.TheVariants.{Text}
 use Rattle.sqlite_trees.specs.Tree.{Trees}
 use Rattle.sqlite.specs.Effect.{Database}
 use Rattle.review_names.specs.Names.{admin_name, administrators}
-use Rattle.review_words.specs.History.{Identity, is_listed}
+use Rattle.review_words.specs.History.{is_listed}
 use Rattle.review_rows.specs.declared.rows.MemberKey.{MemberKey}
-use Rattle.review_rows.specs.Rows.{Key, AccountKey, MemberKey as OfMember, FileKey, BaseKey, OddKey, Row, AccountRow, MemberRow, FileRow, BaseRow, Count, Projects, BasesOf}
-use Rattle.review_rows.specs.View.{IsView, fact, counted, stored_answer}
+use Rattle.review_rows.specs.Rows.{Key, AccountKey, MemberKey as OfMember, FileKey, BaseKey, OddKey, AccountRow, MemberRow, FileRow, BaseRow, Count, Projects, BasesOf}
+use Rattle.review_rows.specs.View.{IsView, fact, counted}
 use Rattle.review_tables.specs.Desk.{schema_0, desk_schema, is_tree}
-use Rattle.review_tables.specs.Made.{IsBlank, Grows}
+use Rattle.review_tables.specs.Made.{Grows}
 use Rattle.review_tables.specs.Ran.{OnDesk}
-use Rattle.review_tables.specs.Search.{Search, rows_at, row_at, only, reads, SetsRow}
+use Rattle.review_tables.specs.Search.{rows_at, row_at, only, reads, SetsRow}
 use Rattle.review_tables.proofs.Keys.{equal_is}
 use Rattle.review_tables.proofs.Sequences.{Next}
 use Rattle.review_tables.proofs.Made.{ready_blank, empty_at}
 use Rattle.review_sql.specs.First.{SetsFirst, MakesDesk}
-use Rattle.review_sql.specs.Forms.{accounts, members, projects, bases, answers, desk}
-use Rattle.review_sql.specs.Tables.{told, row_in, count_in, answer_in, stored_as, number_of, tables_at}
+use Rattle.review_sql.specs.Forms.{accounts, members, projects, bases, answers}
+use Rattle.review_sql.specs.Tables.{told, row_in, count_in, stored_as, number_of, tables_at}
 
 pub same_bytes : (s t : List ℕ) → bytes_eq s t ≡ true → s ≡ t
 same_bytes s t is = exact_bytes s t (equal_is (slice_cmp nat_cmp s t) (is_eq-slice_cmp s t ∙ is))

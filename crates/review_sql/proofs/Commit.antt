@@ -1,10 +1,9 @@
 -- What the statements of a commit do together.
-use Rattle.std.proofs.Common.{◌≡◌, ◌≢◌, ◌∙◌, ◌+◌, ◌≤◌, ◌==◌, ◌&&◌, ℕ, pos, List, [], ◌∷◌, Option, Some, None, option_map, Bool, cond, Ordering, Less, Equal, Greater, true, false, is_some, refl, sym, ap, subst, arith, inl, inr, length, filter, eqb-true, eq-eqb, string_bytes}
+use Rattle.std.proofs.Common.{◌≡◌, ◌≢◌, ◌∙◌, ◌+◌, ◌≤◌, ◌==◌, ◌&&◌, ℕ, List, [], ◌∷◌, Option, Some, None, option_map, Bool, cond, Ordering, Less, Equal, Greater, true, is_some, refl, sym, ap, subst, arith, inl, inr, length, filter, eqb-true, eq-eqb}
 use Rattle.std.specs.Str.{bytes_eq}
 use Rattle.std.specs.Ordering.{nat_cmp, is_eq, ordering_then}
-use Rattle.std.specs.BTreeMap.{is_at}
 use Rattle.std.specs.Cmp.Lexicographic.{slice_cmp}
-use Rattle.std.proofs.lemmas.Bool.{cases_Bool, and_parts, and_from, both_ways, eqb-false}
+use Rattle.std.proofs.lemmas.Bool.{cases_Bool, and_parts, and_from, both_ways}
 use Rattle.std.proofs.lemmas.Cmp.{nat_cmp_total, tied_itself, nat_list_cmp_total}
 use Rattle.std.proofs.lemmas.Map.Lookups.{exact_unsigned, exact_bytes}
 use Rattle.sqlite_value.specs.declared.value.Value.TheVariants.{Text}
@@ -18,17 +17,17 @@ use Rattle.review_rows.specs.declared.rows.Kept.{Kept}
 use Rattle.review_rows.specs.declared.rows.MemberKey.{MemberKey as Member}
 use Rattle.review_rows.specs.declared.rows.ProjectRow.{ProjectRow}
 use Rattle.review_rows.specs.declared.rows.BaseRow.{BaseRow as PlacedBase}
-use Rattle.review_rows.specs.Rows.{Key, AccountKey, MemberKey, FileKey, BaseKey, OddKey, Row, AccountRow, MemberRow, FileRow, BaseRow, Count, Projects, BasesOf, Answered, Stored, member_cmp, member_row, member_change, account_change, file_after, base_after, kept_row, after, count_after, projects_after, bases_after}
+use Rattle.review_rows.specs.Rows.{Key, AccountKey, MemberKey, FileKey, BaseKey, OddKey, Row, AccountRow, MemberRow, FileRow, BaseRow, Count, Projects, BasesOf, Answered, member_cmp, member_change, account_change, file_after, base_after, kept_row, after, count_after, projects_after, bases_after}
 use Rattle.review_rows.specs.Shelf.{IsCommitted}
 use Rattle.review_sql.specs.declared.rows.PlaceKey.{PlaceKey}
 use Rattle.review_tables.specs.Content.{Then, has_key}
 use Rattle.review_tables.specs.Desk.{is_tree}
 use Rattle.review_tables.specs.Ran.{OnDesk}
-use Rattle.review_tables.specs.Search.{Search, row_at, rows_at, only, reads, SetsRow, SetsRows, SetsAny}
+use Rattle.review_tables.specs.Search.{row_at, rows_at, only, reads, SetsAny}
 use Rattle.review_tables.proofs.Changed.{IsExact, rows_changed, rows_spare, any_spares}
 use Rattle.review_tables.proofs.Keys.{equal_is, same_text}
 use Rattle.review_sql.specs.Changes.{SetsDelta, SetsKept, SetsDesk, place_of}
-use Rattle.review_sql.specs.Forms.{accounts, members, projects, bases, answers, desk}
+use Rattle.review_sql.specs.Forms.{accounts, members, projects, bases, answers}
 use Rattle.review_sql.specs.Tables.{told, row_in, count_in, answer_in, stored_as, number_of, tables_at, Commits, IsDesk, AreSingle}
 use Rattle.review_sql.proofs.Begin.{same_bytes, own_bytes}
 
@@ -142,9 +141,9 @@ base_count (Some b) old new h single project = elim (cases_Bool (bytes_eq b.proj
   | inl is ↦ rw is (counted_as BaseRow (reads bases) (rows_at (bases.at (place_of b)) (old 6)) (length (rows_at ((1, Text project) ∷ []) (old 6))) (length (rows_at ((1, Text project) ∷ []) (new 6))) (single (place_of b))
       (h.counted (has_key ((1, Text project) ∷ [])) (λ r has. subst (λ p. has_key ((1, Text p) ∷ []) r ≡ true) (same_bytes b.project project is) (and_from _ _ (and_parts _ _ has).0 refl))))
   | inr other ↦ rw other (ap length (h.apart (has_key ((1, Text project) ∷ [])) (λ r has. elim (cases_Bool (has_key ((1, Text project) ∷ []) r)) [
-      | inl too ↦ absurd (both_ways _ other (own_bytes b.project project (same_text (column r 1) b.project project (and_parts _ _ has).0 (and_parts _ _ too).0)))
-      | inr apart ↦ apart
-    ])))
+    | inl too ↦ absurd (both_ways _ other (own_bytes b.project project (same_text (column r 1) b.project project (and_parts _ _ has).0 (and_parts _ _ too).0)))
+    | inr apart ↦ apart
+  ])))
 ]
 
 -- ---- stored requests

@@ -1,8 +1,7 @@
 -- A shelf that was made.
-use Rattle.std.proofs.Common.{◌≡◌, ◌∙◌, ◌⊎◌, inl, inr, ℕ, Bool, true, false, [], Ok, IsTrue, refl, sym, ap, subst, arith}
+use Rattle.std.proofs.Common.{◌≡◌, ◌∙◌, Bool, false, Ok, IsTrue, refl, sym, ap, subst}
 use Rattle.std.specs.Bool.{Decides}
 use Rattle.sqlite_trees.specs.declared.store.Store.{Ghosts}
-use Rattle.sqlite_trees.specs.Tree.{Trees}
 use Rattle.sqlite.specs.Effect.{Database}
 use Rattle.sqlite.specs.State.{HasCleanDisk}
 use Rattle.sqlite.specs.Held.{Held, state}
@@ -11,7 +10,7 @@ use Rattle.review_tables.specs.Desk.{schema_0}
 use Rattle.review_tables.specs.Made.{IsBlank}
 use Rattle.review_tables.specs.Ran.{Transacts}
 use Rattle.review_sql.specs.First.{MakesDesk}
-use Rattle.review_sql.specs.Shelf.{Kept, Holds, Stays}
+use Rattle.review_sql.specs.Shelf.{Holds, Stays}
 use Rattle.review_sql.specs.Created.{IsCreated}
 use Rattle.review_tables.specs.Ran.{IsReady}
 use Rattle.review_sql.specs.declared.rows.Seen.{Seen}

@@ -1,22 +1,20 @@
 -- A look at tables that is taken back.
-use Rattle.std.proofs.Common.{◌≡◌, ◌≢◌, ◌∙◌, ◌⊎◌, inl, inr, ℕ, List, [], ◌∷◌, Some, None, eqb, eqb-true, Bool, true, false, Ok, Err, Result, IfOk, OnOk, IsTrue, refl, sym, ap, subst, arith}
-use Rattle.std.specs.Bool.{Decides}
+use Rattle.std.proofs.Common.{◌≡◌, ◌∙◌, ◌⊎◌, inl, inr, ℕ, List, [], ◌∷◌, Some, eqb, eqb-true, true, Ok, Err, Result, IfOk, IsTrue, refl, sym, subst, arith}
 use Rattle.std.specs.List.{AllByRecursion, list_any}
 use Rattle.std.proofs.lemmas.Bool.{or_cases}
 use Rattle.sqlite_schema.specs.declared.schema.Table.{Table}
 use Rattle.sqlite_trees.specs.Tree.{Trees}
-use Rattle.sqlite.specs.Effect.{Database}
-use Rattle.sqlite.specs.State.{State, HasCleanDisk, Survives, KeepsCommit, IsRolledBack}
+use Rattle.sqlite.specs.State.{State, HasCleanDisk, Survives, IsRolledBack}
 use Rattle.sqlite.specs.declared.error.Error.{Error}
 use Rattle.sqlite.proofs.StateLemmas.{survives_then}
-use Rattle.review_tables.specs.Ran.{Looks, IsDeskIfOpen}
+use Rattle.review_tables.specs.Ran.{Looks}
 use Rattle.review_tables.proofs.Sequences.{begun, taken_back, survives_from}
 use Rattle.review_tables.specs.Content.{AreApart}
 use Rattle.review_tables.specs.Desk.{desk_schema}
 use Rattle.review_sql.specs.declared.rows.DeskRow.{DeskRow}
 use Rattle.review_sql.specs.declared.rows.Peeked.{Peeked}
 use Rattle.review_sql.specs.declared.faults.DeskFault.{DeskFault}
-use Rattle.review_sql.specs.declared.faults.DeskFault.TheVariants.{NotADesk, WrongVersion, NotEmpty}
+use Rattle.review_sql.specs.declared.faults.DeskFault.TheVariants.{NotADesk, WrongVersion}
 use Rattle.review_sql.specs.Opened.{Peeks, IsPeeked, IsSeen, IsRefused, IsNoDesk, IsOtherVersion}
 
 pub peeked : {X : Type 0} (Found : Trees → X → Type 0) (s0 s2 s3 : State) (settled : IsTrue s0.is_open → s0.now ≡ s0.committed) (open_clean : IsTrue s3.is_open → HasCleanDisk s3) (r : Result X Error)

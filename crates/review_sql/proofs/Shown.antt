@@ -8,11 +8,10 @@ use Rattle.sqlite.specs.State.{HasCleanDisk}
 use Rattle.sqlite.specs.Held.{Held, state}
 use Rattle.sqlite.specs.declared.error.Error.{Error}
 use Rattle.review_words.specs.History.{Entry, Identity, is_same}
-use Rattle.review_rows.specs.Rows.{Tables, Stored, OddAnswer, kept_row}
+use Rattle.review_rows.specs.Rows.{Tables, OddAnswer, kept_row}
 use Rattle.review_rows.specs.declared.rows.Delta.{Delta}
 use Rattle.review_rows.specs.declared.rows.Kept.{Kept as Request}
-use Rattle.review_rows.specs.View.{IsView, stored_answer}
-use Rattle.review_rows.specs.Answer.{IsHistory}
+use Rattle.review_rows.specs.View.{stored_answer}
 use Rattle.review_rows.specs.Shelf.{StaysOrShuts, Shows, IsCommitted, IsDamaged}
 use Rattle.review_tables.specs.Ran.{IsReady, IsDeskIfOpen, Serves, Transacts}
 use Rattle.review_sql.specs.Tables.{tables_at, IsDesk, AreSingle, Commits}

@@ -1,13 +1,11 @@
 -- The tables whose rows are counted have one row at each key, since their keys are UNIQUE.
-use Rattle.std.proofs.Common.{◌≡◌, ◌≤◌, ◌&&◌, ℕ, pos, List, [], ◌∷◌, length, true, false, refl, sym, ap, subst, inl, inr}
-use Rattle.std.specs.Ordering.{is_eq}
+use Rattle.std.proofs.Common.{◌≤◌, ◌&&◌, ℕ, pos, List, [], ◌∷◌, length, refl, subst, inl, inr}
 use Rattle.std.proofs.lemmas.Bool.{and_parts, and_from}
 use Rattle.sqlite_value.specs.declared.value.Value.TheVariants.{Int, Text}
 use Rattle.sqlite_value.specs.Keys.{plain, first_key}
 use Rattle.sqlite_trees.specs.Tree.{Trees, rowid}
-use Rattle.sqlite_value.specs.Order.{Row, column, value_cmp}
-use Rattle.sqlite_schema.specs.Rules.{clashes, agree, differ}
-use Rattle.sqlite_rules.specs.Lists.{Has}
+use Rattle.sqlite_value.specs.Order.{column}
+use Rattle.sqlite_schema.specs.Rules.{agree, differ}
 use Rattle.sqlite_catalog.specs.Listing.{IsSound}
 use Rattle.sqlite_catalog.proofs.AlterLemmas.{keys_are_unique}
 use Rattle.sqlite.specs.Effect.{Database}
@@ -35,14 +33,14 @@ module _ (db : Trees) (sound : IsSound desk_schema db) where
       one_passes (has_key (bases.at k)) (λ other row. agree plain (1 ∷ 2 ∷ 3 ∷ []) other (1 ∷ 2 ∷ 3 ∷ []) row && differ (rowid other) (rowid row)) (db 6)
       (λ row has. keys_are_unique desk_schema db base_table 0 (1 ∷ 2 ∷ 3 ∷ []) row sound (inr (inr (inr (inl refl)))) refl has)
       (λ r s keyed too other is it.
-          let a = and_parts _ _ is in
-          let b = and_parts _ _ it in
-          let c = and_parts _ _ a.1 in
-          let d = and_parts _ _ b.1 in
-          let e = and_parts _ _ c.1 in
-          let f = and_parts _ _ d.1 in
-          and_from _ _ (and_from _ _ (equal_values (Text k.project) (column s 1) (column r 1) refl b.0 a.0) (and_from _ _ (equal_values (Text k.branch) (column s 2) (column r 2) refl d.0 c.0) (and_from _ _ (equal_values (Int (pos k.place)) (column s 3) (column r 3) refl f.0 e.0) refl)))
-          (differ_ids s r too keyed other))
+      let a = and_parts _ _ is in
+      let b = and_parts _ _ it in
+      let c = and_parts _ _ a.1 in
+      let d = and_parts _ _ b.1 in
+      let e = and_parts _ _ c.1 in
+      let f = and_parts _ _ d.1 in
+      and_from _ _ (and_from _ _ (equal_values (Text k.project) (column s 1) (column r 1) refl b.0 a.0) (and_from _ _ (equal_values (Text k.branch) (column s 2) (column r 2) refl d.0 c.0) (and_from _ _ (equal_values (Int (pos k.place)) (column s 3) (column r 3) refl f.0 e.0) refl)))
+      (differ_ids s r too keyed other))
       (db 6) (λ x h. h) apart
 
 pub are_single : (db : Database) → IsReady db → IsSound db.schema db.trees → AreSingle db.trees

@@ -1,5 +1,5 @@
 -- Calls that write nothing.
-use Rattle.std.proofs.Common.{◌≡◌, ◌∙◌, ◌⊎◌, inl, inr, List, ℕ, [], IsTrue, Ok, Err, Result, IfOk, IfErr, refl, sym, arith}
+use Rattle.std.proofs.Common.{◌≡◌, ◌∙◌, inl, inr, List, ℕ, [], IsTrue, Ok, Err, Result, IfOk, IfErr, refl, sym, arith}
 use Rattle.sqlite_value.specs.Order.{Row}
 use Rattle.sqlite.specs.State.{State, HasCleanDisk, Survives, IsUnchanged, IsRolledBack, IsNotRun}
 use Rattle.sqlite.specs.declared.error.Error.{Error}

@@ -1,5 +1,5 @@
 -- What a delta does to the trees, table by table.
-use Rattle.std.specs.Prelude.{ℕ, Some, List}
+use Rattle.std.specs.Prelude.{ℕ, Some}
 use Rattle.sqlite_trees.specs.Tree.{Trees}
 use Rattle.review_rows.specs.declared.rows.Delta.{Delta}
 use Rattle.review_rows.specs.declared.rows.Kept.{Kept}

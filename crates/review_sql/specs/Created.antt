@@ -1,7 +1,6 @@
 -- What `create` and `open` give.
-use Rattle.std.specs.Prelude.{ℕ, ◌≡◌, true, false, [], IsTrue}
+use Rattle.std.specs.Prelude.{◌≡◌, true, [], IsTrue}
 use Rattle.sqlite_trees.specs.declared.store.Store.{Ghosts}
-use Rattle.sqlite_trees.specs.Tree.{Trees}
 use Rattle.sqlite.specs.Effect.{Database}
 use Rattle.sqlite.specs.State.{HasCleanDisk, Survives}
 use Rattle.sqlite.specs.Held.{Held, state}

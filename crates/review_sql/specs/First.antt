@@ -1,10 +1,9 @@
 -- A desk before its first request.
-use Rattle.std.specs.Prelude.{ℕ, [], Some}
+use Rattle.std.specs.Prelude.{[], Some}
 use Rattle.sqlite_trees.specs.Tree.{Trees}
 use Rattle.sqlite.specs.Effect.{Database}
 use Rattle.review_names.specs.Names.{admin_name, administrators}
 use Rattle.review_rows.specs.View.{IsView}
-use Rattle.review_rows.specs.declared.rows.MemberKey.{MemberKey}
 use Rattle.review_tables.specs.Content.{Then}
 use Rattle.review_tables.specs.Desk.{schema_0}
 use Rattle.review_tables.specs.Made.{IsBlank}

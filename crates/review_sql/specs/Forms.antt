@@ -3,7 +3,7 @@ use Rattle.std.specs.Prelude.{ℕ, ℤ, pos, ◌&&◌, Bool, List, [], ◌∷◌
 use Rattle.std.specs.Option.{option_and_then}
 use Rattle.std.specs.Str.{is_utf8}
 use Rattle.sqlite_value.specs.declared.value.Value.TheVariants.{Null, Int, Text}
-use Rattle.sqlite_value.specs.Order.{Row as Raw, column}
+use Rattle.sqlite_value.specs.Order.{column}
 use Rattle.review_names.specs.Names.{is_word}
 use Rattle.review_names.specs.Names.{is_account_number}
 use Rattle.review_names.specs.Forms.{is_commit}

@@ -1,5 +1,5 @@
 -- The laws of the tables.
-use Rattle.std.proofs.Common.{◌≡◌, ◌∙◌, ◌&&◌, ℕ, ℤ, pos, List, Option, Some, Bool, true, refl, ap, sym}
+use Rattle.std.proofs.Common.{◌≡◌, ◌&&◌, ℕ, pos, List, Some, Bool, true, refl, ap}
 use Rattle.std.specs.Str.{is_utf8}
 use Rattle.std.proofs.lemmas.Bool.{and_parts}
 use Rattle.sqlite_value.specs.declared.value.Value.TheVariants.{Int, Text}

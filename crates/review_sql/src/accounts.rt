@@ -19,10 +19,7 @@ impl Lookup for Accounts {
 
     ghost search = { accounts };
 
-    fn select<S: Alter>(
-        tx: &mut Transaction<'_, S>,
-        key: &AccountNo,
-    ) -> Result<Vec<Row>, Error> {
+    fn select<S: Alter>(tx: &mut Transaction<'_, S>, key: &AccountNo) -> Result<Vec<Row>, Error> {
         tx.query_all(texts::FIND_ACCOUNT, params![key.get()])
     }
 
@@ -64,10 +61,7 @@ impl Lookup for AccountNames {
 
     ghost search = { account_names };
 
-    fn select<S: Alter>(
-        tx: &mut Transaction<'_, S>,
-        key: &AccountName,
-    ) -> Result<Vec<Row>, Error> {
+    fn select<S: Alter>(tx: &mut Transaction<'_, S>, key: &AccountName) -> Result<Vec<Row>, Error> {
         tx.query_all(texts::FIND_ACCOUNT_NAMED, params![key.as_str()])
     }
 

@@ -22,10 +22,7 @@ impl Lookup for Answers {
 
     ghost search = { answers };
 
-    fn select<S: Alter>(
-        tx: &mut Transaction<'_, S>,
-        key: &RequestKey,
-    ) -> Result<Vec<Row>, Error> {
+    fn select<S: Alter>(tx: &mut Transaction<'_, S>, key: &RequestKey) -> Result<Vec<Row>, Error> {
         tx.query_all(
             texts::FIND_ANSWER,
             params![key.caller.get(), key.id.as_str()],
@@ -33,9 +30,11 @@ impl Lookup for Answers {
     }
 
     fn read(alloc: Global, row: &Row) -> Result<Option<Answered>, AllocError> {
-        let (Some(request), Some(content), Some(reply)) =
-            (number_at(row, 0), text_at(row, 1), text_at(row, 2))
-        else {
+        let (Some(request), Some(content), Some(reply)) = (
+            number_at(row, 0),
+            text_at(row, 1),
+            text_at(row, 2),
+        ) else {
             return Ok(None);
         };
         Ok(Some(Answered {
@@ -58,10 +57,7 @@ impl Records for Answers {
 
     ghost item = { λ k. record { request = k.request; content = string_bytes k.content; reply = string_bytes k.reply } };
 
-    fn insert_record<S: Alter>(
-        tx: &mut Transaction<'_, S>,
-        whole: &Kept,
-    ) -> Result<usize, Error> {
+    fn insert_record<S: Alter>(tx: &mut Transaction<'_, S>, whole: &Kept) -> Result<usize, Error> {
         let request = to_sql(whole.request)?;
         let content = whole.content.as_str();
         let reply = whole.reply.as_str();
@@ -77,10 +73,7 @@ impl Records for Answers {
         )
     }
 
-    fn remove_record<S: Alter>(
-        tx: &mut Transaction<'_, S>,
-        whole: &Kept,
-    ) -> Result<usize, Error> {
+    fn remove_record<S: Alter>(tx: &mut Transaction<'_, S>, whole: &Kept) -> Result<usize, Error> {
         tx.execute(
             texts::DELETE_ANSWER,
             params![whole.caller.get(), whole.id.as_str()],

@@ -20,10 +20,7 @@ impl Lookup for Members {
 
     ghost search = { members };
 
-    fn select<S: Alter>(
-        tx: &mut Transaction<'_, S>,
-        key: &MemberKey,
-    ) -> Result<Vec<Row>, Error> {
+    fn select<S: Alter>(tx: &mut Transaction<'_, S>, key: &MemberKey) -> Result<Vec<Row>, Error> {
         tx.query_all(
             texts::FIND_MEMBER,
             params![key.group.as_str(), key.account.get()],
@@ -74,10 +71,7 @@ impl Lookup for GroupMembers {
 
     ghost search = { group_members };
 
-    fn select<S: Alter>(
-        tx: &mut Transaction<'_, S>,
-        key: &GroupName,
-    ) -> Result<Vec<Row>, Error> {
+    fn select<S: Alter>(tx: &mut Transaction<'_, S>, key: &GroupName) -> Result<Vec<Row>, Error> {
         tx.query_all(texts::FIND_GROUP, params![key.as_str()])
     }
 

@@ -21,10 +21,7 @@ impl Lookup for Projects {
 
     ghost search = { projects };
 
-    fn select<S: Alter>(
-        tx: &mut Transaction<'_, S>,
-        key: &ProjectName,
-    ) -> Result<Vec<Row>, Error> {
+    fn select<S: Alter>(tx: &mut Transaction<'_, S>, key: &ProjectName) -> Result<Vec<Row>, Error> {
         tx.query_all(texts::FIND_PROJECT, params![key.as_str()])
     }
 
@@ -80,10 +77,7 @@ impl Lookup for ProjectNames {
 
     ghost search = { project_names };
 
-    fn select<S: Alter>(
-        tx: &mut Transaction<'_, S>,
-        key: &ProjectName,
-    ) -> Result<Vec<Row>, Error> {
+    fn select<S: Alter>(tx: &mut Transaction<'_, S>, key: &ProjectName) -> Result<Vec<Row>, Error> {
         tx.query_all(texts::FIND_PROJECT_NAME, params![key.as_str()])
     }
 

@@ -7,10 +7,6 @@ ghost use Rattle.review_sql.specs.Forms.{answers};
 
 use crate::answers::Answers;
 use crate::rows::{Answered, RequestKey};
-
-
-
-
 use review_tables::reads::find;
 use sqlite::{Alter, Connection, Error};
 use std::alloc::Global;

@@ -1,11 +1,5 @@
-use Rattle.std.proofs.Common.{rules, ◌≡◌, Ok, Some, subst, subst₂}
 use Rattle.sqlite.specs.Held.{state}
-use Rattle.review_names.specs.Names.{admin_name, administrators}
-use Rattle.review_rows.specs.declared.rows.MemberKey.{MemberKey}
-use Rattle.review_tables.specs.Ran.{Inside}
-use Rattle.review_tables.specs.Search.{SetsRow}
 use Rattle.review_tables.proofs.Sequences.{next}
-use Rattle.review_sql.specs.Forms.{accounts, members}
 use Rattle.review_sql.proofs.creating.put_first.Goals as goal
 
 pub returns-clause-ran : goal.returns-clause-ran

@@ -1,4 +1,4 @@
-use Rattle.std.proofs.Common.{rules, ◌≡◌, Bool, Ok, Option, true, false}
+use Rattle.std.proofs.Common.{◌≡◌, Bool, Ok, Option}
 use Rattle.std.specs.Bool.{Decides}
 use Rattle.sqlite.specs.Held.{state}
 use Rattle.sqlite_trees.specs.Tree.{Trees}

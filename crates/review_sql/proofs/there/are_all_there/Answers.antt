@@ -1,6 +1,6 @@
-use Rattle.std.proofs.Common.{rules, refl, arith}
+use Rattle.std.proofs.Common.{arith}
 use Rattle.sqlite.specs.Held.{state}
-use Rattle.review_sql.proofs.Staying.{stays_then, stays_still}
+use Rattle.review_sql.proofs.Staying.{stays_still}
 use Rattle.review_sql.proofs.there.are_all_there.Goals as goal
 
 pub loop-at-init : goal.loop-at-init

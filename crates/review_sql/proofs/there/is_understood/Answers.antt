@@ -1,4 +1,4 @@
-use Rattle.std.proofs.Common.{◌≡◌, ◌∙◌, ap, not, IsTrue}
+use Rattle.std.proofs.Common.{◌∙◌, ap, not, IsTrue}
 use Rattle.sqlite.specs.Held.{state}
 use Rattle.sqlite.proofs.StateLemmas.{clean_if_open}
 use Rattle.review_sql.proofs.Staying.{stays_prepared}

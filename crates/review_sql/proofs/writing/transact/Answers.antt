@@ -5,6 +5,7 @@ use Rattle.review_sql.specs.Tables.{Commits}
 use Rattle.review_tables.specs.Ran.{Transacts}
 use Rattle.review_tables.proofs.Sequences.{failed, ended}
 use Rattle.review_sql.proofs.writing.transact.Goals as goal
+
 pub returns-in_err-write-clause-acts : goal.returns-in_err-write-clause-acts
 returns-in_err-write-clause-acts g c =
     let R = Commits c.args.delta.now c.args.kept.now c.args.requests in
@@ -17,6 +18,7 @@ returns-in_err-write-clause-acts g c =
     let is : c.from_residual.result ≡ Err c.in_err-write.field-0.0 = search rules in
     subst (λ (h : Held _). Transacts R s0 (state g.S.Store h) c.from_residual.result) same
     (subst (Transacts R s0 (state g.S.Store last)) (sym is) (failed R s0 s2 (state g.S.Store last) (λ was. c.is_autocommit-settled.ensures.settled auto was) (λ is_open. clean_if_open (g.S.Store.view last.store) (g.met.S.Store.shut_if_dirty last.store) is_open) _ _ inside c.drop-tx.ensures.undone c.drop-tx.ensures.survives))
+
 pub returns-clause-acts : goal.returns-clause-acts
 returns-clause-acts g c =
     let R = Commits c.args.delta.now c.args.kept.now c.args.requests in

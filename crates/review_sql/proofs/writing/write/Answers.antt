@@ -1,6 +1,4 @@
-use Rattle.std.proofs.Common.{rules, ◌≡◌, ◌+◌, Ok, subst}
 use Rattle.sqlite.specs.Held.{state}
-use Rattle.review_tables.specs.Ran.{Within}
 use Rattle.review_tables.proofs.Sequences.{next, retold}
 use Rattle.review_sql.specs.Tables.{Commits}
 use Rattle.review_sql.proofs.Commit.{commits}

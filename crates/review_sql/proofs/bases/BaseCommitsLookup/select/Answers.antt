@@ -1,4 +1,3 @@
-use Rattle.std.proofs.Common.{pos, to_z-of_z, w64}
 use Rattle.sqlite.specs.Held.{state}
 use Rattle.review_tables.proofs.LookupTexts.{base_commit_plain, base_commit_found}
 use Rattle.review_tables.proofs.Sequences.{look}

@@ -1,4 +1,3 @@
-use Rattle.std.proofs.Common.{pos, to_z-of_z, w64}
 use Rattle.sqlite.specs.Held.{state}
 use Rattle.review_tables.proofs.DeskTexts.{removes}
 use Rattle.review_tables.proofs.Sequences.{one_inside, opened}
@@ -8,7 +7,7 @@ pub returns-clause-ran : goal.returns-clause-ran
 returns-clause-ran g c =
     let old = state g.S.Store c.args.tx.now.conn.now in
     let new = state g.S.Store c.execute.new.self.conn.now in
-    one_inside _ _ old new c.execute.result _ (λ count ready h. removes old new  count ready h) (λ clean on. c.execute.ensures.runs clean on) c.execute.ensures.survives
+    one_inside _ _ old new c.execute.result _ (λ count ready h. removes old new count ready h) (λ clean on. c.execute.ensures.runs clean on) c.execute.ensures.survives
 
 pub returns-clause-open : goal.returns-clause-open
 returns-clause-open g c clean on =

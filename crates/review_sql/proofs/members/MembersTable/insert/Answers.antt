@@ -1,4 +1,4 @@
-use Rattle.std.proofs.Common.{pos, to_z-of_z, w64}
+use Rattle.std.proofs.Common.{pos}
 use Rattle.sqlite.specs.Held.{state}
 use Rattle.review_tables.proofs.MemberTexts.{adds}
 use Rattle.review_tables.proofs.Sequences.{one_inside, opened}

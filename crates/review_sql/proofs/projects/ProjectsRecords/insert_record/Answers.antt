@@ -1,9 +1,7 @@
-use Rattle.std.proofs.Common.{pos, to_z-of_z, w64}
 use Rattle.sqlite.specs.Held.{state}
 use Rattle.review_tables.proofs.ProjectTexts.{adds}
 use Rattle.review_tables.proofs.Sequences.{one_inside, opened}
 use Rattle.std.proofs.Common.{subst, IsUtf8}
-use Rattle.std.proofs.lemmas.Bool.{and_from}
 use Rattle.std.proofs.lemmas.Str.{is_utf8-from_IsUtf8}
 use Rattle.review_sql.proofs.Good.{on_ok}
 use Rattle.review_sql.proofs.projects.ProjectsRecords.insert_record.Goals as goal

@@ -1,5 +1,3 @@
-use Rattle.std.proofs.Common.{IsTrue}
-use Rattle.sqlite.specs.Held.{state}
 use Rattle.sqlite.proofs.StateLemmas.{clean_if_open}
 use Rattle.review_sql.proofs.Made.{holds_made, is_created}
 use Rattle.review_sql.proofs.shelf.SqlShelf.create.Goals as goal

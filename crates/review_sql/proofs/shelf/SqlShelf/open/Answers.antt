@@ -1,6 +1,3 @@
-use Rattle.std.proofs.Common.{◌≡◌, ◌∙◌, ap, refl, subst, sym, true}
-use Rattle.sqlite.specs.Effect.{Database}
-use Rattle.sqlite.specs.Held.{state}
 use Rattle.review_sql.proofs.Made.{holds_opened, is_opened}
 use Rattle.review_sql.proofs.shelf.SqlShelf.open.Goals as goal
 

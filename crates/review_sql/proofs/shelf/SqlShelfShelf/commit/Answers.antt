@@ -1,10 +1,9 @@
-use Rattle.std.proofs.Common.{rules, ◌≡◌, ◌∙◌, ◌⊎◌, ◌+◌, ap, not, subst, IsTrue, inl, Ok}
+use Rattle.std.proofs.Common.{rules, ◌≡◌, ◌⊎◌, ◌+◌, ap, subst, Ok}
 use Rattle.sqlite.specs.Held.{Held, state}
 use Rattle.sqlite.proofs.StateLemmas.{clean_if_open}
 use Rattle.review_rows.specs.Rows.{Tables, kept_row}
 use Rattle.review_rows.specs.Shelf.{Shows, IsCommitted}
 use Rattle.review_sql.specs.Shelf.{Kept, Holds, tables_of, stops_of}
-use Rattle.review_sql.specs.Tables.{AreSingle}
 use Rattle.review_sql.proofs.Shown.{holds_committed, stops_committed, committed_shown}
 use Rattle.review_sql.proofs.Singles.{are_single}
 use Rattle.review_sql.proofs.shelf.SqlShelfShelf.commit.Goals as goal
