@@ -11,9 +11,9 @@ ghost use Rattle.review_rows.specs.Files.{File};
 ghost use Rattle.review_rows.specs.View.{AreEnough, IsDecided};
 ghost use Rattle.review_rows.specs.Decisions.{NamesEachOnce};
 
-use crate::keys::{base_of, branch_of};
+use crate::keys::base_of;
 use review_account_decisions::{is_admin, nothing, refused};
-use review_rows::{BaseRow, Delta, Rows};
+use review_rows::{BaseRow, BranchKey, Delta, Rows};
 use review_words::{
     AccountNo, Answer, BranchName, CommitName, NotTaken, ProjectName, Refusal, Reply,
 };
@@ -49,7 +49,10 @@ pub fn record_base(
     if !rows.has_room_for_bases(project) {
         return Ok(refused(alloc, Refusal::Limit));
     }
-    let key = branch_of(alloc, project, branch)?;
+    let key = BranchKey {
+        project: base.project,
+        branch: base.branch,
+    };
     let place = rows.last_place(&key).saturating_add(1);
     let mut delta = nothing(alloc);
     delta.base = Some(BaseRow {

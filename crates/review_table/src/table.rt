@@ -99,6 +99,22 @@ impl<K: Key, V: Drop> Table<K, V> {
         Ok(())
     }
 
+    /// Makes a place for a key, which is copied where it has none. An `Err` changes no row.
+    fn reserve_like(&mut self, alloc: Global, key: &K) -> Result<(), AllocError>
+        ensures same { rows_of self.new ≡ rows_of self.old }
+        ensures rows { (q : K) → row_at K.cmp self.new q ≡ row_at K.cmp self.old q }
+        ensures stay { (q : K) → HasPlace K.cmp self.old q → HasPlace K.cmp self.new q }
+        ensures ok { OnOk result (HasPlace K.cmp self.new key.now) }
+        ensures each { OnOk result ((q : K) → place_at K.cmp self.new q ≡ (if is_at (K.cmp key.now) q then Some (row_at K.cmp self.old q) else place_at K.cmp self.old q)) }
+        ensures err { OnErr result (self.new ≡ self.old) }
+    {
+        if !self.places.contains_key(key) {
+            let key = key.copy(alloc)?;
+            self.reserve(key)?;
+        }
+        Ok(())
+    }
+
     /// Makes a change, where its key has a place.
     fn set(&mut self, key: K, row: Option<V>)
         ensures rows { (q : K) → row_at K.cmp self.new q ≡ (if has_place K.cmp self.old key && is_at (K.cmp key) q then row else row_at K.cmp self.old q) }
@@ -146,8 +162,7 @@ impl<K: Key, V: Drop> Table<K, V> {
         ensures only { HasNoEmptyPlace K.cmp self.old → HasEmptyOnly K.cmp (is_named K.cmp changes.now) self.new }
     {
         for change in changes {
-            let key = change.key.copy(alloc)?;
-            self.reserve(key)?;
+            self.reserve_like(alloc, &change.key)?;
         }
         Ok(())
     }

@@ -68,7 +68,7 @@ returns-clause-decided c = λ reading had h there_is l.
     let free = sym (base_told reading h a.rows.now (record { project = a.project.now; branch = a.branch.now; commit = a.commit.now }) l.agree all.1.0) ∙ (sym asked ∙ (sym c.has_base.ensures ∙ c.if-has_base.false)) in
     let room = sym (room_told reading h a.rows.now (BasesOf a.project.now) l.agree all.1.1.0) ∙ (sym c.has_room_for_bases.ensures ∙ c.if-not-has_room_for_bases.false) in
     let last : c.last_place.result ≡ length (bases h a.project.now a.branch.now) =
-    c.last_place.ensures ∙ (ap (λ k. number_of (known a.rows.now (want.LastPlace k))) c.in_ok-key.ensures
+    c.last_place.ensures ∙ ((λ i. number_of (known a.rows.now (want.LastPlace (record { project = (c.in_ok-base.ensures i).project; branch = (c.in_ok-base.ensures i).branch }))))
     ∙ place_told reading h a.rows.now (record { project = a.project.now; branch = a.branch.now }) l.agree all.1.1.1.0) in
     let below = ltb-true (base_count h a.project.now) 100000 room in
     let within = branch_within h a.project.now a.branch.now in
@@ -76,4 +76,4 @@ returns-clause-decided c = λ reading had h there_is l.
     let empty = c.nothing-delta.ensures in
     base_decided h a.caller a.project.now a.branch.now a.commit.now c.saturating_add-place.result _ place
     there_is admin there free room empty.accounts empty.members empty.file
-    (λ i. Some (record { project = (c.in_ok-key.ensures i).project; branch = (c.in_ok-key.ensures i).branch; place = c.saturating_add-place.result; commit = (c.in_ok-base.ensures i).commit })) empty.changes
+    (λ i. Some (record { project = (c.in_ok-base.ensures i).project; branch = (c.in_ok-base.ensures i).branch; place = c.saturating_add-place.result; commit = (c.in_ok-base.ensures i).commit })) empty.changes

@@ -12,16 +12,15 @@ loop-change-preserved g c =
     let xs = c.args.changes.now in
     let item = c.change-item.result in
     record {
-      same = c.reserve.ensures.same ∙ c.loop-change.invariant.same;
-      rows = λ q. c.reserve.ensures.rows q ∙ c.loop-change.invariant.rows q;
-      stay = λ q there. c.reserve.ensures.stay q (c.loop-change.invariant.stay q there);
-      places = All-more (λ ch. HasPlace R c.reserve.new.self ch.key) xs c.loop-change.change-index item (omega arith)
-          (All-weaker (λ ch. HasPlace R c.loop-change.self ch.key) (λ ch. HasPlace R c.reserve.new.self ch.key) (λ ch. c.reserve.ensures.stay ch.key) (take c.loop-change.change-index xs) c.loop-change.invariant.places)
-          (subst (λ ch. HasPlace R c.reserve.new.self ch.key) c.change-item.is (subst (HasPlace R c.reserve.new.self) c.in_ok-key.ensures c.in_ok-reserve.ensures.ok));
-      each = λ q. c.in_ok-reserve.ensures.each q
-          ∙ (ap (λ k. cond (is_at (R k) q) (Some (row_at R c.loop-change.self q)) (place_at R c.loop-change.self q)) c.in_ok-key.ensures
+      same = c.reserve_like.ensures.same ∙ c.loop-change.invariant.same;
+      rows = λ q. c.reserve_like.ensures.rows q ∙ c.loop-change.invariant.rows q;
+      stay = λ q there. c.reserve_like.ensures.stay q (c.loop-change.invariant.stay q there);
+      places = All-more (λ ch. HasPlace R c.reserve_like.new.self ch.key) xs c.loop-change.change-index item (omega arith)
+          (All-weaker (λ ch. HasPlace R c.loop-change.self ch.key) (λ ch. HasPlace R c.reserve_like.new.self ch.key) (λ ch. c.reserve_like.ensures.stay ch.key) (take c.loop-change.change-index xs) c.loop-change.invariant.places)
+          (subst (λ ch. HasPlace R c.reserve_like.new.self ch.key) c.change-item.is c.in_ok-reserve_like.ensures.ok);
+      each = λ q. c.in_ok-reserve_like.ensures.each q
           ∙ (reserve_more (is_named R (take c.loop-change.change-index xs) q) (is_at (R item.key) q) (place_at R c.args.self.now q) (place_at R c.loop-change.self q) (c.loop-change.invariant.each q)
-          ∙ ap (λ b. cond b (Some (row_at R c.args.self.now q)) (place_at R c.args.self.now q)) (sym (named_more R xs c.loop-change.change-index item item q (omega arith) (sym c.change-item.is)))));
+          ∙ ap (λ b. cond b (Some (row_at R c.args.self.now q)) (place_at R c.args.self.now q)) (sym (named_more R xs c.loop-change.change-index item item q (omega arith) (sym c.change-item.is))));
     }
 
 pub returns-clause-ok : goal.returns-clause-ok
@@ -34,33 +33,18 @@ returns-clause-each g c = λ q.
     c.loop-change.invariant.each q
     ∙ ap (λ cs. cond (is_named R cs q) (Some (row_at R old q)) (place_at R old q)) (take_all c.loop-change.change-index c.args.changes.now c.loop-change-test.false)
 
-pub returns-in_err-key-clause-others : goal.returns-in_err-key-clause-others
-returns-in_err-key-clause-others g c = λ q none.
+pub returns-in_err-reserve_like-clause-others : goal.returns-in_err-reserve_like-clause-others
+returns-in_err-reserve_like-clause-others g c = λ q none.
     let R = g.K.Ord.cmp in
     let old = c.args.self.now in
-    c.loop-change.invariant.each q
-    ∙ ap (λ b. cond b (Some (row_at R old q)) (place_at R old q)) (unnamed_front R c.args.changes.now c.loop-change.change-index q none)
-
-pub returns-in_err-key-clause-only : goal.returns-in_err-key-clause-only
-returns-in_err-key-clause-only g c = λ full q empty.
-    let R = g.K.Ord.cmp in
-    let xs = c.args.changes.now in
-    let i = c.loop-change.change-index in
-    let old = c.args.self.now in
-    named_whole R xs i q (reserved (is_named R (take i xs) q) (row_at R old q) (place_at R old q) (place_at R c.loop-change.self q) (c.loop-change.invariant.each q) (full q) empty)
-
-pub returns-in_err-reserve-clause-others : goal.returns-in_err-reserve-clause-others
-returns-in_err-reserve-clause-others g c = λ q none.
-    let R = g.K.Ord.cmp in
-    let old = c.args.self.now in
-    ap (λ t. place_at R t q) c.in_err-reserve.ensures.err ∙ (c.loop-change.invariant.each q
+    ap (λ t. place_at R t q) c.in_err-reserve_like.ensures.err ∙ (c.loop-change.invariant.each q
     ∙ ap (λ b. cond b (Some (row_at R old q)) (place_at R old q)) (unnamed_front R c.args.changes.now c.loop-change.change-index q none))
 
-pub returns-in_err-reserve-clause-only : goal.returns-in_err-reserve-clause-only
-returns-in_err-reserve-clause-only g c = λ full q empty.
+pub returns-in_err-reserve_like-clause-only : goal.returns-in_err-reserve_like-clause-only
+returns-in_err-reserve_like-clause-only g c = λ full q empty.
     let R = g.K.Ord.cmp in
     let xs = c.args.changes.now in
     let i = c.loop-change.change-index in
     let old = c.args.self.now in
     named_whole R xs i q (reserved (is_named R (take i xs) q) (row_at R old q) (place_at R old q) (place_at R c.loop-change.self q) (c.loop-change.invariant.each q) (full q)
-    (sym (ap (λ t. place_at R t q) c.in_err-reserve.ensures.err) ∙ empty))
+    (sym (ap (λ t. place_at R t q) c.in_err-reserve_like.ensures.err) ∙ empty))
