@@ -1,0 +1,54 @@
+-- Rows of changes in memory.
+use Rattle.std.specs.Prelude.{ℕ, ◌≤◌, ◌≡◌, ◌++◌, List, [], ◌∷◌, Option, Some, None, option_map}
+use Rattle.std.specs.declared.cmp.Ordering.{Ordering}
+use Rattle.std.specs.Ordering.{nat_cmp, ordering_then}
+use Rattle.std.specs.Cmp.Lexicographic.{slice_cmp}
+use Rattle.review_names.specs.Forms.{most_changes, most_patches}
+use Rattle.review_table.specs.declared.table.Change.{Change}
+use Rattle.review_table.specs.Rows.{after_change, row_in, rows_of}
+use Rattle.review_changes.specs.Parts.{Part, TheHeader, PatchOf, VoteOf, RoleOf, CommentOf, AttentionOf, PartRow, AHeader, APatch, AVote, ARole, AComment, ACall}
+use Rattle.review_changes.specs.Seen.{vote_cmp}
+use Rattle.review_changes.specs.declared.rows.PatchRow.{PatchRow}
+use Rattle.review_rows.specs.Rows.{Key, PartKey, Row, APart, edited, part_change, vote_row}
+use Rattle.review_rows.specs.declared.rows.ChangeEdit.{ChangeEdit}
+use Rattle.review_kept_changes.specs.declared.edits.ChangeTables.{ChangeTables}
+
+-- the row of a change, in its tables
+abbrev pub part_in : ChangeTables → Part → Option PartRow
+part_in t TheHeader = Some (AHeader t.header)
+part_in t (PatchOf n) = option_map APatch (row_in nat_cmp (rows_of t.patches) n)
+part_in t (VoteOf n l a) = vote_row (row_in vote_cmp (rows_of t.votes) (record { patch = n; label = l; account = a }))
+part_in t (RoleOf u) = option_map ARole (row_in nat_cmp (rows_of t.roles) u)
+part_in t (CommentOf k) = option_map AComment (row_in nat_cmp (rows_of t.comments) k)
+part_in t (AttentionOf u) = option_map ACall (row_in nat_cmp (rows_of t.attention) u)
+
+-- the row of a change, where it has tables
+abbrev pub part_where : Option ChangeTables → Part → Option PartRow
+part_where None part = None
+part_where (Some t) part = part_in t part
+
+-- the row of the change of a number, among the tables of changes
+abbrev pub part_at : List (ℕ × ChangeTables) → ℕ → Part → Option PartRow
+part_at kept n part = part_where (row_in nat_cmp kept n) part
+
+-- the row of a key, where there are changes only
+abbrev pub row_of : List (ℕ × ChangeTables) → Key → Option Row
+row_of kept (PartKey n part) = option_map APart (part_at kept n part)
+row_of kept _ = None
+
+-- the tables are those of a change that an edit changes, where it had these rows before
+abbrev pub AreEdited : (Part → Option PartRow) → ChangeEdit → ChangeTables → Type 0
+AreEdited old e t = (part : Part) → part_in t part ≡ after_change (part_change e part) (old part)
+
+-- the change puts the tables of a change that an edit changes
+pub record PutsEdited (kept : List (ℕ × ChangeTables)) (e : ChangeEdit) (c : Change ℕ ChangeTables) : Type 0 where
+  pub key : c.key ≡ e.change
+  pub tables : ChangeTables
+  pub row : c.row ≡ Some tables
+  pub edited : AreEdited (part_at kept e.change) e tables
+
+-- each change puts the tables of a change that the edit at its place changes
+abbrev pub PutAllEdited : List (ℕ × ChangeTables) → List ChangeEdit → List (Change ℕ ChangeTables) → Type 0
+PutAllEdited kept [] [] = Unit {0}
+PutAllEdited kept (e ∷ es) (c ∷ cs) = PutsEdited kept e c × PutAllEdited kept es cs
+PutAllEdited kept es cs = ⊥

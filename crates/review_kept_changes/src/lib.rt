@@ -1,0 +1,6 @@
+//! The rows of changes in memory.
+#![tactic(auto)]
+
+pub mod edits;
+
+pub use edits::ChangeTables;
