@@ -1,1 +1,3 @@
 pub mod Turned
+pub mod Made
+pub mod Sent

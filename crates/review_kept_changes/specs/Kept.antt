@@ -2,6 +2,7 @@
 use Rattle.std.specs.Prelude.{ℕ, ◌≤◌, ◌≡◌, ◌++◌, List, [], ◌∷◌, Option, Some, None, option_map}
 use Rattle.std.specs.declared.cmp.Ordering.{Ordering}
 use Rattle.std.specs.Ordering.{nat_cmp, ordering_then}
+use Rattle.std.specs.List.{All}
 use Rattle.std.specs.Cmp.Lexicographic.{slice_cmp}
 use Rattle.review_names.specs.Forms.{most_changes, most_patches}
 use Rattle.review_table.specs.declared.table.Change.{Change}
@@ -12,6 +13,7 @@ use Rattle.review_changes.specs.declared.rows.PatchRow.{PatchRow}
 use Rattle.review_rows.specs.Rows.{Key, PartKey, Row, APart, edited, part_change, vote_row}
 use Rattle.review_rows.specs.declared.rows.ChangeEdit.{ChangeEdit}
 use Rattle.review_kept_changes.specs.declared.edits.ChangeTables.{ChangeTables}
+use Rattle.review_kept_changes.specs.declared.kept.SentKey.{SentKey}
 
 -- the row of a change, in its tables
 abbrev pub part_in : ChangeTables → Part → Option PartRow
@@ -52,3 +54,35 @@ abbrev pub PutAllEdited : List (ℕ × ChangeTables) → List ChangeEdit → Lis
 PutAllEdited kept [] [] = Unit {0}
 PutAllEdited kept (e ∷ es) (c ∷ cs) = PutsEdited kept e c × PutAllEdited kept es cs
 PutAllEdited kept es cs = ⊥
+
+-- by commit, then by change, then by patch set
+abbrev pub sent_cmp : SentKey → SentKey → Ordering
+sent_cmp a b = ordering_then (slice_cmp nat_cmp a.commit b.commit) (ordering_then (nat_cmp a.change b.change) (nat_cmp a.patch b.patch))
+
+-- the numbers of a change and a patch set are ones that these can have
+abbrev pub IsNumbered : SentKey → Type 0
+IsNumbered k = (1 ≤ k.change) × (k.change ≤ most_changes) × (1 ≤ k.patch) × (k.patch ≤ most_patches)
+
+-- the keys of these changes have such numbers
+abbrev pub AreNumbered : List (Change SentKey (Unit {0})) → Type 0
+AreNumbered changes = All (λ c. IsNumbered c.key) changes
+
+-- a list with the key of a patch set in front, where it is one
+abbrev pub with_sent : ℕ → ℕ → Option PatchRow → List (Change SentKey (Unit {0})) → List (Change SentKey (Unit {0}))
+with_sent n p None rest = rest
+with_sent n p (Some patch) rest = record { key = record { commit = patch.commit; change = n; patch = p }; row = Some tt } ∷ rest
+
+-- the keys of the patch sets that a change gets
+abbrev pub sent_in : ℕ → List (Change ℕ PatchRow) → List (Change SentKey (Unit {0}))
+sent_in n [] = []
+sent_in n (c ∷ cs) = with_sent n c.key c.row (sent_in n cs)
+
+-- the keys of the patch sets that changes get
+abbrev pub sent_by : List ChangeEdit → List (Change SentKey (Unit {0}))
+sent_by [] = []
+sent_by (e ∷ es) = sent_in e.change e.patches.items ++ sent_by es
+
+-- each patch set is listed by its commit, and each listed key has numbers that there can be
+pub record AreListed (sent : List (SentKey × Unit {0})) (kept : List (ℕ × ChangeTables)) : Type 0 where
+  pub fits : (k : SentKey) → row_in sent_cmp sent k ≡ Some tt → IsNumbered k
+  pub listed : (n p : ℕ) (patch : PatchRow) → part_at kept n (PatchOf p) ≡ Some (APatch patch) → row_in sent_cmp sent (record { commit = patch.commit; change = n; patch = p }) ≡ Some tt

@@ -2,5 +2,7 @@
 #![tactic(auto)]
 
 pub mod edits;
+pub mod kept;
 
 pub use edits::ChangeTables;
+pub use kept::{Changes, SentKey};
