@@ -1,3 +1,6 @@
 pub mod Turned
 pub mod Made
 pub mod Sent
+pub mod Spare
+pub mod Listing
+pub mod Heads
