@@ -20,10 +20,13 @@ with_apart : (n p : ℕ) (row : Option PatchRow) (rest : List (Change SentKey (U
 with_apart n p None rest = refl
 with_apart n p (Some patch) rest = refl
 
+drop_first : {X : Type 0} (xs : List X) (i : ℕ) (d : X) → i < length xs → drop i xs ≡ get_or xs i d ∷ drop (suc i) xs
+drop_first [] i d below = absurd (omega arith)
+drop_first (x ∷ xs) zero d below = refl
+drop_first (x ∷ xs) (suc i) d below = drop_first xs i d (omega arith)
+
 drop_one : {X : Type 0} (xs : List X) (i : ℕ) (d : X) → i < length xs → drop i xs ≡ get_or xs i d ∷ drop (i + 1) xs
-drop_one [] i d below = absurd (omega arith)
-drop_one (x ∷ xs) zero d below = refl
-drop_one (x ∷ xs) (suc i) d below = drop_one xs i d (omega arith)
+drop_one xs i d below = let e : suc i ≡ i + 1 = omega arith in drop_first xs i d below ∙ ap (λ n. get_or xs i d ∷ drop n xs) e
 
 pub sent_more : (n : ℕ) (cs : List (Change ℕ PatchRow)) (i : ℕ) (c : Change ℕ PatchRow) (old new all : List (Change SentKey (Unit {0}))) → i < length cs → c ≡ get_or cs i c →
     new ≡ old ++ with_sent n c.key c.row [] → old ++ sent_in n (drop i cs) ≡ all → new ++ sent_in n (drop (i + 1) cs) ≡ all

@@ -73,19 +73,19 @@ by_puts (e ∷ es) = puts_append (sent_in e.change e.patches.items) (sent_by es)
 -- what changes a key puts a row there
 put_at : (cs : Puts) → OnlyPuts cs → (q : SentKey) → is_named sent_cmp cs q ≡ true → change_of sent_cmp cs q ≡ Some (Some tt)
 put_at [] puts q named = absurd (let f : false ≡ true = named in cc)
-put_at (c ∷ cs) puts q named = by (is_at (sent_cmp c.key) q) named
+put_at (c ∷ cs) puts q named = by (put_at cs puts.1 q) (is_at (sent_cmp c.key) q) named
   where
-    by : (b : Bool) → is_some (cond b (Some c.row) (change_of sent_cmp cs q)) ≡ true → cond b (Some c.row) (change_of sent_cmp cs q) ≡ Some (Some tt)
-    by true h = ap (λ r. Some r) puts.0
-    by false h = put_at cs puts.1 q h
+    by : (is_named sent_cmp cs q ≡ true → change_of sent_cmp cs q ≡ Some (Some tt)) → (b : Bool) → is_some (cond b (Some c.row) (change_of sent_cmp cs q)) ≡ true → cond b (Some c.row) (change_of sent_cmp cs q) ≡ Some (Some tt)
+    by later true h = ap (λ r. Some r) puts.0
+    by later false h = later h
 
 named_left : (xs ys : Puts) (q : SentKey) → is_named sent_cmp xs q ≡ true → is_named sent_cmp (xs ++ ys) q ≡ true
 named_left [] ys q h = absurd (let f : false ≡ true = h in cc)
-named_left (c ∷ xs) ys q h = by (is_at (sent_cmp c.key) q) h
+named_left (c ∷ xs) ys q h = by (named_left xs ys q) (is_at (sent_cmp c.key) q) h
   where
-    by : (b : Bool) → is_some (cond b (Some c.row) (change_of sent_cmp xs q)) ≡ true → is_some (cond b (Some c.row) (change_of sent_cmp (xs ++ ys) q)) ≡ true
-    by true h = refl
-    by false h = named_left xs ys q h
+    by : (is_named sent_cmp xs q ≡ true → is_named sent_cmp (xs ++ ys) q ≡ true) → (b : Bool) → is_some (cond b (Some c.row) (change_of sent_cmp xs q)) ≡ true → is_some (cond b (Some c.row) (change_of sent_cmp (xs ++ ys) q)) ≡ true
+    by later true h = refl
+    by later false h = later h
 
 later_named : (b : Bool) (row : Option (Unit {0})) (o : Option (Option (Unit {0}))) → is_some o ≡ true → is_some (cond b (Some row) o) ≡ true
 later_named true row o h = refl
@@ -111,15 +111,15 @@ here_named n p row rest patch is =
 -- the patch sets that a change gets are listed
 named_in : (n : ℕ) (cs : List (Change ℕ PatchRow)) (p : ℕ) (patch : PatchRow) → change_of nat_cmp cs p ≡ Some (Some patch) → is_named sent_cmp (sent_in n cs) (key_of patch n p) ≡ true
 named_in n [] p patch is = absurd (let f : None ≡ Some (Some patch) = is in cc)
-named_in n (c ∷ cs) p patch is = by (c.key == p) refl (sym (ap (λ b. cond b (Some c.row) (change_of nat_cmp cs p)) (unsigned_tied c.key p)) ∙ is)
+named_in n (c ∷ cs) p patch is = by (named_in n cs p patch) (c.key == p) refl (sym (ap (λ b. cond b (Some c.row) (change_of nat_cmp cs p)) (unsigned_tied c.key p)) ∙ is)
   where
-    by : (b : Bool) → (c.key == p) ≡ b → cond (c.key == p) (Some c.row) (change_of nat_cmp cs p) ≡ Some (Some patch) → is_named sent_cmp (with_sent n c.key c.row (sent_in n cs)) (key_of patch n p) ≡ true
-    by true e h =
+    by : (change_of nat_cmp cs p ≡ Some (Some patch) → is_named sent_cmp (sent_in n cs) (key_of patch n p) ≡ true) → (b : Bool) → (c.key == p) ≡ b → cond (c.key == p) (Some c.row) (change_of nat_cmp cs p) ≡ Some (Some patch) → is_named sent_cmp (with_sent n c.key c.row (sent_in n cs)) (key_of patch n p) ≡ true
+    by later true e h =
         subst (λ m. is_named sent_cmp (with_sent n c.key c.row (sent_in n cs)) (key_of patch n m) ≡ true) (eqb-true c.key p e)
         (here_named n c.key c.row (sent_in n cs) patch
         (same_Some c.row (Some patch) (sym (ap (λ b. cond b (Some c.row) (change_of nat_cmp cs p)) e) ∙ h)))
-    by false e h =
-        with_named n c.key c.row (sent_in n cs) (key_of patch n p) (named_in n cs p patch (sym (ap (λ b. cond b (Some c.row) (change_of nat_cmp cs p)) e) ∙ h))
+    by later false e h =
+        with_named n c.key c.row (sent_in n cs) (key_of patch n p) (later (sym (ap (λ b. cond b (Some c.row) (change_of nat_cmp cs p)) e) ∙ h))
 
 patch_put : (o : Option (Option PatchRow)) (patch : PatchRow) → option_map (option_map APatch) o ≡ Some (Some (APatch patch)) → o ≡ Some (Some patch)
 patch_put None patch is = absurd (let f : None ≡ Some (Some (APatch patch)) = is in cc)
@@ -128,16 +128,16 @@ patch_put (Some (Some x)) patch is = let f : Some (Some (APatch x)) ≡ Some (So
 
 named_by : (es : List ChangeEdit) (n p : ℕ) (patch : PatchRow) → edited es n (PatchOf p) ≡ Some (Some (APatch patch)) → is_named sent_cmp (sent_by es) (key_of patch n p) ≡ true
 named_by [] n p patch is = absurd (let f : None ≡ Some (Some (APatch patch)) = is in cc)
-named_by (e ∷ es) n p patch is = by (e.change == n) refl
+named_by (e ∷ es) n p patch is = by (named_by es n p patch) (e.change == n) refl
   where
-    by : (b : Bool) → (e.change == n) ≡ b → is_named sent_cmp (sent_in e.change e.patches.items ++ sent_by es) (key_of patch n p) ≡ true
-    by true same =
+    by : (edited es n (PatchOf p) ≡ Some (Some (APatch patch)) → is_named sent_cmp (sent_by es) (key_of patch n p) ≡ true) → (b : Bool) → (e.change == n) ≡ b → is_named sent_cmp (sent_in e.change e.patches.items ++ sent_by es) (key_of patch n p) ≡ true
+    by later true same =
         let put = patch_put (change_of nat_cmp e.patches.items p) patch (sym (ap (λ b. cond b (part_change e (PatchOf p)) (edited es n (PatchOf p))) same) ∙ is) in
         subst (λ m. is_named sent_cmp (sent_in e.change e.patches.items ++ sent_by es) (key_of patch m p) ≡ true) (eqb-true e.change n same)
         (named_left (sent_in e.change e.patches.items) (sent_by es) (key_of patch e.change p) (named_in e.change e.patches.items p patch put))
-    by false other =
+    by later false other =
         named_right (sent_in e.change e.patches.items) (sent_by es) (key_of patch n p)
-        (named_by es n p patch (sym (ap (λ b. cond b (part_change e (PatchOf p)) (edited es n (PatchOf p))) other) ∙ is))
+        (later (sym (ap (λ b. cond b (part_change e (PatchOf p)) (edited es n (PatchOf p))) other) ∙ is))
 
 after_put : (o : Option (Option (Unit {0}))) (was : Option (Unit {0})) → (is_some o ≡ true → o ≡ Some (Some tt)) → was ≡ Some tt → after_change o was ≡ Some tt
 after_put None was h is = is
@@ -146,11 +146,11 @@ after_put (Some x) was h is = same_Some x (Some tt) (h refl)
 -- a key that is changed has numbers
 key_numbered : (cs : Puts) → AllByRecursion (λ c. IsNumbered c.key) cs → (q : SentKey) → is_named sent_cmp cs q ≡ true → IsNumbered q
 key_numbered [] all q named = absurd (let f : false ≡ true = named in cc)
-key_numbered (c ∷ cs) all q named = by (is_at (sent_cmp c.key) q) refl named
+key_numbered (c ∷ cs) all q named = by (key_numbered cs all.1 q) (is_at (sent_cmp c.key) q) refl named
   where
-    by : (b : Bool) → is_at (sent_cmp c.key) q ≡ b → is_some (cond b (Some c.row) (change_of sent_cmp cs q)) ≡ true → IsNumbered q
-    by true at h = subst IsNumbered (tells_apart exact_sent c.key q at) all.0
-    by false at h = key_numbered cs all.1 q h
+    by : (is_named sent_cmp cs q ≡ true → IsNumbered q) → (b : Bool) → is_at (sent_cmp c.key) q ≡ b → is_some (cond b (Some c.row) (change_of sent_cmp cs q)) ≡ true → IsNumbered q
+    by later true at h = subst IsNumbered (tells_apart exact_sent c.key q at) all.0
+    by later false at h = later h
 
 -- the index after the edits has the patch sets of the changes after them
 pub listed_after : (es : List ChangeEdit) (sent after : List (SentKey × Unit {0})) (kept new : List (ℕ × ChangeTables)) → AreListed sent kept → AreNumbered (sent_by es) →
@@ -175,3 +175,11 @@ listed_after es sent after kept new old numbered put made = record {
         let row = sym (ap (λ o. after_change o (part_at kept n (PatchOf p))) some) ∙ is in
         let named = named_by es n p patch (some ∙ ap (λ r. Some r) row) in
         put (key_of patch n p) ∙ ap (λ o. after_change o (row_in sent_cmp sent (key_of patch n p))) (put_at (sent_by es) (by_puts es) (key_of patch n p) named)
+
+only_some : (cs : Puts) → OnlyPuts cs → AllByRecursion (λ c. IsSome c.row) cs
+only_some [] puts = tt
+only_some (c ∷ cs) puts = (ap is_some puts.0, only_some cs puts.1)
+
+-- each change of the index puts a row
+pub all_put : (es : List ChangeEdit) → All (λ (c : Change SentKey (Unit {0})). IsSome c.row) (sent_by es)
+all_put es = All-from_recursion (λ c. IsSome c.row) (sent_by es) (only_some (sent_by es) (by_puts es))
