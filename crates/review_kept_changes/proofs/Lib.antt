@@ -4,3 +4,5 @@ pub mod Sent
 pub mod Spare
 pub mod Listing
 pub mod Heads
+pub mod Sending
+pub mod Left

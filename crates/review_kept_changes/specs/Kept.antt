@@ -1,8 +1,9 @@
 -- Rows of changes in memory.
-use Rattle.std.specs.Prelude.{ℕ, ◌≤◌, ◌≡◌, ◌++◌, List, [], ◌∷◌, Option, Some, None, option_map}
+use Rattle.std.specs.Prelude.{ℕ, Bool, false, ◌&&◌, ◌≤◌, ◌≡◌, ◌++◌, List, [], ◌∷◌, Option, Some, None, option_map}
 use Rattle.std.specs.declared.cmp.Ordering.{Ordering}
 use Rattle.std.specs.Ordering.{nat_cmp, ordering_then}
 use Rattle.std.specs.List.{All}
+use Rattle.std.specs.Str.{bytes_eq}
 use Rattle.std.specs.Cmp.Lexicographic.{slice_cmp}
 use Rattle.review_names.specs.Forms.{most_changes, most_patches}
 use Rattle.review_table.specs.declared.table.Change.{Change}
@@ -11,6 +12,7 @@ use Rattle.review_changes.specs.Parts.{Part, TheHeader, PatchOf, VoteOf, RoleOf,
 use Rattle.review_changes.specs.Seen.{vote_cmp}
 use Rattle.review_changes.specs.declared.rows.PatchRow.{PatchRow}
 use Rattle.review_rows.specs.Rows.{Key, PartKey, Row, APart, edited, part_change, vote_row}
+use Rattle.review_rows.specs.declared.rows.Base.{Base}
 use Rattle.review_rows.specs.declared.rows.ChangeEdit.{ChangeEdit}
 use Rattle.review_kept_changes.specs.declared.edits.ChangeTables.{ChangeTables}
 use Rattle.review_kept_changes.specs.declared.kept.SentKey.{SentKey}
@@ -86,3 +88,13 @@ sent_by (e ∷ es) = sent_in e.change e.patches.items ++ sent_by es
 pub record AreListed (sent : List (SentKey × Unit {0})) (kept : List (ℕ × ChangeTables)) : Type 0 where
   pub fits : (k : SentKey) → row_in sent_cmp sent k ≡ Some tt → IsNumbered k
   pub listed : (n p : ℕ) (patch : PatchRow) → part_at kept n (PatchOf p) ≡ Some (APatch patch) → row_in sent_cmp sent (record { commit = patch.commit; change = n; patch = p }) ≡ Some tt
+
+-- whether it is a patch set of the commit
+abbrev pub has_commit : Option PatchRow → List ℕ → Bool
+has_commit None commit = false
+has_commit (Some patch) commit = bytes_eq patch.commit commit
+
+-- whether a change is for the branch, and its patch set of a number has the commit
+abbrev pub is_sent : Option ChangeTables → Base → ℕ → Bool
+is_sent None base p = false
+is_sent (Some t) base p = bytes_eq t.header.project base.project && (bytes_eq t.header.branch base.branch && has_commit (row_in nat_cmp (rows_of t.patches) p) base.commit)

@@ -1,15 +1,15 @@
 //! The rows of all changes in memory, with an index by commit.
-ghost use Rattle.std.specs.Prelude.{◌≡◌, ◌++◌, [], ℕ, IfOk, OnOk, OnErr};
+ghost use Rattle.std.specs.Prelude.{◌≡◌, Some, ◌++◌, [], ℕ, IfOk, OnOk, OnErr};
 ghost use Rattle.std.specs.Ordering.{nat_cmp};
-ghost use Rattle.review_table.specs.Rows.{after_change, is_named, rows_of, HasEmptyOnly, HasNoEmptyPlace, HavePlaces};
+ghost use Rattle.review_table.specs.Rows.{after_change, is_named, row_in, rows_of, HasEmptyOnly, HasNoEmptyPlace, HavePlaces};
 ghost use Rattle.review_changes.specs.Parts.{Part};
 ghost use Rattle.review_rows.specs.Rows.{edited};
-ghost use Rattle.review_rows.specs.Known.{IsLast, header_key};
-ghost use Rattle.review_kept_changes.specs.Kept.{part_at, row_of, sent_by, sent_cmp, sent_in, with_sent, AreNumbered, PutsEdited, PutAllEdited};
+ghost use Rattle.review_rows.specs.Known.{IsLast, IsSentBy, header_key};
+ghost use Rattle.review_kept_changes.specs.Kept.{is_sent, part_at, row_of, sent_by, sent_cmp, sent_in, with_sent, AreNumbered, PutsEdited, PutAllEdited};
 
 use crate::edits::{ChangeTables, begun, edited};
 use review_changes::PatchRow;
-use review_rows::ChangeEdit;
+use review_rows::{Base, ChangeEdit};
 use review_table::{Change, Key, Table};
 use review_words::{ChangeNo, CommitName, PatchNo};
 use std::alloc::{AllocError, Global};
@@ -72,6 +72,30 @@ impl Changes {
         match self.kept.last_key() {
             Some(number) => number.get(),
             None => 0,
+        }
+    }
+
+    /// The change for a branch that has a patch set of a commit, or that none has.
+    pub fn sender(&self, alloc: Global, base: &Base) -> Result<Option<ChangeNo>, AllocError>
+        ensures { IfOk result (IsSentBy (row_of self.now) base.now) }
+    {
+        let from = least_key(alloc, base)?;
+        let to = greatest_key(alloc, base)?;
+        for (key, _) in self.sent.select(alloc, from, to)? {
+            if self.has_sent(base, key) {
+                return Ok(Some(key.change));
+            }
+        }
+        Ok(None)
+    }
+
+    // Whether the change of a key is for the branch, and its patch set has the commit.
+    fn has_sent(&self, base: &Base, key: &SentKey) -> bool
+        ensures { result ≡ is_sent (row_in nat_cmp self.now key.now.change) base.now key.now.patch }
+    {
+        match self.kept.get(&key.change) {
+            Some(tables) => is_sent(tables, base, key.patch),
+            None => false,
         }
     }
 
@@ -198,4 +222,51 @@ fn add_key(
     };
     sent.push(Change { key, row: Some(()) })?;
     Ok(())
+}
+
+fn is_sent(tables: &ChangeTables, base: &Base, patch: PatchNo) -> bool
+    ensures { result ≡ is_sent (Some tables.now) base.now patch }
+{
+    match tables.patches.get(&patch) {
+        Some(row) => {
+            tables.header.project.as_str() == base.project.as_str()
+                && tables.header.branch.as_str() == base.branch.as_str()
+                && row.commit.as_str() == base.commit.as_str()
+        }
+        None => false,
+    }
+}
+
+#[tactic(auto, unfolding(review_names::specs::Forms::is_within))]
+fn least_key(alloc: Global, base: &Base) -> Result<SentKey, AllocError>
+    ensures { IfOk result (λ k. k ≡ record { commit = base.now.commit; change = 1; patch = 1 }) }
+{
+    let Some(change) = ChangeNo::from_number(1) else {
+        unreachable!()
+    };
+    let Some(patch) = PatchNo::from_number(1) else {
+        unreachable!()
+    };
+    Ok(SentKey {
+        commit: base.commit.copy(alloc)?,
+        change,
+        patch,
+    })
+}
+
+#[tactic(auto, unfolding(review_names::specs::Forms::is_within))]
+fn greatest_key(alloc: Global, base: &Base) -> Result<SentKey, AllocError>
+    ensures { IfOk result (λ k. k ≡ record { commit = base.now.commit; change = 1000000000; patch = 1000 }) }
+{
+    let Some(change) = ChangeNo::from_number(1_000_000_000) else {
+        unreachable!()
+    };
+    let Some(patch) = PatchNo::from_number(1_000) else {
+        unreachable!()
+    };
+    Ok(SentKey {
+        commit: base.commit.copy(alloc)?,
+        change,
+        patch,
+    })
 }

@@ -31,7 +31,7 @@ invariant_of-self c =
 pub returns-in-Ok-clause-done : goal.returns-in-Ok-clause-done
 returns-in-Ok-clause-done c = λ n part.
     (made_by (rows_of c.self.inside.kept) (rows_of c.reserve-reserved.new.kept) (rows_of c.apply.new.self) c.args.edits.now c.in_ok-kept.kept.items c.in_ok-kept.ensures c.reserve-reserved.ensures.kept
-          (c.apply.ensures.all (subst (HavePlaces nat_cmp c.reserve-reserved.new.kept) c.deref.ensures.value c.in-Ok.ensures.tables))) n part ∙ ap (λ (v : List (ℕ × ChangeTables)). after_change (edited c.args.edits.now n part) (part_at v n part)) c.self.view_is
+    (c.apply.ensures.all (subst (HavePlaces nat_cmp c.reserve-reserved.new.kept) c.deref.ensures.value c.in-Ok.ensures.tables))) n part ∙ ap (λ (v : List (ℕ × ChangeTables)). after_change (edited c.args.edits.now n part) (part_at v n part)) c.self.view_is
 
 pub invariant_of-self-in-Err-1 : goal.invariant_of-self-in-Err-1
 invariant_of-self-in-Err-1 c =
