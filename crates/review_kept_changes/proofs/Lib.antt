@@ -6,3 +6,4 @@ pub mod Listing
 pub mod Heads
 pub mod Sending
 pub mod Left
+pub mod Ordered

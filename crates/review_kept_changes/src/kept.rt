@@ -1,14 +1,17 @@
 //! The rows of all changes in memory, with an index by commit.
-ghost use Rattle.std.specs.Prelude.{◌≡◌, Some, ◌++◌, [], ℕ, IfOk, OnOk, OnErr};
+ghost use Rattle.std.specs.Prelude.{◌≡◌, Some, ◌++◌, [], ℕ, IfErr, IfOk, OnOk, OnErr, option_map};
 ghost use Rattle.std.specs.Ordering.{nat_cmp};
 ghost use Rattle.review_table.specs.Rows.{after_change, is_named, row_in, rows_of, HasEmptyOnly, HasNoEmptyPlace, HavePlaces};
 ghost use Rattle.review_changes.specs.Parts.{Part};
 ghost use Rattle.review_rows.specs.Rows.{edited};
-ghost use Rattle.review_rows.specs.Known.{IsLast, IsSentBy, header_key};
+ghost use Rattle.review_rows.specs.Known.{HasChange, IsLast, IsSentBy, header_key};
+ghost use Rattle.review_changes.specs.Seen.{seen};
+ghost use Rattle.review_kept_changes.specs.Loads.{IsUnread};
 ghost use Rattle.review_kept_changes.specs.Kept.{is_sent, part_at, row_of, sent_by, sent_cmp, sent_in, with_sent, AreNumbered, PutsEdited, PutAllEdited};
 
 use crate::edits::{ChangeTables, begun, edited};
-use review_changes::PatchRow;
+use crate::loading::{ChangeFault, change_rows};
+use review_changes::{ChangeRows, PatchRow};
 use review_rows::{Base, ChangeEdit};
 use review_table::{Change, Key, Table};
 use review_words::{ChangeNo, CommitName, PatchNo};
@@ -62,6 +65,17 @@ impl Changes {
         Changes {
             kept: Table::new(alloc),
             sent: Table::new(alloc),
+        }
+    }
+
+    /// The change of a number with all its rows, or that there is none. Gap where its rows are those of no change.
+    pub fn load(&self, alloc: Global, number: ChangeNo) -> Result<Option<ChangeRows>, ChangeFault>
+        ensures found { IfOk result (λ change. HasChange (row_of self.now) number (option_map (λ c. seen c) change)) }
+        ensures fault { IfErr result (IsUnread self.now number) }
+    {
+        match self.kept.get(&number) {
+            Some(tables) => Ok(Some(change_rows(alloc, tables)?)),
+            None => Ok(None),
         }
     }
 

@@ -3,6 +3,8 @@
 
 pub mod edits;
 pub mod kept;
+pub mod loading;
 
 pub use edits::ChangeTables;
 pub use kept::{Changes, SentKey};
+pub use loading::ChangeFault;
