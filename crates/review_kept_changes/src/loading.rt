@@ -1,5 +1,5 @@
 //! A change from its tables.
-ghost use Rattle.std.specs.Prelude.{◌≡◌, IfOk, IfErr};
+ghost use Rattle.std.specs.Prelude.{◌≡◌, ◌++◌, ◌∷◌, [], IfErr, IfOk, OnOk};
 ghost use Rattle.review_table.specs.Rows.{rows_of};
 ghost use Rattle.review_changes.specs.Seen.{seen};
 ghost use Rattle.review_kept_changes.specs.Loads.{AreInOrder, HaveFault, IsGap, Show};
@@ -59,7 +59,7 @@ fn patches_in_order(
         if number.get() as usize != patches.len() + 1 {
             return Err(ChangeFault::Gap);
         }
-        patches.push(patch.copied(alloc)?)?;
+        add_copy(alloc, &mut patches, patch)?;
     }
     Ok(patches)
 }
@@ -76,7 +76,14 @@ fn comments_in_order(
         if number.get() as usize != comments.len() + 1 {
             return Err(ChangeFault::Gap);
         }
-        comments.push(comment.copied(alloc)?)?;
+        add_copy(alloc, &mut comments, comment)?;
     }
     Ok(comments)
+}
+
+fn add_copy<V: Copied>(alloc: Global, rows: &mut Vec<V>, row: &V) -> Result<(), AllocError>
+    ensures { OnOk result (rows.new.items ≡ rows.old.items ++ row.now ∷ []) }
+{
+    rows.push(row.copied(alloc)?)?;
+    Ok(())
 }
