@@ -7,3 +7,4 @@ pub mod Heads
 pub mod Sending
 pub mod Left
 pub mod Ordered
+pub mod Shown

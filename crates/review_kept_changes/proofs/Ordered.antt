@@ -3,7 +3,8 @@ use Rattle.std.proofs.Common.{◌≡◌, ℕ, zero, suc, ◌+◌, ◌<◌, ◌�
 use Rattle.std.specs.Prelude.{slice_get, is_some}
 use Rattle.std.specs.declared.cmp.Ordering.TheVariants.{Less}
 use Rattle.std.specs.Ordering.{nat_cmp}
-use Rattle.std.specs.Cmp.{nat_cmp_is, unsigned_tied}
+use Rattle.std.proofs.lemmas.Cmp.{ranked}
+use Rattle.std.specs.Cmp.{unsigned_tied}
 use Rattle.std.specs.List.{AllByRecursion}
 use Rattle.std.specs.List.Sorted.{IsStrictlySortedBy}
 use Rattle.std.specs.Map.{keys_of}
@@ -65,7 +66,7 @@ number_some ys zero x h = absurd (cc)
 number_some ys (suc n) x h = let r = get_some ys n x h in omega (arith, r)
 
 nat_cmp_less : (m n : ℕ) → nat_cmp m n ≡ Less → m < n
-nat_cmp_less m n h = subst (λ r. MatchOrdering r (m < n) (m ≡ n) (n < m)) h (nat_cmp_cases m n)
+nat_cmp_less m n h = ranked m n Less (sym h)
 
 none_below : {X : Type 0} (m : ℕ) (rest : List (ℕ × X)) (n : ℕ) → AllByRecursion (λ z. nat_cmp m z ≡ Less) (keys_of rest) → n ≤ m → row_in nat_cmp rest n ≡ None
 none_below m [] n s h = refl
