@@ -1,6 +1,7 @@
 -- The change that tables show.
-use Rattle.std.proofs.Common.{◌≡◌, ℕ, ℤ, cond, Option, Some, None, List, refl, sym, ap, ◌∙◌}
-use Rattle.std.specs.Prelude.{option_map}
+use Rattle.std.proofs.Common.{◌≡◌, ℕ, ℤ, cond, Option, Some, None, List, Result, Ok, Err, refl, sym, ap, subst, ◌∙◌}
+use Rattle.std.specs.Result.{IsErr, IsErrAnd}
+use Rattle.std.specs.Prelude.{IfErr, option_map}
 use Rattle.std.specs.Ordering.{nat_cmp}
 use Rattle.review_table.specs.Rows.{row_in, rows_of}
 use Rattle.review_changes.specs.Change.{Change, of_number}
@@ -79,3 +80,8 @@ unread kept n t Memory is none = tt
 unread kept n t Gap is none None has = let bad : Some (APart (AHeader t.header)) ≡ None = sym (ap (λ o. option_map APart (part_where o TheHeader)) is) ∙ has TheHeader in absurd (cc)
 unread kept n t Gap is none (Some c) has =
     none c (λ part. part_from (part_in t part) (part_row c part) (sym (ap (λ o. option_map APart (part_where o part)) is) ∙ has part))
+
+-- an error that is passed on
+pub passed : {X : Type 0} (Holds : ChangeFault → Type 0) (f : ChangeFault) (r : Result X ChangeFault) → IsErr r × IsErrAnd r (λ e. e ≡ f) → Holds f → IfErr r Holds
+passed Holds f (Ok x) e h = tt
+passed Holds f (Err x) e h = subst Holds (sym e.1) h
