@@ -56,11 +56,11 @@ comment_from (Some x) (Some y) e = let same : x ≡ y = cc in ap Some same
 
 pub patches_fault : (t : ChangeTables) (f : ChangeFault) → IsGap (rows_of t.patches) f → HaveFault t f
 patches_fault t Memory none = tt
-patches_fault t Gap none c show = none c.patches (λ n. patch_from (row_in nat_cmp (rows_of t.patches) n) (of_number c.patches n) (show (PatchOf n)))
+patches_fault t Gap none = λ c show. none c.patches (λ n. patch_from (row_in nat_cmp (rows_of t.patches) n) (of_number c.patches n) (show (PatchOf n)))
 
 pub comments_fault : (t : ChangeTables) (f : ChangeFault) → IsGap (rows_of t.comments) f → HaveFault t f
 comments_fault t Memory none = tt
-comments_fault t Gap none c show = none c.comments (λ n. comment_from (row_in nat_cmp (rows_of t.comments) n) (of_number c.comments n) (show (CommentOf n)))
+comments_fault t Gap none = λ c show. none c.comments (λ n. comment_from (row_in nat_cmp (rows_of t.comments) n) (of_number c.comments n) (show (CommentOf n)))
 
 part_from : (o p : Option PartRow) → option_map APart o ≡ option_map APart p → o ≡ p
 part_from None None e = refl
@@ -77,9 +77,11 @@ has_none kept n is part = ap (λ o. option_map APart (part_where o part)) is
 
 pub unread : (kept : List (ℕ × ChangeTables)) (n : ℕ) (t : ChangeTables) (f : ChangeFault) → row_in nat_cmp kept n ≡ Some t → HaveFault t f → IsUnread kept n f
 unread kept n t Memory is none = tt
-unread kept n t Gap is none None has = let bad : Some (APart (AHeader t.header)) ≡ None = sym (ap (λ o. option_map APart (part_where o TheHeader)) is) ∙ has TheHeader in absurd (cc)
-unread kept n t Gap is none (Some c) has =
-    none c (λ part. part_from (part_in t part) (part_row c part) (sym (ap (λ o. option_map APart (part_where o part)) is) ∙ has part))
+unread kept n t Gap is none = λ c has. none_has c has
+  where
+    none_has : (c : Option Change) → HasChange (row_of kept) n c → ⊥
+    none_has None has = let bad : Some (APart (AHeader t.header)) ≡ None = sym (ap (λ o. option_map APart (part_where o TheHeader)) is) ∙ has TheHeader in absurd (cc)
+    none_has (Some c) has = none c (λ part. part_from (part_in t part) (part_row c part) (sym (ap (λ o. option_map APart (part_where o part)) is) ∙ has part))
 
 -- an error that is passed on
 pub passed : {X : Type 0} (Holds : ChangeFault → Type 0) (f : ChangeFault) (r : Result X ChangeFault) → IsErr r × IsErrAnd r (λ e. e ≡ f) → Holds f → IfErr r Holds
