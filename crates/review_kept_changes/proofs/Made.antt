@@ -4,15 +4,14 @@ use Rattle.std.specs.Option.{IsSome}
 use Rattle.std.specs.List.{All, AllByRecursion}
 use Rattle.std.specs.Ordering.{nat_cmp}
 use Rattle.std.specs.Cmp.{unsigned_tied}
-use Rattle.std.specs.BTreeMap.{is_at}
 use Rattle.std.proofs.lemmas.List.Elements.{All-from_recursion}
 use Rattle.review_table.specs.declared.table.Change.{Change}
 use Rattle.review_table.specs.Rows.{after_change, changed, change_of, row_in}
-use Rattle.review_changes.specs.Parts.{Part, PartRow}
+use Rattle.review_changes.specs.Parts.{Part}
 use Rattle.review_rows.specs.Rows.{edited, part_change}
 use Rattle.review_rows.specs.declared.rows.ChangeEdit.{ChangeEdit}
 use Rattle.review_kept_changes.specs.declared.edits.ChangeTables.{ChangeTables}
-use Rattle.review_kept_changes.specs.Kept.{part_at, part_in, part_where, PutsEdited, PutAllEdited}
+use Rattle.review_kept_changes.specs.Kept.{part_at, part_where, PutAllEdited}
 
 -- the first change of a number decides, as the first edit does
 pub made : (kept : List (ℕ × ChangeTables)) (es : List ChangeEdit) (cs : List (Change ℕ ChangeTables)) → PutAllEdited kept es cs → (n : ℕ) (part : Part) →

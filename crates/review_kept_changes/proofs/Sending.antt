@@ -1,5 +1,5 @@
 -- Which change has a patch set of a commit, by its tables.
-use Rattle.std.proofs.Common.{◌≡◌, ℕ, ◌≤◌, Bool, true, false, ◌&&◌, not, List, Option, Some, None, refl, sym, ap, ◌∙◌, subst, arith}
+use Rattle.std.proofs.Common.{◌≡◌, ℕ, ◌≤◌, true, false, ◌&&◌, not, List, Option, Some, None, refl, ap, ◌∙◌, subst, arith}
 use Rattle.std.specs.Option.{option_map}
 use Rattle.std.specs.declared.cmp.Ordering.{Ordering}
 use Rattle.std.specs.declared.cmp.Ordering.TheVariants.{Less, Equal, Greater}
@@ -9,7 +9,6 @@ use Rattle.std.specs.Str.{bytes_eq}
 use Rattle.std.proofs.lemmas.Bool.{and_parts}
 use Rattle.std.proofs.lemmas.Cmp.{nat_list_cmp_total, tied_itself}
 use Rattle.std.proofs.lemmas.Slice.Eq.{bytes_eq-Decides}
-use Rattle.review_names.specs.Forms.{most_changes, most_patches}
 use Rattle.review_table.specs.Rows.{row_in, rows_of}
 use Rattle.review_changes.specs.Parts.{TheHeader, PatchOf, AHeader, APatch}
 use Rattle.review_changes.specs.declared.rows.Header.{Header}
@@ -19,7 +18,7 @@ use Rattle.review_rows.specs.Known.{IsSender}
 use Rattle.review_rows.specs.declared.rows.Base.{Base}
 use Rattle.review_kept_changes.specs.declared.edits.ChangeTables.{ChangeTables}
 use Rattle.review_kept_changes.specs.declared.kept.SentKey.{SentKey}
-use Rattle.review_kept_changes.specs.Kept.{has_commit, is_sent, part_at, part_where, row_of, sent_cmp, AreListed, IsNumbered}
+use Rattle.review_kept_changes.specs.Kept.{has_commit, is_sent, part_where, row_of, sent_cmp, AreListed, IsNumbered}
 
 -- a patch set of the commit is there
 record HasPatch (o : Option PatchRow) (commit : List ℕ) : Type 0 where

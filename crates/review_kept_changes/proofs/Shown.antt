@@ -5,15 +5,15 @@ use Rattle.std.specs.Prelude.{IfErr, option_map}
 use Rattle.std.specs.Ordering.{nat_cmp}
 use Rattle.review_table.specs.Rows.{row_in, rows_of}
 use Rattle.review_changes.specs.Change.{Change, of_number}
-use Rattle.review_changes.specs.Parts.{Part, TheHeader, PatchOf, VoteOf, RoleOf, CommentOf, AttentionOf, PartRow, AHeader, APatch, AVote, ARole, AComment, ACall, header_of, part_row}
-use Rattle.review_changes.specs.Seen.{of_account, seen, value_of, vote_cmp}
+use Rattle.review_changes.specs.Parts.{TheHeader, PatchOf, VoteOf, RoleOf, CommentOf, AttentionOf, PartRow, AHeader, APatch, AVote, ARole, AComment, ACall, part_row}
+use Rattle.review_changes.specs.Seen.{seen, value_of, vote_cmp}
 use Rattle.review_changes.specs.Votes.{voted}
 use Rattle.review_changes.specs.declared.rows.ChangeRows.{ChangeRows}
 use Rattle.review_changes.specs.declared.rows.CommentRow.{CommentRow}
 use Rattle.review_changes.specs.declared.rows.PatchRow.{PatchRow}
 use Rattle.review_changes.specs.declared.rows.VoteKey.{VoteKey}
-use Rattle.review_rows.specs.Rows.{APart, Row, vote_row}
-use Rattle.review_rows.specs.Known.{HasChange, part_of}
+use Rattle.review_rows.specs.Rows.{APart, vote_row}
+use Rattle.review_rows.specs.Known.{HasChange}
 use Rattle.review_kept_changes.specs.declared.edits.ChangeTables.{ChangeTables}
 use Rattle.review_kept_changes.specs.declared.loading.ChangeFault.{ChangeFault}
 use Rattle.review_kept_changes.specs.declared.loading.ChangeFault.TheVariants.{Memory, Gap}

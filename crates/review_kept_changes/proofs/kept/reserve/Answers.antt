@@ -1,5 +1,4 @@
 use Rattle.review_kept_changes.proofs.kept.reserve.Goals as goal
-use Rattle.std.specs.Ordering.{nat_cmp}
 use Rattle.review_table.specs.Rows.{is_named}
 use Rattle.review_kept_changes.specs.Kept.{sent_cmp}
 use Rattle.review_kept_changes.proofs.Spare.{none_spare}

@@ -1,15 +1,14 @@
-use Rattle.std.proofs.Common.{◌≡◌, ◌∙◌, ap, sym, subst, List, ℕ}
+use Rattle.std.proofs.Common.{◌∙◌, ap, sym, subst, List, ℕ}
 use Rattle.std.specs.Option.{IsSome}
 use Rattle.std.specs.List.{All}
 use Rattle.std.specs.Ordering.{nat_cmp}
 use Rattle.review_table.specs.declared.table.Change.{Change}
 use Rattle.review_table.specs.Rows.{rows_of, row_in, changed, is_named, HasEmptyOnly, HavePlaces}
-use Rattle.review_changes.specs.Parts.{Part}
 use Rattle.review_rows.specs.Rows.{edited}
 use Rattle.review_table.specs.Rows.{after_change}
 use Rattle.review_kept_changes.specs.declared.edits.ChangeTables.{ChangeTables}
 use Rattle.review_kept_changes.specs.declared.kept.SentKey.{SentKey}
-use Rattle.review_kept_changes.specs.Kept.{part_at, part_where, sent_by, sent_cmp, AreListed, AreNumbered}
+use Rattle.review_kept_changes.specs.Kept.{part_at, sent_cmp, AreListed, AreNumbered}
 use Rattle.review_kept_changes.proofs.Made.{made_by, all_some}
 use Rattle.review_kept_changes.proofs.Sent.{listed_after, all_put}
 use Rattle.review_kept_changes.proofs.kept.Changes.apply.Goals as goal

@@ -1,10 +1,8 @@
-use Rattle.std.proofs.Common.{sym, subst, ◌≡◌, ◌∙◌, ap, List, ℕ, Some}
+use Rattle.std.proofs.Common.{sym, ◌∙◌, ap}
 use Rattle.std.specs.Ordering.{nat_cmp}
-use Rattle.review_table.specs.Rows.{row_in, rows_of}
-use Rattle.review_changes.specs.Seen.{seen}
-use Rattle.review_kept_changes.specs.declared.edits.ChangeTables.{ChangeTables}
+use Rattle.review_table.specs.Rows.{row_in}
 use Rattle.review_kept_changes.specs.Loads.{IsUnread}
-use Rattle.review_kept_changes.proofs.Shown.{has_change, has_none, passed, unread}
+use Rattle.review_kept_changes.proofs.Shown.{has_none, passed, unread}
 use Rattle.review_kept_changes.proofs.kept.Changes.load.Goals as goal
 
 pub returns-in_err-change_rows-in-Some-clause-fault : goal.returns-in_err-change_rows-in-Some-clause-fault

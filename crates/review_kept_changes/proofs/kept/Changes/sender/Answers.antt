@@ -5,7 +5,7 @@ use Rattle.std.specs.Ordering.{is_le, is_lt, nat_cmp}
 use Rattle.review_table.specs.Rows.{row_in, rows_of}
 use Rattle.review_kept_changes.specs.declared.edits.ChangeTables.{ChangeTables}
 use Rattle.review_kept_changes.specs.declared.kept.SentKey.{SentKey}
-use Rattle.review_kept_changes.specs.Kept.{is_sent, sent_cmp, AreListed}
+use Rattle.review_kept_changes.specs.Kept.{is_sent, sent_cmp}
 use Rattle.review_kept_changes.proofs.Sending.{between, listed_is, sender_found, sender_is}
 use Rattle.review_kept_changes.proofs.Left.{still_left}
 use Rattle.review_kept_changes.proofs.kept.Changes.sender.Goals as goal
