@@ -4,7 +4,7 @@ ghost use Rattle.std.specs.Option.{option_or};
 ghost use Rattle.review_table.specs.Rows.{row_in, rows_of};
 ghost use Rattle.review_changes.specs.Seen.{seen};
 
-use crate::rows::Row;
+use crate::rows::Copied;
 use review_changes::{ChangeRows, CommentRow, Header, PatchRow};
 use review_table::{Key, Table};
 use review_words::{NewChange, NewPatch};
@@ -57,7 +57,8 @@ pub fn copied_change(alloc: Global, rows: &ChangeRows) -> Result<ChangeRows, All
     })
 }
 
-pub(crate) fn copied_header(alloc: Global, header: &Header) -> Result<Header, AllocError>
+/// A header once more. An error where there was no memory for it.
+pub fn copied_header(alloc: Global, header: &Header) -> Result<Header, AllocError>
     ensures { IfOk result (λ h. h ≡ header.now) }
 {
     Ok(Header {
@@ -72,7 +73,8 @@ pub(crate) fn copied_header(alloc: Global, header: &Header) -> Result<Header, Al
     })
 }
 
-pub(crate) fn copied_patch_row(alloc: Global, patch: &PatchRow) -> Result<PatchRow, AllocError>
+/// A patch set once more. An error where there was no memory for it.
+pub fn copied_patch_row(alloc: Global, patch: &PatchRow) -> Result<PatchRow, AllocError>
     ensures { IfOk result (λ p. p ≡ patch.now) }
 {
     Ok(PatchRow {
@@ -84,7 +86,8 @@ pub(crate) fn copied_patch_row(alloc: Global, patch: &PatchRow) -> Result<PatchR
     })
 }
 
-pub(crate) fn copied_comment(alloc: Global, comment: &CommentRow) -> Result<CommentRow, AllocError>
+/// A comment once more. An error where there was no memory for it.
+pub fn copied_comment(alloc: Global, comment: &CommentRow) -> Result<CommentRow, AllocError>
     ensures { IfOk result (λ c. c ≡ comment.now) }
 {
     Ok(CommentRow {
@@ -97,6 +100,18 @@ pub(crate) fn copied_comment(alloc: Global, comment: &CommentRow) -> Result<Comm
         answers: comment.answers,
         request: comment.request,
     })
+}
+
+impl Copied for PatchRow {
+    fn copied(&self, alloc: Global) -> Result<PatchRow, AllocError> {
+        copied_patch_row(alloc, self)
+    }
+}
+
+impl Copied for CommentRow {
+    fn copied(&self, alloc: Global) -> Result<CommentRow, AllocError> {
+        copied_comment(alloc, self)
+    }
 }
 
 fn copied_patches(alloc: Global, patches: &[PatchRow]) -> Result<Vec<PatchRow>, AllocError>
@@ -119,7 +134,8 @@ fn copied_comments(alloc: Global, comments: &[CommentRow]) -> Result<Vec<Comment
     Ok(copies)
 }
 
-fn copied_table<K: Key, V: Row>(
+/// A table once more: at each key it has the same row. An error where there was no memory for it.
+pub fn copied_table<K: Key, V: Copied>(
     alloc: Global,
     table: &Table<K, V>,
 ) -> Result<Table<K, V>, AllocError>
@@ -133,7 +149,7 @@ fn copied_table<K: Key, V: Row>(
 }
 
 // Adds a row where its key has none.
-fn add_copy<K: Key, V: Row>(
+fn add_copy<K: Key, V: Copied>(
     alloc: Global,
     copy: &mut Table<K, V>,
     key: &K,

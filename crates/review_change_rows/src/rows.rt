@@ -6,19 +6,28 @@ use review_changes::{Called, Vote};
 use review_words::Role;
 use std::alloc::{AllocError, Global};
 
+/// A row that can be copied exactly.
+pub trait Copied: Drop + Sized {
+    /// The same row once more. An error where there was no memory for it.
+    fn copied(&self, alloc: Global) -> Result<Self, AllocError>
+        ensures { IfOk result (λ r. r ≡ self.now) };
+}
+
 /// A row that can be compared and copied exactly.
-pub trait Row: Drop + Sized {
+pub trait Row: Copied {
     ghost same: { Self → Self → Bool };
 
     /// Whether two rows are the same.
     fn is_same(&self, other: &Self) -> bool
         ensures { result ≡ same self.now other.now };
 
-    /// The same row once more. An error where there was no memory for it.
-    fn copied(&self, alloc: Global) -> Result<Self, AllocError>
-        ensures { IfOk result (λ r. r ≡ self.now) };
-
     ghost tells: { (a b : Self) → Decides (same a b) (a ≡ b) };
+}
+
+impl Copied for Vote {
+    fn copied(&self, _alloc: Global) -> Result<Vote, AllocError> {
+        Ok(*self)
+    }
 }
 
 impl Row for Vote {
@@ -31,11 +40,13 @@ impl Row for Vote {
         self.get() == other.get()
     }
 
-    fn copied(&self, _alloc: Global) -> Result<Vote, AllocError> {
+    ghost tells = { Decides-int_eq };
+}
+
+impl Copied for Role {
+    fn copied(&self, _alloc: Global) -> Result<Role, AllocError> {
         Ok(*self)
     }
-
-    ghost tells = { Decides-int_eq };
 }
 
 impl Row for Role {
@@ -50,11 +61,16 @@ impl Row for Role {
         }
     }
 
-    fn copied(&self, _alloc: Global) -> Result<Role, AllocError> {
-        Ok(*self)
-    }
-
     ghost tells = { roles_tell };
+}
+
+impl Copied for Called {
+    fn copied(&self, alloc: Global) -> Result<Called, AllocError> {
+        Ok(Called {
+            reason: self.reason.copy(alloc)?,
+            request: self.request,
+        })
+    }
 }
 
 impl Row for Called {
@@ -64,13 +80,6 @@ impl Row for Called {
 
     fn is_same(&self, other: &Called) -> bool {
         self.reason.as_str() == other.reason.as_str() && self.request == other.request
-    }
-
-    fn copied(&self, alloc: Global) -> Result<Called, AllocError> {
-        Ok(Called {
-            reason: self.reason.copy(alloc)?,
-            request: self.request,
-        })
     }
 
     ghost tells = { calls_tell };

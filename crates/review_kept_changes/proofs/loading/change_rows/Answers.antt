@@ -1,0 +1,22 @@
+use Rattle.review_kept_changes.specs.Loads.{HaveFault}
+use Rattle.review_kept_changes.proofs.Shown.{comments_fault, passed, patches_fault, shown}
+use Rattle.review_kept_changes.proofs.loading.change_rows.Goals as goal
+
+pub returns-in_err-patches-clause-fault : goal.returns-in_err-patches-clause-fault
+returns-in_err-patches-clause-fault c =
+    passed (HaveFault c.args.tables.now) c.in_err-patches.field-0.0 c.from_residual.result c.from_residual.ensures (patches_fault c.args.tables.now c.in_err-patches.field-0.0 c.in_err-patches.ensures.fault)
+
+pub returns-in_err-comments-clause-fault : goal.returns-in_err-comments-clause-fault
+returns-in_err-comments-clause-fault c =
+    passed (HaveFault c.args.tables.now) c.in_err-comments.field-0.0 c.from_residual-in_err-comments.result c.from_residual-in_err-comments.ensures
+    (comments_fault c.args.tables.now c.in_err-comments.field-0.0 c.in_err-comments.ensures.fault)
+
+pub returns-clause-shown : goal.returns-clause-shown
+returns-clause-shown c = shown c.args.tables.now (record { header = c.in_ok-copied_header.field-0; patches = c.in_ok-patches.patches; votes = c.in_ok-copied_table.field-0; roles = c.in_ok-copied_table-2.field-0; comments = c.in_ok-comments.comments; attention = c.in_ok-copied_table-3.field-0 }) (record {
+  header = c.in_ok-copied_header.ensures;
+  patches = c.in_ok-patches.ensures.rows;
+  votes = c.in_ok-copied_table.ensures;
+  roles = c.in_ok-copied_table-2.ensures;
+  comments = c.in_ok-comments.ensures.rows;
+  attention = c.in_ok-copied_table-3.ensures;
+})

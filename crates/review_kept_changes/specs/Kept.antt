@@ -1,0 +1,100 @@
+-- Rows of changes in memory.
+use Rattle.std.specs.Prelude.{ℕ, Bool, false, ◌&&◌, ◌≤◌, ◌≡◌, ◌++◌, List, [], ◌∷◌, Option, Some, None, option_map}
+use Rattle.std.specs.declared.cmp.Ordering.{Ordering}
+use Rattle.std.specs.Ordering.{nat_cmp, ordering_then}
+use Rattle.std.specs.List.{All}
+use Rattle.std.specs.Str.{bytes_eq}
+use Rattle.std.specs.Cmp.Lexicographic.{slice_cmp}
+use Rattle.review_names.specs.Forms.{most_changes, most_patches}
+use Rattle.review_table.specs.declared.table.Change.{Change}
+use Rattle.review_table.specs.Rows.{after_change, row_in, rows_of}
+use Rattle.review_changes.specs.Parts.{Part, TheHeader, PatchOf, VoteOf, RoleOf, CommentOf, AttentionOf, PartRow, AHeader, APatch, ARole, AComment, ACall}
+use Rattle.review_changes.specs.Seen.{vote_cmp}
+use Rattle.review_changes.specs.declared.rows.PatchRow.{PatchRow}
+use Rattle.review_rows.specs.Rows.{Key, PartKey, Row, APart, part_change, vote_row}
+use Rattle.review_rows.specs.declared.rows.Base.{Base}
+use Rattle.review_rows.specs.declared.rows.ChangeEdit.{ChangeEdit}
+use Rattle.review_kept_changes.specs.declared.edits.ChangeTables.{ChangeTables}
+use Rattle.review_kept_changes.specs.declared.kept.SentKey.{SentKey}
+
+-- the row of a change, in its tables
+abbrev pub part_in : ChangeTables → Part → Option PartRow
+part_in t TheHeader = Some (AHeader t.header)
+part_in t (PatchOf n) = option_map APatch (row_in nat_cmp (rows_of t.patches) n)
+part_in t (VoteOf n l a) = vote_row (row_in vote_cmp (rows_of t.votes) (record { patch = n; label = l; account = a }))
+part_in t (RoleOf u) = option_map ARole (row_in nat_cmp (rows_of t.roles) u)
+part_in t (CommentOf k) = option_map AComment (row_in nat_cmp (rows_of t.comments) k)
+part_in t (AttentionOf u) = option_map ACall (row_in nat_cmp (rows_of t.attention) u)
+
+-- the row of a change, where it has tables
+abbrev pub part_where : Option ChangeTables → Part → Option PartRow
+part_where None part = None
+part_where (Some t) part = part_in t part
+
+-- the row of the change of a number, among the tables of changes
+abbrev pub part_at : List (ℕ × ChangeTables) → ℕ → Part → Option PartRow
+part_at kept n part = part_where (row_in nat_cmp kept n) part
+
+-- the row of a key, where there are changes only
+abbrev pub row_of : List (ℕ × ChangeTables) → Key → Option Row
+row_of kept (PartKey n part) = option_map APart (part_at kept n part)
+row_of kept _ = None
+
+-- the tables are those of a change that an edit changes, where it had these rows before
+abbrev pub AreEdited : (Part → Option PartRow) → ChangeEdit → ChangeTables → Type 0
+AreEdited old e t = (part : Part) → part_in t part ≡ after_change (part_change e part) (old part)
+
+-- the change puts the tables of a change that an edit changes
+pub record PutsEdited (kept : List (ℕ × ChangeTables)) (e : ChangeEdit) (c : Change ℕ ChangeTables) : Type 0 where
+  pub key : c.key ≡ e.change
+  pub tables : ChangeTables
+  pub row : c.row ≡ Some tables
+  pub edited : AreEdited (part_at kept e.change) e tables
+
+-- each change puts the tables of a change that the edit at its place changes
+abbrev pub PutAllEdited : List (ℕ × ChangeTables) → List ChangeEdit → List (Change ℕ ChangeTables) → Type 0
+PutAllEdited kept [] [] = Unit {0}
+PutAllEdited kept (e ∷ es) (c ∷ cs) = PutsEdited kept e c × PutAllEdited kept es cs
+PutAllEdited kept es cs = ⊥
+
+-- by commit, then by change, then by patch set
+abbrev pub sent_cmp : SentKey → SentKey → Ordering
+sent_cmp a b = ordering_then (slice_cmp nat_cmp a.commit b.commit) (ordering_then (nat_cmp a.change b.change) (nat_cmp a.patch b.patch))
+
+-- the numbers of a change and a patch set are ones that these can have
+abbrev pub IsNumbered : SentKey → Type 0
+IsNumbered k = (1 ≤ k.change) × (k.change ≤ most_changes) × (1 ≤ k.patch) × (k.patch ≤ most_patches)
+
+-- the keys of these changes have such numbers
+abbrev pub AreNumbered : List (Change SentKey (Unit {0})) → Type 0
+AreNumbered changes = All (λ c. IsNumbered c.key) changes
+
+-- a list with the key of a patch set in front, where it is one
+abbrev pub with_sent : ℕ → ℕ → Option PatchRow → List (Change SentKey (Unit {0})) → List (Change SentKey (Unit {0}))
+with_sent n p None rest = rest
+with_sent n p (Some patch) rest = record { key = record { commit = patch.commit; change = n; patch = p }; row = Some tt } ∷ rest
+
+-- the keys of the patch sets that a change gets
+abbrev pub sent_in : ℕ → List (Change ℕ PatchRow) → List (Change SentKey (Unit {0}))
+sent_in n [] = []
+sent_in n (c ∷ cs) = with_sent n c.key c.row (sent_in n cs)
+
+-- the keys of the patch sets that changes get
+abbrev pub sent_by : List ChangeEdit → List (Change SentKey (Unit {0}))
+sent_by [] = []
+sent_by (e ∷ es) = sent_in e.change e.patches.items ++ sent_by es
+
+-- each patch set is listed by its commit, and each listed key has numbers that there can be
+pub record AreListed (sent : List (SentKey × Unit {0})) (kept : List (ℕ × ChangeTables)) : Type 0 where
+  pub fits : (k : SentKey) → row_in sent_cmp sent k ≡ Some tt → IsNumbered k
+  pub listed : (n p : ℕ) (patch : PatchRow) → part_at kept n (PatchOf p) ≡ Some (APatch patch) → row_in sent_cmp sent (record { commit = patch.commit; change = n; patch = p }) ≡ Some tt
+
+-- whether it is a patch set of the commit
+abbrev pub has_commit : Option PatchRow → List ℕ → Bool
+has_commit None commit = false
+has_commit (Some patch) commit = bytes_eq patch.commit commit
+
+-- whether a change is for the branch, and its patch set of a number has the commit
+abbrev pub is_sent : Option ChangeTables → Base → ℕ → Bool
+is_sent None base p = false
+is_sent (Some t) base p = bytes_eq t.header.project base.project && (bytes_eq t.header.branch base.branch && has_commit (row_in nat_cmp (rows_of t.patches) p) base.commit)

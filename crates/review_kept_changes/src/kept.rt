@@ -1,0 +1,286 @@
+//! The rows of all changes in memory, with an index by commit.
+ghost use Rattle.std.specs.Prelude.{◌≡◌, Some, ◌++◌, [], ℕ, IfErr, IfOk, OnOk, OnErr, option_map};
+ghost use Rattle.std.specs.Ordering.{nat_cmp};
+ghost use Rattle.review_table.specs.Rows.{after_change, is_named, row_in, rows_of, HasEmptyOnly, HasNoEmptyPlace, HavePlaces};
+ghost use Rattle.review_changes.specs.Parts.{Part};
+ghost use Rattle.review_rows.specs.Rows.{edited};
+ghost use Rattle.review_rows.specs.Known.{HasChange, IsLast, IsSentBy, header_key};
+ghost use Rattle.review_changes.specs.Seen.{seen};
+ghost use Rattle.review_kept_changes.specs.Loads.{IsUnread};
+ghost use Rattle.review_kept_changes.specs.Kept.{is_sent, part_at, row_of, sent_by, sent_cmp, sent_in, with_sent, AreNumbered, PutsEdited, PutAllEdited};
+
+use crate::edits::{ChangeTables, begun, edited};
+use crate::loading::{ChangeFault, change_rows};
+use review_changes::{ChangeRows, PatchRow};
+use review_rows::{Base, ChangeEdit};
+use review_table::{Change, Key, Table};
+use review_words::{ChangeNo, CommitName, PatchNo};
+use std::alloc::{AllocError, Global};
+use std::marker::Model;
+
+/// That a patch set of a change may have a commit.
+#[derive(Debug, PartialEq, Eq, PartialOrd, Ord, Drop)]
+pub struct SentKey {
+    pub commit: CommitName,
+    pub change: ChangeNo,
+    pub patch: PatchNo,
+}
+
+impl Key for SentKey {
+    fn copy(&self, alloc: Global) -> Result<SentKey, AllocError> {
+        Ok(SentKey {
+            commit: self.commit.copy(alloc)?,
+            change: self.change,
+            patch: self.patch,
+        })
+    }
+}
+
+/// The rows of changes by their numbers, with an index of the patch sets by commit. Contracts see the tables of each change.
+#[derive(Drop)]
+pub struct Changes {
+    kept: Table<ChangeNo, ChangeTables>,
+    sent: Table<SentKey, ()>,
+}
+
+impl Model for Changes {
+    ghost use Rattle.std.specs.Prelude.{ℕ, List};
+    ghost use Rattle.std.specs.Ordering.{nat_cmp};
+    ghost use Rattle.review_table.specs.Rows.{rows_of, HasNoEmptyPlace};
+    ghost use Rattle.review_kept_changes.specs.declared.edits.ChangeTables.{ChangeTables};
+    ghost use Rattle.review_kept_changes.specs.Kept.{sent_cmp, AreListed};
+
+    ghost Value = { List (ℕ × ChangeTables) };
+
+    ghost view = { λ t. rows_of t.kept };
+
+    ghost invariant = { λ t. AreListed (rows_of t.sent) (rows_of t.kept) × HasNoEmptyPlace nat_cmp t.kept × HasNoEmptyPlace sent_cmp t.sent };
+}
+
+impl Changes {
+    /// No changes.
+    pub fn new(alloc: Global) -> Changes
+        ensures { result ≡ [] }
+    {
+        Changes {
+            kept: Table::new(alloc),
+            sent: Table::new(alloc),
+        }
+    }
+
+    /// The change of a number with all its rows, or that there is none. Gap where its rows are those of no change.
+    pub fn load(&self, alloc: Global, number: ChangeNo) -> Result<Option<ChangeRows>, ChangeFault>
+        ensures found { IfOk result (λ change. HasChange (row_of self.now) number (option_map (λ c. seen c) change)) }
+        ensures fault { IfErr result (IsUnread self.now number) }
+    {
+        match self.kept.get(&number) {
+            Some(tables) => Ok(Some(change_rows(alloc, tables)?)),
+            None => Ok(None),
+        }
+    }
+
+    /// The greatest number of a change; 0 where there is none.
+    pub fn last(&self) -> u32
+        ensures { IsLast header_key (row_of self.now) result }
+    {
+        match self.kept.last_key() {
+            Some(number) => number.get(),
+            None => 0,
+        }
+    }
+
+    /// The change for a branch that has a patch set of a commit, or that none has.
+    pub fn sender(&self, alloc: Global, base: &Base) -> Result<Option<ChangeNo>, AllocError>
+        ensures { IfOk result (IsSentBy (row_of self.now) base.now) }
+    {
+        let from = least_key(alloc, base)?;
+        let to = greatest_key(alloc, base)?;
+        for (key, _) in self.sent.select(alloc, from, to)? {
+            if self.has_sent(base, key) {
+                return Ok(Some(key.change));
+            }
+        }
+        Ok(None)
+    }
+
+    // Whether the change of a key is for the branch, and its patch set has the commit.
+    fn has_sent(&self, base: &Base, key: &SentKey) -> bool
+        ensures { result ≡ is_sent (row_in nat_cmp self.now key.now.change) base.now key.now.patch }
+    {
+        match self.kept.get(&key.change) {
+            Some(tables) => is_sent(tables, base, key.patch),
+            None => false,
+        }
+    }
+
+    /// Makes edits, of which the first of a change decides, or changes nothing.
+    pub fn apply(&mut self, alloc: Global, edits: &[ChangeEdit]) -> Result<(), AllocError>
+        ensures done { OnOk result ((n : ℕ) (part : Part) → part_at self.new n part ≡ after_change (edited edits.now n part) (part_at self.old n part)) }
+        ensures same { OnErr result (self.new ≡ self.old) }
+    {
+        let kept = edited_all(alloc, &self.kept, edits)?;
+        let sent = sent_by(alloc, edits)?;
+        let reserved = reserve(alloc, &mut self.kept, &mut self.sent, &kept, &sent);
+        match reserved {
+            Ok(()) => {
+                self.kept.apply(kept);
+                self.sent.apply(sent);
+                Ok(())
+            }
+            Err(error) => {
+                self.kept.release(&kept);
+                self.sent.release(&sent);
+                Err(error)
+            }
+        }
+    }
+}
+
+// Makes room for changes, which changes no row.
+fn reserve(
+    alloc: Global,
+    kept: &mut Table<ChangeNo, ChangeTables>,
+    sent: &mut Table<SentKey, ()>,
+    tables: &[Change<ChangeNo, ChangeTables>],
+    keys: &[Change<SentKey, ()>],
+) -> Result<(), AllocError>
+    ensures kept { rows_of kept.new ≡ rows_of kept.old }
+    ensures sent { rows_of sent.new ≡ rows_of sent.old }
+    ensures tables { OnOk result (HavePlaces nat_cmp kept.new tables.now) }
+    ensures keys { OnOk result (HavePlaces sent_cmp sent.new keys.now) }
+    ensures kept_spare { HasNoEmptyPlace nat_cmp kept.old → HasEmptyOnly nat_cmp (is_named nat_cmp tables.now) kept.new }
+    ensures sent_spare { HasNoEmptyPlace sent_cmp sent.old → HasEmptyOnly sent_cmp (is_named sent_cmp keys.now) sent.new }
+{
+    kept.reserve_all(alloc, tables)?;
+    sent.reserve_all(alloc, keys)?;
+    Ok(())
+}
+
+// The tables of the changes that edits change, each edit by itself.
+fn edited_all(
+    alloc: Global,
+    kept: &Table<ChangeNo, ChangeTables>,
+    edits: &[ChangeEdit],
+) -> Result<Vec<Change<ChangeNo, ChangeTables>>, AllocError>
+    ensures { IfOk result (λ changes. PutAllEdited (rows_of kept.now) edits.now changes.items) }
+{
+    let mut changes = Vec::new(alloc);
+    for edit in edits {
+        changes.push(edited_one(alloc, kept, edit)?)?;
+    }
+    Ok(changes)
+}
+
+fn edited_one(
+    alloc: Global,
+    kept: &Table<ChangeNo, ChangeTables>,
+    edit: &ChangeEdit,
+) -> Result<Change<ChangeNo, ChangeTables>, AllocError>
+    ensures { IfOk result (PutsEdited (rows_of kept.now) edit.now) }
+{
+    let tables = match kept.get(&edit.change) {
+        Some(old) => edited(alloc, old, edit)?,
+        None => begun(alloc, edit)?,
+    };
+    Ok(Change {
+        key: edit.change,
+        row: Some(tables),
+    })
+}
+
+// The keys of the patch sets that changes get.
+fn sent_by(alloc: Global, edits: &[ChangeEdit]) -> Result<Vec<Change<SentKey, ()>>, AllocError>
+    ensures items { IfOk result (λ sent. sent.items ≡ sent_by edits.now) }
+    ensures numbered { IfOk result (λ sent. AreNumbered sent.items) }
+{
+    let mut sent = Vec::new(alloc);
+    for edit in edits {
+        add_sent(alloc, &mut sent, edit)?;
+    }
+    Ok(sent)
+}
+
+fn add_sent(
+    alloc: Global,
+    sent: &mut Vec<Change<SentKey, ()>>,
+    edit: &ChangeEdit,
+) -> Result<(), AllocError>
+    ensures items { OnOk result (sent.new.items ≡ sent.old.items ++ sent_in edit.now.change edit.now.patches.items) }
+    ensures numbered { OnOk result (AreNumbered sent.old.items → AreNumbered sent.new.items) }
+{
+    for patch in &edit.patches {
+        add_key(alloc, sent, edit.change, patch)?;
+    }
+    Ok(())
+}
+
+fn add_key(
+    alloc: Global,
+    sent: &mut Vec<Change<SentKey, ()>>,
+    change: ChangeNo,
+    patch: &Change<PatchNo, PatchRow>,
+) -> Result<(), AllocError>
+    ensures items { OnOk result (sent.new.items ≡ sent.old.items ++ with_sent change patch.now.key patch.now.row []) }
+    ensures numbered { OnOk result (AreNumbered sent.old.items → AreNumbered sent.new.items) }
+{
+    // A range over a commit finds the patch set by its numbers.
+    let _ = change.get();
+    let _ = patch.key.get();
+    let Some(row) = &patch.row else {
+        return Ok(());
+    };
+    let key = SentKey {
+        commit: row.commit.copy(alloc)?,
+        change,
+        patch: patch.key,
+    };
+    sent.push(Change { key, row: Some(()) })?;
+    Ok(())
+}
+
+fn is_sent(tables: &ChangeTables, base: &Base, patch: PatchNo) -> bool
+    ensures { result ≡ is_sent (Some tables.now) base.now patch }
+{
+    match tables.patches.get(&patch) {
+        Some(row) => {
+            tables.header.project.as_str() == base.project.as_str()
+                && tables.header.branch.as_str() == base.branch.as_str()
+                && row.commit.as_str() == base.commit.as_str()
+        }
+        None => false,
+    }
+}
+
+#[tactic(auto, unfolding(review_names::specs::Forms::is_within))]
+fn least_key(alloc: Global, base: &Base) -> Result<SentKey, AllocError>
+    ensures { IfOk result (λ k. k ≡ record { commit = base.now.commit; change = 1; patch = 1 }) }
+{
+    let Some(change) = ChangeNo::from_number(1) else {
+        unreachable!()
+    };
+    let Some(patch) = PatchNo::from_number(1) else {
+        unreachable!()
+    };
+    Ok(SentKey {
+        commit: base.commit.copy(alloc)?,
+        change,
+        patch,
+    })
+}
+
+#[tactic(auto, unfolding(review_names::specs::Forms::is_within))]
+fn greatest_key(alloc: Global, base: &Base) -> Result<SentKey, AllocError>
+    ensures { IfOk result (λ k. k ≡ record { commit = base.now.commit; change = 1000000000; patch = 1000 }) }
+{
+    let Some(change) = ChangeNo::from_number(1_000_000_000) else {
+        unreachable!()
+    };
+    let Some(patch) = PatchNo::from_number(1_000) else {
+        unreachable!()
+    };
+    Ok(SentKey {
+        commit: base.commit.copy(alloc)?,
+        change,
+        patch,
+    })
+}

@@ -1,0 +1,10 @@
+//! The rows of changes in memory.
+#![tactic(auto)]
+
+pub mod edits;
+pub mod kept;
+pub mod loading;
+
+pub use edits::ChangeTables;
+pub use kept::{Changes, SentKey};
+pub use loading::ChangeFault;
