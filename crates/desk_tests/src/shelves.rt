@@ -25,6 +25,7 @@ fn second_account(alloc: Global, name: &str) -> Result<Delta, Fail> {
         members: Vec::new(alloc),
         file: None,
         base: None,
+        changes: Vec::new(alloc),
     })
 }
 
