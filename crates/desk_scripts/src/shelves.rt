@@ -1,7 +1,8 @@
 //! Shelves that fail, over their own calls, and a name that is given up, which no command does.
 
-use crate::fault::{Fault, say, say_count};
+use crate::fault::Fault;
 use crate::runs::stored;
+use crate::say::{say, say_count};
 use review_rows::{Delta, Kept, Need, Shelf, ShelfFault, Want};
 use review_shelves::{FaultyShelf, MemoryShelf, ShuttingShelf};
 use review_table::Change;

@@ -1,6 +1,7 @@
 //! Runs over readers and shelves that fail at one of their calls, and how many requests are stored then.
 
-use crate::fault::{Fault, say, say_call, say_count};
+use crate::fault::Fault;
+use crate::say::{say, say_call, say_count};
 use crate::streams::PoorReader;
 use review_machine::{Outcome, apply_lines};
 use review_rows::{Need, Shelf, Want};
@@ -96,7 +97,7 @@ fn print_read_until(rt: &HostRuntime, failing: u64) -> Result<(), Fault> {
 pub fn readers(rt: &HostRuntime) -> Result<(), Fault> {
     say(
         rt,
-        "### Three equal requests, of 66 bytes with their ends. A reader gives 20 bytes a call, so that the end comes at call 11, and fails at one",
+        "\n### Three equal requests, of 66 bytes with their ends. A reader gives 20 bytes a call, so that the end comes at call 11, and fails at one",
     )?;
     for failing in 1..=12u64 {
         say_call(rt, failing)?;
