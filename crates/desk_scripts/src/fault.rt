@@ -1,6 +1,6 @@
 //! What ends a transcript early.
 
-use std::alloc::AllocError;
+use std::alloc::{AllocError, AllocFailed};
 use std::fmt::{Display, Formatter};
 use std::{fmt, io};
 
@@ -13,8 +13,10 @@ pub enum Fault {
     Input,
     /// The output failed.
     Output,
-    /// A line stands before the first script, or has none of the forms that begin with `@`.
+    /// A line stands before the first script, or has none of the forms that begin with `@`; a name, a number or an answer is none.
     Form,
+    /// A shelf refused a call that it has to take.
+    Shelf,
     /// The run over a line ended with a fault.
     Desk(review_machine::Fault),
 }
@@ -35,6 +37,12 @@ impl From<AllocError> for Fault {
     }
 }
 
+impl<T: Drop> From<AllocFailed<T>> for Fault {
+    fn from(_error: AllocFailed<T>) -> Fault {
+        Fault::Memory
+    }
+}
+
 impl From<review_machine::Fault> for Fault {
     fn from(fault: review_machine::Fault) -> Fault {
         Fault::Desk(fault)
@@ -48,6 +56,7 @@ impl Display for Fault {
             Fault::Input => f.write_str("input fault"),
             Fault::Output => f.write_str("output fault"),
             Fault::Form => f.write_str("a line of no form"),
+            Fault::Shelf => f.write_str("a shelf that fails"),
             Fault::Desk(fault) => fault.fmt(f),
         }
     }

@@ -20,11 +20,20 @@
 //! - `@byte HEX LINE`: by the byte of two digits;
 //! - `@times COUNT LINE`: so many lines, the star being 1 in the first, 2 in the second. Only the last one's answer is printed;
 //! - `@unended LINE`: the line itself, without its end.
+//!
+//! Behind the scripts it prints what no script shows: readers, writers and shelves that fail at one of their calls, input that comes slowly,
+//! answers that are waited for.
 #![tactic(auto)]
 
 mod fault;
 mod forms;
+mod pace;
+mod runs;
+mod say;
 mod script;
+mod shelves;
+mod streams;
+mod writers;
 
 use fault::Fault;
 use script::Script;
@@ -75,8 +84,22 @@ fn transcribe(rt: &HostRuntime) -> Result<(), Fault> {
     end(rt, script)
 }
 
+/// Prints what no script shows.
+fn check(rt: &HostRuntime) -> Result<(), Fault> {
+    runs::readers(rt)?;
+    writers::writers(rt)?;
+    runs::requests(rt)?;
+    shelves::shelves(rt)?;
+    pace::pace(rt)
+}
+
+fn print_all(rt: &HostRuntime) -> Result<(), Fault> {
+    transcribe(rt)?;
+    check(rt)
+}
+
 fn main(rt: HostRuntime) -> ExitCode {
-    match transcribe(&rt) {
+    match print_all(&rt) {
         Ok(()) => ExitCode::SUCCESS,
         Err(fault) => {
             let _ = eprintln!(rt; "desk_scripts: {fault}");

@@ -17,7 +17,6 @@ use Rattle.review_rows.specs.Answer.{IsAnswerBy, IsHistory, checks}
 use Rattle.review_rows.specs.Changes.{Reading, Reads, change, change_by, change_count, setting_of}
 use Rattle.review_change_laws.proofs.Sound.{all_pass, done_passes}
 
-
 some_put : (b : Bool) (text : List ℕ) (before : Option (List ℕ)) → is_some before ≡ true → is_some (cond b (Some text) before) ≡ true
 some_put true text before some = refl
 some_put false text before some = some

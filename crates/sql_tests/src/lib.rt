@@ -1,5 +1,0 @@
-//! A shelf in SQLite, made, written, read and opened again.
-#![tactic(auto)]
-
-#[cfg(test)]
-mod desks;
