@@ -26,13 +26,14 @@ copied_some None = refl
 copied_some (Some x) = refl
 
 -- bases that are not given are those of no history
-pub unread : (d : Desk) (key : BranchKey) (f : BasesFault) (e : ShelfFault) → e ≡ fault_of f → IsUnlisted d.branches.bases key f → IsUnread (tables_of d) e
-unread d key bases.Memory e is none = subst (IsUnread (tables_of d)) (sym is) tt
-unread d key bases.Gap e is none = subst (IsUnread (tables_of d)) (sym is) (unlisted_damaged d key none)
+pub bases_unread : (d : Desk) (key : BranchKey) (f : BasesFault) → IsUnlisted d.branches.bases key f → IsUnread (tables_of d) (fault_of f)
+bases_unread d key bases.Memory none = tt
+bases_unread d key bases.Gap none = unlisted_damaged d key none
 
-pub unread_residual : {X : Type 0} (d : Desk) (key : BranchKey) (f : BasesFault) (r : Result X ShelfFault) → IsErr r × IsErrAnd r (λ e. e ≡ fault_of f) → IsUnlisted d.branches.bases key f → IfErr r (IsUnread (tables_of d))
-unread_residual d key f (Ok x) e none = tt
-unread_residual d key f (Err x) e none = unread d key f x e.1 none
+-- an error that is passed on as that of a shelf
+pub passed_on : {X F : Type 0} (t : Tables) (as : F → ShelfFault) (f : F) (r : Result X ShelfFault) → IsErr r × IsErrAnd r (λ e. e ≡ as f) → IsUnread t (as f) → IfErr r (IsUnread t)
+passed_on t as f (Ok x) e unread = tt
+passed_on t as f (Err x) e unread = subst (IsUnread t) (sym e.1) unread
 
 known_still : (w : Want) (f : Found) (old new : Rows) → Learns w f old new → (x : Want) → IsKnown old x → IsKnown new x
 known_still w f old new learns x there = ⊎_elim (λ same. ap is_some same ∙ there) (λ now. ap is_some now.1) (learns.others x)

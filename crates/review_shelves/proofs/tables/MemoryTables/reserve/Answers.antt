@@ -12,6 +12,7 @@ returns-clause-room c = record {
   accounts = subst (HavePlaces nat_cmp c.reserve_all.new.self) c.deref.ensures.value c.in_ok-reserve_all.ensures.ok;
   members = subst (HavePlaces member_cmp c.reserve_all-2.new.self) c.deref-2.ensures.value c.in_ok-reserve_all-2.ensures.ok;
   files = subst (HavePlaces (slice_cmp nat_cmp) c.reserve_all-3.new.self) c.deref-3.ensures.value c.in_ok-reserve_all-3.ensures.ok;
+  edits = c.in_ok-reserve.ensures.room;
   answers = subst (HavePlaces answer_cmp c.reserve_all-4.new.self) c.deref-4.ensures.value c.in_ok-reserve_all-4.ensures.ok;
 }
 
@@ -62,6 +63,15 @@ returns-in_err-reserve_all-4-clause-spare c = λ full. record {
 
 pub returns-clause-spare : goal.returns-clause-spare
 returns-clause-spare c = λ full. record {
+  accounts = subst (λ cs. HasEmptyOnly nat_cmp (is_named nat_cmp cs) c.reserve_all.new.self) c.deref.ensures.value (c.reserve_all.ensures.only (c.list_names.ensures.filled full).accounts);
+  names = (c.list_names.ensures.filled full).names;
+  members = subst (λ cs. HasEmptyOnly member_cmp (is_named member_cmp cs) c.reserve_all-2.new.self) c.deref-2.ensures.value (c.reserve_all-2.ensures.only (c.list_names.ensures.filled full).members);
+  files = subst (λ cs. HasEmptyOnly (slice_cmp nat_cmp) (is_named (slice_cmp nat_cmp) cs) c.reserve_all-3.new.self) c.deref-3.ensures.value (c.reserve_all-3.ensures.only (c.list_names.ensures.filled full).files);
+  answers = subst (λ cs. HasEmptyOnly answer_cmp (is_named answer_cmp cs) c.reserve_all-4.new.self) c.deref-4.ensures.value (c.reserve_all-4.ensures.only (c.list_names.ensures.filled full).answers);
+}
+
+pub returns-in_err-reserve-clause-spare : goal.returns-in_err-reserve-clause-spare
+returns-in_err-reserve-clause-spare c = λ full. record {
   accounts = subst (λ cs. HasEmptyOnly nat_cmp (is_named nat_cmp cs) c.reserve_all.new.self) c.deref.ensures.value (c.reserve_all.ensures.only (c.list_names.ensures.filled full).accounts);
   names = (c.list_names.ensures.filled full).names;
   members = subst (λ cs. HasEmptyOnly member_cmp (is_named member_cmp cs) c.reserve_all-2.new.self) c.deref-2.ensures.value (c.reserve_all-2.ensures.only (c.list_names.ensures.filled full).members);

@@ -1,0 +1,7 @@
+use Rattle.review_rows.specs.Known.{Number}
+use Rattle.review_shelves.specs.Desk.{desk_of}
+use Rattle.review_shelves.proofs.Changed.{last_here}
+use Rattle.review_shelves.proofs.tables.MemoryTables.find_last_change.Goals as goal
+
+pub returns : goal.returns
+returns c = (Number c.last.result, last_here (desk_of c.args.self.now) c.last.result c.last.ensures, c.learn_last_change.ensures)
