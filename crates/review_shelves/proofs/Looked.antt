@@ -31,9 +31,9 @@ bases_unread d key bases.Memory none = tt
 bases_unread d key bases.Gap none = unlisted_damaged d key none
 
 -- an error that is passed on as that of a shelf
-pub passed_on : {X F : Type 0} (t : Tables) (as : F → ShelfFault) (f : F) (r : Result X ShelfFault) → IsErr r × IsErrAnd r (λ e. e ≡ as f) → IsUnread t (as f) → IfErr r (IsUnread t)
-passed_on t as f (Ok x) e unread = tt
-passed_on t as f (Err x) e unread = subst (IsUnread t) (sym e.1) unread
+pub passed_on : {X F : Type 0} (t : Tables) (of : F → ShelfFault) (f : F) (r : Result X ShelfFault) → IsErr r × IsErrAnd r (λ e. e ≡ of f) → IsUnread t (of f) → IfErr r (IsUnread t)
+passed_on t of f (Ok x) e unread = tt
+passed_on t of f (Err x) e unread = subst (IsUnread t) (sym e.1) unread
 
 known_still : (w : Want) (f : Found) (old new : Rows) → Learns w f old new → (x : Want) → IsKnown old x → IsKnown new x
 known_still w f old new learns x there = ⊎_elim (λ same. ap is_some same ∙ there) (λ now. ap is_some now.1) (learns.others x)

@@ -1,4 +1,4 @@
-use Rattle.std.proofs.Common.{◌≡◌, ◌∙◌, ap, cond, Option, Some, None, map, not, ◌&&◌, [], arith, List, ℕ, subst, sym, true}
+use Rattle.std.proofs.Common.{◌≡◌, ◌∙◌, ap, cond, Option, Some, None, map, not, ◌&&◌, [], arith, subst, sym, true}
 use Rattle.std.proofs.lemmas.Grind.{common_steps}
 use Rattle.std.specs.Map.Iter.{deref_pair}
 use Rattle.std.specs.Ordering.{is_le, is_lt, nat_cmp}
