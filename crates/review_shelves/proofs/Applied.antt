@@ -26,14 +26,14 @@ use Rattle.review_rows.specs.Rows.{Key, AccountKey, MemberKey, FileKey, BaseKey,
 use Rattle.review_rows.specs.Shelf.{IsCommitted}
 use Rattle.review_changes.specs.Parts.{PartRow}
 use Rattle.review_rows.specs.Rows.{edited}
-use Rattle.review_kept_changes.specs.Kept.{ArePrepared, part_at}
+use Rattle.review_kept_changes.specs.Kept.{ArePrepared, KeptView, part_at}
 use Rattle.review_kept_changes.proofs.Made.{made_by}
 use Rattle.review_shelves.specs.declared.changes.Changes.{Changes}
 use Rattle.review_shelves.specs.declared.keys.AnswerKey.{AnswerKey}
 use Rattle.review_shelves.specs.declared.keys.NameKey.{NameKey}
 use Rattle.review_shelves.specs.declared.keys.StoredAnswer.{StoredAnswer}
 use Rattle.review_shelves.specs.declared.tables.MemoryTables.{MemoryTables}
-use Rattle.review_shelves.specs.Desk.{Desk, desk_of, tables_of, row_of, count_of, stored_row, file_changes, answer_cmp, name_cmp, IsNumber, AreInUse, IsIndexed, IsNumbered, IsBounded, IsSound, IsGiven, IsHeld, AreIndexed, KeepsNames, AreChangesOf, AreApplied, IsWithBase, HasRoom, HasRoomOnlyFor, with_branches}
+use Rattle.review_shelves.specs.Desk.{Desk, desk_of, tables_of, row_of, count_of, stored_row, file_changes, answer_cmp, name_cmp, IsNumber, AreInUse, IsIndexed, IsNumbered, IsBounded, IsSound, IsGiven, IsHeld, AreIndexed, KeepsNames, AreChangesOf, AreApplied, IsWithBase, HasRoom, HasRoomOnlyFor, with_branches, with_changes}
 use Rattle.review_shelves.specs.Branches.{BranchesView, place_cmp, base_at, total_in, place_of}
 use Rattle.review_shelves.specs.declared.keys.PlaceKey.{PlaceKey}
 use Rattle.review_shelves.proofs.Based.{at_place_of}
@@ -196,6 +196,9 @@ room_beside t branches changes room = record { accounts = room.accounts; members
 
 pub spare_beside : (t : MemoryTables) (branches : BranchesView) (changes : Changes) → HasRoomOnlyFor changes t → HasRoomOnlyFor changes (with_branches t branches)
 spare_beside t branches changes only = record { accounts = only.accounts; names = only.names; members = only.members; files = only.files; answers = only.answers }
+
+pub spare_undone : (t : MemoryTables) (kept : KeptView) (changes : Changes) → HasRoomOnlyFor changes t → HasRoomOnlyFor changes (with_changes t kept)
+spare_undone t kept changes only = record { accounts = only.accounts; names = only.names; members = only.members; files = only.files; answers = only.answers }
 
 -- the changes of the same rows beside other branches
 pub applied_from : (old mid : MemoryTables) (branches : BranchesView) (changes : Changes) (projects : ℕ) (new : Desk) → desk_of mid ≡ desk_of old →

@@ -1,7 +1,8 @@
 -- What look-ups in tables in memory find.
 use Rattle.std.proofs.Common.{◌≡◌, ℕ, ◌+◌, ◌<◌, List, [], ◌∷◌, ◌++◌, Option, Some, None, Result, Ok, Err, length, get_or, take, refl, sym, ap, ◌∙◌, subst, ⊎_elim, Bor}
 use Rattle.std.specs.Option.{is_some, option_copied}
-use Rattle.std.specs.Prelude.{IfErr}
+use Rattle.std.specs.Prelude.{IfErr, OnOk}
+use Rattle.std.specs.declared.alloc.AllocError.{AllocError}
 use Rattle.std.specs.Result.{IsErr, IsErrAnd}
 use Rattle.std.specs.List.{Contains}
 use Rattle.std.proofs.lemmas.Option.{same_Some}
@@ -63,3 +64,8 @@ looked_asked t wants i w old new below is asked looks = asked_more wants i w loo
 
 pub looked_agrees : (t : Tables) (w : Want) (old new : Rows) → Looks t w old new → Agrees t old → Agrees t new
 looked_agrees t w old new looks = agrees_more t w looks.0 old new looks.1 looks.2
+
+-- what was looked up is learnt, or there was no memory for it
+pub looked_so : (t : Tables) (asked w : Want) (f : Found) (old new : Rows) (r : Result (Unit {0}) AllocError) → asked ≡ w → IsFound t w f → OnOk r (Learns asked f old new) → OnOk r (Looks t w old new)
+looked_so t asked w f old new (Ok u) same is learns = (f, is, subst (λ v. Learns v f old new) same learns)
+looked_so t asked w f old new (Err e) same is learns = tt

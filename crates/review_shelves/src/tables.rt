@@ -154,13 +154,30 @@ impl MemoryTables {
         ensures same { OnErr result (desk_of self.new ≡ desk_of self.old) }
     {
         self.reserve(alloc, given, &changes)?;
+        self.put_base_beside(alloc, base, &changes.edits)?;
+        self.apply(changes, projects);
+        Ok(())
+    }
+
+    /// Puts a base, where there is one, or changes no row and drops the places that were made for edits.
+    fn put_base_beside(
+        &mut self,
+        alloc: Global,
+        base: &Option<BaseRow>,
+        edits: &Prepared,
+    ) -> Result<(), AllocError>
+        requires number { self.old.requests < 2 ^ 64 - 1 }
+        requires bounded { IsBounded (desk_of self.old) }
+        ensures added { OnOk result (IsWithBase base.now self.old.branches self.new.branches) }
+        ensures rest { OnOk result (self.new ≡ with_branches self.old self.new.branches) }
+        ensures undone { OnErr result (self.new ≡ with_changes self.old self.new.changes) }
+        ensures same { OnErr result (desk_of self.new ≡ desk_of self.old) }
+        ensures full { OnErr result (IsFullBut edits.now self.old.changes → IsFull self.new.changes) }
+    {
         match self.put_base(alloc, base) {
-            Ok(()) => {
-                self.apply(changes, projects);
-                Ok(())
-            }
+            Ok(()) => Ok(()),
             Err(error) => {
-                self.release_changes(&changes.edits);
+                self.release_changes(edits);
                 Err(error)
             }
         }
@@ -202,8 +219,8 @@ impl MemoryTables {
         ensures listed { OnOk result (AreIndexed (rows_of self.new.names) names.now) }
         ensures room { OnOk result (HasRoom self.new changes.now) }
         ensures spare { HasNoSpareRoom self.old → HasRoomOnlyFor changes.now self.new }
-        ensures full { OnErr result (IsFull self.old.changes → IsFull self.new.changes) }
-        ensures full_but { OnOk result (IsFull self.old.changes → IsFullBut changes.now.edits self.new.changes) }
+        ensures full { OnErr result (HasNoSpareRoom self.old → IsFull self.new.changes) }
+        ensures full_but { OnOk result (HasNoSpareRoom self.old → IsFullBut changes.now.edits self.new.changes) }
     {
         self.list_names(alloc, names)?;
         self.accounts.reserve_all(alloc, &changes.accounts)?;

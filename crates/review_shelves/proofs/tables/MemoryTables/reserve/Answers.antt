@@ -78,3 +78,24 @@ returns-in_err-reserve-clause-spare c = λ full. record {
   files = subst (λ cs. HasEmptyOnly (slice_cmp nat_cmp) (is_named (slice_cmp nat_cmp) cs) c.reserve_all-3.new.self) c.deref-3.ensures.value (c.reserve_all-3.ensures.only (c.list_names.ensures.filled full).files);
   answers = subst (λ cs. HasEmptyOnly answer_cmp (is_named answer_cmp cs) c.reserve_all-4.new.self) c.deref-4.ensures.value (c.reserve_all-4.ensures.only (c.list_names.ensures.filled full).answers);
 }
+
+pub returns-in_err-list_names-clause-full : goal.returns-in_err-list_names-clause-full
+returns-in_err-list_names-clause-full c = λ full. (c.list_names.ensures.filled full).changes
+
+pub returns-in_err-reserve_all-clause-full : goal.returns-in_err-reserve_all-clause-full
+returns-in_err-reserve_all-clause-full c = λ full. (c.list_names.ensures.filled full).changes
+
+pub returns-in_err-reserve_all-2-clause-full : goal.returns-in_err-reserve_all-2-clause-full
+returns-in_err-reserve_all-2-clause-full c = λ full. (c.list_names.ensures.filled full).changes
+
+pub returns-in_err-reserve_all-3-clause-full : goal.returns-in_err-reserve_all-3-clause-full
+returns-in_err-reserve_all-3-clause-full c = λ full. (c.list_names.ensures.filled full).changes
+
+pub returns-in_err-reserve_all-4-clause-full : goal.returns-in_err-reserve_all-4-clause-full
+returns-in_err-reserve_all-4-clause-full c = λ full. (c.list_names.ensures.filled full).changes
+
+pub returns-in_err-reserve-clause-full : goal.returns-in_err-reserve-clause-full
+returns-in_err-reserve-clause-full c = λ full. c.in_err-reserve.ensures.full (c.list_names.ensures.filled full).changes
+
+pub returns-clause-full_but : goal.returns-clause-full_but
+returns-clause-full_but c = λ full. c.in_ok-reserve.ensures.spare (c.list_names.ensures.filled full).changes
