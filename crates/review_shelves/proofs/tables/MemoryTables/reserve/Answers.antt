@@ -3,8 +3,10 @@ use Rattle.std.specs.Ordering.{nat_cmp}
 use Rattle.std.specs.Cmp.Lexicographic.{slice_cmp}
 use Rattle.review_table.specs.Rows.{HasEmptyOnly, HavePlaces, is_named}
 use Rattle.review_rows.specs.Rows.{member_cmp}
-use Rattle.review_shelves.specs.Desk.{answer_cmp}
+use Rattle.review_shelves.specs.Desk.{answer_cmp, HasNoSpareRoom}
+use Rattle.review_kept_changes.specs.Kept.{IsFull}
 use Rattle.review_shelves.proofs.Based.{none_spare}
+use Rattle.review_shelves.proofs.Spare.{on_err}
 use Rattle.review_shelves.proofs.tables.MemoryTables.reserve.Goals as goal
 
 pub returns-clause-room : goal.returns-clause-room
@@ -80,22 +82,28 @@ returns-in_err-reserve-clause-spare c = λ full. record {
 }
 
 pub returns-in_err-list_names-clause-full : goal.returns-in_err-list_names-clause-full
-returns-in_err-list_names-clause-full c = λ full. (c.list_names.ensures.filled full).changes
+returns-in_err-list_names-clause-full c =
+    on_err c.from_residual.result (HasNoSpareRoom c.args.self.now → IsFull c.list_names.new.self.changes) (λ full. (c.list_names.ensures.filled full).changes)
 
 pub returns-in_err-reserve_all-clause-full : goal.returns-in_err-reserve_all-clause-full
-returns-in_err-reserve_all-clause-full c = λ full. (c.list_names.ensures.filled full).changes
+returns-in_err-reserve_all-clause-full c =
+    on_err c.from_residual-in_err-reserve_all.result (HasNoSpareRoom c.args.self.now → IsFull c.list_names.new.self.changes) (λ full. (c.list_names.ensures.filled full).changes)
 
 pub returns-in_err-reserve_all-2-clause-full : goal.returns-in_err-reserve_all-2-clause-full
-returns-in_err-reserve_all-2-clause-full c = λ full. (c.list_names.ensures.filled full).changes
+returns-in_err-reserve_all-2-clause-full c =
+    on_err c.from_residual-in_err-reserve_all-2.result (HasNoSpareRoom c.args.self.now → IsFull c.list_names.new.self.changes) (λ full. (c.list_names.ensures.filled full).changes)
 
 pub returns-in_err-reserve_all-3-clause-full : goal.returns-in_err-reserve_all-3-clause-full
-returns-in_err-reserve_all-3-clause-full c = λ full. (c.list_names.ensures.filled full).changes
+returns-in_err-reserve_all-3-clause-full c =
+    on_err c.from_residual-in_err-reserve_all-3.result (HasNoSpareRoom c.args.self.now → IsFull c.list_names.new.self.changes) (λ full. (c.list_names.ensures.filled full).changes)
 
 pub returns-in_err-reserve_all-4-clause-full : goal.returns-in_err-reserve_all-4-clause-full
-returns-in_err-reserve_all-4-clause-full c = λ full. (c.list_names.ensures.filled full).changes
+returns-in_err-reserve_all-4-clause-full c =
+    on_err c.from_residual-in_err-reserve_all-4.result (HasNoSpareRoom c.args.self.now → IsFull c.list_names.new.self.changes) (λ full. (c.list_names.ensures.filled full).changes)
 
 pub returns-in_err-reserve-clause-full : goal.returns-in_err-reserve-clause-full
-returns-in_err-reserve-clause-full c = λ full. c.in_err-reserve.ensures.full (c.list_names.ensures.filled full).changes
+returns-in_err-reserve-clause-full c =
+    on_err c.from_residual-in_err-reserve.result (HasNoSpareRoom c.args.self.now → IsFull c.reserve.new.self) (λ full. c.in_err-reserve.ensures.full (c.list_names.ensures.filled full).changes)
 
 pub returns-clause-full_but : goal.returns-clause-full_but
 returns-clause-full_but c = λ full. c.in_ok-reserve.ensures.spare (c.list_names.ensures.filled full).changes
