@@ -1,10 +1,9 @@
 -- Rows of changes on a desk.
 use Rattle.std.proofs.Common.{◌≡◌, ℕ, Option, Some, None, refl, ◌∙◌}
-use Rattle.review_changes.specs.Change.{Change}
 use Rattle.review_changes.specs.Parts.{Part, TheHeader, PatchOf}
 use Rattle.review_rows.specs.declared.rows.Base.{Base}
 use Rattle.review_rows.specs.Rows.{Key, PartKey, Row}
-use Rattle.review_rows.specs.Known.{HasChange, IsLast, IsSender, IsSentBy, header_key}
+use Rattle.review_rows.specs.Known.{IsLast, IsSender, IsSentBy, header_key}
 use Rattle.review_rows.specs.Changes.{change}
 use Rattle.review_rows.specs.Shelf.{IsDamaged}
 use Rattle.review_rows.proofs.Readings.{reading_of}

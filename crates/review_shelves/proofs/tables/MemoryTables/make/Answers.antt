@@ -1,4 +1,4 @@
-use Rattle.std.proofs.Common.{◌∙◌, ap, sym, subst}
+use Rattle.std.proofs.Common.{sym, subst}
 use Rattle.review_table.specs.Rows.{rows_of}
 use Rattle.review_kept_changes.specs.Kept.{IsFullBut, IsReady}
 use Rattle.review_shelves.specs.declared.tables.MemoryTables.{MemoryTables}
