@@ -7,12 +7,12 @@ use std::alloc::{AllocError, Global};
 /// What a desk is told of commands and questions, from the rows that decide them and the project file by which they are judged. It may
 /// keep what it worked out before, of which no answer may depend.
 pub trait Rules {
-    ghost use Rattle.std.specs.Prelude.{◌≡◌, List, IfOk, IfErr, option_copied};
+    ghost use Rattle.std.specs.Prelude.{◌≡◌, ◌<◌, List, length, IfOk, IfErr, option_copied};
     ghost use Rattle.review_file.specs.Texts.{file_read};
     ghost use Rattle.review_words.specs.Texts.{IsStored};
     ghost use Rattle.review_words.specs.History.{Entry};
     ghost use Rattle.review_words.specs.declared.reply.NotTaken.TheVariants.{Memory};
-    ghost use Rattle.review_rows.specs.Answer.{query_answer};
+    ghost use Rattle.review_rows.specs.Answer.{most_requests, query_answer};
     ghost use Rattle.review_rows.specs.Changes.{Reading};
     ghost use Rattle.review_rows.specs.Rows.{HasNoEffect};
     ghost use Rattle.review_rows.specs.Steps.{HasFile, next, text_for, topic_of, wants_in, unless_none, OfCommand, OfQuery};
@@ -40,7 +40,7 @@ pub trait Rules {
         ensures read { IfOk result (λ r. HasFile (text_for rows.now (topic_of matter.entry)) (file_read r)) }
         ensures cause { IfErr result (IsUnread (text_for rows.now (topic_of matter.entry))) };
 
-    /// The reply to a command and what it changes, where this file was read.
+    /// The reply to a command and what it changes, where this file was read and a number is left for the request.
     fn decide(
         &mut self,
         alloc: Global,
@@ -49,7 +49,7 @@ pub trait Rules {
         caller: AccountNo,
         command: &Command,
     ) -> Result<(Delta, Reply), NotTaken>
-        ensures decided { IfOk result (λ r. (reading : Reading) (h : List Entry) → AreEnough reading h caller (OfCommand command.now) (file_read read) rows.now → IsDecided reading h caller command.now r.0 r.1) }
+        ensures decided { IfOk result (λ r. (reading : Reading) (h : List Entry) → length h < most_requests → AreEnough reading h caller (OfCommand command.now) (file_read read) rows.now → IsDecided reading h caller command.now r.0 r.1) }
         ensures cause { IfErr result (IsUndecided caller command.now (file_read read) rows.now) }
         ensures stored { IfOk result (λ r. IsStored r.1) }
         ensures refused { IfOk result (λ r. HasNoEffect r.1 r.0) }

@@ -186,10 +186,10 @@ did_one a d r s t Q same ran q = subst (λ (x : Asked). Did x s t Q) same (r ∷
 -- a delivery that was not begun
 not_begun : (h : List Entry) (d : Delivery) (old new : Shown) → IsRun h [] [] old new → IsRun h (d ∷ []) (NotTaken Memory ∷ []) old new
 not_begun h (Read caller query) old new was =
-    run-append h [] (Read caller query ∷ []) [] (NotTaken Memory ∷ []) old new new was (run_one h (Read caller query) (NotTaken Memory) new new
+    run-append h [] (Read caller query ∷ []) [] (NotTaken Memory ∷ []) old new new was (run_one h (Read caller query) (NotTaken Memory) new new was.history
     (record { right = refl; history = was.history; view = was.view; stops = λ t s. inl s; alone = λ n s. absurd s }))
 not_begun h (Write caller id command) old new was =
-    run-append h [] (Write caller id command ∷ []) [] (NotTaken Memory ∷ []) old new new was (run_one h (Write caller id command) (NotTaken Memory) new new
+    run-append h [] (Write caller id command ∷ []) [] (NotTaken Memory ∷ []) old new new was (run_one h (Write caller id command) (NotTaken Memory) new new was.history
     (record { right = refl; history = was.history; view = was.view; stops = λ t s. inl s; alone = λ n s. absurd s }))
 
 -- the reply of a run of one delivery

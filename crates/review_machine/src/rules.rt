@@ -1,8 +1,10 @@
 //! The decisions as rules.
-use review_branch_decisions::{next_need, show};
+use review_branch_decisions::show;
 use review_decisions::decide;
 use review_deliveries::Rules;
-use review_file::FileMemo;
+use review_file::{FileMemo, ReadText};
+use review_file_decisions::read_file_for;
+use review_needs::next_need;
 use review_rows::{Delta, Matter, Need, Rows};
 use review_words::{AccountNo, Command, NotTaken, Query, Reply};
 use std::alloc::{AllocError, Global};
@@ -26,26 +28,39 @@ impl Rules for DeskRules {
     fn next_need(
         &mut self,
         alloc: Global,
+        read: Option<&ReadText>,
         rows: &Rows,
         caller: AccountNo,
         matter: Matter<'_>,
     ) -> Result<Option<Need>, AllocError> {
-        next_need(alloc, rows, caller, matter)
+        next_need(alloc, read.map(|r| r.file()), rows, caller, matter)
+    }
+
+    fn read(
+        &mut self,
+        alloc: Global,
+        rows: &Rows,
+        matter: Matter<'_>,
+    ) -> Result<Option<ReadText>, NotTaken> {
+        read_file_for(alloc, &mut self.memo, rows, matter)
     }
 
     fn decide(
         &mut self,
         alloc: Global,
+        read: Option<ReadText>,
         rows: &Rows,
         caller: AccountNo,
         command: &Command,
     ) -> Result<(Delta, Reply), NotTaken> {
-        decide(alloc, &mut self.memo, rows, caller, command)
+        decide(alloc, &mut self.memo, read, rows, caller, command)
     }
 
+    /// No file is read for a question.
     fn show(
         &mut self,
         alloc: Global,
+        _read: Option<ReadText>,
         rows: &Rows,
         caller: AccountNo,
         query: &Query,

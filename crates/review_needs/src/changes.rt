@@ -6,17 +6,11 @@ ghost use Rattle.review_rows.specs.Steps.{change_wants, commit_wants, given_want
 
 use review_branch_decisions::base_of;
 use review_rows::{Matter, Rows, Want};
-use review_words::{
-    BranchName, ChangeNo, Command, CommitName, Labels, NewPatch, ProjectName,
-};
+use review_words::{BranchName, ChangeNo, Command, CommitName, Labels, NewPatch, ProjectName};
 use std::alloc::{AllocError, Global};
 
 /// What a command asks by the change that it names, once that is known.
-pub fn change_wants(
-    alloc: Global,
-    rows: &Rows,
-    matter: Matter<'_>,
-) -> Result<Vec<Want>, AllocError>
+pub fn change_wants(alloc: Global, rows: &Rows, matter: Matter<'_>) -> Result<Vec<Want>, AllocError>
     ensures { IfOk result (λ wants. wants.items ≡ change_wants rows.now (topic_of matter.entry)) }
 {
     match matter {

@@ -11,7 +11,6 @@ use review_words::AccountNo;
 use std::alloc::{AllocError, Global};
 
 /// What a command or a question asks of the tables next, where this file of its project was read; nothing where the rows decide it.
-
 pub fn next_need(
     alloc: Global,
     file: Option<&ProjectFile>,
