@@ -183,3 +183,6 @@ only_some (c ∷ cs) puts = (ap is_some puts.0, only_some cs puts.1)
 -- each change of the index puts a row
 pub all_put : (es : List ChangeEdit) → All (λ (c : Change SentKey (Unit {0})). IsSome c.row) (sent_by es)
 all_put es = All-from_recursion (λ c. IsSome c.row) (sent_by es) (only_some (sent_by es) (by_puts es))
+
+pub all_put_in : (es : List ChangeEdit) (cs : Puts) → cs ≡ sent_by es → All (λ (c : Change SentKey (Unit {0})). IsSome c.row) cs
+all_put_in es cs is = subst (All (λ (c : Change SentKey (Unit {0})). IsSome c.row)) (sym is) (all_put es)

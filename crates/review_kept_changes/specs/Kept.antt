@@ -7,7 +7,7 @@ use Rattle.std.specs.Str.{bytes_eq}
 use Rattle.std.specs.Cmp.Lexicographic.{slice_cmp}
 use Rattle.review_names.specs.Forms.{most_changes, most_patches}
 use Rattle.review_table.specs.declared.table.Change.{Change}
-use Rattle.review_table.specs.Rows.{after_change, row_in, rows_of}
+use Rattle.review_table.specs.Rows.{after_change, is_named, row_in, rows_of, HasEmptyOnly, HasNoEmptyPlace, HavePlaces}
 use Rattle.review_changes.specs.Parts.{Part, TheHeader, PatchOf, VoteOf, RoleOf, CommentOf, AttentionOf, PartRow, AHeader, APatch, ARole, AComment, ACall}
 use Rattle.review_changes.specs.Seen.{vote_cmp}
 use Rattle.review_changes.specs.declared.rows.PatchRow.{PatchRow}
@@ -15,6 +15,7 @@ use Rattle.review_rows.specs.Rows.{Key, PartKey, Row, APart, part_change, vote_r
 use Rattle.review_rows.specs.declared.rows.Base.{Base}
 use Rattle.review_rows.specs.declared.rows.ChangeEdit.{ChangeEdit}
 use Rattle.review_kept_changes.specs.declared.edits.ChangeTables.{ChangeTables}
+use Rattle.review_kept_changes.specs.declared.kept.Prepared.{Prepared}
 use Rattle.review_kept_changes.specs.declared.kept.SentKey.{SentKey}
 
 -- the row of a change, in its tables
@@ -98,3 +99,33 @@ has_commit (Some patch) commit = bytes_eq patch.commit commit
 abbrev pub is_sent : Option ChangeTables → Base → ℕ → Bool
 is_sent None base p = false
 is_sent (Some t) base p = bytes_eq t.header.project base.project && (bytes_eq t.header.branch base.branch && has_commit (row_in nat_cmp (rows_of t.patches) p) base.commit)
+
+-- the places of changes by their numbers, and those of the index by commit
+pub record KeptView : Type 0 where
+  pub kept : List (ℕ × Option ChangeTables)
+  pub sent : List (SentKey × Option (Unit {0}))
+
+-- what edits make of changes was prepared
+pub record ArePrepared (kept : List (ℕ × ChangeTables)) (edits : List ChangeEdit) (p : Prepared) : Type 0 where
+  pub tables : PutAllEdited kept edits p.tables.items
+  pub keys : p.keys.items ≡ sent_by edits
+  pub numbered : AreNumbered p.keys.items
+
+-- what was prepared is what some edits make of these changes
+abbrev pub IsReady : List (ℕ × ChangeTables) → Prepared → Type 0
+IsReady kept p = (edits : List ChangeEdit) × ArePrepared kept edits p
+
+-- there is a place for each row that changes
+pub record HasRoomFor (p : Prepared) (v : KeptView) : Type 0 where
+  pub tables : HavePlaces nat_cmp v.kept p.tables.items
+  pub keys : HavePlaces sent_cmp v.sent p.keys.items
+
+-- every place has a row
+pub record IsFull (v : KeptView) : Type 0 where
+  pub kept : HasNoEmptyPlace nat_cmp v.kept
+  pub sent : HasNoEmptyPlace sent_cmp v.sent
+
+-- every place has a row, but for those of rows that change
+pub record IsFullBut (p : Prepared) (v : KeptView) : Type 0 where
+  pub kept : HasEmptyOnly nat_cmp (is_named nat_cmp p.tables.items) v.kept
+  pub sent : HasEmptyOnly sent_cmp (is_named sent_cmp p.keys.items) v.sent

@@ -5,6 +5,8 @@ use Rattle.review_table.specs.Rows.{row_in}
 use Rattle.review_changes.specs.Change.{Change, of_number}
 use Rattle.review_changes.specs.Parts.{Part, part_row}
 use Rattle.review_rows.specs.Known.{HasChange}
+use Rattle.review_rows.specs.declared.shelf.ShelfFault.{ShelfFault}
+use Rattle.review_rows.specs.declared.shelf.ShelfFault.TheVariants as shelf
 use Rattle.review_kept_changes.specs.declared.edits.ChangeTables.{ChangeTables}
 use Rattle.review_kept_changes.specs.declared.loading.ChangeFault.{ChangeFault}
 use Rattle.review_kept_changes.specs.declared.loading.ChangeFault.TheVariants.{Memory, Gap}
@@ -32,6 +34,11 @@ HaveFault t Gap = (c : Change) → Show t c → ⊥
 abbrev pub IsUnread : List (ℕ × ChangeTables) → ℕ → ChangeFault → Type 0
 IsUnread kept n Memory = Unit {0}
 IsUnread kept n Gap = (c : Option Change) → HasChange (row_of kept) n c → ⊥
+
+-- the fault of a shelf where a change is not given
+abbrev pub fault_of : ChangeFault → ShelfFault
+fault_of Memory = shelf.Memory
+fault_of Gap = shelf.Damaged
 
 -- rows under the numbers after one
 abbrev pub numbered : {X : Type 0} → ℕ → List X → List (ℕ × X)

@@ -1,13 +1,11 @@
 //! The rows of all changes in memory, with an index by commit.
 ghost use Rattle.std.specs.Prelude.{◌≡◌, Some, ◌++◌, [], ℕ, IfErr, IfOk, OnOk, OnErr, option_map};
 ghost use Rattle.std.specs.Ordering.{nat_cmp};
-ghost use Rattle.review_table.specs.Rows.{after_change, is_named, row_in, rows_of, HasEmptyOnly, HasNoEmptyPlace, HavePlaces};
-ghost use Rattle.review_changes.specs.Parts.{Part};
-ghost use Rattle.review_rows.specs.Rows.{edited};
+ghost use Rattle.review_table.specs.Rows.{changed, is_named, row_in, rows_of, HasEmptyOnly, HasNoEmptyPlace, HavePlaces};
 ghost use Rattle.review_rows.specs.Known.{HasChange, IsLast, IsSentBy, header_key};
 ghost use Rattle.review_changes.specs.Seen.{seen};
 ghost use Rattle.review_kept_changes.specs.Loads.{IsUnread};
-ghost use Rattle.review_kept_changes.specs.Kept.{is_sent, part_at, row_of, sent_by, sent_cmp, sent_in, with_sent, AreNumbered, PutsEdited, PutAllEdited};
+ghost use Rattle.review_kept_changes.specs.Kept.{is_sent, row_of, sent_by, sent_cmp, sent_in, with_sent, AreNumbered, ArePrepared, HasRoomFor, IsFull, IsFullBut, IsReady, PutsEdited, PutAllEdited};
 
 use crate::edits::{ChangeTables, begun, edited};
 use crate::loading::{ChangeFault, change_rows};
@@ -36,33 +34,37 @@ impl Key for SentKey {
     }
 }
 
+/// What edits make of changes, in copies of its own: only room is wanted to make it so.
+#[derive(Drop)]
+pub struct Prepared {
+    tables: Vec<Change<ChangeNo, ChangeTables>>,
+    keys: Vec<Change<SentKey, ()>>,
+}
+
 /// The rows of changes by their numbers, with an index of the patch sets by commit. Contracts see the tables of each change.
 #[derive(Drop)]
-pub struct Changes {
+pub struct KeptChanges {
     kept: Table<ChangeNo, ChangeTables>,
     sent: Table<SentKey, ()>,
 }
 
-impl Model for Changes {
-    ghost use Rattle.std.specs.Prelude.{ℕ, List};
-    ghost use Rattle.std.specs.Ordering.{nat_cmp};
-    ghost use Rattle.review_table.specs.Rows.{rows_of, HasNoEmptyPlace};
-    ghost use Rattle.review_kept_changes.specs.declared.edits.ChangeTables.{ChangeTables};
-    ghost use Rattle.review_kept_changes.specs.Kept.{sent_cmp, AreListed};
+impl Model for KeptChanges {
+    ghost use Rattle.review_table.specs.Rows.{rows_of};
+    ghost use Rattle.review_kept_changes.specs.Kept.{AreListed, KeptView};
 
-    ghost Value = { List (ℕ × ChangeTables) };
+    ghost Value = { KeptView };
 
-    ghost view = { λ t. rows_of t.kept };
+    ghost view = { λ t. record { kept = t.kept; sent = t.sent } };
 
-    ghost invariant = { λ t. AreListed (rows_of t.sent) (rows_of t.kept) × HasNoEmptyPlace nat_cmp t.kept × HasNoEmptyPlace sent_cmp t.sent };
+    ghost invariant = { λ t. AreListed (rows_of t.sent) (rows_of t.kept) };
 }
 
-impl Changes {
+impl KeptChanges {
     /// No changes.
-    pub fn new(alloc: Global) -> Changes
-        ensures { result ≡ [] }
+    pub fn new(alloc: Global) -> KeptChanges
+        ensures { result ≡ record { kept = []; sent = [] } }
     {
-        Changes {
+        KeptChanges {
             kept: Table::new(alloc),
             sent: Table::new(alloc),
         }
@@ -70,8 +72,8 @@ impl Changes {
 
     /// The change of a number with all its rows, or that there is none. Gap where its rows are those of no change.
     pub fn load(&self, alloc: Global, number: ChangeNo) -> Result<Option<ChangeRows>, ChangeFault>
-        ensures found { IfOk result (λ change. HasChange (row_of self.now) number (option_map (λ c. seen c) change)) }
-        ensures fault { IfErr result (IsUnread self.now number) }
+        ensures found { IfOk result (λ change. HasChange (row_of (rows_of self.now.kept)) number (option_map (λ c. seen c) change)) }
+        ensures fault { IfErr result (IsUnread (rows_of self.now.kept) number) }
     {
         match self.kept.get(&number) {
             Some(tables) => Ok(Some(change_rows(alloc, tables)?)),
@@ -81,7 +83,7 @@ impl Changes {
 
     /// The greatest number of a change; 0 where there is none.
     pub fn last(&self) -> u32
-        ensures { IsLast header_key (row_of self.now) result }
+        ensures { IsLast header_key (row_of (rows_of self.now.kept)) result }
     {
         match self.kept.last_key() {
             Some(number) => number.get(),
@@ -91,7 +93,7 @@ impl Changes {
 
     /// The change for a branch that has a patch set of a commit, or that none has.
     pub fn sender(&self, alloc: Global, base: &Base) -> Result<Option<ChangeNo>, AllocError>
-        ensures { IfOk result (IsSentBy (row_of self.now) base.now) }
+        ensures { IfOk result (IsSentBy (row_of (rows_of self.now.kept)) base.now) }
     {
         let from = least_key(alloc, base)?;
         let to = greatest_key(alloc, base)?;
@@ -105,7 +107,7 @@ impl Changes {
 
     // Whether the change of a key is for the branch, and its patch set has the commit.
     fn has_sent(&self, base: &Base, key: &SentKey) -> bool
-        ensures { result ≡ is_sent (row_in nat_cmp self.now key.now.change) base.now key.now.patch }
+        ensures { result ≡ is_sent (row_in nat_cmp (rows_of self.now.kept) key.now.change) base.now key.now.patch }
     {
         match self.kept.get(&key.change) {
             Some(tables) => is_sent(tables, base, key.patch),
@@ -113,26 +115,58 @@ impl Changes {
         }
     }
 
-    /// Makes edits, of which the first of a change decides, or changes nothing.
-    pub fn apply(&mut self, alloc: Global, edits: &[ChangeEdit]) -> Result<(), AllocError>
-        ensures done { OnOk result ((n : ℕ) (part : Part) → part_at self.new n part ≡ after_change (edited edits.now n part) (part_at self.old n part)) }
-        ensures same { OnErr result (self.new ≡ self.old) }
+    /// What edits make of the changes that they name, of which the first of a change decides.
+    pub fn prepare(&self, alloc: Global, edits: &[ChangeEdit]) -> Result<Prepared, AllocError>
+        ensures { IfOk result (ArePrepared (rows_of self.now.kept) edits.now) }
     {
-        let kept = edited_all(alloc, &self.kept, edits)?;
-        let sent = sent_by(alloc, edits)?;
-        let reserved = reserve(alloc, &mut self.kept, &mut self.sent, &kept, &sent);
+        Ok(Prepared {
+            tables: edited_all(alloc, &self.kept, edits)?,
+            keys: sent_by(alloc, edits)?,
+        })
+    }
+
+    /// Makes room for edits, which changes no row. An error leaves as little room as there was.
+    pub fn reserve(&mut self, alloc: Global, prepared: &Prepared) -> Result<(), AllocError>
+        ensures kept { rows_of self.new.kept ≡ rows_of self.old.kept }
+        ensures room { OnOk result (HasRoomFor prepared.now self.new) }
+        ensures spare { OnOk result (IsFull self.old → IsFullBut prepared.now self.new) }
+        ensures full { OnErr result (IsFull self.old → IsFull self.new) }
+    {
+        let reserved = reserve(
+            alloc,
+            &mut self.kept,
+            &mut self.sent,
+            &prepared.tables,
+            &prepared.keys,
+        );
         match reserved {
-            Ok(()) => {
-                self.kept.apply(kept);
-                self.sent.apply(sent);
-                Ok(())
-            }
+            Ok(()) => Ok(()),
             Err(error) => {
-                self.kept.release(&kept);
-                self.sent.release(&sent);
+                self.release(prepared);
                 Err(error)
             }
         }
+    }
+
+    /// Makes edits for which there is room.
+    pub fn apply(&mut self, prepared: Prepared)
+        requires room { HasRoomFor prepared self.old }
+        requires ready { IsReady (rows_of self.old.kept) prepared }
+        ensures done { (n : ℕ) → row_in nat_cmp (rows_of self.new.kept) n ≡ changed nat_cmp prepared.tables.items n (row_in nat_cmp (rows_of self.old.kept) n) }
+        ensures full { IsFullBut prepared self.old → IsFull self.new }
+    {
+        let Prepared { tables, keys } = prepared;
+        self.kept.apply(tables);
+        self.sent.apply(keys);
+    }
+
+    /// Drops the places that hold no row, of those that edits name.
+    pub fn release(&mut self, prepared: &Prepared)
+        ensures kept { rows_of self.new.kept ≡ rows_of self.old.kept }
+        ensures full { IsFullBut prepared.now self.old → IsFull self.new }
+    {
+        self.kept.release(&prepared.tables);
+        self.sent.release(&prepared.keys);
     }
 }
 

@@ -6,5 +6,5 @@ pub mod kept;
 pub mod loading;
 
 pub use edits::ChangeTables;
-pub use kept::{Changes, SentKey};
+pub use kept::{KeptChanges, Prepared};
 pub use loading::ChangeFault;

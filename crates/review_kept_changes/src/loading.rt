@@ -7,6 +7,7 @@ ghost use Rattle.review_kept_changes.specs.Loads.{AreInOrder, HaveFault, IsGap, 
 use crate::edits::ChangeTables;
 use review_change_rows::{Copied, copied_header, copied_table};
 use review_changes::{ChangeRows, CommentRow, PatchRow};
+use review_rows::ShelfFault;
 use review_table::Table;
 use review_words::{CommentNo, PatchNo};
 use std::alloc::{AllocError, Global};
@@ -27,6 +28,20 @@ impl From<AllocError> for ChangeFault {
 
     fn from(_error: AllocError) -> ChangeFault {
         ChangeFault::Memory
+    }
+}
+
+impl From<ChangeFault> for ShelfFault {
+    ghost use Rattle.std.specs.Prelude.{◌≡◌};
+    ghost use Rattle.review_kept_changes.specs.Loads.{fault_of};
+
+    ghost from_gives = { λ f e. e ≡ fault_of f };
+
+    fn from(fault: ChangeFault) -> ShelfFault {
+        match fault {
+            ChangeFault::Memory => ShelfFault::Memory,
+            ChangeFault::Gap => ShelfFault::Damaged,
+        }
     }
 }
 

@@ -22,14 +22,18 @@ use Rattle.review_rows.specs.declared.rows.Delta.{Delta}
 use Rattle.review_rows.specs.declared.rows.Kept.{Kept}
 use Rattle.review_rows.specs.declared.rows.BaseRow.{BaseRow as PlacedBase}
 use Rattle.review_rows.specs.declared.rows.ProjectRow.{ProjectRow}
-use Rattle.review_rows.specs.Rows.{Key, AccountKey, MemberKey, FileKey, BaseKey, OddKey, Row, AccountRow, FileRow, BaseRow, Count, Projects, BasesOf, AnswerRow, Answered, Tables, member_cmp, member_row, member_change, account_change, file_after, base_after, projects_after, bases_after, after, count_after, kept_row}
+use Rattle.review_rows.specs.Rows.{Key, AccountKey, MemberKey, FileKey, BaseKey, PartKey, OddKey, Row, AccountRow, FileRow, BaseRow, APart, Count, Projects, BasesOf, AnswerRow, Answered, Tables, member_cmp, member_row, member_change, account_change, file_after, base_after, projects_after, bases_after, after, count_after, kept_row}
 use Rattle.review_rows.specs.Shelf.{IsCommitted}
+use Rattle.review_changes.specs.Parts.{PartRow}
+use Rattle.review_rows.specs.Rows.{edited}
+use Rattle.review_kept_changes.specs.Kept.{ArePrepared, KeptView, part_at}
+use Rattle.review_kept_changes.proofs.Made.{made_by}
 use Rattle.review_shelves.specs.declared.changes.Changes.{Changes}
 use Rattle.review_shelves.specs.declared.keys.AnswerKey.{AnswerKey}
 use Rattle.review_shelves.specs.declared.keys.NameKey.{NameKey}
 use Rattle.review_shelves.specs.declared.keys.StoredAnswer.{StoredAnswer}
 use Rattle.review_shelves.specs.declared.tables.MemoryTables.{MemoryTables}
-use Rattle.review_shelves.specs.Desk.{Desk, desk_of, tables_of, row_of, count_of, stored_row, file_changes, answer_cmp, name_cmp, IsNumber, AreInUse, IsIndexed, IsNumbered, IsBounded, IsSound, IsGiven, IsHeld, AreIndexed, KeepsNames, AreChangesOf, AreApplied, IsWithBase, HasRoom, HasRoomOnlyFor, with_branches}
+use Rattle.review_shelves.specs.Desk.{Desk, desk_of, tables_of, row_of, count_of, stored_row, file_changes, answer_cmp, name_cmp, IsNumber, AreInUse, IsIndexed, IsNumbered, IsBounded, IsSound, IsGiven, IsHeld, AreIndexed, KeepsNames, AreChangesOf, AreApplied, IsWithBase, HasRoom, HasRoomOnlyFor, with_branches, with_changes}
 use Rattle.review_shelves.specs.Branches.{BranchesView, place_cmp, base_at, total_in, place_of}
 use Rattle.review_shelves.specs.declared.keys.PlaceKey.{PlaceKey}
 use Rattle.review_shelves.proofs.Based.{at_place_of}
@@ -133,6 +137,11 @@ base_row_after (Some base) old new put p b n =
     ap (option_map BaseRow) (put.bases k ∙ ap (λ t. cond t (Some base.commit) (row_in place_cmp old.bases k)) (at_place_of base p b n))
     ∙ base_there (bytes_eq base.project p && (bytes_eq base.branch b && (base.place == n))) base.commit (base_at old.bases p b n)
 
+-- the row of a change that is edited
+part_after : (change : Option (Option PartRow)) (was : Option PartRow) → option_map APart (after_change change was) ≡ after_change (option_map (option_map APart) change) (option_map APart was)
+part_after None was = refl
+part_after (Some row) was = refl
+
 some_based : (o : Option (List ℕ)) → is_some (option_map BaseRow o) ≡ is_some o
 some_based None = refl
 some_based (Some c) = refl
@@ -145,9 +154,9 @@ total_after (Some base) old new put p =
     ∙ ap (λ t. cond (bytes_eq base.project p) (cond t (total_in old.branches.totals p) (total_in old.branches.totals p + 1)) (total_in old.branches.totals p))
     (sym (some_based (row_in place_cmp old.branches.bases (place_of base))))
 
-pub committed : (delta : Delta) (kept : Kept) (changes : Changes) (projects : ℕ) (old new : Desk) → AreChangesOf delta kept changes → AreApplied old changes projects new →
-    IsWithBase delta.base old.branches new.branches → projects ≡ projects_after delta.file (row_of old) old.projects → IsCommitted (tables_of old) delta (kept_row kept) (tables_of new)
-committed delta kept changes projects old new copies applied based number = record {
+pub committed : (delta : Delta) (kept : Kept) (changes : Changes) (projects : ℕ) (old new : Desk) → AreChangesOf delta kept changes → ArePrepared old.changes delta.changes.items changes.edits →
+    AreApplied old changes projects new → IsWithBase delta.base old.branches new.branches → projects ≡ projects_after delta.file (row_of old) old.projects → IsCommitted (tables_of old) delta (kept_row kept) (tables_of new)
+committed delta kept changes projects old new copies prepared applied based number = record {
   row_is = rows;
   count_is = counts;
   answer_is = λ i.
@@ -176,14 +185,20 @@ committed delta kept changes projects old new copies applied based number = reco
         ap (option_map FileRow) (applied.files project ∙ ap (λ cs. changed (slice_cmp nat_cmp) cs project (row_in (slice_cmp nat_cmp) old.files project)) copies.files)
         ∙ file_row_after delta.file project (row_in (slice_cmp nat_cmp) old.files project)
     rows (BaseKey project branch place) = base_row_after delta.base old.branches new.branches based project branch place
+    rows (PartKey n part) =
+        ap (option_map APart) (made_by old.changes old.changes new.changes delta.changes.items changes.edits.tables.items prepared.tables refl applied.edits n part)
+        ∙ part_after (edited delta.changes.items n part) (part_at old.changes n part)
     rows (OddKey o) = refl
 
 -- there is room beside other branches
 pub room_beside : (t : MemoryTables) (branches : BranchesView) (changes : Changes) → HasRoom t changes → HasRoom (with_branches t branches) changes
-room_beside t branches changes room = record { accounts = room.accounts; members = room.members; files = room.files; answers = room.answers }
+room_beside t branches changes room = record { accounts = room.accounts; members = room.members; files = room.files; edits = room.edits; answers = room.answers }
 
 pub spare_beside : (t : MemoryTables) (branches : BranchesView) (changes : Changes) → HasRoomOnlyFor changes t → HasRoomOnlyFor changes (with_branches t branches)
 spare_beside t branches changes only = record { accounts = only.accounts; names = only.names; members = only.members; files = only.files; answers = only.answers }
+
+pub spare_undone : (t : MemoryTables) (kept : KeptView) (changes : Changes) → HasRoomOnlyFor changes t → HasRoomOnlyFor changes (with_changes t kept)
+spare_undone t kept changes only = record { accounts = only.accounts; names = only.names; members = only.members; files = only.files; answers = only.answers }
 
 -- the changes of the same rows beside other branches
 pub applied_from : (old mid : MemoryTables) (branches : BranchesView) (changes : Changes) (projects : ℕ) (new : Desk) → desk_of mid ≡ desk_of old →
@@ -192,6 +207,7 @@ applied_from old mid branches changes projects new same applied = record {
   accounts = λ k. applied.accounts k ∙ ap (λ (d : Desk). changed nat_cmp changes.accounts.items k (row_in nat_cmp d.accounts k)) same;
   members = λ k. applied.members k ∙ ap (λ (d : Desk). changed member_cmp changes.members.items k (row_in member_cmp d.members k)) same;
   files = λ k. applied.files k ∙ ap (λ (d : Desk). changed (slice_cmp nat_cmp) changes.files.items k (row_in (slice_cmp nat_cmp) d.files k)) same;
+  edits = λ k. applied.edits k ∙ ap (λ (d : Desk). changed nat_cmp changes.edits.tables.items k (row_in nat_cmp d.changes k)) same;
   projects_are = applied.projects_are;
   answers = λ k. applied.answers k ∙ ap (λ (d : Desk). changed answer_cmp changes.answers.items k (row_in answer_cmp d.answers k)) same;
   requests = applied.requests ∙ ap (λ (d : Desk). d.requests + 1) same;
@@ -262,11 +278,11 @@ made_sound delta kept changes given projects (Err e) old new copies are keeps li
   bounded = subst IsBounded (sym same) sound.bounded;
 }
 
-pub made_committed : (delta : Delta) (kept : Kept) (changes : Changes) (projects : ℕ) (r : Result (Unit {0}) AllocError) (old made new : Desk) → AreChangesOf delta kept changes → OnOk r (AreApplied old changes projects made) →
-    OnOk r (IsWithBase delta.base old.branches made.branches) → projects ≡ projects_after delta.file (row_of old) old.projects → new ≡ made → OnOk r (IsCommitted (tables_of old) delta (kept_row kept) (tables_of new))
-made_committed delta kept changes projects (Ok u) old made new copies done based number same =
-    subst (λ d. IsCommitted (tables_of old) delta (kept_row kept) (tables_of d)) (sym same) (committed delta kept changes projects old made copies done based number)
-made_committed delta kept changes projects (Err e) old made new copies done based number same = tt
+pub made_committed : (delta : Delta) (kept : Kept) (changes : Changes) (projects : ℕ) (r : Result (Unit {0}) AllocError) (old made new : Desk) → AreChangesOf delta kept changes →
+    ArePrepared old.changes delta.changes.items changes.edits → OnOk r (AreApplied old changes projects made) → OnOk r (IsWithBase delta.base old.branches made.branches) → projects ≡ projects_after delta.file (row_of old) old.projects → new ≡ made → OnOk r (IsCommitted (tables_of old) delta (kept_row kept) (tables_of new))
+made_committed delta kept changes projects (Ok u) old made new copies prepared done based number same =
+    subst (λ d. IsCommitted (tables_of old) delta (kept_row kept) (tables_of d)) (sym same) (committed delta kept changes projects old made copies prepared done based number)
+made_committed delta kept changes projects (Err e) old made new copies prepared done based number same = tt
 
 pub unmade_same : (r : Result (Unit {0}) AllocError) (old made new : Desk) → OnErr r (made ≡ old) → new ≡ made → OnErr r (tables_of new ≡ tables_of old)
 unmade_same (Ok u) old made new undone same = tt

@@ -12,7 +12,8 @@ use Rattle.std.proofs.lemmas.Map.Views.{tells_apart}
 use Rattle.review_table.specs.Rows.{row_in}
 use Rattle.review_names.specs.Names.{administrators, admin_name}
 use Rattle.review_rows.specs.declared.rows.MemberKey.{MemberKey as Member}
-use Rattle.review_rows.specs.Rows.{Key, AccountKey, MemberKey, FileKey, BaseKey, OddKey, AccountRow, MemberRow, Count, Projects, BasesOf, member_cmp, member_row}
+use Rattle.review_rows.specs.Rows.{Key, AccountKey, MemberKey, FileKey, BaseKey, PartKey, OddKey, AccountRow, MemberRow, Count, Projects, BasesOf, member_cmp, member_row}
+use Rattle.review_rows.specs.Changes.{Reading}
 use Rattle.review_rows.specs.View.{IsView, fact, counted}
 use Rattle.review_shelves.specs.declared.keys.NameKey.{NameKey}
 use Rattle.review_shelves.specs.Desk.{Desk, tables_of, row_of, count_of, name_cmp, AreInUse, IsNumber, IsIndexed, IsNumbered}
@@ -67,20 +68,21 @@ member_fact false t p e = refl
 
 -- the desk of these accounts and members
 abbrev pub first_desk : List (ℕ × List ℕ) → List (Member × Unit {0}) → Desk
-first_desk accounts members = record { accounts = accounts; members = members; files = []; branches = record { bases = []; totals = [] }; projects = 0; answers = []; requests = 0 }
+first_desk accounts members = record { accounts = accounts; members = members; files = []; branches = record { bases = []; totals = [] }; changes = []; projects = 0; answers = []; requests = 0 }
 
-pub first_row : (accounts : List (ℕ × List ℕ)) (members : List (Member × Unit {0})) → HasAccount accounts → HasMember members → (k : Key) → row_of (first_desk accounts members) k ≡ fact [] k
-first_row accounts members account member (AccountKey n) = ap (option_map AccountRow) (account n ∙ ap (λ b. cond b (Some admin_name) None) (at_account 1 n ∙ nat_eq_equiv.symm 1 n))
-first_row accounts members account member (MemberKey group number) =
+pub first_row : (reading : Reading) (accounts : List (ℕ × List ℕ)) (members : List (Member × Unit {0})) → HasAccount accounts → HasMember members → (k : Key) → row_of (first_desk accounts members) k ≡ fact reading [] k
+first_row reading accounts members account member (AccountKey n) = ap (option_map AccountRow) (account n ∙ ap (λ b. cond b (Some admin_name) None) (at_account 1 n ∙ nat_eq_equiv.symm 1 n))
+first_row reading accounts members account member (MemberKey group number) =
     ap member_row (member (record { group = group; account = number }) ∙ ap (λ b. cond b (Some tt) None) (at_member first_member (record { group = group; account = number })))
     ∙ member_fact (bytes_eq administrators group) (1 == number) (λ m. m == number) refl
-first_row accounts members account member (FileKey project) = refl
-first_row accounts members account member (BaseKey project branch place) = refl
-first_row accounts members account member (OddKey o) = refl
+first_row reading accounts members account member (FileKey project) = refl
+first_row reading accounts members account member (BaseKey project branch place) = refl
+first_row reading accounts members account member (PartKey n part) = refl
+first_row reading accounts members account member (OddKey o) = refl
 
 pub first_view : (accounts : List (ℕ × List ℕ)) (members : List (Member × Unit {0})) (d : Desk) → HasAccount accounts → HasMember members → d ≡ first_desk accounts members → IsView [] (tables_of d)
-first_view accounts members d account member is = subst (λ d. IsView [] (tables_of d)) (sym is) (record {
-  row_is = first_row accounts members account member;
+first_view accounts members d account member is = subst (λ d. IsView [] (tables_of d)) (sym is) (λ reading _. record {
+  row_is = first_row reading accounts members account member;
   count_is = λ c. no_count c;
   answer_is = λ i. refl;
   version = refl;

@@ -5,6 +5,7 @@ pub mod Steps
 pub mod Applied
 pub mod First
 pub mod Based
+pub mod Changed
 pub mod Spare
 pub mod Listed
 pub mod Placed

@@ -1,7 +1,8 @@
 -- What look-ups in tables in memory find.
 use Rattle.std.proofs.Common.{◌≡◌, ℕ, ◌+◌, ◌<◌, List, [], ◌∷◌, ◌++◌, Option, Some, None, Result, Ok, Err, length, get_or, take, refl, sym, ap, ◌∙◌, subst, ⊎_elim, Bor}
 use Rattle.std.specs.Option.{is_some, option_copied}
-use Rattle.std.specs.Prelude.{IfErr}
+use Rattle.std.specs.Prelude.{IfErr, OnOk}
+use Rattle.std.specs.declared.alloc.AllocError.{AllocError}
 use Rattle.std.specs.Result.{IsErr, IsErrAnd}
 use Rattle.std.specs.List.{Contains}
 use Rattle.std.proofs.lemmas.Option.{same_Some}
@@ -26,13 +27,14 @@ copied_some None = refl
 copied_some (Some x) = refl
 
 -- bases that are not given are those of no history
-pub unread : (d : Desk) (key : BranchKey) (f : BasesFault) (e : ShelfFault) → e ≡ fault_of f → IsUnlisted d.branches.bases key f → IsUnread (tables_of d) e
-unread d key bases.Memory e is none = subst (IsUnread (tables_of d)) (sym is) tt
-unread d key bases.Gap e is none = subst (IsUnread (tables_of d)) (sym is) (unlisted_damaged d key none)
+pub bases_unread : (d : Desk) (key : BranchKey) (f : BasesFault) → IsUnlisted d.branches.bases key f → IsUnread (tables_of d) (fault_of f)
+bases_unread d key bases.Memory none = tt
+bases_unread d key bases.Gap none = unlisted_damaged d key none
 
-pub unread_residual : {X : Type 0} (d : Desk) (key : BranchKey) (f : BasesFault) (r : Result X ShelfFault) → IsErr r × IsErrAnd r (λ e. e ≡ fault_of f) → IsUnlisted d.branches.bases key f → IfErr r (IsUnread (tables_of d))
-unread_residual d key f (Ok x) e none = tt
-unread_residual d key f (Err x) e none = unread d key f x e.1 none
+-- an error that is passed on as that of a shelf
+pub passed_on : {X F : Type 0} (t : Tables) (of : F → ShelfFault) (f : F) (r : Result X ShelfFault) → IsErr r × IsErrAnd r (λ e. e ≡ of f) → IsUnread t (of f) → IfErr r (IsUnread t)
+passed_on t of f (Ok x) e unread = tt
+passed_on t of f (Err x) e unread = subst (IsUnread t) (sym e.1) unread
 
 known_still : (w : Want) (f : Found) (old new : Rows) → Learns w f old new → (x : Want) → IsKnown old x → IsKnown new x
 known_still w f old new learns x there = ⊎_elim (λ same. ap is_some same ∙ there) (λ now. ap is_some now.1) (learns.others x)
@@ -62,3 +64,8 @@ looked_asked t wants i w old new below is asked looks = asked_more wants i w loo
 
 pub looked_agrees : (t : Tables) (w : Want) (old new : Rows) → Looks t w old new → Agrees t old → Agrees t new
 looked_agrees t w old new looks = agrees_more t w looks.0 old new looks.1 looks.2
+
+-- what was looked up is learnt, or there was no memory for it
+pub looked_so : (t : Tables) (asked w : Want) (f : Found) (old new : Rows) (r : Result (Unit {0}) AllocError) → asked ≡ w → IsFound t w f → OnOk r (Learns asked f old new) → OnOk r (Looks t w old new)
+looked_so t asked w f old new (Ok u) same is learns = (f, is, subst (λ v. Learns v f old new) same learns)
+looked_so t asked w f old new (Err e) same is learns = tt

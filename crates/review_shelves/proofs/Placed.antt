@@ -8,6 +8,7 @@ use Rattle.std.proofs.lemmas.Bool.{cases_lt}
 use Rattle.review_rows.specs.declared.rows.BranchKey.{BranchKey}
 use Rattle.review_rows.specs.Rows.{BaseKey, BaseRow}
 use Rattle.review_rows.specs.Known.{at_place}
+use Rattle.review_rows.proofs.Readings.{reading_of}
 use Rattle.review_rows.proofs.Placing.{nothing_at_zero, past_end, some_at, placed_more}
 use Rattle.review_words.specs.History.{bases}
 use Rattle.review_rows.specs.Shelf.{IsDamaged}
@@ -24,8 +25,9 @@ based_from (Some x) (Some y) e = let same : x ≡ y = cc in ap Some same
 -- a branch whose bases make no list is that of no history
 pub unlisted_damaged : (d : Desk) (key : BranchKey) → ((commits : List (List ℕ)) → AreBases d.branches.bases key commits → ⊥) → IsDamaged (tables_of d)
 unlisted_damaged d key none h hist v =
+    let read = reading_of h hist in
     none (bases h key.project key.branch)
-    (λ n. based_from (base_at d.branches.bases key.project key.branch n) (at_place (bases h key.project key.branch) n) (v.row_is (BaseKey key.project key.branch n)))
+    (λ n. based_from (base_at d.branches.bases key.project key.branch n) (at_place (bases h key.project key.branch) n) ((v read.0 read.1).row_is (BaseKey key.project key.branch n)))
 
 -- a place before the last one that has none makes a gap
 pub gap : (rows : List (PlaceKey × List ℕ)) (key : BranchKey) (last place : ℕ) → IsLastPlace rows key.project key.branch last → 1 ≤ place → place ≤ last →

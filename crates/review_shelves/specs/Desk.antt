@@ -12,8 +12,10 @@ use Rattle.review_rows.specs.declared.rows.BaseRow.{BaseRow as PlacedBase}
 use Rattle.review_rows.specs.declared.rows.ProjectRow.{ProjectRow}
 use Rattle.review_rows.specs.declared.rows.Delta.{Delta}
 use Rattle.review_rows.specs.declared.rows.Kept.{Kept}
-use Rattle.review_rows.specs.Rows.{Key, AccountKey, MemberKey, FileKey, BaseKey, OddKey, Row, AccountRow, FileRow, BaseRow, Count, Projects, BasesOf, AnswerRow, Stored, Answered, Tables, member_cmp, member_row, kept_row}
+use Rattle.review_rows.specs.Rows.{Key, AccountKey, MemberKey, FileKey, BaseKey, PartKey, OddKey, Row, AccountRow, FileRow, BaseRow, APart, Count, Projects, BasesOf, AnswerRow, Stored, Answered, Tables, member_cmp, member_row, kept_row}
 use Rattle.review_rows.specs.View.{tables_version}
+use Rattle.review_kept_changes.specs.declared.edits.ChangeTables.{ChangeTables}
+use Rattle.review_kept_changes.specs.Kept.{KeptView, HasRoomFor, IsFull, part_at}
 use Rattle.review_shelves.specs.Branches.{BranchesView, IsPut, base_at, total_in}
 use Rattle.review_shelves.specs.declared.keys.NameKey.{NameKey}
 use Rattle.review_shelves.specs.declared.keys.AnswerKey.{AnswerKey}
@@ -35,6 +37,7 @@ pub record Desk : Type 0 where
   pub members : List (Member × Unit {0})
   pub files : List (List ℕ × List ℕ)
   pub branches : BranchesView
+  pub changes : List (ℕ × ChangeTables)
   pub projects : ℕ
   pub answers : List (AnswerKey × StoredAnswer)
   pub requests : ℕ
@@ -46,6 +49,7 @@ desk_of t = record {
   members = rows_of t.members;
   files = rows_of t.files;
   branches = t.branches;
+  changes = rows_of t.changes.kept;
   projects = t.projects;
   answers = rows_of t.answers;
   requests = t.requests;
@@ -66,6 +70,7 @@ row_of d (AccountKey number) = option_map AccountRow (row_in nat_cmp d.accounts 
 row_of d (MemberKey group account) = member_row (row_in member_cmp d.members (record { group = group; account = account }))
 row_of d (FileKey project) = file_row d.files project
 row_of d (BaseKey project branch place) = option_map BaseRow (base_at d.branches.bases project branch place)
+row_of d (PartKey n part) = option_map APart (part_at d.changes n part)
 row_of d (OddKey o) = None
 
 -- a count
@@ -81,6 +86,21 @@ with_branches t branches = record {
   members = t.members;
   files = t.files;
   branches = branches;
+  changes = t.changes;
+  projects = t.projects;
+  answers = t.answers;
+  requests = t.requests;
+}
+
+-- the same tables but for those of changes
+abbrev pub with_changes : MemoryTables → KeptView → MemoryTables
+with_changes t changes = record {
+  accounts = t.accounts;
+  names = t.names;
+  members = t.members;
+  files = t.files;
+  branches = t.branches;
+  changes = changes;
   projects = t.projects;
   answers = t.answers;
   requests = t.requests;
@@ -121,6 +141,7 @@ pub record HasNoSpareRoom (t : MemoryTables) : Type 0 where
   pub names : HasNoEmptyPlace name_cmp t.names
   pub members : HasNoEmptyPlace member_cmp t.members
   pub files : HasNoEmptyPlace (slice_cmp nat_cmp) t.files
+  pub changes : IsFull t.changes
   pub answers : HasNoEmptyPlace answer_cmp t.answers
 
 -- what holds of the tables between any two calls
@@ -174,9 +195,10 @@ pub record HasRoom (t : MemoryTables) (changes : Changes) : Type 0 where
   pub accounts : HavePlaces nat_cmp t.accounts changes.accounts.items
   pub members : HavePlaces member_cmp t.members changes.members.items
   pub files : HavePlaces (slice_cmp nat_cmp) t.files changes.files.items
+  pub edits : HasRoomFor changes.edits t.changes
   pub answers : HavePlaces answer_cmp t.answers changes.answers.items
 
--- every place of the tables has a row, but for those that changes name
+-- every place of the tables but those of changes has a row, but for those that changes name
 pub record HasRoomOnlyFor (changes : Changes) (t : MemoryTables) : Type 0 where
   pub accounts : HasEmptyOnly nat_cmp (is_named nat_cmp changes.accounts.items) t.accounts
   pub names : HasNoEmptyPlace name_cmp t.names
@@ -194,6 +216,7 @@ pub record AreApplied (old : Desk) (changes : Changes) (projects : ℕ) (new : D
   pub accounts : (k : ℕ) → row_in nat_cmp new.accounts k ≡ changed nat_cmp changes.accounts.items k (row_in nat_cmp old.accounts k)
   pub members : (k : Member) → row_in member_cmp new.members k ≡ changed member_cmp changes.members.items k (row_in member_cmp old.members k)
   pub files : (k : List ℕ) → row_in (slice_cmp nat_cmp) new.files k ≡ changed (slice_cmp nat_cmp) changes.files.items k (row_in (slice_cmp nat_cmp) old.files k)
+  pub edits : (k : ℕ) → row_in nat_cmp new.changes k ≡ changed nat_cmp changes.edits.tables.items k (row_in nat_cmp old.changes k)
   pub projects_are : new.projects ≡ projects
   pub answers : (k : AnswerKey) → row_in answer_cmp new.answers k ≡ changed answer_cmp changes.answers.items k (row_in answer_cmp old.answers k)
   pub requests : new.requests ≡ old.requests + 1

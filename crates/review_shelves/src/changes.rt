@@ -2,9 +2,11 @@
 ghost use Rattle.std.specs.Prelude.{◌≡◌, IfOk, OnOk};
 ghost use Rattle.std.specs.List.{All};
 ghost use Rattle.review_table.specs.Rows.{rows_of};
+ghost use Rattle.review_kept_changes.specs.Kept.{ArePrepared};
 ghost use Rattle.review_shelves.specs.Desk.{IsNumber, IsHeld, IsGiven, AreChangesOf, PutsAnswer, file_changes};
 
 use crate::keys::{AnswerKey, NameKey, StoredAnswer};
+use review_kept_changes::{KeptChanges, Prepared};
 use review_rows::{Delta, Kept, MemberKey, ProjectRow};
 use review_table::{Change, Key, Table};
 use review_words::{AccountName, AccountNo, FileText, ProjectName};
@@ -16,22 +18,32 @@ pub struct Changes {
     pub accounts: Vec<Change<AccountNo, AccountName>>,
     pub members: Vec<Change<MemberKey, ()>>,
     pub files: Vec<Change<ProjectName, FileText>>,
+    pub edits: Prepared,
     pub answers: Vec<Change<AnswerKey, StoredAnswer>>,
 }
 
 impl Changes {
-    pub fn new(alloc: Global, delta: &Delta, kept: &Kept) -> Result<Changes, AllocError>
-        ensures { IfOk result (AreChangesOf delta.now kept.now) }
+    /// Those of a delta and its request, where these are the changes before it.
+    pub fn new(
+        alloc: Global,
+        delta: &Delta,
+        kept: &Kept,
+        changes: &KeptChanges,
+    ) -> Result<Changes, AllocError>
+        ensures copied { IfOk result (AreChangesOf delta.now kept.now) }
+        ensures edits { IfOk result (λ c. ArePrepared (rows_of changes.now.kept) delta.now.changes.items c.edits) }
     {
         let accounts = copied_accounts(alloc, &delta.accounts)?;
         let members = copied_members(alloc, &delta.members)?;
         let files = copied_file(alloc, &delta.file)?;
+        let edits = changes.prepare(alloc, &delta.changes)?;
         let mut answers = Vec::new(alloc);
         answers.push(stored(alloc, kept)?)?;
         Ok(Changes {
             accounts,
             members,
             files,
+            edits,
             answers,
         })
     }

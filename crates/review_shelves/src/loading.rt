@@ -15,7 +15,7 @@ use crate::keys::NameKey;
 use crate::tables::MemoryTables;
 use review_rows::{Base, BranchKey, Counted, MemberKey, Need, Rows, ShelfFault, Want};
 use review_table::{Key, Table};
-use review_words::{AccountName, AccountNo, FileText, GroupName, ProjectName};
+use review_words::{AccountName, AccountNo, ChangeNo, FileText, GroupName, ProjectName};
 use std::alloc::{AllocError, Global};
 
 /// The most projects of a desk.
@@ -39,8 +39,8 @@ impl From<BasesFault> for ShelfFault {
 }
 
 impl MemoryTables {
-    /// What the look-ups of a need find, and of no others. Damaged where the bases of a branch that is asked for have a gap, which no
-    /// history's have.
+    /// What the look-ups of a need find, and of no others. Damaged where the bases of a branch or the rows of a change that is asked for
+    /// have a gap, which no history's have.
     pub fn load(&self, alloc: Global, need: &Need) -> Result<Rows, ShelfFault>
         requires indexed { IsIndexed (rows_of self.now.accounts) (rows_of self.now.names) }
         requires numbered { IsNumbered (rows_of self.now.members) }
@@ -77,6 +77,9 @@ impl MemoryTables {
             Want::Base(base) => self.find_base(alloc, base, rows)?,
             Want::LastPlace(branch) => self.find_last_place(alloc, branch, rows)?,
             Want::Bases(branch) => return self.find_bases(alloc, branch, rows),
+            Want::Change(number) => return self.find_change(alloc, *number, rows),
+            Want::ChangeOf(base) => self.find_change_of(alloc, base, rows)?,
+            Want::LastChange => self.find_last_change(rows),
         }
         Ok(())
     }
@@ -222,6 +225,33 @@ impl MemoryTables {
         let bases = self.branches.bases_of(alloc, branch)?;
         rows.learn_bases(branch.copy(alloc)?, bases)?;
         Ok(())
+    }
+
+    fn find_change(
+        &self,
+        alloc: Global,
+        number: ChangeNo,
+        rows: &mut Rows,
+    ) -> Result<(), ShelfFault>
+        ensures found { OnOk result (Looks (tables_of (desk_of self.now)) (want.Change number) rows.old rows.new) }
+        ensures fault { IfErr result (IsUnread (tables_of (desk_of self.now))) }
+    {
+        let change = self.changes.load(alloc, number)?;
+        rows.learn_change(number, change)?;
+        Ok(())
+    }
+
+    fn find_change_of(&self, alloc: Global, base: &Base, rows: &mut Rows) -> Result<(), AllocError>
+        ensures { OnOk result (Looks (tables_of (desk_of self.now)) (want.ChangeOf base.now) rows.old rows.new) }
+    {
+        let change = self.changes.sender(alloc, base)?;
+        rows.learn_change_of(base.copy(alloc)?, change)
+    }
+
+    fn find_last_change(&self, rows: &mut Rows)
+        ensures { Looks (tables_of (desk_of self.now)) want.LastChange rows.old rows.new }
+    {
+        rows.learn_last_change(self.changes.last());
     }
 
     /// All members of a group.

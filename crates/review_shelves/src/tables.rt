@@ -9,11 +9,13 @@ ghost use Rattle.review_rows.specs.declared.rows.Kept.{Kept};
 ghost use Rattle.review_shelves.specs.declared.changes.Changes.{Changes};
 ghost use Rattle.review_rows.specs.Shelf.{IsRecalled, IsCommitted};
 ghost use Rattle.review_rows.specs.View.{IsView};
-ghost use Rattle.review_shelves.specs.Desk.{tables_of, desk_of, row_of, name_cmp, file_changes, IsIndexed, IsBounded, IsSound, AddsNames, AreChangesOf, AreIndexed, KeepsNames, HasNoSpareRoom, HasRoom, HasRoomOnlyFor, AreApplied, IsWithBase, with_branches};
+ghost use Rattle.review_shelves.specs.Desk.{tables_of, desk_of, row_of, name_cmp, file_changes, IsIndexed, IsBounded, IsSound, AddsNames, AreChangesOf, AreIndexed, KeepsNames, HasNoSpareRoom, HasRoom, HasRoomOnlyFor, AreApplied, IsWithBase, with_branches, with_changes};
+ghost use Rattle.review_kept_changes.specs.Kept.{IsFull, IsFullBut, IsReady};
 
 use crate::branches::Branches;
 use crate::changes::{Changes, names_given, names_held};
 use crate::keys::{AnswerKey, NameKey, StoredAnswer};
+use review_kept_changes::{KeptChanges, Prepared};
 use review_rows::{BaseRow, Delta, Kept, MemberKey, ProjectRow};
 use review_table::{Key, Table};
 use review_words::{
@@ -30,6 +32,7 @@ pub struct MemoryTables {
     pub members: Table<MemberKey, ()>,
     pub files: Table<ProjectName, FileText>,
     pub branches: Branches,
+    pub changes: KeptChanges,
     /// How many projects have a file.
     pub projects: u64,
     pub answers: Table<AnswerKey, StoredAnswer>,
@@ -62,6 +65,7 @@ impl MemoryTables {
             members,
             files: Table::new(alloc),
             branches: Branches::new(alloc),
+            changes: KeptChanges::new(alloc),
             projects: 0,
             answers: Table::new(alloc),
             requests: 0,
@@ -108,7 +112,7 @@ impl MemoryTables {
             caller: kept.caller,
             id: kept.id.copy(alloc)?,
         };
-        let changes = Changes::new(alloc, delta, kept)?;
+        let changes = Changes::new(alloc, delta, kept, &self.changes)?;
         let projects = self.projects_with(&delta.file);
         let made = self.make(alloc, &given, changes, projects, &delta.base);
         self.release(delta, &identity);
@@ -128,7 +132,7 @@ impl MemoryTables {
         }
     }
 
-    /// Makes changes, puts a base, and lists the names that they give, or changes no row.
+    /// Makes changes, puts a base, and lists the names that they give, or changes no row. It leaves no room in the tables of changes.
     fn make(
         &mut self,
         alloc: Global,
@@ -139,18 +143,53 @@ impl MemoryTables {
     ) -> Result<(), AllocError>
         requires number { self.old.requests < 2 ^ 64 - 1 }
         requires bounded { IsBounded (desk_of self.old) }
+        requires ready { IsReady (rows_of self.old.changes.kept) changes.edits }
         ensures kept { KeepsNames (rows_of self.old.names) (rows_of self.new.names) }
         ensures only { AddsNames (rows_of self.old.names) given.now (rows_of self.new.names) }
         ensures listed { OnOk result (AreIndexed (rows_of self.new.names) given.now) }
         ensures spare { HasNoSpareRoom self.old → HasRoomOnlyFor changes self.new }
+        ensures full { HasNoSpareRoom self.old → IsFull self.new.changes }
         ensures done { OnOk result (AreApplied (desk_of self.old) changes projects (desk_of self.new)) }
         ensures based { OnOk result (IsWithBase base.now self.old.branches self.new.branches) }
         ensures same { OnErr result (desk_of self.new ≡ desk_of self.old) }
     {
         self.reserve(alloc, given, &changes)?;
-        self.put_base(alloc, base)?;
+        self.put_base_beside(alloc, base, &changes.edits)?;
         self.apply(changes, projects);
         Ok(())
+    }
+
+    /// Puts a base, where there is one, or changes no row and drops the places that were made for edits.
+    fn put_base_beside(
+        &mut self,
+        alloc: Global,
+        base: &Option<BaseRow>,
+        edits: &Prepared,
+    ) -> Result<(), AllocError>
+        requires number { self.old.requests < 2 ^ 64 - 1 }
+        requires bounded { IsBounded (desk_of self.old) }
+        ensures added { OnOk result (IsWithBase base.now self.old.branches self.new.branches) }
+        ensures rest { OnOk result (self.new ≡ with_branches self.old self.new.branches) }
+        ensures undone { OnErr result (self.new ≡ with_changes self.old self.new.changes) }
+        ensures same { OnErr result (desk_of self.new ≡ desk_of self.old) }
+        ensures full { OnErr result (IsFullBut edits.now self.old.changes → IsFull self.new.changes) }
+    {
+        match self.put_base(alloc, base) {
+            Ok(()) => Ok(()),
+            Err(error) => {
+                self.release_changes(edits);
+                Err(error)
+            }
+        }
+    }
+
+    /// Drops the places of changes that hold no row, of those that edits name.
+    fn release_changes(&mut self, edits: &Prepared)
+        ensures same { desk_of self.new ≡ desk_of self.old }
+        ensures full { IsFullBut edits.now self.old.changes → IsFull self.new.changes }
+        ensures rest { self.new ≡ with_changes self.old self.new.changes }
+    {
+        self.changes.release(edits);
     }
 
     /// Puts a base, where there is one, or changes nothing.
@@ -180,12 +219,15 @@ impl MemoryTables {
         ensures listed { OnOk result (AreIndexed (rows_of self.new.names) names.now) }
         ensures room { OnOk result (HasRoom self.new changes.now) }
         ensures spare { HasNoSpareRoom self.old → HasRoomOnlyFor changes.now self.new }
+        ensures full { OnErr result (HasNoSpareRoom self.old → IsFull self.new.changes) }
+        ensures full_but { OnOk result (HasNoSpareRoom self.old → IsFullBut changes.now.edits self.new.changes) }
     {
         self.list_names(alloc, names)?;
         self.accounts.reserve_all(alloc, &changes.accounts)?;
         self.members.reserve_all(alloc, &changes.members)?;
         self.files.reserve_all(alloc, &changes.files)?;
         self.answers.reserve_all(alloc, &changes.answers)?;
+        self.changes.reserve(alloc, &changes.edits)?;
         Ok(())
     }
 
@@ -207,7 +249,7 @@ impl MemoryTables {
         ensures same { desk_of self.new ≡ desk_of self.old }
         ensures names { self.new.names ≡ self.old.names }
         ensures filled { (kept : Kept) (changes : Changes) → AreChangesOf delta.now kept changes → identity.now ≡ record { caller = kept.caller; id = kept.id } →
-            HasRoomOnlyFor changes self.old → HasNoSpareRoom self.new }
+            HasRoomOnlyFor changes self.old → IsFull self.old.changes → HasNoSpareRoom self.new }
     {
         self.accounts.release(&delta.accounts);
         self.members.release(&delta.members);
@@ -219,20 +261,24 @@ impl MemoryTables {
     fn apply(&mut self, changes: Changes, projects: u64)
         requires room { HasRoom self.old changes }
         requires number { self.old.requests < 2 ^ 64 - 1 }
+        requires ready { IsReady (rows_of self.old.changes.kept) changes.edits }
         ensures done { AreApplied (desk_of self.old) changes projects (desk_of self.new) }
         ensures branches { self.new.branches ≡ self.old.branches }
         ensures names { self.new.names ≡ self.old.names }
         ensures spare { HasRoomOnlyFor changes self.old → HasRoomOnlyFor changes self.new }
+        ensures full { IsFullBut changes.edits self.old.changes → IsFull self.new.changes }
     {
         let Changes {
             accounts,
             members,
             files,
+            edits,
             answers,
         } = changes;
         self.accounts.apply(accounts);
         self.members.apply(members);
         self.files.apply(files);
+        self.changes.apply(edits);
         self.projects = projects;
         self.answers.apply(answers);
         self.requests += 1;

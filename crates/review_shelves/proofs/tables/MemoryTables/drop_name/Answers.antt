@@ -25,5 +25,6 @@ returns-then-not-has_name-clause-filled c = λ full. record {
   names = c.remove.ensures.mended (none_spare name_cmp (is_at (name_cmp c.args.key.now)) c.args.self.now.names full.names);
   members = full.members;
   files = full.files;
+  changes = full.changes;
   answers = full.answers;
 }

@@ -22,6 +22,7 @@ loop-key-preserved c =
         names = c.put.ensures.kept was.names;
         members = was.members;
         files = was.files;
+        changes = was.changes;
         answers = was.answers;
       };
       listed = All-step (λ (k : NameKey). row_in name_cmp old k ≡ Some tt) (λ (k : NameKey). row_in name_cmp new k ≡ Some tt)
@@ -34,5 +35,6 @@ returns-in_err-put-clause-filled c = λ full. let was = c.loop-key.invariant.fil
   names = c.in_err-put.ensures.kept was.names;
   members = was.members;
   files = was.files;
+  changes = was.changes;
   answers = was.answers;
 }
