@@ -26,20 +26,6 @@ use Rattle.review_change_laws.proofs.Sound.{Passes, all_pass}
 use Rattle.review_change_rows.specs.Edits.{GoesOn}
 use Rattle.review_change_decisions.specs.Facts.{given_of, next_numbers, review_list}
 
--- patch sets stay
-stays : {X : Type 0} (most : ℕ) (old new : List X) → new ≡ old → length old ≤ most → GoesOn most old new
-stays most old new same within = record {
-  more = [];
-  is = same ∙ sym (append-nil old);
-  within = subst (λ l. length l ≤ most) (sym same) within;
-}
-
--- a review sends no patch set
-pub patches_stay : (found new : ChangeRows) (r : ReviewOf) (caller request : ℕ) → IsSound (seen found) → seen new ≡ after_plain (ReviewCommand r) caller request (seen found) →
-    GoesOn most_patches found.patches.items new.patches.items
-patches_stay found new r caller request sound is =
-    stays most_patches found.patches.items new.patches.items (ap (λ (c : Change). c.patches) is) (within_parts most_patches (length found.patches.items) sound.patches).1
-
 -- so many numbers are so many
 pub numbers_count : (n k : ℕ) → length (next_numbers n k) ≡ k
 numbers_count n zero = refl

@@ -1,0 +1,51 @@
+-- What a command makes of a change, as an edit.
+use Rattle.std.proofs.Common.{◌≡◌, ℕ, ◌≤◌, List, [], ◌∷◌, ◌++◌, length, true, refl, sym, ap, ◌∙◌, subst, arith}
+use Rattle.std.specs.Prelude.{find, nat_le, None}
+use Rattle.std.specs.Ordering.{nat_cmp}
+use Rattle.std.proofs.lemmas.Bool.Decides.{nat_tests}
+use Rattle.std.proofs.lemmas.List.{append-nil}
+use Rattle.review_names.specs.Forms.{most_comments, most_patches}
+use Rattle.review_changes.specs.Change.{Change}
+use Rattle.review_changes.specs.Seen.{seen}
+use Rattle.review_changes.specs.Sound.{IsSound}
+use Rattle.review_changes.specs.declared.rows.ChangeRows.{ChangeRows}
+use Rattle.review_changes.specs.declared.rows.CommentRow.{CommentRow}
+use Rattle.review_changes.specs.declared.rows.PatchRow.{PatchRow}
+use Rattle.review_changes.proofs.Within.{within_parts}
+use Rattle.review_rows.specs.Decisions.{NamesChangesOnce, NamesEachOnce, NamesOnce, NamesRowsOnce}
+use Rattle.review_rows.specs.Rows.{member_cmp}
+use Rattle.review_rows.specs.declared.rows.ChangeEdit.{ChangeEdit}
+use Rattle.review_rows.specs.declared.rows.Delta.{Delta}
+use Rattle.review_change_rows.specs.Edits.{GoesOn}
+use Rattle.review_change_decisions.specs.Facts.{EditsChange}
+
+-- the patch sets of a sound change go on from others where they begin with them
+pub patches_go : (old new : ChangeRows) (to : Change) (more : List PatchRow) → IsSound (seen new) → seen new ≡ to → to.patches ≡ old.patches.items ++ more → GoesOn most_patches old.patches.items new.patches.items
+patches_go old new to more sound is begins = record {
+  more = more;
+  is = ap (λ (c : Change). c.patches) is ∙ begins;
+  within = (within_parts most_patches (length new.patches.items) sound.patches).1;
+}
+
+-- and so do the comments
+pub comments_go : (old new : ChangeRows) (to : Change) (more : List CommentRow) → IsSound (seen new) → seen new ≡ to → to.comments ≡ old.comments.items ++ more → GoesOn most_comments old.comments.items new.comments.items
+comments_go old new to more sound is begins = record {
+  more = more;
+  is = ap (λ (c : Change). c.comments) is ∙ begins;
+  within = below (length new.comments.items) sound.comments;
+}
+  where
+    below : (n : ℕ) → nat_le n most_comments ≡ true → n ≤ most_comments
+    below n is = grind (arith, nat_tests)
+
+-- a list goes on with nothing
+pub unchanged : {X : Type 0} (xs : List X) → xs ≡ xs ++ []
+unchanged xs = sym (append-nil xs)
+
+-- a delta of one edit names each key once, where the edit does
+pub one_edit_once : (e : ChangeEdit) (delta : Delta) → EditsChange e delta → NamesRowsOnce e → NamesEachOnce delta
+one_edit_once e delta m once = (
+  subst (NamesOnce nat_cmp) (sym m.accounts) tt,
+  subst (NamesOnce member_cmp) (sym m.members) tt,
+  subst NamesChangesOnce (sym m.changes) (refl, once, tt),
+)
