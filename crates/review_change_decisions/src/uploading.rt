@@ -1,9 +1,10 @@
 //! New patch sets.
 ghost use Rattle.std.specs.Prelude.{◌≡◌, ◌<◌, ◌+◌, ◌==◌, ◌||◌, List, IfOk, IfErr, length, option_copied, true};
 ghost use Rattle.review_names.specs.Forms.{is_within, most_patches};
-ghost use Rattle.review_words.specs.Texts.{IsStored};
+ghost use Rattle.review_words.specs.Texts.{IsStored, IsStoredAnswer};
 ghost use Rattle.review_words.specs.History.{Entry, is_account};
 ghost use Rattle.review_words.specs.declared.command.Command.TheVariants.{Upload};
+ghost use Rattle.review_words.specs.declared.reply.Answer.TheVariants.{Patch};
 ghost use Rattle.review_project.specs.declared.parts.Right.TheVariants as right;
 ghost use Rattle.review_changes.specs.Change.{after, current};
 ghost use Rattle.review_changes.specs.Seen.{seen};
@@ -23,14 +24,12 @@ use review_account_decisions::refused;
 use review_change_laws::changes_are_sound;
 use review_change_rows::{copied_patch, edit_of};
 use review_changes::{ChangeRows, Header};
-use review_core::ChangeFile;
+use review_core::{ChangeFile, Copied};
 use review_file::{ProjectFile, Right};
 use review_group_names::groups_suffice;
 use review_project_laws::one_file;
 use review_rows::{Delta, Rows};
-use review_words::{
-    AccountNo, Answer, ChangeNo, NewPatch, NotTaken, PatchNo, Refusal, Reply,
-};
+use review_words::{AccountNo, Answer, ChangeNo, NewPatch, NotTaken, PatchNo, Refusal, Reply};
 use std::alloc::{AllocError, Global};
 
 /// Whether an account may send patch sets of a change: as its owner, or by the right to.
@@ -80,6 +79,7 @@ fn upload_refusal(
 }
 
 /// The number of the patch set after so many.
+#[tactic(auto, using(crate::proofs::Made::next_below))]
 fn next_patch(count: usize) -> PatchNo
     requires { is_within most_patches (count + 1) ≡ true }
     ensures { result ≡ count + 1 }
@@ -87,6 +87,20 @@ fn next_patch(count: usize) -> PatchNo
     match PatchNo::from_number(count as u64 + 1) {
         Some(next) => next,
         None => unreachable!(),
+    }
+}
+
+/// The answer to a new patch set, with how many votes were copied and how many not.
+fn patch_answer(change: ChangeNo, patch: PatchNo, counts: Copied) -> Answer
+    ensures value { result ≡ Patch change patch counts.copied counts.outdated }
+    ensures stored { IsStoredAnswer result }
+{
+    let _numbers = (change.get(), patch.get());
+    Answer::Patch {
+        change,
+        patch,
+        copied: counts.copied as u64,
+        outdated: counts.outdated as u64,
     }
 }
 
@@ -148,11 +162,6 @@ fn uploaded(
     let (new, counts) = file.with_patch_set(alloc, patch, caller, project, &rows.groups, request)?;
     let edit = edit_of(alloc, change, found, new.rows())?;
     let delta = edited(alloc, edit)?;
-    let answer = Answer::Patch {
-        change,
-        patch: next_patch(found.patches.len()),
-        copied: counts.copied as u64,
-        outdated: counts.outdated as u64,
-    };
+    let answer = patch_answer(change, next_patch(found.patches.len()), counts);
     Ok((delta, Reply::Done(answer)))
 }

@@ -118,8 +118,9 @@ fn decide_for(
         } => record_base(alloc, rows, caller, project, branch, commit),
         Command::CreateChange(new) => create_change(alloc, had, rows, caller, new),
         Command::Upload { change, patch } => upload(alloc, had, rows, caller, *change, patch),
-        Command::Review { change, review: said } => {
-            review(alloc, had, rows, caller, *change, said)
-        }
+        Command::Review {
+            change,
+            review: said,
+        } => { review(alloc, had, rows, caller, *change, said) }
     }
 }

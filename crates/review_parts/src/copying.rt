@@ -165,7 +165,17 @@ fn part(
         lost: Vec::new(alloc),
     };
     for (key, vote) in rows {
-        part_one(alloc, file, facts, groups, key, **vote, patch, next, &mut parted)?;
+        part_one(
+            alloc,
+            file,
+            facts,
+            groups,
+            key,
+            **vote,
+            patch,
+            next,
+            &mut parted,
+        )?;
     }
     Ok(parted)
 }
