@@ -6,11 +6,10 @@ use Rattle.std.specs.Option.{option_map_or}
 use Rattle.std.specs.Ordering.{nat_cmp}
 use Rattle.std.specs.Cmp.Lexicographic.{slice_cmp}
 use Rattle.std.specs.Str.{bytes_eq}
-use Rattle.review_names.specs.Groups.{GroupList, has_account}
+use Rattle.review_names.specs.Groups.{GroupList}
 use Rattle.review_names.specs.Names.{registered_users}
 use Rattle.review_table.specs.Rows.{row_in, rows_of}
-use Rattle.review_words.specs.History.{Entry, file_text}
-use Rattle.review_words.specs.History as history
+use Rattle.review_words.specs.History.{Entry}
 use Rattle.review_words.specs.declared.changes.NewPatch.{NewPatch}
 use Rattle.review_judging.specs.Holds.{copy_holds, holds}
 use Rattle.review_judging.specs.declared.facts.VoteFacts.{VoteFacts}
@@ -21,7 +20,7 @@ use Rattle.review_expr.specs.declared.expr.Facts.TheVariants as facts
 use Rattle.review_group_names.specs.Named.{SameIn, SameInAll, copy_groups, copying_groups, groups_in}
 use Rattle.review_project.specs.Trees.{ExprTree, OfCopy, OfRequirement, file_trees, label_trees, tree_of}
 use Rattle.review_project.specs.View.{LabelView}
-use Rattle.review_changes.specs.Change.{Change, Copying, Setting, condition_holds, copying, is_copied, vote_facts}
+use Rattle.review_changes.specs.Change.{Change, Setting, condition_holds, copying, is_copied, vote_facts}
 use Rattle.review_changes.specs.declared.commands.ChangeCommand.TheVariants.{Upload}
 use Rattle.review_parts.specs.Copies.{group_list}
 use Rattle.review_parts.proofs.Grouped.{in_table, is_listed}

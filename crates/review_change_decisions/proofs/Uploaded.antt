@@ -1,5 +1,5 @@
 -- A new patch set.
-use Rattle.std.proofs.Common.{◌≡◌, ℕ, ◌+◌, ◌==◌, List, [], ◌∷◌, Some, None, Bool, true, ◌||◌, not, length, refl, sym, ap, ◌∙◌, subst, map}
+use Rattle.std.proofs.Common.{◌≡◌, ℕ, ◌==◌, List, [], ◌∷◌, Some, None, true, ◌||◌, not, refl, sym, ap, ◌∙◌, subst, map}
 use Rattle.std.specs.Prelude.{nat_lt, option_map}
 use Rattle.std.specs.List.{AllByRecursion}
 use Rattle.review_names.specs.Forms.{most_patches}
@@ -23,7 +23,7 @@ use Rattle.review_rows.specs.declared.rows.Want.TheVariants as want
 use Rattle.review_rows.proofs.Asked.{change_asked, file_asked}
 use Rattle.review_account_decisions.proofs.Told.{text_told}
 use Rattle.review_change_laws.proofs.Sound.{all_pass}
-use Rattle.review_change_decisions.specs.Facts.{known_in, right_in, setting_in, upload_list}
+use Rattle.review_change_decisions.specs.Facts.{setting_in, upload_list}
 use Rattle.review_change_decisions.proofs.Copies.{GroupsSuffice, copying_told, split_all}
 use Rattle.review_change_decisions.proofs.Judged.{same_trees}
 use Rattle.review_change_decisions.proofs.Told.{OneFile, known_told, right_told}

@@ -1,4 +1,4 @@
-use Rattle.std.proofs.Common.{◌≡◌, ◌+◌, ◌++◌, ◌∷◌, [], ◌∙◌, ap, sym, subst, length, true, arith}
+use Rattle.std.proofs.Common.{◌≡◌, ◌+◌, ◌∙◌, ap, sym, subst, length, true, arith}
 use Rattle.std.specs.Option.{option_copied}
 use Rattle.review_names.specs.Forms.{is_within, most_changes}
 use Rattle.review_words.specs.declared.command.Command.TheVariants.{CreateChange}

@@ -1,8 +1,8 @@
-use Rattle.std.proofs.Common.{◌≡◌, ◌∷◌, [], ◌∙◌, ◌+◌, ap, refl, sym, subst, length, min, rules}
+use Rattle.std.proofs.Common.{◌≡◌, ◌∷◌, [], ◌∙◌, ◌+◌, ap, refl, subst, length, min, rules}
 use Rattle.review_words.specs.declared.changes.NewPatch.{NewPatch}
 use Rattle.review_words.specs.declared.reply.Answer.TheVariants.{Patch}
 use Rattle.review_words.specs.declared.reply.Reply.TheVariants.{Done}
-use Rattle.review_changes.specs.Change.{Change, after, carried, copying, current, is_lost}
+use Rattle.review_changes.specs.Change.{Change, after, carried, copying, is_lost}
 use Rattle.review_changes.specs.Counts.{AreMany}
 use Rattle.review_changes.specs.Parts.{part_row}
 use Rattle.review_changes.specs.Seen.{seen}
