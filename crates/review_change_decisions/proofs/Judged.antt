@@ -47,7 +47,7 @@ in_trees p d name (l ∷ ls) = at (bytes_eq l.name name) (find (λ k. bytes_eq k
     at false o t same = same
 
 -- files with the same trees say the same of a label
-same_label : {X : Type 0} (p : LabelView ExprTree → X) (d : X) (name : List ℕ) (f g : File) → file_trees f ≡ file_trees g →
+pub same_label : {X : Type 0} (p : LabelView ExprTree → X) (d : X) (name : List ℕ) (f g : File) → file_trees f ≡ file_trees g →
     option_map_or (λ l. p (label_trees l)) (label_in f name) d ≡ option_map_or (λ l. p (label_trees l)) (label_in g name) d
 same_label p d name f g same =
     in_trees p d name f.labels ∙ (ap (λ t. option_map_or p (find (λ l. bytes_eq l.name name) t.labels) d) same ∙ sym (in_trees p d name g.labels))
@@ -95,7 +95,7 @@ ranges_told reading h rows project f account (g ∷ gs) agree same all =
     λ i. range_told reading h rows project f account g agree same each.0 i && ranges_told reading h rows project f account gs agree same each.1 i
 
 -- the file that was read has the trees of the one that is read
-same_trees : OneFile → (reading : Reading) (h : List Entry) (project : List ℕ) (file : File) → Reads reading h → HasFile (file_text h project) (Some file) → file_trees file ≡ file_trees (file_of reading h project)
+pub same_trees : OneFile → (reading : Reading) (h : List Entry) (project : List ℕ) (file : File) → Reads reading h → HasFile (file_text h project) (Some file) → file_trees file ≡ file_trees (file_of reading h project)
 same_trees one reading h project file reads has = at (file_text h project) refl has
   where
     at : (o : Option (List ℕ)) → file_text h project ≡ o → HasFile o (Some file) → file_trees file ≡ file_trees (reading (unwrap_or (file_text h project) []))
@@ -138,5 +138,5 @@ pub review_told : OneFile → (reading : Reading) (h : List Entry) (caller n : �
     AreEnough reading h caller (OfCommand (Review n r)) had rows → (LacksFile had r.labels → is_within (current c) (reviewed r c) ≡ false) →
     refused_by reading h caller (Review n r) ≡ first_refusal (review_list had rows caller r c)
 review_told one reading h caller n r had rows c account found l lacks =
-    let told = change_is reading h caller n r had rows c found l in
+    let told = change_is reading h caller n (Review n r) refl had rows c found l in
     (λ i. first_refusal ((account i, UnknownCaller) ∷ of_change (review_checks reading h caller r) (told i))) ∙ list_told one reading h caller n r had rows c r.labels refl found l lacks

@@ -1,44 +1,25 @@
 -- A review.
-use Rattle.std.proofs.Common.{◌≡◌, ℕ, zero, suc, ◌+◌, ◌≤◌, List, [], ◌∷◌, ◌++◌, length, Option, Some, None, Bool, true, refl, sym, ap, ◌∙◌, subst, arith}
+use Rattle.std.proofs.Common.{◌≡◌, ℕ, zero, suc, ◌+◌, ◌≤◌, List, [], ◌∷◌, ◌++◌, length, Option, Some, None, Bool, true, refl, ap, arith}
 use Rattle.std.specs.Prelude.{nat_le}
 use Rattle.std.specs.List.{AllByRecursion}
 use Rattle.std.proofs.lemmas.Bool.{and_from, and_parts}
 use Rattle.std.proofs.lemmas.Bool.Decides.{nat_tests}
-use Rattle.std.proofs.lemmas.List.{append-nil}
-use Rattle.review_names.specs.Forms.{is_within, most_comments, most_patches}
+use Rattle.review_names.specs.Forms.{is_within, most_comments}
 use Rattle.review_words.specs.Texts.{IsCommentNumber}
 use Rattle.review_words.specs.History.{Entry, is_account}
 use Rattle.review_words.specs.declared.changes.Review.{Review as ReviewOf}
 use Rattle.review_words.specs.declared.command.Command.TheVariants.{Review}
 use Rattle.review_words.specs.declared.reply.Refusal.{Refusal}
 use Rattle.review_words.specs.declared.reply.Refusal.TheVariants.{UnknownCaller, NoChange, NoComment, Limit}
-use Rattle.review_changes.specs.Change.{Change, after_plain, current, reviewed, said}
-use Rattle.review_changes.specs.Seen.{seen}
-use Rattle.review_changes.specs.Sound.{IsSound, answer_stored, fits}
+use Rattle.review_changes.specs.Change.{Change, current, reviewed, said}
+use Rattle.review_changes.specs.Sound.{answer_stored, fits}
 use Rattle.review_changes.specs.declared.commands.ChangeCommand.TheVariants.{Review as ReviewCommand}
-use Rattle.review_changes.specs.declared.rows.ChangeRows.{ChangeRows}
-use Rattle.review_changes.proofs.Within.{within_parts}
 use Rattle.review_rows.specs.Answer.{first_refusal, of_change, refused_by, review_checks}
 use Rattle.review_rows.specs.Changes.{Reading, change}
 use Rattle.review_rows.specs.Files.{File}
 use Rattle.review_rows.specs.declared.rows.Rows.{Rows}
 use Rattle.review_change_laws.proofs.Sound.{Passes, all_pass}
-use Rattle.review_change_rows.specs.Edits.{GoesOn}
 use Rattle.review_change_decisions.specs.Facts.{given_of, next_numbers, review_list}
-
--- patch sets stay
-stays : {X : Type 0} (most : ℕ) (old new : List X) → new ≡ old → length old ≤ most → GoesOn most old new
-stays most old new same within = record {
-  more = [];
-  is = same ∙ sym (append-nil old);
-  within = subst (λ l. length l ≤ most) (sym same) within;
-}
-
--- a review sends no patch set
-pub patches_stay : (found new : ChangeRows) (r : ReviewOf) (caller request : ℕ) → IsSound (seen found) → seen new ≡ after_plain (ReviewCommand r) caller request (seen found) →
-    GoesOn most_patches found.patches.items new.patches.items
-patches_stay found new r caller request sound is =
-    stays most_patches found.patches.items new.patches.items (ap (λ (c : Change). c.patches) is) (within_parts most_patches (length found.patches.items) sound.patches).1
 
 -- so many numbers are so many
 pub numbers_count : (n k : ℕ) → length (next_numbers n k) ≡ k

@@ -1,21 +1,26 @@
--- A review that is done.
+-- A command on a change that is done.
 use Rattle.std.proofs.Common.{◌≡◌, ℕ, ◌+◌, ◌<◌, ◌==◌, min, List, [], ◌∷◌, length, Option, Some, None, Bool, true, false, cond, refl, sym, ap, ◌∙◌, subst, eqb-true, arith}
 use Rattle.std.specs.Prelude.{option_map}
 use Rattle.std.specs.Ordering.{nat_cmp}
 use Rattle.review_table.specs.Rows.{after_change, change_of}
 use Rattle.review_words.specs.History.{Entry, base_count, project_count}
 use Rattle.review_words.specs.declared.changes.Review.{Review as ReviewOf}
-use Rattle.review_words.specs.declared.command.Command.TheVariants.{Review}
-use Rattle.review_words.specs.declared.reply.Answer.TheVariants.{Reviewed}
+use Rattle.review_words.specs.declared.changes.NewPatch.{NewPatch}
+use Rattle.review_words.specs.declared.command.Command.{Command}
+use Rattle.review_words.specs.declared.command.Command.TheVariants.{Review, Upload}
+use Rattle.review_words.specs.declared.reply.Answer.{Answer}
+use Rattle.review_words.specs.declared.reply.Answer.TheVariants.{Patch, Reviewed}
 use Rattle.review_words.specs.declared.reply.Reply.{Reply}
 use Rattle.review_words.specs.declared.reply.Reply.TheVariants.{Done}
-use Rattle.review_changes.specs.Change.{Change, after_plain, said}
-use Rattle.review_changes.specs.declared.commands.ChangeCommand.TheVariants.{Review as ReviewCommand}
-use Rattle.review_rows.specs.Answer.{comment_numbers, most_requests, numbers_after, refused_by}
-use Rattle.review_rows.specs.Changes.{Reading, change}
+use Rattle.review_changes.specs.Change.{Change, after_copying, after_plain, carried, copying, current, is_lost, said, after as change_after_request}
+use Rattle.review_changes.specs.Counts.{AreMany}
+use Rattle.review_changes.specs.Votes.{voted}
+use Rattle.review_changes.specs.declared.commands.ChangeCommand.TheVariants.{Review as ReviewCommand, Upload as UploadCommand}
+use Rattle.review_rows.specs.Answer.{IsAnswerBy, IsOf, IsUploadAnswer, comment_numbers, most_requests, numbers_after, refused_by}
+use Rattle.review_rows.specs.Changes.{Reading, change, setting_of}
 use Rattle.review_rows.specs.Files.{File}
 use Rattle.review_rows.specs.Known.{known, number_of, part_of}
-use Rattle.review_rows.specs.Rows.{Key, AccountKey, MemberKey, FileKey, BaseKey, PartKey, OddKey, APart, Count, Projects, BasesOf, account_change, member_change, file_after, base_after, edited, projects_after, bases_after, after, count_after, part_change, member_cmp}
+use Rattle.review_rows.specs.Rows.{Key, Row, AccountKey, MemberKey, FileKey, BaseKey, PartKey, OddKey, APart, Count, Projects, BasesOf, account_change, member_change, file_after, base_after, edited, projects_after, bases_after, after, count_after, part_change, member_cmp}
 use Rattle.review_rows.specs.Steps.{OfCommand}
 use Rattle.review_rows.specs.View.{AreEnough, IsDecided, counted, fact, view}
 use Rattle.review_rows.specs.declared.rows.Delta.{Delta}
@@ -23,7 +28,7 @@ use Rattle.review_rows.specs.declared.rows.Rows.{Rows}
 use Rattle.review_rows.specs.declared.rows.Want.TheVariants as want
 use Rattle.review_rows.proofs.Asked.{requests_are}
 use Rattle.review_account_decisions.proofs.Decided.{outcome_answer}
-use Rattle.review_change_decisions.specs.Facts.{IsReviewed, next_numbers, next_request}
+use Rattle.review_change_decisions.specs.Facts.{IsReviewed, IsUploaded, MakesChange, next_numbers, next_request, setting_in}
 use Rattle.review_change_decisions.proofs.Made.{edit_turns}
 
 -- numbers after one are so many next ones
@@ -32,27 +37,80 @@ numbers_next n [] = refl
 numbers_next n (x ∷ xs) = ap (λ l. (n + 1) ∷ l) (numbers_next (n + 1) xs)
 
 -- the number of the request
-pub request_is : (reading : Reading) (h : List Entry) (caller n : ℕ) (r : ReviewOf) (had : Option File) (rows : Rows) → length h < most_requests → AreEnough reading h caller (OfCommand (Review n r)) had rows →
+pub request_is : (reading : Reading) (h : List Entry) (caller : ℕ) (command : Command) (had : Option File) (rows : Rows) → length h < most_requests → AreEnough reading h caller (OfCommand command) had rows →
     next_request rows ≡ length h + 1
-request_is reading h caller n r had rows room l =
-    let many : number_of (known rows want.Requests) ≡ length h = requests_are (view reading h) had rows caller (Review n r) l.agree l.nothing_left in
+request_is reading h caller command had rows room l =
+    let many : number_of (known rows want.Requests) ≡ length h = requests_are (view reading h) had rows caller command l.agree l.nothing_left in
     let least : min (length h + 1) 18446744073709551615 ≡ length h + 1 = omega arith in
     ap (λ k. min (k + 1) 18446744073709551615) many ∙ least
 
+-- the rows of a history, once a change of it is another
+abbrev fact_with : Reading → List Entry → ℕ → Change → Key → Option Row
+fact_with reading h n new (PartKey k part) = option_map APart (part_of (cond (n == k) (Some new) (change reading h k)) part)
+fact_with reading h n new key = fact reading h key
+
+-- the entry of a command that is done
+abbrev entry_of : ℕ → List ℕ → Command → Answer → Entry
+entry_of caller id command a = record { identity = record { caller = caller; id = id }; command = command; reply = Done a }
+
+-- the change of a number is there where it is looked for
+here : (reading : Reading) (h : List Entry) (n k : ℕ) (c : Change) → change reading h n ≡ Some c → (n == k) ≡ true → change reading h k ≡ Some c
+here reading h n k c told t = ap (change reading h) (sym (eqb-true n k t)) ∙ told
+
+rows_made : (reading : Reading) (h : List Entry) (n : ℕ) (c new : Change) (delta : Delta) → change reading h n ≡ Some c → MakesChange n c new delta → (k : Key) → fact_with reading h n new k ≡ after delta k (fact reading h k)
+rows_made reading h n c new delta told m (AccountKey a) = sym (ap (λ l. after_change (account_change (change_of nat_cmp l a)) (fact reading h (AccountKey a))) m.edits.accounts)
+rows_made reading h n c new delta told m (MemberKey g a) =
+    sym (ap (λ l. after_change (member_change (change_of member_cmp l (record { group = g; account = a }))) (fact reading h (MemberKey g a))) m.edits.members)
+rows_made reading h n c new delta told m (FileKey q) = sym (ap (λ o. file_after o q (fact reading h (FileKey q))) m.edits.file)
+rows_made reading h n c new delta told m (BaseKey q b a) = sym (ap (λ o. base_after o q b a (fact reading h (BaseKey q b a))) m.edits.base)
+rows_made reading h n c new delta told m (PartKey k part) =
+    edit_turns m.edit k part (change reading h k) new (n == k) (ap (λ x. x == k) m.named)
+    (λ t. ap (λ o. after_change (part_change m.edit part) (part_of o part)) (here reading h n k c told t) ∙ m.becomes part)
+    ∙ sym (ap (λ es. after_change (option_map (option_map APart) (edited es k part)) (fact reading h (PartKey k part))) m.edits.changes)
+rows_made reading h n c new delta told m (OddKey o) = refl
+
+counts_made : (reading : Reading) (h : List Entry) (n : ℕ) (c new : Change) (delta : Delta) → MakesChange n c new delta → (k : Count) → counted h k ≡ count_after delta (fact reading h) k (counted h k)
+counts_made reading h n c new delta m Projects = sym (ap (λ o. projects_after o (fact reading h) (project_count h)) m.edits.file)
+counts_made reading h n c new delta m (BasesOf q) = sym (ap (λ o. bases_after o (fact reading h) q (base_count h q)) m.edits.base)
+
+-- a command that makes of a change another is decided
+change_decided : (reading : Reading) (h : List Entry) (caller n : ℕ) (command : Command) (a : Answer) (c new : Change) (delta : Delta) → change reading h n ≡ Some c → MakesChange n c new delta →
+    IsAnswerBy reading h caller command (Done a) → ((k : Key) → fact reading (entry_of caller [] command a ∷ h) k ≡ fact_with reading h n new k) →
+    ((k : Count) → counted (entry_of caller [] command a ∷ h) k ≡ counted h k) → IsDecided reading h caller command delta (Done a)
+change_decided reading h caller n command a c new delta told m answer turned same = record {
+  reply_is = answer;
+  row_is = λ id k. turned k ∙ rows_made reading h n c new delta told m k;
+  count_is = λ id k. same k ∙ counts_made reading h n c new delta m k;
+}
+
 -- the change of a number becomes another, where it is there
-put_at : (f : Change → Change) (new : Change) (o : Option Change) (b : Bool) → (b ≡ true → option_map f o ≡ Some new) → cond b (option_map f o) o ≡ cond b (Some new) o
-put_at f new o true is = is refl
-put_at f new o false is = refl
+put_at : (f : Change → Change) (c : Change) (o : Option Change) (b : Bool) → (b ≡ true → o ≡ Some c) → cond b (option_map f o) o ≡ cond b (Some (f c)) o
+put_at f c o true is = ap (option_map f) (is refl)
+put_at f c o false is = refl
+
+review_turns : (reading : Reading) (h : List Entry) (caller n : ℕ) (r : ReviewOf) (a : Answer) (c : Change) → change reading h n ≡ Some c → (k : Key) →
+    fact reading (entry_of caller [] (Review n r) a ∷ h) k ≡ fact_with reading h n (after_plain (ReviewCommand r) caller (length h + 1) c) k
+review_turns reading h caller n r a c told (AccountKey u) = refl
+review_turns reading h caller n r a c told (MemberKey g u) = refl
+review_turns reading h caller n r a c told (FileKey q) = refl
+review_turns reading h caller n r a c told (BaseKey q b u) = refl
+review_turns reading h caller n r a c told (PartKey k part) =
+    ap (λ o. option_map APart (part_of o part)) (put_at (λ x. after_plain (ReviewCommand r) caller (length h + 1) x) c (change reading h k) (n == k) (here reading h n k c told))
+review_turns reading h caller n r a c told (OddKey o) = refl
+
+review_counts : (h : List Entry) (caller n : ℕ) (r : ReviewOf) (a : Answer) (k : Count) → counted (entry_of caller [] (Review n r) a ∷ h) k ≡ counted h k
+review_counts h caller n r a Projects = refl
+review_counts h caller n r a (BasesOf q) = refl
 
 -- the review is done
-done_as : (reading : Reading) (h : List Entry) (caller n : ℕ) (r : ReviewOf) (rows : Rows) (c : Change) (delta : Delta) (reply : Reply) → refused_by reading h caller (Review n r) ≡ None →
-    change reading h n ≡ Some c → next_request rows ≡ length h + 1 → IsReviewed n r caller rows c delta reply →
-    IsDecided reading h caller (Review n r) delta (Done (Reviewed (next_numbers (length c.comments) (length (said r)))))
-done_as reading h caller n r rows c delta reply passes told request m = record {
-  reply_is = outcome_answer reading h caller (Review n r) (Done (Reviewed numbers)) passes (λ i. Done (Reviewed (same_numbers i)));
-  row_is = λ id k. rows_are k;
-  count_is = λ id k. counts k;
-}
+pub review_decided : (reading : Reading) (h : List Entry) (caller n : ℕ) (r : ReviewOf) (rows : Rows) (c : Change) (delta : Delta) (reply : Reply) → refused_by reading h caller (Review n r) ≡ None →
+    change reading h n ≡ Some c → next_request rows ≡ length h + 1 → IsReviewed n r caller rows c delta reply → IsDecided reading h caller (Review n r) delta reply
+review_decided reading h caller n r rows c delta reply passes told request m =
+    subst (λ x. IsDecided reading h caller (Review n r) delta x) (sym m.reply_is)
+    (change_decided reading h caller n (Review n r) (Reviewed numbers) c (after_plain (ReviewCommand r) caller (length h + 1) c) delta told
+    (subst (λ q. MakesChange n c (after_plain (ReviewCommand r) caller q c) delta) request m.made)
+    (outcome_answer reading h caller (Review n r) (Done (Reviewed numbers)) passes (ap (λ l. Done (Reviewed l)) same_numbers))
+    (review_turns reading h caller n r (Reviewed numbers) c told) (review_counts h caller n r (Reviewed numbers)))
   where
     numbers : List ℕ
     numbers = next_numbers (length c.comments) (length (said r))
@@ -60,27 +118,42 @@ done_as reading h caller n r rows c delta reply passes told request m = record {
     same_numbers : next_numbers (length c.comments) (length (said r)) ≡ comment_numbers r (change reading h n)
     same_numbers = sym (numbers_next (length c.comments) (said r)) ∙ ap (comment_numbers r) (sym told)
 
-    counts : (k : Count) → counted (record { identity = record { caller = caller; id = [] }; command = Review n r; reply = Done (Reviewed numbers) } ∷ h) k ≡ count_after delta (fact reading h) k (counted h k)
-    counts Projects = sym (ap (λ o. projects_after o (fact reading h) (project_count h)) m.edits.file)
-    counts (BasesOf q) = sym (ap (λ o. bases_after o (fact reading h) q (base_count h q)) m.edits.base)
+upload_turns : (reading : Reading) (h : List Entry) (caller n : ℕ) (p : NewPatch) (a : Answer) (c : Change) → change reading h n ≡ Some c → (k : Key) →
+    fact reading (entry_of caller [] (Upload n p) a ∷ h) k ≡ fact_with reading h n (change_after_request (setting_of reading h c.project) (UploadCommand p) caller (length h + 1) c) k
+upload_turns reading h caller n p a c told (AccountKey u) = refl
+upload_turns reading h caller n p a c told (MemberKey g u) = refl
+upload_turns reading h caller n p a c told (FileKey q) = refl
+upload_turns reading h caller n p a c told (BaseKey q b u) = refl
+upload_turns reading h caller n p a c told (PartKey k part) =
+    ap (λ o. option_map APart (part_of o part))
+    (put_at (λ x. change_after_request (setting_of reading h x.project) (UploadCommand p) caller (length h + 1) x) c (change reading h k) (n == k) (here reading h n k c told))
+upload_turns reading h caller n p a c told (OddKey o) = refl
 
-    new : Change
-    new = after_plain (ReviewCommand r) caller (length h + 1) c
+upload_counts : (h : List Entry) (caller n : ℕ) (p : NewPatch) (a : Answer) (k : Count) → counted (entry_of caller [] (Upload n p) a ∷ h) k ≡ counted h k
+upload_counts h caller n p a Projects = refl
+upload_counts h caller n p a (BasesOf q) = refl
 
-    rows_are : (k : Key) → fact reading (record { identity = record { caller = caller; id = [] }; command = Review n r; reply = Done (Reviewed numbers) } ∷ h) k ≡ after delta k (fact reading h k)
-    rows_are (AccountKey a) = sym (ap (λ l. after_change (account_change (change_of nat_cmp l a)) (fact reading h (AccountKey a))) m.edits.accounts)
-    rows_are (MemberKey g a) = sym (ap (λ l. after_change (member_change (change_of member_cmp l (record { group = g; account = a }))) (fact reading h (MemberKey g a))) m.edits.members)
-    rows_are (FileKey q) = sym (ap (λ o. file_after o q (fact reading h (FileKey q))) m.edits.file)
-    rows_are (BaseKey q b a) = sym (ap (λ o. base_after o q b a (fact reading h (BaseKey q b a))) m.edits.base)
-    rows_are (PartKey k part) =
-        let here = λ (t : (n == k) ≡ true). ap (change reading h) (sym (eqb-true n k t)) ∙ told in
-        ap (λ o. option_map APart (part_of o part)) (put_at (λ x. after_plain (ReviewCommand r) caller (length h + 1) x) new (change reading h k) (n == k) (λ t. ap (option_map (λ x. after_plain (ReviewCommand r) caller (length h + 1) x)) (here t)))
-        ∙ (edit_turns m.edit k part (change reading h k) new (n == k) (ap (λ x. x == k) m.named)
-        (λ t. ap (λ o. after_change (part_change m.edit part) (part_of o part)) (here t) ∙ (m.becomes part ∙ ap (λ q. part_of (Some (after_plain (ReviewCommand r) caller q c)) part) request))
-        ∙ sym (ap (λ es. after_change (option_map (option_map APart) (edited es k part)) (fact reading h (PartKey k part))) m.edits.changes))
-    rows_are (OddKey o) = refl
+-- the new patch set is done, where the votes are copied that the history says
+pub upload_decided : (reading : Reading) (h : List Entry) (caller n : ℕ) (p : NewPatch) (f : File) (rows : Rows) (c : Change) (delta : Delta) (reply : Reply) → refused_by reading h caller (Upload n p) ≡ None →
+    change reading h n ≡ Some c → next_request rows ≡ length h + 1 →
+    copying (setting_in f rows) (UploadCommand p) caller c ≡ copying (setting_of reading h c.project) (UploadCommand p) caller c → IsUploaded f n p caller rows c delta reply →
+    IsDecided reading h caller (Upload n p) delta reply
+upload_decided reading h caller n p f rows c delta reply passes told request copies m =
+    subst (λ x. IsDecided reading h caller (Upload n p) delta x) (sym m.reply_is)
+    (change_decided reading h caller n (Upload n p) sent c (change_after_request (setting_of reading h c.project) (UploadCommand p) caller (length h + 1) c) delta told
+    (subst (λ k. MakesChange n c (after_copying k (UploadCommand p) caller (length h + 1) c) delta) copies
+    (subst (λ q. MakesChange n c (after_copying (copying (setting_in f rows) (UploadCommand p) caller c) (UploadCommand p) caller q c) delta) request m.made))
+    (outcome_answer reading h caller (Upload n p) (Done sent) passes (subst (IsOf (λ x. IsUploadAnswer reading h caller n p x (Done sent))) (sym told) answer))
+    (upload_turns reading h caller n p sent c told) (upload_counts h caller n p sent))
+  where
+    sent : Answer
+    sent = Patch n (current c + 1) m.copied m.outdated
 
-pub review_decided : (reading : Reading) (h : List Entry) (caller n : ℕ) (r : ReviewOf) (rows : Rows) (c : Change) (delta : Delta) (reply : Reply) → refused_by reading h caller (Review n r) ≡ None →
-    change reading h n ≡ Some c → next_request rows ≡ length h + 1 → IsReviewed n r caller rows c delta reply → IsDecided reading h caller (Review n r) delta reply
-review_decided reading h caller n r rows c delta reply passes told request m =
-    subst (λ x. IsDecided reading h caller (Review n r) delta x) (sym m.reply_is) (done_as reading h caller n r rows c delta reply passes told request m)
+    answer : IsUploadAnswer reading h caller n p c (Done (Patch n (current c + 1) m.copied m.outdated))
+    answer = record {
+      copied = m.copied;
+      outdated = m.outdated;
+      many_copied = subst (λ k. AreMany (λ l u. voted (carried k c l u)) m.copied) copies m.many_copied;
+      many_outdated = subst (λ k. AreMany (λ l u. is_lost k c u l) m.outdated) copies m.many_outdated;
+      reply_is = refl;
+    }

@@ -2,24 +2,28 @@
 use Rattle.std.specs.Prelude.{ℕ, zero, suc, ◌+◌, ◌≡◌, min, ◌==◌, ◌&&◌, ◌||◌, Bool, false, not, int_le, is_some, length, nat_le, nat_lt, List, [], ◌∷◌, ◌++◌, Option, Some, None}
 use Rattle.std.specs.List.{filter, list_all, list_any}
 use Rattle.std.specs.Str.{bytes_eq}
-use Rattle.review_names.specs.Forms.{is_within, most_changes, most_comments}
+use Rattle.review_names.specs.Forms.{is_within, most_changes, most_comments, most_patches}
 use Rattle.review_names.specs.Names.{registered_users}
 use Rattle.review_words.specs.declared.changes.Given.{Given}
 use Rattle.review_words.specs.declared.changes.NewChange.{NewChange}
+use Rattle.review_words.specs.declared.changes.NewPatch.{NewPatch}
 use Rattle.review_words.specs.declared.changes.Review.{Review as ReviewOf}
 use Rattle.review_words.specs.declared.reply.Refusal.{Refusal}
 use Rattle.review_words.specs.declared.reply.Refusal.TheVariants.{NoProject, NoBranch, NoPatchSet, NoComment, NotAllowed, Closed, StalePatchSet, NoLabel, ValueOut, VoteRestricted, CommitKnown, UnknownParent, Limit}
 use Rattle.review_project.specs.Rights.{grants_of, greatest_of, groups_of, least_of}
 use Rattle.review_project.specs.declared.parts.Right.{Right}
 use Rattle.review_project.specs.declared.parts.Right.TheVariants as right
-use Rattle.review_changes.specs.Change.{Change, after_plain, current, is_open, label_in, reviewed, said}
+use Rattle.review_changes.specs.Change.{Change, Setting, after, after_plain, carried, copying, current, is_lost, is_open, label_in, reviewed, said}
+use Rattle.review_changes.specs.Counts.{AreMany}
 use Rattle.review_changes.specs.Sound.{answer_stored}
-use Rattle.review_words.specs.declared.reply.Answer.TheVariants.{Reviewed}
+use Rattle.review_changes.specs.Votes.{voted}
+use Rattle.review_words.specs.declared.reply.Answer.TheVariants.{Patch, Reviewed}
 use Rattle.review_words.specs.declared.reply.Reply.{Reply}
 use Rattle.review_words.specs.declared.reply.Reply.TheVariants.{Done}
 use Rattle.review_table.specs.Rows.{after_change}
 use Rattle.review_changes.specs.Parts.{Part, part_row}
-use Rattle.review_changes.specs.declared.commands.ChangeCommand.TheVariants.{Review as ReviewCommand}
+use Rattle.review_changes.specs.declared.commands.ChangeCommand.TheVariants.{Review as ReviewCommand, Upload as UploadCommand}
+use Rattle.review_parts.specs.Copies.{group_list}
 use Rattle.review_rows.specs.Answer.{is_value_of}
 use Rattle.review_rows.specs.Rows.{part_change}
 use Rattle.review_rows.specs.declared.rows.ChangeEdit.{ChangeEdit}
@@ -99,10 +103,33 @@ pub record EditsChange (e : ChangeEdit) (delta : Delta) : Type 0 where
 abbrev pub next_request : Rows → ℕ
 next_request rows = min (number_of (known rows want.Requests) + 1) 18446744073709551615
 
--- a review is done: the change becomes what it makes of it, and the new comments have the next numbers
-pub record IsReviewed (change : ℕ) (r : ReviewOf) (caller : ℕ) (rows : Rows) (c : Change) (delta : Delta) (reply : Reply) : Type 0 where
+-- a delta turns the rows of a change into those of another, and does nothing else
+pub record MakesChange (n : ℕ) (before new : Change) (delta : Delta) : Type 0 where
   pub edit : ChangeEdit
   pub edits : EditsChange edit delta
-  pub named : edit.change ≡ change
-  pub becomes : (part : Part) → after_change (part_change edit part) (part_row c part) ≡ part_row (after_plain (ReviewCommand r) caller (next_request rows) c) part
+  pub named : edit.change ≡ n
+  pub becomes : (part : Part) → after_change (part_change edit part) (part_row before part) ≡ part_row new part
+
+-- a review is done: the change becomes what it makes of it, and the new comments have the next numbers
+pub record IsReviewed (n : ℕ) (r : ReviewOf) (caller : ℕ) (rows : Rows) (c : Change) (delta : Delta) (reply : Reply) : Type 0 where
+  pub made : MakesChange n c (after_plain (ReviewCommand r) caller (next_request rows) c) delta
   pub reply_is : reply ≡ Done (Reviewed (next_numbers (length c.comments) (length (said r))))
+
+-- the checks of a new patch set of a change, by what rows tell and the file that its project has
+abbrev pub upload_list : File → Rows → ℕ → NewPatch → Change → List (Bool × Refusal)
+upload_list file rows caller p c =
+    ((caller == c.owner) || right_in rows file right.Upload caller, NotAllowed) ∷ (is_open c.state, Closed) ∷ (not (known_in rows c.project c.branch p.commit), CommitKnown)
+    ∷ (known_in rows c.project c.branch p.parent, UnknownParent) ∷ (nat_lt (current c) most_patches, Limit) ∷ []
+
+-- what the requests on a project's changes are judged by: its file, and the groups that rows know
+abbrev pub setting_in : File → Rows → Setting
+setting_in file rows = record { file = file; groups = group_list rows.groups }
+
+-- a new patch set is done: the change becomes what it makes of it, and the answer has the numbers of votes that were copied and that weren't
+pub record IsUploaded (file : File) (n : ℕ) (p : NewPatch) (caller : ℕ) (rows : Rows) (c : Change) (delta : Delta) (reply : Reply) : Type 0 where
+  pub made : MakesChange n c (after (setting_in file rows) (UploadCommand p) caller (next_request rows) c) delta
+  pub copied : ℕ
+  pub outdated : ℕ
+  pub many_copied : AreMany (λ l u. voted (carried (copying (setting_in file rows) (UploadCommand p) caller c) c l u)) copied
+  pub many_outdated : AreMany (λ l u. is_lost (copying (setting_in file rows) (UploadCommand p) caller c) c u l) outdated
+  pub reply_is : reply ≡ Done (Patch n (current c + 1) copied outdated)

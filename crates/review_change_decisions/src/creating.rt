@@ -7,13 +7,15 @@ ghost use Rattle.review_words.specs.declared.command.Command.TheVariants.{Create
 ghost use Rattle.review_words.specs.declared.reply.NotTaken.TheVariants.{Memory};
 ghost use Rattle.review_rows.specs.Answer.{first_refusal, most_requests};
 ghost use Rattle.review_rows.specs.Changes.{Reading};
+ghost use Rattle.review_rows.specs.Decisions.{NamesEachOnce};
 ghost use Rattle.review_rows.specs.Rows.{HasNoEffect};
 ghost use Rattle.review_rows.specs.Steps.{OfCommand};
 ghost use Rattle.review_rows.specs.View.{AreEnough, IsDecided};
 ghost use Rattle.review_change_decisions.specs.Facts.{create_checks};
 
+use crate::edits::edited;
 use crate::facts::{has_right, is_known};
-use review_account_decisions::{nothing, refused};
+use review_account_decisions::refused;
 use review_branch_decisions::branch_of;
 use review_change_rows::{copied_new, edit_of_new};
 use review_core::ChangeFile;
@@ -91,6 +93,7 @@ pub fn create_change(
     ensures cause { IfErr result (λ e. e ≡ Memory) }
     ensures stored { IfOk result (λ r. IsStored r.1) }
     ensures refused { IfOk result (λ r. HasNoEffect r.1 r.0) }
+    ensures once { IfOk result (λ r. NamesEachOnce r.0) }
 {
     one_file();
     let refusal = create_refusal(alloc, had, rows, caller, new)?;
@@ -102,8 +105,7 @@ pub fn create_change(
     let new = copied_new(alloc, new)?;
     let file = ChangeFile::begin(alloc, new, caller, request)?;
     let edit = edit_of_new(alloc, change, file.rows())?;
-    let mut delta = nothing(alloc);
-    delta.changes.push(edit)?;
+    let delta = edited(alloc, edit)?;
     let patch = patch_of(1);
     Ok((delta, Reply::Done(Answer::Change { change, patch })))
 }

@@ -1,10 +1,12 @@
 //! What rows tell of a command on a change.
 ghost use Rattle.std.specs.Prelude.{◌≡◌, IfOk, is_some, nat_le};
 ghost use Rattle.std.specs.List.{list_any};
+ghost use Rattle.review_changes.specs.Change.{is_open};
 ghost use Rattle.review_project.specs.Rights.{groups_of};
 ghost use Rattle.review_change_decisions.specs.Facts.{in_rows, known_in, right_in};
 
 use review_branch_decisions::base_of;
+use review_changes::State;
 use review_file::{ProjectFile, Right};
 use review_rows::{MemberKey, Rows};
 use review_words::{AccountNo, BranchName, CommitName, GroupName, ProjectName};
@@ -70,4 +72,11 @@ pub fn is_known(
 {
     let key = base_of(alloc, project, branch, commit)?;
     Ok(rows.has_base(&key) || rows.change_of(&key).is_some())
+}
+
+/// Whether a state is open.
+pub fn is_open(state: State) -> bool
+    ensures { result ≡ is_open state }
+{
+    matches!(state, State::New)
 }

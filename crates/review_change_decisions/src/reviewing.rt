@@ -6,26 +6,28 @@ ghost use Rattle.review_words.specs.Texts.{IsStored};
 ghost use Rattle.review_words.specs.History.{Entry, is_account};
 ghost use Rattle.review_words.specs.declared.command.Command.TheVariants.{Review as ReviewCommand};
 ghost use Rattle.review_words.specs.declared.reply.NotTaken.TheVariants.{Damaged, Memory};
-ghost use Rattle.review_changes.specs.Change.{after_plain, current, is_open, reviewed, said};
+ghost use Rattle.review_changes.specs.Change.{after_plain, current, reviewed, said};
 ghost use Rattle.review_changes.specs.Seen.{seen};
-ghost use Rattle.review_changes.specs.Sound.{IsSound, answer_stored, fits};
+ghost use Rattle.review_changes.specs.Sound.{answer_stored, fits};
 ghost use Rattle.review_rows.specs.Answer.{first_refusal, most_requests, numbers_after};
 ghost use Rattle.review_rows.specs.Changes.{Reading};
-ghost use Rattle.review_rows.specs.Decisions.{IsUndecided};
+ghost use Rattle.review_rows.specs.Decisions.{IsUndecided, NamesEachOnce, NamesRowsOnce};
 ghost use Rattle.review_changes.specs.Parts.{Part, part_row};
 ghost use Rattle.review_changes.specs.declared.commands.ChangeCommand.TheVariants.{Review as ReviewOf};
 ghost use Rattle.review_table.specs.Rows.{after_change};
 ghost use Rattle.review_rows.specs.Rows.{HasNoEffect, part_change};
 ghost use Rattle.review_rows.specs.Steps.{OfCommand};
 ghost use Rattle.review_rows.specs.View.{AreEnough, IsDecided};
-ghost use Rattle.review_change_decisions.specs.Facts.{EditsChange, IsReviewed, LacksFile, given_in, given_of, next_numbers, review_list};
+ghost use Rattle.review_change_decisions.specs.Facts.{IsReviewed, LacksFile, given_in, given_of, next_numbers, review_list};
 
+use crate::edits::{change_file, edited};
+use crate::facts::is_open;
 use crate::ranges::{are_in_range, has_labels, has_values};
-use review_account_decisions::{nothing, refused};
+use review_account_decisions::refused;
 use review_change_laws::changes_are_sound;
-use review_change_rows::{copied_change, edit_of};
-use review_changes::{ChangeRows, State};
-use review_core::{ChangeFile, RowsFault};
+use review_change_rows::edit_of;
+use review_changes::ChangeRows;
+use review_core::ChangeFile;
 use review_file::ProjectFile;
 use review_project_laws::one_file;
 use review_rows::{ChangeEdit, Delta, Rows};
@@ -66,12 +68,6 @@ fn given_refusal(
         return Ok(Some(Refusal::VoteRestricted));
     }
     Ok(None)
-}
-
-fn is_open(state: State) -> bool
-    ensures { result ≡ is_open state }
-{
-    matches!(state, State::New)
 }
 
 /// Whether a review is of the change's current patch set.
@@ -221,38 +217,6 @@ fn comment_of(number: usize) -> CommentNo
     }
 }
 
-/// The change of rows that were loaded. Damaged only where they don't fit together.
-pub fn change_file(alloc: Global, found: &ChangeRows) -> Result<ChangeFile, NotTaken>
-    ensures file { IfOk result (λ f. seen f.rows ≡ seen found.now) }
-    ensures sound { IfOk result (λ f. IsSound (seen found.now)) }
-    ensures cause { IfErr result (λ e. (e ≡ Memory) ⊎ ((e ≡ Damaged) × (IsSound (seen found.now) → ⊥))) }
-{
-    let copy = copied_change(alloc, found)?;
-    match ChangeFile::from_rows(alloc, copy) {
-        Ok(file) => Ok(told_sound(file)),
-        Err(RowsFault::Broken) => Err(NotTaken::Damaged),
-        Err(RowsFault::Memory) => Err(NotTaken::Memory),
-    }
-}
-
-/// The same change, which is sound.
-fn told_sound(file: ChangeFile) -> ChangeFile
-    ensures same { result.rows ≡ file.rows }
-    ensures sound { IsSound (seen file.rows) }
-{
-    let _rows = file.rows();
-    file
-}
-
-/// The delta of one edit.
-pub fn edited(alloc: Global, edit: ChangeEdit) -> Result<Delta, AllocError>
-    ensures { IfOk result (EditsChange edit) }
-{
-    let mut delta = nothing(alloc);
-    delta.changes.push(edit)?;
-    Ok(delta)
-}
-
 /// What a review makes of a change.
 fn with_review(
     alloc: Global,
@@ -267,6 +231,7 @@ fn with_review(
     requires fits { fits (ReviewOf review.now) (seen found.now) ≡ true }
     ensures change { IfOk result (λ e. e.change ≡ change) }
     ensures becomes { IfOk result (λ e. (part : Part) → after_change (part_change e part) (part_row (seen found.now) part) ≡ part_row (after_plain (ReviewOf review.now) caller request (seen found.now)) part) }
+    ensures once { IfOk result NamesRowsOnce }
 {
     let new = file.with_review(alloc, review, caller, request)?;
     edit_of(alloc, change, found, new.rows())
@@ -288,6 +253,7 @@ pub fn review(
     ensures cause { IfErr result (IsUndecided caller (ReviewCommand change review.now) (option_copied had.entry) rows.now) }
     ensures stored { IfOk result (λ r. IsStored r.1) }
     ensures refused { IfOk result (λ r. HasNoEffect r.1 r.0) }
+    ensures once { IfOk result (λ r. NamesEachOnce r.0) }
 {
     one_file();
     changes_are_sound();
@@ -317,6 +283,7 @@ fn reviewed(
     ensures made { IfOk result (λ r. IsReviewed change review.now caller rows.now (seen found.now) r.0 r.1) }
     ensures stored { IfOk result (λ r. IsStored r.1) }
     ensures refused { IfOk result (λ r. HasNoEffect r.1 r.0) }
+    ensures once { IfOk result (λ r. NamesEachOnce r.0) }
 {
     let numbers = new_numbers(alloc, found.comments.len(), said_count(review))?;
     let request = rows.requests().saturating_add(1);

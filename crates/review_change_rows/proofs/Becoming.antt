@@ -1,5 +1,5 @@
 -- What changes make of a table.
-use Rattle.std.proofs.Common.{◌≡◌, List, [], ◌∷◌, ◌++◌, Option, Some, None, Bool, true, false, refl, sym, ap, ◌∙◌, ⊎_elim}
+use Rattle.std.proofs.Common.{◌≡◌, List, [], ◌∷◌, ◌++◌, Option, Some, None, Bool, true, false, refl, sym, ap, ◌∙◌, subst, ⊎_elim}
 use Rattle.std.specs.Prelude.{if◌then◌else◌, is_some}
 use Rattle.std.specs.Bool.{Decides}
 use Rattle.std.specs.declared.cmp.Ordering.{Ordering}
@@ -15,6 +15,7 @@ use Rattle.std.proofs.lemmas.Cmp.{tied_back, tied_itself}
 use Rattle.std.proofs.lemmas.List.Elements.{All-from_recursion}
 use Rattle.review_table.specs.declared.table.Change.{Change}
 use Rattle.review_table.specs.Rows.{row_in, change_of, changed, after_change}
+use Rattle.review_rows.specs.Decisions.{NamesOnce}
 use Rattle.review_change_rows.specs.Differences.{has_row, puts, takes}
 
 -- a tie, told
@@ -166,3 +167,49 @@ pub difference_narrow : {K X : Type 0} {R : K → K → Ordering} → IsTotalOrd
 difference_narrow {R = R} o same tells old new =
     All-from_recursion (λ c. row_in R old c.key ≡ c.row → ⊥) (puts R same old new ++ takes R new old)
     (both_narrow (λ c. row_in R old c.key ≡ c.row → ⊥) (puts R same old new) (takes R new old) (puts_narrow R same tells old new) (takes_narrow o old new old (λ k h. h)))
+
+-- a change is put where its key is named by none after it
+once_if : {K X : Type 0} (R : K → K → Ordering) (b : Bool) (c : Change K X) (cs ds : List (Change K X)) → (b ≡ false → change_of R (cs ++ ds) c.key ≡ None) → NamesOnce R (cs ++ ds) →
+    NamesOnce R ((if b then cs else c ∷ cs) ++ ds)
+once_if R true c cs ds none rest = rest
+once_if R false c cs ds none rest = (none refl, rest)
+
+-- nothing is taken at a key that has a row now
+not_taken : {X : Type 0} (was now : Option X) → is_some now ≡ true → take_change was now ≡ None
+not_taken None now there = refl
+not_taken (Some w) None there = absurd (let f : false ≡ true = there in cc)
+not_taken (Some w) (Some v) there = refl
+
+module _ {K X : Type 0} {R : K → K → Ordering} (o : IsTotalOrder R) where
+  takes_once : (new es : List (K × X)) → IsStrictlySortedBy R (keys_of es) → NamesOnce R (takes R new es ++ [])
+  unfolding IsStrictlySortedBy
+  takes_once new [] s = tt
+  takes_once new (e ∷ es) s =
+      let none : row_in R es e.0 ≡ None = none_later o e.0 e.0 (ap is_eq (tied_itself o e.0)) es s.0 in
+      once_if R (is_some (row_in R new e.0)) (record { key = e.0; row = None }) (takes R new es) []
+      (λ f. change_append R (takes R new es) [] e.0
+      ∙ ap (λ c. or_change c None) (takes_at o es new s.1 e.0 ∙ ap (λ r. take_change r (row_in R new e.0)) none))
+      (takes_once new es s.1)
+
+  puts_once : (same : X → X → Bool) (old new es : List (K × X)) → IsStrictlySortedBy R (keys_of old) → IsStrictlySortedBy R (keys_of es) → ((k : K) → is_some (row_in R es k) ≡ true → is_some (row_in R new k) ≡ true) →
+      NamesOnce R (takes R new old) → NamesOnce R (puts R same old es ++ takes R new old)
+  unfolding IsStrictlySortedBy
+  puts_once same old new [] so s inside rest = rest
+  puts_once same old new (e ∷ es) so s inside rest =
+      let none : row_in R es e.0 ≡ None = none_later o e.0 e.0 (ap is_eq (tied_itself o e.0)) es s.0 in
+      let there = inside e.0 (here_some (is_at (R e.0) e.0) e.1 (row_in R es e.0) (ap is_eq (tied_itself o e.0))) in
+      once_if R (has_row same (row_in R old e.0) e.1) (record { key = e.0; row = Some e.1 }) (puts R same old es) (takes R new old)
+      (λ f. change_append R (puts R same old es) (takes R new old) e.0
+      ∙ ((λ i. or_change ((puts_at o same old es s.1 e.0 ∙ ap (λ r. put_change same r (row_in R old e.0)) none) i) (change_of R (takes R new old) e.0))
+      ∙ (takes_at o old new so e.0 ∙ not_taken (row_in R old e.0) (row_in R new e.0) there)))
+      (puts_once same old new es so s.1 (λ k h. inside k (later_some (is_at (R k) e.0) e.1 (row_in R es k) h)) rest)
+
+nothing_after : {Y : Type 0} (xs : List Y) → xs ++ [] ≡ xs
+nothing_after [] = refl
+nothing_after (x ∷ xs) = ap (λ l. x ∷ l) (nothing_after xs)
+
+-- what has to change names each key once
+pub difference_once : {K X : Type 0} {R : K → K → Ordering} → IsTotalOrder R → (same : X → X → Bool) → (old new : List (K × X)) → IsStrictlySortedBy R (keys_of old) → IsStrictlySortedBy R (keys_of new) →
+    NamesOnce R (puts R same old new ++ takes R new old)
+difference_once {R = R} o same old new so sn =
+    puts_once o same old new new so sn (λ k h. h) (subst (NamesOnce R) (nothing_after (takes R new old)) (takes_once o new old so))

@@ -1,5 +1,5 @@
 -- Lists of numbered rows that go on.
-use Rattle.std.proofs.Common.{◌≡◌, ℕ, zero, suc, ◌+◌, ◌==◌, ◌<◌, ◌≤◌, List, [], ◌∷◌, ◌++◌, length, length-append, drop, Some, None, true, false, cond, refl, sym, ap, ◌∙◌, ⊎_elim, arith, eqb-true}
+use Rattle.std.proofs.Common.{◌≡◌, ℕ, zero, suc, ◌+◌, ◌==◌, ◌<◌, ◌≤◌, List, [], ◌∷◌, ◌++◌, length, length-append, drop, Some, None, true, false, cond, refl, sym, ap, ◌∙◌, subst, ⊎_elim, arith, eqb-true}
 use Rattle.std.specs.Prelude.{slice_get}
 use Rattle.std.specs.Ordering.{nat_cmp}
 use Rattle.std.specs.Cmp.{unsigned_tied}
@@ -10,6 +10,7 @@ use Rattle.review_names.specs.Forms.{is_within}
 use Rattle.review_table.specs.declared.table.Change.{Change}
 use Rattle.review_changes.specs.Change.{of_number}
 use Rattle.review_changes.proofs.Within.{within_from}
+use Rattle.review_rows.specs.Decisions.{NamesOnce}
 use Rattle.review_change_rows.specs.Edits.{GoesOn, puts_after}
 
 next_number : {X : Type 0} (xs : List X) (k : ℕ) → of_number xs (k + 1) ≡ slice_get xs k
@@ -76,11 +77,30 @@ drop_past [] (suc k) le = refl
 drop_past (x ∷ xs) zero le = absurd (omega arith)
 drop_past (x ∷ xs) (suc k) le = drop_past xs k (omega arith)
 
--- once all rows at the end are put
+-- once all rows at the end are put, there are no others
+all_listed : {X : Type 0} (old new : List X) (put : List (Change ℕ X)) (index : ℕ) → length new ≤ index →
+    put ++ puts_after index (drop index new) ≡ puts_after (length old) (drop (length old) new) → put ≡ puts_after (length old) (drop (length old) new)
+all_listed old new put index past is = sym (nothing_more put) ∙ (ap (λ l. put ++ puts_after index l) (sym (drop_past new index past)) ∙ is)
+
 pub all_put : {X : Type 0} (most : ℕ) (old new : List X) (put : List (Change ℕ X)) (index n : ℕ) → GoesOn most old new → length new ≤ index →
     put ++ puts_after index (drop index new) ≡ puts_after (length old) (drop (length old) new) → changed nat_cmp put n (of_number old n) ≡ of_number new n
-all_put most old new put index n g past is =
-    ap (λ cs. changed nat_cmp cs n (of_number old n)) (sym (nothing_more put) ∙ (ap (λ l. put ++ puts_after index l) (sym (drop_past new index past)) ∙ is)) ∙ goes_on most old new n g
+all_put most old new put index n g past is = ap (λ cs. changed nat_cmp cs n (of_number old n)) (all_listed old new put index past is) ∙ goes_on most old new n g
+
+-- a number has no row among those under later numbers
+none_before : {X : Type 0} (n m : ℕ) (xs : List X) → m ≤ n → change_of nat_cmp (puts_after n xs) m ≡ None
+none_before n m [] le = refl
+none_before n m (x ∷ xs) le =
+    let apart : (n + 1 == m) ≡ false = grind (arith, nat_tests) in
+    ap (λ b. cond b (Some (Some x)) (change_of nat_cmp (puts_after (n + 1) xs) m)) (unsigned_tied (n + 1) m ∙ apart) ∙ none_before (n + 1) m xs (omega arith)
+
+numbers_once : {X : Type 0} (n : ℕ) (xs : List X) → NamesOnce nat_cmp (puts_after n xs)
+numbers_once n [] = tt
+numbers_once n (x ∷ xs) = (none_before (n + 1) (n + 1) xs (omega arith), numbers_once (n + 1) xs)
+
+-- and each number is named once
+pub once_put : {X : Type 0} (old new : List X) (put : List (Change ℕ X)) (index : ℕ) → length new ≤ index →
+    put ++ puts_after index (drop index new) ≡ puts_after (length old) (drop (length old) new) → NamesOnce nat_cmp put
+once_put old new put index past is = subst (NamesOnce nat_cmp) (sym (all_listed old new put index past is)) (numbers_once (length old) (drop (length old) new))
 
 -- a row at the end has a number
 pub has_number : {X : Type 0} (most index : ℕ) (old new : List X) → GoesOn most old new → index < length new → is_within most (index + 1) ≡ true

@@ -3,6 +3,7 @@ ghost use Rattle.std.specs.Prelude.{◌≡◌, ◌++◌, IfOk, OnOk, map};
 ghost use Rattle.std.specs.List.{All};
 ghost use Rattle.std.specs.Map.Iter.{deref_pair};
 ghost use Rattle.review_table.specs.Rows.{changed, row_in, rows_of};
+ghost use Rattle.review_rows.specs.Decisions.{NamesOnce};
 ghost use Rattle.review_change_rows.specs.Differences.{has_row, puts, takes};
 
 use crate::rows::Row;
@@ -64,6 +65,7 @@ pub fn difference<K: Key, V: Row>(
 ) -> Result<Vec<Change<K, V>>, AllocError>
     ensures becomes { IfOk result (λ changes. (q : K) → changed K.cmp changes.items q (row_in K.cmp (rows_of old.now) q) ≡ row_in K.cmp (rows_of new.now) q) }
     ensures narrow { IfOk result (λ changes. All (λ c. row_in K.cmp (rows_of old.now) c.key ≡ c.row → ⊥) changes.items) }
+    ensures once { IfOk result (λ changes. NamesOnce K.cmp changes.items) }
 {
     let mut changes = Vec::new(alloc);
     let rows = new.rows(alloc)?;

@@ -6,6 +6,7 @@ ghost use Rattle.review_table.specs.Rows.{after_change, changed};
 ghost use Rattle.review_changes.specs.Change.{of_number};
 ghost use Rattle.review_changes.specs.Parts.{Part, part_row};
 ghost use Rattle.review_changes.specs.Seen.{seen};
+ghost use Rattle.review_rows.specs.Decisions.{NamesOnce, NamesRowsOnce};
 ghost use Rattle.review_rows.specs.Rows.{part_change};
 ghost use Rattle.review_change_rows.specs.Edits.{GoesOn};
 
@@ -28,6 +29,7 @@ pub fn edit_of(
     requires comments { GoesOn most_comments old.now.comments.items new.now.comments.items }
     ensures change { IfOk result (λ e. e.change ≡ change) }
     ensures becomes { IfOk result (λ e. (part : Part) → after_change (part_change e part) (part_row (seen old.now) part) ≡ part_row (seen new.now) part) }
+    ensures once { IfOk result NamesRowsOnce }
 {
     Ok(ChangeEdit {
         change,
@@ -50,6 +52,7 @@ pub fn edit_of_new(
     requires comments { GoesOn most_comments [] new.now.comments.items }
     ensures change { IfOk result (λ e. e.change ≡ change) }
     ensures becomes { IfOk result (λ e. (part : Part) → after_change (part_change e part) None ≡ part_row (seen new.now) part) }
+    ensures once { IfOk result NamesRowsOnce }
 {
     Ok(ChangeEdit {
         change,
@@ -68,7 +71,8 @@ fn more_patches(
     new: &[PatchRow],
 ) -> Result<Vec<Change<PatchNo, PatchRow>>, AllocError>
     requires { GoesOn most_patches old.now new.now }
-    ensures { IfOk result (λ d. (n : ℕ) → changed nat_cmp d.items n (of_number old.now n) ≡ of_number new.now n) }
+    ensures becomes { IfOk result (λ d. (n : ℕ) → changed nat_cmp d.items n (of_number old.now n) ≡ of_number new.now n) }
+    ensures once { IfOk result (λ d. NamesOnce nat_cmp d.items) }
 {
     let mut more = Vec::new(alloc);
     for index in old.len()..new.len() {
@@ -89,7 +93,8 @@ fn more_comments(
     new: &[CommentRow],
 ) -> Result<Vec<Change<CommentNo, CommentRow>>, AllocError>
     requires { GoesOn most_comments old.now new.now }
-    ensures { IfOk result (λ d. (n : ℕ) → changed nat_cmp d.items n (of_number old.now n) ≡ of_number new.now n) }
+    ensures becomes { IfOk result (λ d. (n : ℕ) → changed nat_cmp d.items n (of_number old.now n) ≡ of_number new.now n) }
+    ensures once { IfOk result (λ d. NamesOnce nat_cmp d.items) }
 {
     let mut more = Vec::new(alloc);
     for index in old.len()..new.len() {

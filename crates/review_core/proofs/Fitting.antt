@@ -1,17 +1,17 @@
 -- Rows that fit together, by tests of them one by one.
-use Rattle.std.proofs.Common.{◌≡◌, ℕ, ℤ, List, Option, Some, None, Bool, true, false, not, ◌&&◌, ◌||◌, refl, sym, ap, ◌∙◌, eq-eqb, eqb-true, ⊎_elim, length, nat_le}
+use Rattle.std.proofs.Common.{◌≡◌, ℕ, ℤ, List, Option, Some, None, Bool, true, false, not, ◌&&◌, ◌||◌, refl, sym, ap, ◌∙◌, eq-eqb, eqb-true, length, nat_le}
 use Rattle.std.specs.Prelude.{◌==◌, is_some}
 use Rattle.std.specs.List.{list_all}
 use Rattle.std.specs.List.Sorted.{IsStrictlySortedBy}
 use Rattle.std.specs.Map.{keys_of}
 use Rattle.std.specs.Ordering.{nat_cmp}
-use Rattle.std.proofs.lemmas.Bool.{and_parts, and_from, cases_Bool}
+use Rattle.std.proofs.lemmas.Bool.{and_parts, and_from}
 use Rattle.review_names.specs.Forms.{is_within, most_comments, most_patches}
 use Rattle.review_table.specs.Rows.{row_in, rows_of}
 use Rattle.review_changes.specs.declared.rows.Called.{Called}
 use Rattle.review_changes.specs.declared.rows.ChangeRows.{ChangeRows}
 use Rattle.review_changes.specs.declared.rows.VoteKey.{VoteKey}
-use Rattle.review_changes.specs.Change.{current, eligible, uploader}
+use Rattle.review_changes.specs.Change.{current, uploader}
 use Rattle.review_changes.specs.Seen.{of_account, seen, value_of, vote_cmp, vote_in}
 use Rattle.review_changes.specs.Sound.{IsSound, are_in_order}
 use Rattle.review_changes.specs.Votes.{voted}

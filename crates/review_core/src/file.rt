@@ -1,20 +1,20 @@
 //! A change whose rows fit together, and what each request makes of it.
 ghost use Rattle.std.specs.Prelude.{◌≡◌, true, IfOk, MatchResult};
-ghost use Rattle.review_names.specs.declared.groups.Groups.{Groups};
 ghost use Rattle.review_changes.specs.Change.{after, after_plain, begun, carried, copying, eligible, is_lost, joined_at};
 ghost use Rattle.review_changes.specs.Seen.{seen};
 ghost use Rattle.review_changes.specs.Sound.{IsSound, fits};
 ghost use Rattle.review_changes.specs.Votes.{voted};
 ghost use Rattle.review_changes.specs.declared.commands.ChangeCommand.TheVariants.{Upload, Review as ReviewOf, AddReviewer, RemoveReviewer, SetWip, SetReady, Abandon, Restore, AddAttention, RemoveAttention};
 ghost use Rattle.review_core.specs.Faults.{IsRefused};
-ghost use Rattle.review_parts.specs.Copies.{AreMany};
+ghost use Rattle.review_parts.specs.Copies.{AreMany, group_list};
 
 use crate::sound::{are_all, are_counted, are_eligible, are_in_order, are_in_place};
 use crate::uploading::{self, Copied};
 use crate::{attending, beginning, reviewing, roles, states};
 use review_changes::{ChangeRows, begins_sound, joins_sound, stays_sound};
 use review_file::ProjectFile;
-use review_words::{AccountNo, Groups, NewChange, NewPatch, Reason, Review, Role};
+use review_parts::GroupTables;
+use review_words::{AccountNo, NewChange, NewPatch, Reason, Review, Role};
 use std::alloc::{AllocError, Global};
 
 /// The rows of one change, which fit together.
@@ -110,13 +110,13 @@ impl ChangeFile {
         patch: NewPatch,
         caller: AccountNo,
         file: &ProjectFile,
-        groups: Groups,
+        groups: &GroupTables,
         request: u64,
     ) -> Result<(ChangeFile, Copied), AllocError>
         requires { fits (Upload patch) (seen self.rows) ≡ true }
-        ensures change { IfOk result (λ r. seen r.0.rows ≡ after (record { file = file.now; groups = groups }) (Upload patch) caller request (seen self.rows)) }
-        ensures copied { IfOk result (λ r. AreMany (λ l u. voted (carried (copying (record { file = file.now; groups = groups }) (Upload patch) caller (seen self.rows)) (seen self.rows) l u)) r.1.copied) }
-        ensures outdated { IfOk result (λ r. AreMany (λ l u. is_lost (copying (record { file = file.now; groups = groups }) (Upload patch) caller (seen self.rows)) (seen self.rows) u l) r.1.outdated) }
+        ensures change { IfOk result (λ r. seen r.0.rows ≡ after (record { file = file.now; groups = group_list groups.now }) (Upload patch) caller request (seen self.rows)) }
+        ensures copied { IfOk result (λ r. AreMany (λ l u. voted (carried (copying (record { file = file.now; groups = group_list groups.now }) (Upload patch) caller (seen self.rows)) (seen self.rows) l u)) r.1.copied) }
+        ensures outdated { IfOk result (λ r. AreMany (λ l u. is_lost (copying (record { file = file.now; groups = group_list groups.now }) (Upload patch) caller (seen self.rows)) (seen self.rows) u l) r.1.outdated) }
     {
         stays_sound();
         let (rows, counts) = uploading::with_patch_set(

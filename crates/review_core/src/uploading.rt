@@ -6,17 +6,18 @@ ghost use Rattle.review_changes.specs.Change.{after, carried, copying, current, 
 ghost use Rattle.review_changes.specs.Seen.{seen, vote_in};
 ghost use Rattle.review_changes.specs.Votes.{voted};
 ghost use Rattle.review_changes.specs.declared.commands.ChangeCommand.TheVariants.{Upload};
-ghost use Rattle.review_parts.specs.Copies.{AreMany};
+ghost use Rattle.review_parts.specs.Copies.{AreMany, GroupTable, group_list, with_groups};
 
 use crate::roles::{current_patch, uploader_of, who_for};
 use review_changes::{ChangeRows, PatchRow};
 use review_file::ProjectFile;
 use review_judging::{ValueRange, VoteFacts};
 use review_parts::{
-    Parted, WhenLost, call_eligible, drop_called, is_eligible, part_votes, put_all,
+    GroupTables, Parted, WhenLost, call_eligible, drop_called, is_eligible, part_votes, put_all,
 };
 use review_words::{AccountNo, Groups, NewPatch, PatchNo, Path, Paths};
 use std::alloc::{AllocError, Global};
+use std::collections::BTreeMap;
 
 /// How many votes a new patch set copies, and how many it doesn't.
 #[derive(Clone, Copy, Debug, PartialEq, Eq)]
@@ -52,14 +53,14 @@ fn next_patch(patch: PatchNo) -> PatchNo
     }
 }
 
-/// What copy conditions ask of the change and of the new patch set; each vote is put in later.
+/// What copy conditions ask of the change and of the new patch set; each vote is put in later, and the groups are asked of tables.
 fn upload_facts(
+    alloc: Global,
     patches: &[PatchRow],
     patch: &NewPatch,
     caller: AccountNo,
-    groups: Groups,
 ) -> VoteFacts
-    ensures { result ≡ record { value = pos 0; voter = caller; range = record { least = pos 0; greatest = pos 0 }; kind = patch.now.kind; uploader = caller; unchanged_files = pointwise (pointwise ◌==◌) (last_paths [] patches.now) patch.now.paths; groups = groups } }
+    ensures { (groups : GroupTable) → with_groups result groups ≡ record { value = pos 0; voter = caller; range = record { least = pos 0; greatest = pos 0 }; kind = patch.now.kind; uploader = caller; unchanged_files = pointwise (pointwise ◌==◌) (last_paths [] patches.now) patch.now.paths; groups = group_list groups } }
 {
     VoteFacts {
         value: 0,
@@ -71,7 +72,7 @@ fn upload_facts(
         kind: patch.kind,
         uploader: caller,
         unchanged_files: has_paths(patches, &patch.paths),
-        groups,
+        groups: Groups(BTreeMap::new(alloc)),
     }
 }
 
@@ -100,22 +101,22 @@ pub fn with_patch_set(
     patch: NewPatch,
     caller: AccountNo,
     file: &ProjectFile,
-    groups: Groups,
+    groups: &GroupTables,
     request: u64,
 ) -> Result<(ChangeRows, Copied), AllocError>
     requires now { is_within most_patches (current (seen rows)) ≡ true }
     requires next { is_within most_patches (current (seen rows) + 1) ≡ true }
     requires free { (l : List ℕ) (a : ℕ) → vote_in rows.votes (current (seen rows) + 1) l a ≡ pos 0 }
-    ensures rows { IfOk result (λ r. seen r.0 ≡ after (record { file = file.now; groups = groups }) (Upload patch) caller request (seen rows)) }
-    ensures copied { IfOk result (λ r. AreMany (λ l u. voted (carried (copying (record { file = file.now; groups = groups }) (Upload patch) caller (seen rows)) (seen rows) l u)) r.1.copied) }
-    ensures outdated { IfOk result (λ r. AreMany (λ l u. is_lost (copying (record { file = file.now; groups = groups }) (Upload patch) caller (seen rows)) (seen rows) u l) r.1.outdated) }
+    ensures rows { IfOk result (λ r. seen r.0 ≡ after (record { file = file.now; groups = group_list groups.now }) (Upload patch) caller request (seen rows)) }
+    ensures copied { IfOk result (λ r. AreMany (λ l u. voted (carried (copying (record { file = file.now; groups = group_list groups.now }) (Upload patch) caller (seen rows)) (seen rows) l u)) r.1.copied) }
+    ensures outdated { IfOk result (λ r. AreMany (λ l u. is_lost (copying (record { file = file.now; groups = group_list groups.now }) (Upload patch) caller (seen rows)) (seen rows) u l) r.1.outdated) }
 {
     let mut rows = rows;
     let now = current_patch(&rows.patches);
     let next = next_patch(now);
     let former = uploader_of(&rows.header, &rows.patches);
-    let facts = upload_facts(&rows.patches, &patch, caller, groups);
-    let parted = part_votes(alloc, &rows.votes, file, facts, now, next)?;
+    let facts = upload_facts(alloc, &rows.patches, &patch, caller);
+    let parted = part_votes(alloc, &rows.votes, file, facts, groups, now, next)?;
     let Parted { copied, lost } = parted;
     let counts = Copied {
         copied: copied.len(),

@@ -1,53 +1,126 @@
 //! The answer to a command and what it changes, from the rows that decide it.
-ghost use Rattle.std.specs.Prelude.{◌≡◌, ◌∷◌, List, [], IfOk, IfErr};
+ghost use Rattle.std.specs.Prelude.{◌≡◌, ◌<◌, List, IfOk, IfErr, length, option_copied, true};
+ghost use Rattle.review_file.specs.Texts.{file_read};
 ghost use Rattle.review_words.specs.Texts.{IsStored};
-ghost use Rattle.review_words.specs.History.{Entry};
+ghost use Rattle.review_words.specs.History.{Entry, is_account};
+ghost use Rattle.review_rows.specs.Answer.{most_requests};
+ghost use Rattle.review_rows.specs.Changes.{Reading};
+ghost use Rattle.review_rows.specs.Decisions.{IsUndecided, NamesEachOnce};
 ghost use Rattle.review_rows.specs.Rows.{HasNoEffect};
 ghost use Rattle.review_rows.specs.Steps.{OfCommand};
 ghost use Rattle.review_rows.specs.View.{AreEnough, IsDecided};
-ghost use Rattle.review_rows.specs.Decisions.{IsUndecided, NamesEachOnce};
-ghost use Rattle.review_decisions.specs.Files.{ReadsPatternIn};
 
-use crate::projects::put_project;
 use review_account_decisions::{create_account, put_group, refused};
 use review_branch_decisions::record_base;
-use review_file::FileMemo;
-use review_rows::{Delta, Rows};
+use review_change_decisions::{create_change, review, upload};
+use review_file::{FileMemo, ProjectFile, ReadText};
+use review_file_decisions::{project_of, put_project};
+use review_rows::{Delta, Matter, Rows};
 use review_words::{AccountNo, Command, NotTaken, Refusal, Reply};
 use std::alloc::Global;
 
-/// The reply to a command and what it changes: the first check that fails refuses, in the order of the command's checks; a
-/// refusal changes nothing, and each key is named once. An error is want of memory; Pattern, where the engine refuses a pattern
-/// in the file that is put or in the project's, on any rows whatever; or Damaged, where the rows are those of no history, as where the text of a
-/// project spells no file. Files that were read before are remembered; no answer depends on which.
+/// The reply to a command and what it changes, where this file of its project was read: the first check that fails refuses, in the order of
+/// the command's checks; a refusal changes nothing, and each key is named once. An error is want of memory; Pattern, where the engine refuses a
+/// pattern in the file that is put; or Damaged, where the rows are those of no history. The file that was read is remembered again, unless
+/// another one took its place; no answer depends on which are remembered.
 pub fn decide(
     alloc: Global,
     memo: &mut FileMemo,
+    read: Option<ReadText>,
     rows: &Rows,
     caller: AccountNo,
     command: &Command,
 ) -> Result<(Delta, Reply), NotTaken>
-    ensures decided { IfOk result (λ r. (h : List Entry) → AreEnough h caller (OfCommand command.now) rows.now → IsDecided h caller command.now r.0 r.1) }
-    ensures cause { IfErr result (IsUndecided caller command.now rows.now) }
-    ensures pattern { IfErr result (λ cause. cause ≡ NotTaken.Pattern → ReadsPatternIn rows.now command.now) }
+    ensures decided { IfOk result (λ r. (reading : Reading) (h : List Entry) → length h < most_requests → AreEnough reading h caller (OfCommand command.now) (file_read read) rows.now → IsDecided reading h caller command.now r.0 r.1) }
+    ensures cause { IfErr result (IsUndecided caller command.now (file_read read) rows.now) }
     ensures stored { IfOk result (λ r. IsStored r.1) }
     ensures refused { IfOk result (λ r. HasNoEffect r.1 r.0) }
     ensures once { IfOk result (λ r. NamesEachOnce r.0) }
 {
-    let known = rows.is_account(caller);
-    if !known {
+    let decided = decide_by(alloc, memo, file_of(&read), rows, caller, command);
+    remember(alloc, memo, read, rows, command);
+    decided
+}
+
+/// The file that was read.
+fn file_of(read: &Option<ReadText>) -> Option<&ProjectFile>
+    ensures { option_copied result ≡ file_read read.now }
+{
+    match read {
+        Some(read) => Some(read.file()),
+        None => None,
+    }
+}
+
+/// Remembers the file of a command's project again, where there is memory for it.
+fn remember(
+    alloc: Global,
+    memo: &mut FileMemo,
+    read: Option<ReadText>,
+    rows: &Rows,
+    command: &Command,
+) {
+    let Some(read) = read else {
+        return;
+    };
+    let Some(project) = project_of(rows, Matter::Command(command)) else {
+        return;
+    };
+    let _ = memo.give_back(alloc, project, read);
+}
+
+/// The reply to a command of any caller, by this file of its project.
+fn decide_by(
+    alloc: Global,
+    memo: &mut FileMemo,
+    had: Option<&ProjectFile>,
+    rows: &Rows,
+    caller: AccountNo,
+    command: &Command,
+) -> Result<(Delta, Reply), NotTaken>
+    ensures decided { IfOk result (λ r. (reading : Reading) (h : List Entry) → length h < most_requests → AreEnough reading h caller (OfCommand command.now) (option_copied had.entry) rows.now → IsDecided reading h caller command.now r.0 r.1) }
+    ensures cause { IfErr result (IsUndecided caller command.now (option_copied had.entry) rows.now) }
+    ensures stored { IfOk result (λ r. IsStored r.1) }
+    ensures refused { IfOk result (λ r. HasNoEffect r.1 r.0) }
+    ensures once { IfOk result (λ r. NamesEachOnce r.0) }
+{
+    if !rows.is_account(caller) {
         return Ok(refused(alloc, Refusal::UnknownCaller));
     }
+    decide_for(alloc, memo, had, rows, caller, command)
+}
+
+/// The reply to a command of an account, by this file of its project.
+fn decide_for(
+    alloc: Global,
+    memo: &mut FileMemo,
+    had: Option<&ProjectFile>,
+    rows: &Rows,
+    caller: AccountNo,
+    command: &Command,
+) -> Result<(Delta, Reply), NotTaken>
+    ensures decided { IfOk result (λ r. (reading : Reading) (h : List Entry) → length h < most_requests → is_account h caller ≡ true → AreEnough reading h caller (OfCommand command.now) (option_copied had.entry) rows.now → IsDecided reading h caller command.now r.0 r.1) }
+    ensures cause { IfErr result (IsUndecided caller command.now (option_copied had.entry) rows.now) }
+    ensures stored { IfOk result (λ r. IsStored r.1) }
+    ensures refused { IfOk result (λ r. HasNoEffect r.1 r.0) }
+    ensures once { IfOk result (λ r. NamesEachOnce r.0) }
+{
     match command {
         Command::CreateAccount { name } => create_account(alloc, rows, caller, name),
         Command::PutGroup { group, members } => put_group(alloc, rows, caller, group, members),
-        Command::PutProject { project, file } => put_project(
-            alloc, memo, rows, caller, project, file,
-        ),
+        Command::PutProject { project, file } => {
+            put_project(alloc, memo, had, rows, caller, project, file)
+        }
         Command::RecordBase {
             project,
             branch,
             commit,
         } => record_base(alloc, rows, caller, project, branch, commit),
+        Command::CreateChange(new) => create_change(alloc, had, rows, caller, new),
+        Command::Upload { change, patch } => upload(alloc, had, rows, caller, *change, patch),
+        Command::Review {
+            change,
+            review: said,
+        } => { review(alloc, had, rows, caller, *change, said) }
     }
 }

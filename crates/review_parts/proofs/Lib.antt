@@ -3,4 +3,5 @@ pub mod VoteKeys
 pub mod Accounts
 pub mod Copied
 pub mod Counted
+pub mod Grouped
 mod Lines

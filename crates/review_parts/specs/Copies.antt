@@ -1,7 +1,9 @@
 -- The votes of a patch set that are copied to the next one, and the others.
 use Rattle.std.specs.Prelude.{◌≡◌, ℕ, ℤ, List, [], ◌∷◌, map, find, Option, option_map, Bool, false, not, ◌==◌, ◌&&◌, if◌then◌else◌}
 use Rattle.std.specs.Option.{option_map_or}
-use Rattle.std.specs.Str.{bytes_eq}
+use Rattle.std.specs.Map.{keys_of}
+use Rattle.review_names.specs.Groups.{GroupList}
+use Rattle.review_table.specs.Rows.{rows_of}
 use Rattle.review_judging.specs.declared.facts.VoteFacts.{VoteFacts}
 use Rattle.review_expr.specs.declared.expr.Expr.{Expr}
 use Rattle.review_project.specs.View.{FileView, LabelView}
@@ -12,6 +14,18 @@ use Rattle.review_changes.specs.Change.{condition_holds, label_in, range_of}
 pub use Rattle.review_changes.specs.Counts.{has_vote, AreApart, AreMany}
 use Rattle.review_changes.specs.Votes.{voted}
 use Rattle.review_parts.specs.declared.copying.Parted.{Parted}
+
+-- a table of groups, each with the table of the accounts that are in it
+abbrev pub GroupTable : Type 0
+GroupTable = List (List ℕ × Option (List (ℕ × Option (Unit {0}))))
+
+-- the groups of a table, each with its members
+abbrev pub group_list : GroupTable → GroupList
+group_list t = map (λ e. (e.0, keys_of (rows_of e.1))) (rows_of t)
+
+-- the facts of a vote, where the groups are those of a table
+abbrev pub with_groups : VoteFacts → GroupTable → VoteFacts
+with_groups f t = record f { groups = group_list t }
 
 -- whether a vote is copied: by its label, its account and its value
 abbrev pub Copies : Type 0

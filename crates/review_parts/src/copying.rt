@@ -3,24 +3,82 @@ ghost use Rattle.std.specs.Prelude.{◌≡◌, ◌++◌, [], ◌∷◌, Some, ma
 ghost use Rattle.std.specs.Map.Iter.{deref_pair};
 ghost use Rattle.std.specs.List.Sorted.{IsStrictlySortedBy};
 ghost use Rattle.std.specs.Map.{keys_of};
+ghost use Rattle.review_judging.specs.Holds.{copy_holds};
+ghost use Rattle.review_names.specs.Groups.{has_account};
 ghost use Rattle.review_table.specs.Rows.{rows_of};
 ghost use Rattle.review_changes.specs.Change.{condition_holds};
 ghost use Rattle.review_changes.specs.Seen.{vote_cmp};
-ghost use Rattle.review_parts.specs.Copies.{copies_by, copied_rows, lost_rows, IsSplit};
+ghost use Rattle.review_parts.specs.Copies.{copies_by, copied_rows, group_list, lost_rows, with_groups, IsSplit};
 
 use review_changes::{Vote, VoteKey};
 use review_expr::Expr;
 use review_file::ProjectFile;
-use review_judging::{ValueRange, VoteFacts};
+use review_judging::{Judged, ValueRange, VoteFacts};
 use review_table::{Key, Table};
-use review_words::PatchNo;
+use review_terms::CopyTerm;
+use review_words::{AccountNo, GroupName, PatchNo};
 use std::alloc::{AllocError, Global};
 
-fn condition_holds(alloc: Global, condition: &Expr, facts: &VoteFacts) -> Result<bool, AllocError>
-    ensures { IfOk result (λ b. b ≡ condition_holds (Some condition.now) facts.now) }
+/// Groups by their names, each with the accounts that are in it.
+pub type GroupTables = Table<GroupName, Table<AccountNo, ()>>;
+
+/// Whether an account is in a group. Every account is in `Registered-Users`; a group that has no table is empty.
+fn is_in(groups: &GroupTables, group: &GroupName, account: AccountNo) -> bool
+    ensures { result ≡ has_account (group_list groups.now) group.now account }
+{
+    if group.as_str() == "Registered-Users" {
+        return true;
+    }
+    match groups.get(group) {
+        Some(members) => members.get(&account).is_some(),
+        None => false,
+    }
+}
+
+/// A vote as copy conditions are judged by it, where tables tell who is in which group, however many accounts there are in one.
+#[derive(Drop)]
+struct GroupedVote<'v> {
+    facts: &'v VoteFacts,
+    groups: &'v GroupTables,
+}
+
+impl<'v> Judged<GroupedVote<'v>> for CopyTerm {
+    ghost use Rattle.review_judging.specs.Holds.{copy_holds};
+    ghost use Rattle.review_parts.specs.Copies.{with_groups};
+
+    ghost is_held = { λ v t. copy_holds (with_groups v.facts.now v.groups.now) t };
+
+    fn is_met(&self, alloc: Global, vote: &GroupedVote<'v>) -> Result<bool, AllocError> {
+        match self {
+            CopyTerm::ApproverIn(group) => Ok(is_in(vote.groups, group, vote.facts.voter)),
+            CopyTerm::UploaderIn(group) => Ok(is_in(vote.groups, group, vote.facts.uploader)),
+            CopyTerm::Value(_) | CopyTerm::Kind(_) | CopyTerm::UnchangedFiles => {
+                is_met_by(alloc, self, vote.facts)
+            }
+        }
+    }
+}
+
+/// Whether a term holds for a vote by its facts alone.
+fn is_met_by(alloc: Global, term: &CopyTerm, facts: &VoteFacts) -> Result<bool, AllocError>
+    ensures { IfOk result (λ b. b ≡ copy_holds facts.now term.now) }
+{
+    term.is_met(alloc, facts)
+}
+
+fn condition_holds(
+    alloc: Global,
+    condition: &Expr,
+    facts: &VoteFacts,
+    groups: &GroupTables,
+) -> Result<bool, AllocError>
+    ensures { IfOk result (λ b. b ≡ condition_holds (Some condition.now) (with_groups facts.now groups.now)) }
 {
     match condition {
-        Expr::Copy(expression) => review_judging::eval(alloc, expression.node(), facts),
+        Expr::Copy(expression) => {
+            let vote = GroupedVote { facts, groups };
+            review_judging::eval(alloc, expression.node(), &vote)
+        }
         Expr::Requirement(_) => Ok(false),
     }
 }
@@ -30,11 +88,12 @@ fn is_copied(
     alloc: Global,
     file: &ProjectFile,
     facts: &mut VoteFacts,
+    groups: &GroupTables,
     key: &VoteKey,
     value: i8,
 ) -> Result<bool, AllocError>
-    ensures holds { IfOk result (λ b. b ≡ copies_by file.now facts.old key.now.label key.now.account value) }
-    ensures same { copies_by file.now facts.new ≡ copies_by file.now facts.old }
+    ensures holds { IfOk result (λ b. b ≡ copies_by file.now (with_groups facts.old groups.now) key.now.label key.now.account value) }
+    ensures same { copies_by file.now (with_groups facts.new groups.now) ≡ copies_by file.now (with_groups facts.old groups.now) }
 {
     let Some(label) = file.label(&key.label) else {
         return Ok(false);
@@ -48,7 +107,7 @@ fn is_copied(
         least: label.least(),
         greatest: label.greatest(),
     };
-    condition_holds(alloc, condition, facts)
+    condition_holds(alloc, condition, facts, groups)
 }
 
 /// The votes of a patch set: those that are copied, on the next one, and the keys of the others.
@@ -62,20 +121,21 @@ fn part_one(
     alloc: Global,
     file: &ProjectFile,
     facts: &mut VoteFacts,
+    groups: &GroupTables,
     key: &VoteKey,
     vote: Vote,
     patch: PatchNo,
     next: PatchNo,
     parted: &mut Parted,
 ) -> Result<(), AllocError>
-    ensures copied { OnOk result (parted.new.copied.items ≡ parted.old.copied.items ++ copied_rows (copies_by file.now facts.old) patch next ((key.now, vote) ∷ [])) }
-    ensures lost { OnOk result (parted.new.lost.items ≡ parted.old.lost.items ++ lost_rows (copies_by file.now facts.old) patch ((key.now, vote) ∷ [])) }
-    ensures same { copies_by file.now facts.new ≡ copies_by file.now facts.old }
+    ensures copied { OnOk result (parted.new.copied.items ≡ parted.old.copied.items ++ copied_rows (copies_by file.now (with_groups facts.old groups.now)) patch next ((key.now, vote) ∷ [])) }
+    ensures lost { OnOk result (parted.new.lost.items ≡ parted.old.lost.items ++ lost_rows (copies_by file.now (with_groups facts.old groups.now)) patch ((key.now, vote) ∷ [])) }
+    ensures same { copies_by file.now (with_groups facts.new groups.now) ≡ copies_by file.now (with_groups facts.old groups.now) }
 {
     if key.patch != patch {
         return Ok(());
     }
-    if is_copied(alloc, file, facts, key, vote.get())? {
+    if is_copied(alloc, file, facts, groups, key, vote.get())? {
         let label = key.label.copy(alloc)?;
         let copy = VoteKey {
             patch: next,
@@ -93,36 +153,48 @@ fn part(
     alloc: Global,
     file: &ProjectFile,
     facts: &mut VoteFacts,
+    groups: &GroupTables,
     rows: &[(&VoteKey, &Vote)],
     patch: PatchNo,
     next: PatchNo,
 ) -> Result<Parted, AllocError>
-    ensures { IfOk result (λ s. IsSplit (copies_by file.now facts.old) patch next (map deref_pair rows.now) s) }
+    ensures { IfOk result (λ s. IsSplit (copies_by file.now (with_groups facts.old groups.now)) patch next (map deref_pair rows.now) s) }
 {
     let mut parted = Parted {
         copied: Vec::new(alloc),
         lost: Vec::new(alloc),
     };
     for (key, vote) in rows {
-        part_one(alloc, file, facts, key, **vote, patch, next, &mut parted)?;
+        part_one(
+            alloc,
+            file,
+            facts,
+            groups,
+            key,
+            **vote,
+            patch,
+            next,
+            &mut parted,
+        )?;
     }
     Ok(parted)
 }
 
 /// Parts the votes of a patch set by the copy conditions of a file. Of the facts the vote, its voter and its range are those of
-/// each vote in turn.
+/// each vote in turn; their groups are not asked, but the tables.
 pub fn part_votes(
     alloc: Global,
     votes: &Table<VoteKey, Vote>,
     file: &ProjectFile,
     facts: VoteFacts,
+    groups: &GroupTables,
     patch: PatchNo,
     next: PatchNo,
 ) -> Result<Parted, AllocError>
-    ensures parted { IfOk result (IsSplit (copies_by file.now facts) patch next (rows_of votes.now)) }
+    ensures parted { IfOk result (IsSplit (copies_by file.now (with_groups facts groups.now)) patch next (rows_of votes.now)) }
     ensures sorted { IfOk result (λ _. IsStrictlySortedBy vote_cmp (keys_of (rows_of votes.now))) }
 {
     let rows = votes.rows(alloc)?;
     let mut facts = facts;
-    part(alloc, file, &mut facts, &rows, patch, next)
+    part(alloc, file, &mut facts, groups, &rows, patch, next)
 }

@@ -1,4 +1,4 @@
-use Rattle.std.proofs.Common.{◌≡◌, ◌+◌, ◌++◌, ◌∷◌, [], ◌∙◌, ap, sym, subst, length, true, arith}
+use Rattle.std.proofs.Common.{◌≡◌, ◌+◌, ◌∙◌, ap, sym, subst, length, true, arith}
 use Rattle.std.specs.Option.{option_copied}
 use Rattle.review_names.specs.Forms.{is_within, most_changes}
 use Rattle.review_words.specs.declared.command.Command.TheVariants.{CreateChange}
@@ -33,12 +33,14 @@ returns-clause-decided c = λ reading h room known l.
     let number = c.next_change-change.ensures ∙ ap (λ k. k + 1) (c.last_change.ensures ∙ last_change_told reading h a.rows.now l.agree (asked_beside h a.caller command a.rows.now l).1.0) in
     let many : c.requests.result ≡ length h = c.requests.ensures ∙ requests_are (view reading h) (option_copied a.had) a.rows.now a.caller command l.agree l.nothing_left in
     let request : c.saturating_add-request.result ≡ length h + 1 = let e = c.saturating_add-request.ensures in omega arith in
-    let empty = c.nothing-delta.ensures in
-    create_decided reading h a.caller a.new.now c.next_change-change.result c.patch_of-patch.result (seen c.in_ok-file.file.rows) c.in_ok-edit.edit
-    (record { accounts = c.nothing-delta.result.accounts; members = c.nothing-delta.result.members; file = c.nothing-delta.result.file; base = c.nothing-delta.result.base; changes = c.push.new.self })
+    let m = c.in_ok-delta.ensures.edits in
+    create_decided reading h a.caller a.new.now c.next_change-change.result c.patch_of-patch.result (seen c.in_ok-file.file.rows) c.in_ok-edit.edit c.in_ok-delta.delta
     passes number c.patch_of-patch.ensures (c.in_ok-file.ensures ∙ (λ i. begun (c.in_ok-new.ensures i) a.caller (request i))) c.in_ok-edit.ensures.change
     (λ part. c.in_ok-edit.ensures.becomes part ∙ ap (λ r. part_row (seen r) part) c.rows.ensures.same)
-    empty.accounts empty.members empty.file empty.base (c.in_ok-push.ensures.items ∙ (λ i. empty.changes i ++ c.in_ok-edit.edit ∷ []))
+    m.accounts m.members m.file m.base m.changes
+
+pub returns-clause-once : goal.returns-clause-once
+returns-clause-once c = c.in_ok-delta.ensures.once c.in_ok-edit.ensures.once
 
 pub returns-clause-stored : goal.returns-clause-stored
 returns-clause-stored c =

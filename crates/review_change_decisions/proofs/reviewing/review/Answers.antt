@@ -1,4 +1,4 @@
-use Rattle.std.proofs.Common.{◌∙◌, ap, sym}
+use Rattle.std.proofs.Common.{◌∙◌, ap, refl, sym}
 use Rattle.std.specs.Option.{option_copied}
 use Rattle.std.specs.Prelude.{option_map}
 use Rattle.review_words.specs.declared.command.Command.TheVariants.{Review}
@@ -30,7 +30,7 @@ returns-in_err-file-clause-cause c =
     let a = c.args in
     let there = sym c.change.ensures ∙ ap (λ o. option_map (λ r. seen r) (option_copied o)) c.in-Some.is in
     err_with _ c.from_residual.result c.in_err-file.field-0.0 c.from_residual.ensures
-    (unsound_undecided c.changes_are_sound.ensures a.caller a.change a.review.now (option_copied a.had) a.rows.now (seen c.in-Some.found.now) c.in_err-file.field-0.0 there c.in_err-file.ensures.cause)
+    (unsound_undecided c.changes_are_sound.ensures a.caller a.change (Review a.change a.review.now) refl (option_copied a.had) a.rows.now (seen c.in-Some.found.now) c.in_err-file.field-0.0 there c.in_err-file.ensures.cause)
 
 pub returns-in_err-refusal-clause-cause : goal.returns-in_err-refusal-clause-cause
 returns-in_err-refusal-clause-cause c =
@@ -54,5 +54,5 @@ returns-clause-decided c = λ reading h room account l.
     let passes = review_told c.one_file.ensures.trees reading h a.caller a.change a.review.now (option_copied a.had) a.rows.now (seen c.in-Some.found.now) account there l c.in_ok-refusal.ensures.judged
     ∙ (sym c.in_ok-refusal.ensures.refusal ∙ c.in_default-refusal.is) in
     review_decided reading h a.caller a.change a.review.now a.rows.now (seen c.in-Some.found.now) c.in_ok-reviewed.field-0.0 c.in_ok-reviewed.field-0.1 passes
-    (change_is reading h a.caller a.change a.review.now (option_copied a.had) a.rows.now (seen c.in-Some.found.now) there l)
-    (request_is reading h a.caller a.change a.review.now (option_copied a.had) a.rows.now room l) c.in_ok-reviewed.ensures.made
+    (change_is reading h a.caller a.change (Review a.change a.review.now) refl (option_copied a.had) a.rows.now (seen c.in-Some.found.now) there l)
+    (request_is reading h a.caller (Review a.change a.review.now) (option_copied a.had) a.rows.now room l) c.in_ok-reviewed.ensures.made

@@ -18,10 +18,12 @@ returns-clause-made c =
     let count : c.len.result ≡ length a.found.now.comments.items = search rules in
     let request : c.saturating_add-request.result ≡ next_request a.rows.now = c.saturating_add-request.ensures ∙ ap (λ n. min (n + 1) 18446744073709551615) c.requests.ensures in
     record {
-      edit = c.in_ok-edit.edit;
-      edits = c.in_ok-delta.ensures;
-      named = c.in_ok-edit.ensures.change;
-      becomes = λ part. c.in_ok-edit.ensures.becomes part ∙ ap (λ n. part_row (after_plain (ReviewOf a.review.now) a.caller n (seen a.found.now)) part) request;
+      made = record {
+        edit = c.in_ok-edit.edit;
+        edits = c.in_ok-delta.ensures.edits;
+        named = c.in_ok-edit.ensures.change;
+        becomes = λ part. c.in_ok-edit.ensures.becomes part ∙ ap (λ n. part_row (after_plain (ReviewOf a.review.now) a.caller n (seen a.found.now)) part) request;
+      };
       reply_is = λ i. Done (Reviewed ((c.in_ok-numbers.ensures ∙ (λ j. next_numbers (count j) (c.said_count.ensures j))) i));
     }
 
@@ -33,3 +35,6 @@ returns-clause-stored c =
     let room = room_for a.review.now (seen a.found.now) c.requires.fits in
     subst (λ l. (length l ≤ most_comments) × AllByRecursion IsCommentNumber l) (sym is)
     (subst (λ n. n ≤ most_comments) (sym (numbers_count (length a.found.now.comments.items) (length (said a.review.now)))) (omega arith), numbers_fit (length a.found.now.comments.items) (length (said a.review.now)) room)
+
+pub returns-clause-once : goal.returns-clause-once
+returns-clause-once c = c.in_ok-delta.ensures.once c.in_ok-edit.ensures.once

@@ -1,4 +1,4 @@
-use Rattle.std.proofs.Common.{◌≡◌, ◌==◌, ◌&&◌, ◌||◌, ◌+◌, ◌++◌, ◌∷◌, [], ℕ, not, ◌∙◌, ap, sym, length, pos, None, map}
+use Rattle.std.proofs.Common.{◌≡◌, ◌==◌, ◌&&◌, ◌||◌, ◌+◌, ◌++◌, ◌∷◌, [], not, ◌∙◌, ap, sym, length, pos, None, map}
 use Rattle.std.specs.Prelude.{if◌then◌else◌, is_some, find, option_map}
 use Rattle.std.specs.Cmp.Lexicographic.{pointwise}
 use Rattle.review_table.specs.Rows.{row_in, rows_of}
@@ -8,7 +8,7 @@ use Rattle.review_changes.specs.declared.rows.PatchRow.{PatchRow}
 use Rattle.review_changes.specs.Change.{last_uploader, last_paths, kept_or}
 use Rattle.review_changes.specs.Seen.{seen, vote_in, vote_cmp, of_account}
 use Rattle.review_changes.specs.Votes.{voted}
-use Rattle.review_parts.specs.Copies.{copies_by, has_lost}
+use Rattle.review_parts.specs.Copies.{copies_by, group_list, has_lost, with_groups}
 use Rattle.review_parts.specs.Tables.{put_in}
 use Rattle.review_parts.specs.declared.attention.Who.{Who}
 use Rattle.review_parts.proofs.Copied.{votes_carried, lost_is}
@@ -32,10 +32,10 @@ returns c =
       kind = p.kind;
       uploader = caller;
       unchanged_files = pointwise (pointwise ◌==◌) (last_paths [] ps) p.paths;
-      groups = c.args.groups;
+      groups = group_list c.args.groups.now;
     } in
-    let facts : c.upload_facts-facts.result ≡ asked = c.upload_facts-facts.ensures ∙ (λ i. record asked { unchanged_files = pointwise (pointwise ◌==◌) (last_paths [] (c.deref-3.ensures.value i)) p.paths }) in
-    let F = copies_by file c.upload_facts-facts.result in
+    let facts : with_groups c.upload_facts-facts.result c.args.groups.now ≡ asked = c.upload_facts-facts.ensures c.args.groups.now ∙ (λ i. record asked { unchanged_files = pointwise (pointwise ◌==◌) (last_paths [] (c.deref-3.ensures.value i)) p.paths }) in
+    let F = copies_by file (with_groups c.upload_facts-facts.result c.args.groups.now) in
     let sorted = c.in_ok-parted.ensures.sorted in
     let parted = c.in_ok-parted.ensures.parted in
     let former : c.uploader_of-former.result ≡ last_uploader owner ps = c.uploader_of-former.ensures ∙ ap (last_uploader owner) c.deref-2.ensures.value in

@@ -1,13 +1,13 @@
 use Rattle.std.proofs.Common.{◌++◌, ◌∷◌, [], ◌∙◌, ap}
 use Rattle.std.specs.Map.Iter.{deref_pair}
-use Rattle.review_parts.specs.Copies.{copies_by, copied_rows, lost_rows}
+use Rattle.review_parts.specs.Copies.{copies_by, copied_rows, lost_rows, with_groups}
 use Rattle.review_parts.proofs.Copied.{copied_next, lost_next, rows_more}
 use Rattle.review_parts.proofs.copying.part.Goals as goal
 
 pub loop-key-preserved : goal.loop-key-preserved
 loop-key-preserved c =
     let a = c.args in
-    let f = copies_by a.file.now a.facts.now in
+    let f = copies_by a.file.now (with_groups a.facts.now a.groups.now) in
     let e = c.loop-key-item.result in
     let same = c.loop-key.invariant.0 in (
       c.in_ok-part_one.ensures.same ∙ same,

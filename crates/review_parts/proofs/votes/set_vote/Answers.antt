@@ -1,4 +1,4 @@
-use Rattle.std.proofs.Common.{◌≡◌, ap, ◌∙◌, sym, None, Some, of_z, to_z, w8}
+use Rattle.std.proofs.Common.{ap, ◌∙◌, sym, None, Some, of_z, to_z, w8}
 use Rattle.std.proofs.lemmas.Int.{to_z-of_z}
 use Rattle.std.specs.Prelude.{if◌then◌else◌}
 use Rattle.review_changes.specs.Seen.{vote_in}

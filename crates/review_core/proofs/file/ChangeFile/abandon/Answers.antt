@@ -1,5 +1,5 @@
 use Rattle.std.proofs.Common.{refl}
-use Rattle.review_changes.specs.Change.{after_plain, begun, joined_at, no_copying}
+use Rattle.review_changes.specs.Change.{after_plain, no_copying}
 use Rattle.review_changes.specs.Seen.{seen}
 use Rattle.review_changes.specs.declared.commands.ChangeCommand.TheVariants.{Abandon}
 use Rattle.review_core.proofs.Kept.{sound_as}

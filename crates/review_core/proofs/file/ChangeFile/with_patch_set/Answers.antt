@@ -1,9 +1,9 @@
-use Rattle.std.proofs.Common.{◌∙◌}
 use Rattle.review_names.specs.Forms.{most_patches}
 use Rattle.review_changes.specs.Change.{Setting, after, copying, current}
 use Rattle.review_changes.specs.declared.commands.ChangeCommand.TheVariants.{Upload}
 use Rattle.review_changes.specs.Seen.{seen}
 use Rattle.review_changes.proofs.Within.{within_next}
+use Rattle.review_parts.specs.Copies.{group_list}
 use Rattle.review_core.proofs.Kept.{next_free, sound_as}
 use Rattle.review_core.proofs.file.ChangeFile.with_patch_set.Goals as goal
 
@@ -15,7 +15,7 @@ with_patch_set-requires-clause-free c = next_free (seen c.args.self.rows) c.args
 
 pub invariant_of-result : goal.invariant_of-result
 invariant_of-result c =
-    let s : Setting = record { file = c.args.file.now; groups = c.args.groups } in
+    let s : Setting = record { file = c.args.file.now; groups = group_list c.args.groups.now } in
     let old = seen c.args.self.rows in record {
       sound = sound_as (seen c.in_ok-rows.rows) (after s (Upload c.args.patch) c.args.caller c.args.request old) c.in_ok-rows.ensures.rows
           (c.stays_sound.ensures (copying s (Upload c.args.patch) c.args.caller old) (Upload c.args.patch) c.args.caller c.args.request old c.args.self.sound c.requires);

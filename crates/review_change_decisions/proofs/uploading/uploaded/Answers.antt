@@ -1,0 +1,62 @@
+use Rattle.std.proofs.Common.{◌≡◌, ◌∷◌, [], ◌∙◌, ◌+◌, ap, refl, subst, length, min, rules}
+use Rattle.review_words.specs.declared.changes.NewPatch.{NewPatch}
+use Rattle.review_words.specs.declared.reply.Answer.TheVariants.{Patch}
+use Rattle.review_words.specs.declared.reply.Reply.TheVariants.{Done}
+use Rattle.review_changes.specs.Change.{Change, after, carried, copying, is_lost}
+use Rattle.review_changes.specs.Counts.{AreMany}
+use Rattle.review_changes.specs.Parts.{part_row}
+use Rattle.review_changes.specs.Seen.{seen}
+use Rattle.review_changes.specs.Votes.{voted}
+use Rattle.review_changes.specs.declared.commands.ChangeCommand.TheVariants.{Upload as UploadOf}
+use Rattle.review_change_decisions.specs.Facts.{next_request, setting_in}
+use Rattle.review_change_decisions.proofs.Edited.{comments_go, patches_go, unchanged}
+use Rattle.review_change_decisions.proofs.uploading.uploaded.Goals as goal
+
+pub edit_of-requires-clause-patches : goal.edit_of-requires-clause-patches
+edit_of-requires-clause-patches c =
+    let a = c.args in
+    let p = a.patch.now in
+    let s = setting_in a.project.now a.rows.now in
+    let is : seen c.rows.result.now ≡ after s (UploadOf p) a.caller c.saturating_add-request.result (seen a.found.now) =
+    ap seen c.rows.ensures.same ∙ (c.in_ok-new.ensures.change ∙ (λ i. after s (UploadOf (c.in_ok-patch.ensures i)) a.caller c.saturating_add-request.result (c.requires.same i))) in
+    patches_go a.found.now c.rows.result.now (after s (UploadOf p) a.caller c.saturating_add-request.result (seen a.found.now))
+    (record { commit = p.commit; parent = p.parent; kind = p.kind; uploader = a.caller; paths = p.paths } ∷ []) c.rows.ensures.sound is refl
+
+pub edit_of-requires-clause-comments : goal.edit_of-requires-clause-comments
+edit_of-requires-clause-comments c =
+    let a = c.args in
+    let s = setting_in a.project.now a.rows.now in
+    let is : seen c.rows.result.now ≡ after s (UploadOf a.patch.now) a.caller c.saturating_add-request.result (seen a.found.now) =
+    ap seen c.rows.ensures.same ∙ (c.in_ok-new.ensures.change ∙ (λ i. after s (UploadOf (c.in_ok-patch.ensures i)) a.caller c.saturating_add-request.result (c.requires.same i))) in
+    comments_go a.found.now c.rows.result.now (after s (UploadOf a.patch.now) a.caller c.saturating_add-request.result (seen a.found.now)) [] c.rows.ensures.sound is (unchanged a.found.now.comments.items)
+
+pub returns-clause-made : goal.returns-clause-made
+returns-clause-made c =
+    let a = c.args in
+    let p = a.patch.now in
+    let x = seen a.found.now in
+    let s = setting_in a.project.now a.rows.now in
+    let request : c.saturating_add-request.result ≡ next_request a.rows.now = c.saturating_add-request.ensures ∙ ap (λ n. min (n + 1) 18446744073709551615) c.requests.ensures in
+    let is : seen c.rows.result.now ≡ after s (UploadOf p) a.caller c.saturating_add-request.result x =
+    ap seen c.rows.ensures.same ∙ (c.in_ok-new.ensures.change ∙ (λ i. after s (UploadOf (c.in_ok-patch.ensures i)) a.caller c.saturating_add-request.result (c.requires.same i))) in
+    let count : c.len.result ≡ length a.found.now.patches.items = search rules in
+    record {
+      made = record {
+        edit = c.in_ok-edit.edit;
+        edits = c.in_ok-delta.ensures.edits;
+        named = c.in_ok-edit.ensures.change;
+        becomes = λ part. c.in_ok-edit.ensures.becomes part ∙ (ap (λ (y : Change). part_row y part) is ∙ ap (λ n. part_row (after s (UploadOf p) a.caller n x) part) request);
+      };
+      copied = c.in_ok-new.counts.copied;
+      outdated = c.in_ok-new.counts.outdated;
+      many_copied =
+          subst (λ (q : NewPatch). AreMany (λ l u. voted (carried (copying s (UploadOf q) a.caller x) x l u)) c.in_ok-new.counts.copied) c.in_ok-patch.ensures
+          (subst (λ (y : Change). AreMany (λ l u. voted (carried (copying s (UploadOf c.in_ok-patch.patch) a.caller y) y l u)) c.in_ok-new.counts.copied) c.requires.same c.in_ok-new.ensures.copied);
+      many_outdated =
+          subst (λ (q : NewPatch). AreMany (λ l u. is_lost (copying s (UploadOf q) a.caller x) x u l) c.in_ok-new.counts.outdated) c.in_ok-patch.ensures
+          (subst (λ (y : Change). AreMany (λ l u. is_lost (copying s (UploadOf c.in_ok-patch.patch) a.caller y) y u l) c.in_ok-new.counts.outdated) c.requires.same c.in_ok-new.ensures.outdated);
+      reply_is = ap Done (c.patch_answer-answer.ensures.value ∙ ap (λ n. Patch a.change n c.in_ok-new.counts.copied c.in_ok-new.counts.outdated) (c.next_patch.ensures ∙ ap (λ n. n + 1) count));
+    }
+
+pub returns-clause-once : goal.returns-clause-once
+returns-clause-once c = c.in_ok-delta.ensures.once c.in_ok-edit.ensures.once

@@ -1,0 +1,167 @@
+//! New patch sets.
+ghost use Rattle.std.specs.Prelude.{◌≡◌, ◌<◌, ◌+◌, ◌==◌, ◌||◌, List, IfOk, IfErr, length, option_copied, true};
+ghost use Rattle.review_names.specs.Forms.{is_within, most_patches};
+ghost use Rattle.review_words.specs.Texts.{IsStored, IsStoredAnswer};
+ghost use Rattle.review_words.specs.History.{Entry, is_account};
+ghost use Rattle.review_words.specs.declared.command.Command.TheVariants.{Upload};
+ghost use Rattle.review_words.specs.declared.reply.Answer.TheVariants.{Patch};
+ghost use Rattle.review_project.specs.declared.parts.Right.TheVariants as right;
+ghost use Rattle.review_changes.specs.Change.{after, current};
+ghost use Rattle.review_changes.specs.Seen.{seen};
+ghost use Rattle.review_changes.specs.Sound.{fits};
+ghost use Rattle.review_changes.specs.declared.commands.ChangeCommand.TheVariants.{Upload as UploadOf};
+ghost use Rattle.review_rows.specs.Answer.{first_refusal, most_requests};
+ghost use Rattle.review_rows.specs.Changes.{Reading};
+ghost use Rattle.review_rows.specs.Decisions.{IsUndecided, NamesEachOnce};
+ghost use Rattle.review_rows.specs.Rows.{HasNoEffect};
+ghost use Rattle.review_rows.specs.Steps.{OfCommand};
+ghost use Rattle.review_rows.specs.View.{AreEnough, IsDecided};
+ghost use Rattle.review_change_decisions.specs.Facts.{IsUploaded, right_in, upload_list};
+
+use crate::edits::{change_file, edited};
+use crate::facts::{has_right, is_known, is_open};
+use review_account_decisions::refused;
+use review_change_laws::changes_are_sound;
+use review_change_rows::{copied_patch, edit_of};
+use review_changes::{ChangeRows, Header};
+use review_core::{ChangeFile, Copied};
+use review_file::{ProjectFile, Right};
+use review_group_names::groups_suffice;
+use review_project_laws::one_file;
+use review_rows::{Delta, Rows};
+use review_words::{AccountNo, Answer, ChangeNo, NewPatch, NotTaken, PatchNo, Refusal, Reply};
+use std::alloc::{AllocError, Global};
+
+/// Whether an account may send patch sets of a change: as its owner, or by the right to.
+fn may_upload(
+    alloc: Global,
+    file: &ProjectFile,
+    rows: &Rows,
+    caller: AccountNo,
+    header: &Header,
+) -> Result<bool, AllocError>
+    ensures { IfOk result (λ b. b ≡ ((caller == header.now.owner) || right_in rows.now file.now right.Upload caller)) }
+{
+    if caller == header.owner {
+        return Ok(true);
+    }
+    has_right(alloc, rows, file, Right::Upload, caller)
+}
+
+/// The first check of a new patch set that fails, where one does.
+fn upload_refusal(
+    alloc: Global,
+    file: &ProjectFile,
+    rows: &Rows,
+    caller: AccountNo,
+    patch: &NewPatch,
+    change: &ChangeRows,
+) -> Result<Option<Refusal>, AllocError>
+    ensures { IfOk result (λ r. r ≡ first_refusal (upload_list file.now rows.now caller patch.now (seen change.now))) }
+{
+    let header = &change.header;
+    if !may_upload(alloc, file, rows, caller, header)? {
+        return Ok(Some(Refusal::NotAllowed));
+    }
+    if !is_open(header.state) {
+        return Ok(Some(Refusal::Closed));
+    }
+    if is_known(alloc, rows, &header.project, &header.branch, &patch.commit)? {
+        return Ok(Some(Refusal::CommitKnown));
+    }
+    if !is_known(alloc, rows, &header.project, &header.branch, &patch.parent)? {
+        return Ok(Some(Refusal::UnknownParent));
+    }
+    if change.patches.len() >= 1000 {
+        return Ok(Some(Refusal::Limit));
+    }
+    Ok(None)
+}
+
+/// The number of the patch set after so many.
+#[tactic(auto, using(crate::proofs::Made::next_below))]
+fn next_patch(count: usize) -> PatchNo
+    requires { is_within most_patches (count + 1) ≡ true }
+    ensures { result ≡ count + 1 }
+{
+    match PatchNo::from_number(count as u64 + 1) {
+        Some(next) => next,
+        None => unreachable!(),
+    }
+}
+
+/// The answer to a new patch set, with how many votes were copied and how many not.
+fn patch_answer(change: ChangeNo, patch: PatchNo, counts: Copied) -> Answer
+    ensures value { result ≡ Patch change patch counts.copied counts.outdated }
+    ensures stored { IsStoredAnswer result }
+{
+    let _numbers = (change.get(), patch.get());
+    Answer::Patch {
+        change,
+        patch,
+        copied: counts.copied as u64,
+        outdated: counts.outdated as u64,
+    }
+}
+
+/// A new patch set of a change, with the votes of the one before it that copy conditions copy, by the project's file and the groups before
+/// the command. The answer has the numbers of votes that were copied and that weren't. Refused for a change that isn't there, for an account
+/// that isn't the owner and has no right to upload, a closed change, a commit that is known in the branch, a parent that isn't, or the last
+/// number given, in this order. An error is want of memory, or Damaged, where the rows are those of no history.
+pub fn upload(
+    alloc: Global,
+    had: Option<&ProjectFile>,
+    rows: &Rows,
+    caller: AccountNo,
+    change: ChangeNo,
+    patch: &NewPatch,
+) -> Result<(Delta, Reply), NotTaken>
+    ensures decided { IfOk result (λ r. (reading : Reading) (h : List Entry) → length h < most_requests → is_account h caller ≡ true → AreEnough reading h caller (OfCommand (Upload change patch.now)) (option_copied had.entry) rows.now → IsDecided reading h caller (Upload change patch.now) r.0 r.1) }
+    ensures cause { IfErr result (IsUndecided caller (Upload change patch.now) (option_copied had.entry) rows.now) }
+    ensures stored { IfOk result (λ r. IsStored r.1) }
+    ensures refused { IfOk result (λ r. HasNoEffect r.1 r.0) }
+    ensures once { IfOk result (λ r. NamesEachOnce r.0) }
+{
+    one_file();
+    changes_are_sound();
+    groups_suffice();
+    let Some(found) = rows.change(change) else {
+        return Ok(refused(alloc, Refusal::NoChange));
+    };
+    let Some(project) = had else {
+        return Err(NotTaken::Damaged);
+    };
+    let file = change_file(alloc, found)?;
+    let refusal = upload_refusal(alloc, project, rows, caller, patch, found)?;
+    if let Some(refusal) = refusal {
+        return Ok(refused(alloc, refusal));
+    }
+    Ok(uploaded(alloc, project, rows, caller, change, found, file, patch)?)
+}
+
+/// The answer to a new patch set that no check refuses, and what it changes.
+fn uploaded(
+    alloc: Global,
+    project: &ProjectFile,
+    rows: &Rows,
+    caller: AccountNo,
+    change: ChangeNo,
+    found: &ChangeRows,
+    file: ChangeFile,
+    patch: &NewPatch,
+) -> Result<(Delta, Reply), AllocError>
+    requires same { seen file.rows ≡ seen found.now }
+    requires fits { fits (UploadOf patch.now) (seen found.now) ≡ true }
+    ensures made { IfOk result (λ r. IsUploaded project.now change patch.now caller rows.now (seen found.now) r.0 r.1) }
+    ensures stored { IfOk result (λ r. IsStored r.1) }
+    ensures refused { IfOk result (λ r. HasNoEffect r.1 r.0) }
+    ensures once { IfOk result (λ r. NamesEachOnce r.0) }
+{
+    let request = rows.requests().saturating_add(1);
+    let patch = copied_patch(alloc, patch)?;
+    let (new, counts) = file.with_patch_set(alloc, patch, caller, project, &rows.groups, request)?;
+    let edit = edit_of(alloc, change, found, new.rows())?;
+    let delta = edited(alloc, edit)?;
+    let answer = patch_answer(change, next_patch(found.patches.len()), counts);
+    Ok((delta, Reply::Done(answer)))
+}
