@@ -12,7 +12,6 @@ use Rattle.review_rows.specs.Steps.{OfCommand}
 use Rattle.review_rows.specs.View.{AreEnough, IsDecided}
 use Rattle.review_rows.specs.declared.rows.Delta.{Delta}
 use Rattle.review_rows.specs.declared.rows.Rows.{Rows}
-
 use Rattle.review_account_decisions.proofs.Decided.{caller_is, refused_pair, unknown_refused}
 use Rattle.review_decisions.proofs.decisions.decide_by.Goals as goal
 

@@ -2,7 +2,7 @@ use Rattle.std.proofs.Common.{IfOk, Option, Result, Ok, Err, ◌≡◌, ◌<◌,
 use Rattle.std.specs.Option.{option_copied}
 use Rattle.review_words.specs.History.{Entry, is_account}
 use Rattle.review_words.specs.declared.command.Command.{Command}
-use Rattle.review_words.specs.declared.command.Command.TheVariants.{CreateAccount, PutGroup, PutProject, RecordBase, CreateChange, Upload, Review}
+use Rattle.review_words.specs.declared.command.Command.TheVariants.{CreateAccount, PutGroup, PutProject, RecordBase}
 use Rattle.review_words.specs.declared.reply.NotTaken.{NotTaken}
 use Rattle.review_words.specs.declared.reply.Reply.{Reply}
 use Rattle.review_rows.specs.Answer.{most_requests}
