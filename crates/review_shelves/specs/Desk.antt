@@ -198,7 +198,7 @@ pub record HasRoom (t : MemoryTables) (changes : Changes) : Type 0 where
   pub edits : HasRoomFor changes.edits t.changes
   pub answers : HavePlaces answer_cmp t.answers changes.answers.items
 
--- every place of the tables but those of changes has a row, but for those that changes name
+-- every place has a row, but for those that changes name; the tables of changes have words of their own for it
 pub record HasRoomOnlyFor (changes : Changes) (t : MemoryTables) : Type 0 where
   pub accounts : HasEmptyOnly nat_cmp (is_named nat_cmp changes.accounts.items) t.accounts
   pub names : HasNoEmptyPlace name_cmp t.names

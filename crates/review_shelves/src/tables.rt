@@ -132,7 +132,7 @@ impl MemoryTables {
         }
     }
 
-    /// Makes changes, puts a base, and lists the names that they give, or changes no row. It leaves no room in the tables of changes.
+    /// Makes changes, puts a base, and lists the names that they give, or changes no row. Places of changes that got no row are given back.
     fn make(
         &mut self,
         alloc: Global,
