@@ -83,13 +83,13 @@ fn print_stored<R: Read, S: Shelf>(
 
 /// Three equal requests from a reader that fails at one of its calls.
 fn print_read_until(rt: &HostRuntime, failing: u64) -> Result<(), Fault> {
+    let mut shelf = MemoryShelf::new(rt.alloc())?;
     let mut reader = PoorReader {
         left: THRICE.as_bytes(),
         most: 20,
         calls: 0,
         failing,
     };
-    let mut shelf = MemoryShelf::new(rt.alloc())?;
     print_stored(rt, &mut reader, &mut shelf)
 }
 
@@ -121,18 +121,22 @@ const INPUTS: [&str; 3] = [
 
 /// An input on a desk of its own.
 fn print_input(rt: &HostRuntime, input: &str) -> Result<(), Fault> {
-    let mut reader = input.as_bytes();
     let mut shelf = MemoryShelf::new(rt.alloc())?;
+    let mut reader = input.as_bytes();
     print_stored(rt, &mut reader, &mut shelf)
+}
+
+fn print_twice<S: Shelf>(rt: &HostRuntime, shelf: &mut S) -> Result<(), Fault> {
+    let mut reader = ANN.as_bytes();
+    print_stored(rt, &mut reader, shelf)?;
+    let mut reader = ANN.as_bytes();
+    print_stored(rt, &mut reader, shelf)
 }
 
 /// A request twice, on a shelf that fails at one of its calls.
 fn print_failing(rt: &HostRuntime, failing: u64) -> Result<(), Fault> {
     let mut shelf = FaultyShelf::new(MemoryShelf::new(rt.alloc())?, failing);
-    let mut reader = ANN.as_bytes();
-    print_stored(rt, &mut reader, &mut shelf)?;
-    let mut reader = ANN.as_bytes();
-    print_stored(rt, &mut reader, &mut shelf)
+    print_twice(rt, &mut shelf)
 }
 
 /// How many requests inputs store.

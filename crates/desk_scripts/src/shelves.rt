@@ -142,13 +142,32 @@ fn call_faulty(alloc: Global, failing: u64) -> Result<Calls, Fault> {
     call(alloc, &mut shelf)
 }
 
-/// What a shelf answers that the second commit shuts, and then the one below it: the account of a name, and how many requests are stored.
-fn call_shutting(alloc: Global) -> Result<(Calls, &'static str, u64), Fault> {
-    let mut shelf = ShuttingShelf::new(MemoryShelf::new(alloc)?, 2);
-    let calls = call(alloc, &mut shelf)?;
+/// What is seen of the shelf below one that shut.
+type Below = (&'static str, u64);
+
+/// The account of a name on a shelf, and how many requests are stored there.
+fn look_below(alloc: Global, below: &mut MemoryShelf) -> Result<Below, Fault> {
+    let bob = account_of(alloc, below, "bob")?;
+    Ok((bob, stored(alloc, below)?))
+}
+
+/// What a shelf answers that shuts, and then what is seen of the one below it.
+fn call_both(
+    alloc: Global,
+    shelf: ShuttingShelf<MemoryShelf>,
+) -> (Result<Calls, Fault>, Result<Below, Fault>) {
+    let mut shelf = shelf;
+    let calls = call(alloc, &mut shelf);
     let mut below = shelf.into_inner();
-    let bob = account_of(alloc, &mut below, "bob")?;
-    Ok((calls, bob, stored(alloc, &mut below)?))
+    let seen = look_below(alloc, &mut below);
+    (calls, seen)
+}
+
+/// The same of a shelf that the second commit shuts.
+fn call_shutting(alloc: Global) -> Result<(Calls, Below), Fault> {
+    let shelf = ShuttingShelf::new(MemoryShelf::new(alloc)?, 2);
+    let (calls, seen) = call_both(alloc, shelf);
+    Ok((calls?, seen?))
 }
 
 fn shutting(rt: &HostRuntime) -> Result<(), Fault> {
@@ -156,7 +175,7 @@ fn shutting(rt: &HostRuntime) -> Result<(), Fault> {
         rt,
         "\n== the second commit shuts it for good, and is made below",
     )?;
-    let (calls, bob, requests) = call_shutting(rt.alloc())?;
+    let (calls, (bob, requests)) = call_shutting(rt.alloc())?;
     say_calls(rt, &calls)?;
     say_answer(rt, "below: account of bob", bob)?;
     println!(rt; "below: {requests} stored").map_err(Fault::of_output)
