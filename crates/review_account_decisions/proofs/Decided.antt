@@ -18,7 +18,7 @@ use Rattle.review_words.specs.declared.reply.Reply.TheVariants.{Done, Refused}
 use Rattle.review_words.specs.declared.reply.Answer.TheVariants as made
 use Rattle.review_words.specs.declared.reply.Refusal.{Refusal}
 use Rattle.review_words.specs.declared.reply.Refusal.TheVariants.{UnknownCaller, NotAdmin, NoProject, NoAccount, CommitKnown, NameTaken, Limit}
-use Rattle.review_words.specs.History.{Entry, account_count, name_of, name_taken, is_account, is_admin, is_listed, listed_members, file_text, is_project, project_count, bases, base_count, is_base}
+use Rattle.review_words.specs.History.{Entry, account_count, name_of, name_taken, is_account, is_admin, is_listed, listed_members, file_text, is_project, project_count, bases, base_count}
 use Rattle.review_rows.specs.declared.rows.Rows.{Rows}
 use Rattle.review_rows.specs.declared.rows.Delta.{Delta}
 use Rattle.review_rows.specs.Rows.{Key, AccountKey, MemberKey, FileKey, BaseKey, PartKey, OddKey, Row, AccountRow, FileRow, BaseRow, APart, Count, Projects, BasesOf, member_cmp, account_change, member_change, file_after, base_after, edited, projects_after, bases_after, after, count_after, ChangesNothing}
@@ -27,7 +27,7 @@ use Rattle.review_rows.specs.Known.{known, Agrees, IsKnown, is_so, is_there, mem
 use Rattle.review_rows.specs.Steps.{OfCommand, command_wants}
 use Rattle.review_rows.proofs.Asked.{all_asked}
 use Rattle.review_rows.specs.Answer.{IsAnswerBy, IsOutcome, first_refusal, refused_by, checks}
-use Rattle.review_rows.specs.Changes.{Reading}
+use Rattle.review_rows.specs.Changes.{Reading, is_known}
 use Rattle.review_rows.specs.Files.{File}
 use Rattle.review_rows.specs.View.{view, fact, counted, AreEnough, IsDecided}
 use Rattle.review_account_decisions.specs.Decisions.{IsEmpty, added, dropped, is_held, member_of}
@@ -98,7 +98,7 @@ abbrev base_refusal : Bool → Bool → Bool → Bool → Bool → Option Refusa
 base_refusal a b c d e = cond a (cond b (cond c (cond (not d) (cond e None (Some Limit)) (Some CommitKnown)) (Some NoProject)) (Some NotAdmin)) (Some UnknownCaller)
 
 pub base_refused : (reading : Reading) (h : List Entry) (caller : ℕ) (project branch commit : List ℕ) (a b c d e : Bool) →
-    is_account h caller ≡ a → is_admin h caller ≡ b → is_project h project ≡ c → is_base h project branch commit ≡ d → nat_lt (base_count h project) 100000 ≡ e →
+    is_account h caller ≡ a → is_admin h caller ≡ b → is_project h project ≡ c → is_known reading h project branch commit ≡ d → nat_lt (base_count h project) 100000 ≡ e →
     refused_by reading h caller (RecordBase project branch commit) ≡ base_refusal a b c d e
 base_refused reading h caller project branch commit a b c d e p q r s t = λ i. base_refusal (p i) (q i) (r i) (s i) (t i)
 
@@ -255,7 +255,7 @@ base_rows h project branch commit place p b n is =
 
 -- the base is the last of its branch
 pub base_decided : {reading : Reading} (h : List Entry) (caller : ℕ) (project branch commit : List ℕ) (place : ℕ) (delta : Delta) → place ≡ length (bases h project branch) + 1 →
-    is_account h caller ≡ true → is_admin h caller ≡ true → is_project h project ≡ true → is_base h project branch commit ≡ false → nat_lt (base_count h project) 100000 ≡ true →
+    is_account h caller ≡ true → is_admin h caller ≡ true → is_project h project ≡ true → is_known reading h project branch commit ≡ false → nat_lt (base_count h project) 100000 ≡ true →
     delta.accounts.items ≡ [] → delta.members.items ≡ [] → delta.file ≡ None → delta.base ≡ Some (record { project = project; branch = branch; place = place; commit = commit }) → delta.changes.items ≡ [] →
     IsDecided reading h caller (RecordBase project branch commit) delta (Done made.Nothing)
 base_decided {reading = reading} h caller project branch commit place delta is a b c d e da dm df db dc = record {

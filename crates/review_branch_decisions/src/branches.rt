@@ -11,6 +11,7 @@ ghost use Rattle.review_rows.specs.Files.{File};
 ghost use Rattle.review_rows.specs.View.{AreEnough, IsDecided};
 ghost use Rattle.review_rows.specs.Decisions.{NamesEachOnce};
 
+use crate::commits::is_known;
 use crate::keys::base_of;
 use review_account_decisions::{is_admin, nothing, refused};
 use review_rows::{BaseRow, BranchKey, Delta, Rows};
@@ -19,8 +20,8 @@ use review_words::{
 };
 use std::alloc::Global;
 
-/// Records a commit as the next base of a branch. Refused for an administrator missing, a project that isn't there, a commit that is a base of
-/// the branch already, or the most bases of a project, in this order; an error is want of memory.
+/// Records a commit as the next base of a branch. Refused for an administrator missing, a project that isn't there, a commit that is known in
+/// the branch, as a base or as that of a patch set, or the most bases of a project, in this order; an error is want of memory.
 pub fn record_base(
     alloc: Global,
     rows: &Rows,
@@ -42,13 +43,14 @@ pub fn record_base(
     if !rows.has_project(project) {
         return Ok(refused(alloc, Refusal::NoProject));
     }
-    let base = base_of(alloc, project, branch, commit)?;
-    if rows.has_base(&base) {
+    let known = is_known(alloc, rows, project, branch, commit)?;
+    if known {
         return Ok(refused(alloc, Refusal::CommitKnown));
     }
     if !rows.has_room_for_bases(project) {
         return Ok(refused(alloc, Refusal::Limit));
     }
+    let base = base_of(alloc, project, branch, commit)?;
     let key = BranchKey {
         project: base.project,
         branch: base.branch,

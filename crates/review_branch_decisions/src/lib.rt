@@ -4,9 +4,11 @@
 #![tactic(auto)]
 
 pub mod branches;
+pub mod commits;
 pub mod keys;
 pub mod questions;
 
 pub use branches::record_base;
+pub use commits::is_known;
 pub use keys::{base_of, branch_of};
 pub use questions::show;

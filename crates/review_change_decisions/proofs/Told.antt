@@ -23,9 +23,9 @@ use Rattle.review_rows.proofs.Readings.{read_of}
 use Rattle.review_account_decisions.proofs.Told.{Agree, base_told, member_told, place_told}
 use Rattle.review_change_laws.proofs.Grouped.{in_group}
 use Rattle.review_change_laws.proofs.Same.{rows_tell}
-use Rattle.review_change_laws.proofs.Sent.{sent_is}
 use Rattle.review_change_laws.proofs.There.{last_change_is}
-use Rattle.review_change_decisions.specs.Facts.{in_rows, known_in, right_in}
+pub use Rattle.review_branch_decisions.proofs.Sent.{known_told}
+use Rattle.review_change_decisions.specs.Facts.{in_rows, right_in}
 
 -- the files that a text spells have the same trees
 abbrev pub OneFile : Type 0
@@ -42,20 +42,6 @@ pub last_change_told : (reading : Reading) (h : List Entry) (rows : Rows) → Ag
 last_change_told reading h rows agree there =
     let r = found_of (view reading h) rows want.LastChange agree there in
     ap number_of (r.1 ∙ ap Some r.2.1) ∙ last_change_is reading h r.2.0 r.2.2
-
-sent_told : (reading : Reading) (h : List Entry) (rows : Rows) (base : Base) → Agree reading h rows → IsKnown rows (want.ChangeOf base) →
-    is_some (holder_of (known rows (want.ChangeOf base))) ≡ is_sent reading h base.project base.branch base.commit
-sent_told reading h rows base agree there =
-    let r = found_of (view reading h) rows (want.ChangeOf base) agree there in
-    ap (λ o. is_some (holder_of o)) (r.1 ∙ ap Some r.2.1) ∙ sent_is reading h base r.2.0 r.2.2
-
--- whether a commit is known in a branch
-pub known_told : (reading : Reading) (h : List Entry) (rows : Rows) (project branch commit : List ℕ) → Agree reading h rows →
-    IsKnown rows (want.Base (record { project = project; branch = branch; commit = commit })) → IsKnown rows (want.ChangeOf (record { project = project; branch = branch; commit = commit })) →
-    known_in rows project branch commit ≡ is_known reading h project branch commit
-known_told reading h rows project branch commit agree based sent =
-    λ i. base_told reading h rows (record { project = project; branch = branch; commit = commit }) agree based i
-    || sent_told reading h rows (record { project = project; branch = branch; commit = commit }) agree sent i
 
 -- whether there is a branch
 pub branch_told : (reading : Reading) (h : List Entry) (rows : Rows) (project branch : List ℕ) → Agree reading h rows → IsKnown rows (want.LastPlace (record { project = project; branch = branch })) →

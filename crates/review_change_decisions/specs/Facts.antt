@@ -29,6 +29,7 @@ use Rattle.review_rows.specs.Rows.{part_change}
 use Rattle.review_rows.specs.declared.rows.ChangeEdit.{ChangeEdit}
 use Rattle.review_rows.specs.declared.rows.Delta.{Delta}
 use Rattle.review_rows.specs.Files.{File}
+pub use Rattle.review_branch_decisions.specs.Commits.{known_in}
 use Rattle.review_rows.specs.Known.{known, holder_of, is_so, number_of}
 use Rattle.review_rows.specs.declared.rows.Rows.{Rows}
 use Rattle.review_rows.specs.declared.rows.Want.TheVariants as want
@@ -40,12 +41,6 @@ in_rows rows account group = bytes_eq group registered_users || is_so (known row
 -- whether an account is known to have a right
 abbrev pub right_in : Rows → File → Right → ℕ → Bool
 right_in rows file right account = list_any (in_rows rows account) (groups_of right file.access)
-
--- whether a commit is known to be known in a branch
-abbrev pub known_in : Rows → List ℕ → List ℕ → List ℕ → Bool
-known_in rows project branch commit =
-    is_so (known rows (want.Base (record { project = project; branch = branch; commit = commit })))
-    || is_some (holder_of (known rows (want.ChangeOf (record { project = project; branch = branch; commit = commit }))))
 
 -- the checks of a new change, by what rows tell and the file that the project has
 abbrev pub create_checks : Option File → Rows → ℕ → NewChange → List (Bool × Refusal)
@@ -99,7 +94,7 @@ pub record EditsChange (e : ChangeEdit) (delta : Delta) : Type 0 where
   pub base : delta.base ≡ None
   pub changes : delta.changes.items ≡ e ∷ []
 
--- one more, up to the greatest number of a request
+-- one more, up to the greatest value of its type
 abbrev pub next_request : Rows → ℕ
 next_request rows = min (number_of (known rows want.Requests) + 1) 18446744073709551615
 

@@ -14,9 +14,9 @@ ghost use Rattle.review_rows.specs.View.{AreEnough, IsDecided};
 ghost use Rattle.review_change_decisions.specs.Facts.{create_checks};
 
 use crate::edits::edited;
-use crate::facts::{has_right, is_known};
+use crate::facts::has_right;
 use review_account_decisions::refused;
-use review_branch_decisions::branch_of;
+use review_branch_decisions::{branch_of, is_known};
 use review_change_rows::{copied_new, edit_of_new};
 use review_core::ChangeFile;
 use review_file::{ProjectFile, Right};

@@ -1,15 +1,14 @@
 //! What rows tell of a command on a change.
-ghost use Rattle.std.specs.Prelude.{◌≡◌, IfOk, is_some, nat_le};
+ghost use Rattle.std.specs.Prelude.{◌≡◌, IfOk};
 ghost use Rattle.std.specs.List.{list_any};
 ghost use Rattle.review_changes.specs.Change.{is_open};
 ghost use Rattle.review_project.specs.Rights.{groups_of};
-ghost use Rattle.review_change_decisions.specs.Facts.{in_rows, known_in, right_in};
+ghost use Rattle.review_change_decisions.specs.Facts.{in_rows, right_in};
 
-use review_branch_decisions::base_of;
 use review_changes::State;
 use review_file::{ProjectFile, Right};
 use review_rows::{MemberKey, Rows};
-use review_words::{AccountNo, BranchName, CommitName, GroupName, ProjectName};
+use review_words::{AccountNo, GroupName};
 use std::alloc::{AllocError, Global};
 
 /// Whether an account is known to be in a group; every account is in `Registered-Users`.
@@ -58,20 +57,6 @@ pub fn has_right(
     ensures { IfOk result (λ b. b ≡ right_in rows.now file.now right account) }
 {
     is_in_any(alloc, rows, account, file.groups(right))
-}
-
-/// Whether a commit is known to be known in a branch: as a base, or as that of a patch set.
-pub fn is_known(
-    alloc: Global,
-    rows: &Rows,
-    project: &ProjectName,
-    branch: &BranchName,
-    commit: &CommitName,
-) -> Result<bool, AllocError>
-    ensures { IfOk result (λ b. b ≡ known_in rows.now project.now branch.now commit.now) }
-{
-    let key = base_of(alloc, project, branch, commit)?;
-    Ok(rows.has_base(&key) || rows.change_of(&key).is_some())
 }
 
 /// Whether a state is open.

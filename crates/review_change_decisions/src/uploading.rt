@@ -19,8 +19,9 @@ ghost use Rattle.review_rows.specs.View.{AreEnough, IsDecided};
 ghost use Rattle.review_change_decisions.specs.Facts.{IsUploaded, right_in, upload_list};
 
 use crate::edits::{change_file, edited};
-use crate::facts::{has_right, is_known, is_open};
+use crate::facts::{has_right, is_open};
 use review_account_decisions::refused;
+use review_branch_decisions::is_known;
 use review_change_laws::changes_are_sound;
 use review_change_rows::{copied_patch, edit_of};
 use review_changes::{ChangeRows, Header};

@@ -81,7 +81,8 @@ pub fn push_patch(
     Ok(())
 }
 
-fn push_commit(
+/// Adds what is asked of a commit: whether it is known in a branch.
+pub fn push_commit(
     alloc: Global,
     wants: &mut Vec<Want>,
     project: &ProjectName,

@@ -4,8 +4,8 @@ ghost use Rattle.review_words.specs.declared.command.Command.TheVariants.{Record
 ghost use Rattle.review_rows.specs.declared.rows.Want.TheVariants as want;
 ghost use Rattle.review_rows.specs.Steps.{caller_wants, command_wants, query_wants, first_wants, topic_of};
 
-use crate::changes::push_patch;
-use review_branch_decisions::{base_of, branch_of};
+use crate::changes::{push_commit, push_patch};
+use review_branch_decisions::branch_of;
 use review_rows::{Counted, Matter, MemberKey, Want};
 use review_words::{
     AccountNo, BranchName, Command, CommitName, NewChange, ProjectName, Query, administrators,
@@ -95,7 +95,7 @@ fn push_base(
     ensures { OnOk result (wants.new.items ≡ wants.old.items ++ command_wants (RecordBase project.now branch.now commit.now)) }
 {
     wants.push(Want::Project(project.copy(alloc)?))?;
-    wants.push(Want::Base(base_of(alloc, project, branch, commit)?))?;
+    push_commit(alloc, wants, project, branch, commit)?;
     wants.push(Want::Room(Counted::BasesOf(project.copy(alloc)?)))?;
     wants.push(Want::LastPlace(branch_of(alloc, project, branch)?))?;
     Ok(())

@@ -18,7 +18,7 @@ use Rattle.review_words.specs.declared.reply.Answer.TheVariants.{Account, Nothin
 use Rattle.review_words.specs.declared.reply.Refusal.{Refusal}
 use Rattle.review_words.specs.declared.reply.Refusal.TheVariants.{UnknownCaller, NotAdmin, NoProject, NoBranch, NoChange, NoPatchSet, NoAccount, NoComment, NotAllowed, Closed, StalePatchSet, NoLabel, ValueOut, VoteRestricted, CommitKnown, UnknownParent, NameTaken, BadFile, LabelNarrowed, Limit}
 use Rattle.review_words.specs.declared.faults.FileFault.{FileFault}
-use Rattle.review_words.specs.History.{Entry, stored, account_count, name_taken, is_account, is_admin, file_text, is_project, project_count, bases, base_count, is_branch, is_base}
+use Rattle.review_words.specs.History.{Entry, stored, account_count, name_taken, is_account, is_admin, file_text, is_project, project_count, bases, base_count, is_branch}
 use Rattle.review_names.specs.Forms.{is_within, most_changes, most_patches, most_comments}
 use Rattle.review_names.specs.Names.{registered_users}
 use Rattle.review_project.specs.Rights.{may, granted, least_of, greatest_of}
@@ -83,7 +83,7 @@ checks reading h caller (PutGroup group members) =
 checks reading h caller (PutProject project file) =
     (is_admin h caller, NotAdmin) ∷ []
 checks reading h caller (RecordBase project branch commit) =
-    (is_admin h caller, NotAdmin) ∷ (is_project h project, NoProject) ∷ (not (is_base h project branch commit), CommitKnown)
+    (is_admin h caller, NotAdmin) ∷ (is_project h project, NoProject) ∷ (not (is_known reading h project branch commit), CommitKnown)
     ∷ (nat_lt (base_count h project) most_bases, Limit) ∷ []
 checks reading h caller (CreateChange new) =
     (is_project h new.project, NoProject) ∷ (is_branch h new.project new.branch, NoBranch) ∷ (has_right reading h new.project right.Create caller, NotAllowed)
@@ -110,7 +110,7 @@ abbrev pub comment_numbers : ReviewOf → Option Change → List ℕ
 comment_numbers r None = []
 comment_numbers r (Some c) = numbers_after (length c.comments) (said r)
 
--- what a command gives that is done
+-- what a command gives that is done, but for an Upload, whose answer counts votes
 abbrev pub done : Reading → List Entry → Command → Answer
 done reading h (CreateAccount name) = Account (account_count h + 1)
 done reading h (CreateChange new) = AChange (change_count h + 1) 1
@@ -149,8 +149,8 @@ abbrev pub IsOf : (Change → Type 0) → Option Change → Type 0
 IsOf Holds None = ⊥
 IsOf Holds (Some c) = Holds c
 
--- What a command is told that no check refuses. One place is free: a text with a pattern that nests deeper than the pattern engine reads may spell a file
--- and be told a fault all the same.
+-- What a command is told that no check refuses. One place is left free: which fault a text is told where a pattern in it nests deeper than the pattern
+-- engine reads.
 abbrev pub IsOutcome : Reading → List Entry → ℕ → Command → Reply → Type 0
 IsOutcome reading h caller (PutProject project text) reply = IsFaultAnswer text reply ⊎ IsFileAnswer reading h project text reply
 IsOutcome reading h caller (Upload n patch) reply = IsOf (λ c. IsUploadAnswer reading h caller n patch c reply) (change reading h n)

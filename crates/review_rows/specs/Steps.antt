@@ -50,8 +50,8 @@ command_wants (CreateAccount name) = want.AccountNamed name ∷ want.LastAccount
 command_wants (PutGroup group members) = want.Group group ∷ map want.Account members
 command_wants (PutProject project file) = want.File project ∷ want.Room counted.Projects ∷ []
 command_wants (RecordBase project branch commit) =
-    want.Project project ∷ want.Base (record { project = project; branch = branch; commit = commit }) ∷ want.Room (counted.BasesOf project)
-    ∷ want.LastPlace (record { project = project; branch = branch }) ∷ []
+    want.Project project
+    ∷ (commit_wants project branch commit ++ want.Room (counted.BasesOf project) ∷ want.LastPlace (record { project = project; branch = branch }) ∷ [])
 command_wants (CreateChange new) =
     want.LastPlace (record { project = new.project; branch = new.branch }) ∷ want.LastChange ∷ patch_wants new.project new.branch new.commit new.parent
 command_wants (Upload change patch) = want.Change change ∷ []
