@@ -2,3 +2,4 @@ pub mod Members
 pub mod Settings
 pub mod Told
 pub mod Decided
+pub mod Questioned

@@ -7,7 +7,7 @@ use Rattle.std.proofs.lemmas.Bool.Decides.{nat_tests}
 use Rattle.std.proofs.lemmas.Slice.Eq.{bytes_eq-Decides}
 use Rattle.review_names.specs.Names.{admin_name}
 use Rattle.review_words.specs.declared.command.Command.{Command}
-use Rattle.review_words.specs.declared.command.Command.TheVariants.{CreateAccount, PutGroup, PutProject, RecordBase, CreateChange, Upload, Review}
+use Rattle.review_words.specs.declared.command.Command.TheVariants.{CreateAccount, PutGroup, PutProject, RecordBase, CreateChange, OnChange}
 use Rattle.review_words.specs.History.{Entry, accepted, counted, named, is_named, account_count, name_of, name_taken, is_account}
 use Rattle.review_rows.specs.Rows.{AccountKey, AccountRow}
 use Rattle.review_rows.specs.Known.{IsFoundByName, IsLast}
@@ -36,8 +36,7 @@ named_step (Some (PutGroup group members)) n c before e = e
 named_step (Some (PutProject project file)) n c before e = e
 named_step (Some (RecordBase project branch commit)) n c before e = e
 named_step (Some (CreateChange new)) n c before e = e
-named_step (Some (Upload change patch)) n c before e = e
-named_step (Some (Review change review)) n c before e = e
+named_step (Some (OnChange change command)) n c before e = e
 named_step None n c before e = e
 
 -- an account has a name
@@ -55,8 +54,7 @@ some_account (e ∷ h) = step (accepted e) (account_count h) (some_account h)
     step (Some (PutProject project file)) n p = p
     step (Some (RecordBase project branch commit)) n p = p
     step (Some (CreateChange new)) n p = p
-    step (Some (Upload change patch)) n p = p
-    step (Some (Review change review)) n p = p
+    step (Some (OnChange change command)) n p = p
     step None n p = p
 
 -- the next number has no name yet
@@ -90,8 +88,7 @@ taken_step (Some (PutGroup group members)) n next name before was taken some = t
 taken_step (Some (PutProject project file)) n next name before was taken some = taken some
 taken_step (Some (RecordBase project branch commit)) n next name before was taken some = taken some
 taken_step (Some (CreateChange new)) n next name before was taken some = taken some
-taken_step (Some (Upload change patch)) n next name before was taken some = taken some
-taken_step (Some (Review change review)) n next name before was taken some = taken some
+taken_step (Some (OnChange change command)) n next name before was taken some = taken some
 taken_step None n next name before was taken some = taken some
 
 pub name_is_taken : (h : List Entry) (n : ℕ) (name : List ℕ) → name_of h n ≡ Some name → name_taken h name ≡ true
@@ -121,8 +118,7 @@ free_step (Some (PutGroup group members)) h name found taken = found taken
 free_step (Some (PutProject project file)) h name found taken = found taken
 free_step (Some (RecordBase project branch commit)) h name found taken = found taken
 free_step (Some (CreateChange new)) h name found taken = found taken
-free_step (Some (Upload change patch)) h name found taken = found taken
-free_step (Some (Review change review)) h name found taken = found taken
+free_step (Some (OnChange change command)) h name found taken = found taken
 free_step None h name found taken = found taken
 
 pub taken_name_is : (h : List Entry) (name : List ℕ) → name_taken h name ≡ true → (n : ℕ) × (name_of h n ≡ Some name)

@@ -1,5 +1,6 @@
 pub mod Faults
 pub mod Parts
+pub mod Roles
 pub mod Changes
 pub mod Votes
 pub mod Comments

@@ -10,9 +10,11 @@ pub mod comments;
 pub mod fault;
 pub mod parts;
 pub mod reviews;
+pub mod roles;
 pub mod votes;
 
 pub use changes::{new_change, new_patch};
 pub use fault::BadBody;
 pub use parts::{account_at, change_at, file_at, members_at, name_at, text_at};
 pub use reviews::{has_refused, patch_in, said};
+pub use roles::{account_named_at, role_in};

@@ -1,4 +1,4 @@
-//! The answer to a command on a branch or to a question, from the rows that decide it.
+//! The answer to a command on a branch or to a question about one, from the rows that decide it.
 //!
 //! Nothing here reads a project file, so it stands beside the reader of these.
 #![tactic(auto)]
@@ -11,4 +11,4 @@ pub mod questions;
 pub use branches::record_base;
 pub use commits::is_known;
 pub use keys::{base_of, branch_of};
-pub use questions::show;
+pub use questions::show_branch;

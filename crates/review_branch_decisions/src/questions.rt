@@ -1,9 +1,9 @@
-//! The answers to questions.
-ghost use Rattle.std.specs.Prelude.{◌≡◌, List, Option, IfOk, IfErr, true};
-ghost use Rattle.review_words.specs.History.{Entry, is_account};
+//! The answer to a question about a branch.
+ghost use Rattle.std.specs.Prelude.{◌≡◌, List, Option, IfOk, IfErr};
+ghost use Rattle.review_words.specs.History.{Entry};
 ghost use Rattle.review_words.specs.declared.command.Query.TheVariants.{Branch};
 ghost use Rattle.review_words.specs.declared.reply.NotTaken.TheVariants.{Memory};
-ghost use Rattle.review_rows.specs.Answer.{query_answer};
+ghost use Rattle.review_rows.specs.Questions.{IsQueryAnswerBy};
 ghost use Rattle.review_rows.specs.declared.rows.Want.TheVariants as want;
 ghost use Rattle.review_rows.specs.Known.{known, commits_of};
 ghost use Rattle.review_rows.specs.Steps.{OfQuery};
@@ -13,46 +13,28 @@ ghost use Rattle.review_rows.specs.View.{AreEnough};
 ghost use Rattle.review_rows.specs.Decisions.{IsDoneOrRefused};
 
 use crate::keys::branch_of;
+use review_account_decisions::is_asker;
 use review_rows::{BranchKey, Rows};
-use review_words::{
-    AccountNo, Answer, Bases, BranchName, NotTaken, ProjectName, Query, Refusal, Reply,
-};
+use review_words::{AccountNo, Answer, Bases, BranchName, NotTaken, ProjectName, Refusal, Reply};
 use std::alloc::{AllocError, Global};
 
-/// The answer to a question: the first check that fails refuses, in the order of the question's checks. It changes
-/// nothing. The only error is want of memory.
-pub fn show(alloc: Global, rows: &Rows, caller: AccountNo, query: &Query) -> Result<Reply, NotTaken>
-    ensures shown { IfOk result (λ r. (reading : Reading) (had : Option File) (h : List Entry) → AreEnough reading h caller (OfQuery query.now) had rows.now → r ≡ query_answer h caller query.now) }
-    ensures answered { IfOk result IsDoneOrRefused }
-    ensures cause { IfErr result (λ e. e ≡ Memory) }
-{
-    let known = rows.is_account(caller);
-    if !known {
-        return Ok(Reply::Refused(Refusal::UnknownCaller));
-    }
-    Ok(answer(alloc, rows, caller, query)?)
-}
-
-// The answer to a question of an account.
-fn answer(alloc: Global, rows: &Rows, caller: AccountNo, query: &Query) -> Result<Reply, AllocError>
-    ensures answered { IfOk result IsDoneOrRefused }
-    ensures shown { IfOk result (λ r. (reading : Reading) (had : Option File) (h : List Entry) → is_account h caller ≡ true → AreEnough reading h caller (OfQuery query.now) had rows.now → r ≡ query_answer h caller query.now) }
-{
-    match query {
-        Query::Branch { project, branch } => show_branch(alloc, rows, caller, project, branch),
-    }
-}
-
-fn show_branch(
+/// The bases of a branch. Refused for an unknown caller, a project that isn't there, or a branch without bases, in this order; an error
+/// is want of memory.
+pub fn show_branch(
     alloc: Global,
     rows: &Rows,
     caller: AccountNo,
     project: &ProjectName,
     branch: &BranchName,
-) -> Result<Reply, AllocError>
+) -> Result<Reply, NotTaken>
+    ensures shown { IfOk result (λ r. (reading : Reading) (had : Option File) (h : List Entry) → AreEnough reading h caller (OfQuery (Branch project.now branch.now)) had rows.now → IsQueryAnswerBy reading h caller (Branch project.now branch.now) r) }
     ensures answered { IfOk result IsDoneOrRefused }
-    ensures shown { IfOk result (λ r. (reading : Reading) (had : Option File) (h : List Entry) → is_account h caller ≡ true → AreEnough reading h caller (OfQuery (Branch project.now branch.now)) had rows.now → r ≡ query_answer h caller (Branch project.now branch.now)) }
+    ensures cause { IfErr result (λ e. e ≡ Memory) }
 {
+    let known = is_asker(rows, caller);
+    if !known {
+        return Ok(Reply::Refused(Refusal::UnknownCaller));
+    }
     if !rows.has_project(project) {
         return Ok(Reply::Refused(Refusal::NoProject));
     }

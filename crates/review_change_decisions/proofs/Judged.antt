@@ -11,7 +11,8 @@ use Rattle.review_names.specs.Names.{registered_users}
 use Rattle.review_words.specs.History.{Entry, file_text, is_account}
 use Rattle.review_words.specs.declared.changes.Given.{Given}
 use Rattle.review_words.specs.declared.changes.Review.{Review as ReviewOf}
-use Rattle.review_words.specs.declared.command.Command.TheVariants.{Review}
+use Rattle.review_words.specs.declared.command.Command.TheVariants.{OnChange}
+use Rattle.review_words.specs.declared.command.ChangeCommand.TheVariants.{Review as ReviewCommand}
 use Rattle.review_words.specs.declared.reply.Refusal.TheVariants.{UnknownCaller, NoPatchSet, Closed, StalePatchSet, NoLabel, ValueOut, VoteRestricted}
 use Rattle.review_expr.specs.declared.expr.Expr.{Expr}
 use Rattle.review_project.specs.Rights.{grants_of, greatest_of, least_of}
@@ -23,17 +24,17 @@ use Rattle.review_rows.specs.Answer.{first_refusal, given_checks, is_in_range, i
 use Rattle.review_rows.specs.Changes.{Reading, Reads, file_of, groups_of, setting_of}
 use Rattle.review_rows.specs.Files.{File}
 use Rattle.review_rows.specs.Known.{IsKnown, known, change_in}
-use Rattle.review_rows.specs.Steps.{HasFile, OfCommand, caller_in, given_wants, granted_groups, text_in}
+use Rattle.review_rows.specs.Steps.{HasFile, OfCommand, caller_in, given_wants, granted_groups}
 use Rattle.review_rows.specs.View.{AreEnough}
 use Rattle.review_rows.specs.declared.rows.Rows.{Rows}
 use Rattle.review_rows.specs.declared.rows.Want.TheVariants as want
-use Rattle.review_rows.proofs.Asked.{change_asked, file_asked}
+use Rattle.review_rows.proofs.Asked.{file_asked}
 use Rattle.review_rows.proofs.Readings.{read_of}
-use Rattle.review_account_decisions.proofs.Told.{Agree, member_told, text_told}
+use Rattle.review_account_decisions.proofs.Told.{Agree, member_told}
 use Rattle.review_change_laws.proofs.Grouped.{in_group}
 use Rattle.review_change_decisions.specs.Facts.{LacksFile, given_in, in_rows, range_in, review_list, said_checks}
 use Rattle.review_change_decisions.proofs.Told.{OneFile}
-use Rattle.review_change_decisions.proofs.Undecided.{change_is}
+use Rattle.review_change_decisions.proofs.Undecided.{asked_by, change_is, file_is}
 
 -- what is asked of a label is asked of its trees
 in_trees : {X : Type 0} (p : LabelView ExprTree → X) (d : X) (name : List ℕ) (ls : List (LabelView Expr)) →
@@ -106,14 +107,12 @@ same_trees one reading h project file reads has = at (file_text h project) refl 
 
 -- the checks of values
 values_told : OneFile → (reading : Reading) (h : List Entry) (caller n : ℕ) (r : ReviewOf) (f : File) (rows : Rows) (c : Change) (given : List Given) → r.labels ≡ given → change_in (known rows (want.Change n)) ≡ Some c →
-    AreEnough reading h caller (OfCommand (Review n r)) (Some f) rows → given_checks (setting_of reading h c.project) caller r c given ≡ given_in f rows caller r c given
+    AreEnough reading h caller (OfCommand (OnChange n (ReviewCommand r))) (Some f) rows → given_checks (setting_of reading h c.project) caller r c given ≡ given_in f rows caller r c given
 values_told one reading h caller n r f rows c [] labels found l = refl
 values_told one reading h caller n r f rows c (g ∷ gs) labels found l =
-    let asked = change_asked (Some f) rows caller (OfCommand (Review n r)) l.nothing_left in
-    let there : IsKnown rows (want.File c.project) = (subst (AllByRecursion (IsKnown rows)) (λ i. given_wants (labels i) (found i)) asked).0 in
-    let text = ap (λ o. text_in rows (option_map (λ (x : Change). x.project) o)) found ∙ text_told reading h rows c.project l.agree there in
-    let same = same_trees one reading h c.project f l.reads (subst (λ t. HasFile t (Some f)) text l.file_is) in
-    let groups = subst (λ x. AllByRecursion (IsKnown rows) (caller_in caller (granted_groups f x))) labels (file_asked (Some f) rows caller (OfCommand (Review n r)) l.nothing_left) in
+    let there : IsKnown rows (want.File c.project) = (subst (λ x. AllByRecursion (IsKnown rows) (given_wants x c.project)) labels (asked_by reading h caller n (ReviewCommand r) (Some f) rows c found l)).0 in
+    let same = same_trees one reading h c.project f l.reads (file_is reading h caller n (ReviewCommand r) (Some f) rows c found there l) in
+    let groups = subst (λ x. AllByRecursion (IsKnown rows) (caller_in caller (granted_groups f x))) labels (file_asked (Some f) rows caller (OfCommand (OnChange n (ReviewCommand r))) l.nothing_left) in
     let named = all_same (λ x. is_some (label_in f x.label)) (λ x. is_some (label_in (file_of reading h c.project) x.label)) (g ∷ gs) (λ x. has_label x.label f (file_of reading h c.project) same) in
     let valued = all_same (is_value_of f) (is_value_of (file_of reading h c.project)) (g ∷ gs)
     (λ x. same_label (λ l. list_any (λ v. int_eq v.0 x.value) l.values) false x.label f (file_of reading h c.project) same) in
@@ -122,7 +121,7 @@ values_told one reading h caller n r f rows c (g ∷ gs) labels found l =
 
 -- the checks of a review of a change
 list_told : OneFile → (reading : Reading) (h : List Entry) (caller n : ℕ) (r : ReviewOf) (had : Option File) (rows : Rows) (c : Change) (given : List Given) → r.labels ≡ given → change_in (known rows (want.Change n)) ≡ Some c →
-    AreEnough reading h caller (OfCommand (Review n r)) had rows → (LacksFile had given → is_within (current c) (reviewed r c) ≡ false) →
+    AreEnough reading h caller (OfCommand (OnChange n (ReviewCommand r))) had rows → (LacksFile had given → is_within (current c) (reviewed r c) ≡ false) →
     first_refusal (review_checks reading h caller r c) ≡ first_refusal (review_list had rows caller r c)
 list_told one reading h caller n r None rows c [] labels found l lacks =
     ap (λ g. first_refusal ((is_within (current c) (reviewed r c), NoPatchSet) ∷ (given_checks (setting_of reading h c.project) caller r c g ++ said_checks r c))) labels
@@ -135,8 +134,8 @@ list_told one reading h caller n r (Some f) rows c given labels found l lacks =
 
 -- what refuses a review is what rows tell
 pub review_told : OneFile → (reading : Reading) (h : List Entry) (caller n : ℕ) (r : ReviewOf) (had : Option File) (rows : Rows) (c : Change) → is_account h caller ≡ true → change_in (known rows (want.Change n)) ≡ Some c →
-    AreEnough reading h caller (OfCommand (Review n r)) had rows → (LacksFile had r.labels → is_within (current c) (reviewed r c) ≡ false) →
-    refused_by reading h caller (Review n r) ≡ first_refusal (review_list had rows caller r c)
+    AreEnough reading h caller (OfCommand (OnChange n (ReviewCommand r))) had rows → (LacksFile had r.labels → is_within (current c) (reviewed r c) ≡ false) →
+    refused_by reading h caller (OnChange n (ReviewCommand r)) ≡ first_refusal (review_list had rows caller r c)
 review_told one reading h caller n r had rows c account found l lacks =
-    let told = change_is reading h caller n (Review n r) refl had rows c found l in
+    let told = change_is reading h caller n (ReviewCommand r) had rows c found l in
     (λ i. first_refusal ((account i, UnknownCaller) ∷ of_change (review_checks reading h caller r) (told i))) ∙ list_told one reading h caller n r had rows c r.labels refl found l lacks

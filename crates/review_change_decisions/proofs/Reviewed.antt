@@ -8,12 +8,12 @@ use Rattle.review_names.specs.Forms.{is_within, most_comments}
 use Rattle.review_words.specs.Texts.{IsCommentNumber}
 use Rattle.review_words.specs.History.{Entry, is_account}
 use Rattle.review_words.specs.declared.changes.Review.{Review as ReviewOf}
-use Rattle.review_words.specs.declared.command.Command.TheVariants.{Review}
+use Rattle.review_words.specs.declared.command.Command.TheVariants.{OnChange}
 use Rattle.review_words.specs.declared.reply.Refusal.{Refusal}
 use Rattle.review_words.specs.declared.reply.Refusal.TheVariants.{UnknownCaller, NoChange, NoComment, Limit}
 use Rattle.review_changes.specs.Change.{Change, current, reviewed, said}
 use Rattle.review_changes.specs.Sound.{answer_stored, fits}
-use Rattle.review_changes.specs.declared.commands.ChangeCommand.TheVariants.{Review as ReviewCommand}
+use Rattle.review_words.specs.declared.command.ChangeCommand.TheVariants.{Review as ReviewCommand}
 use Rattle.review_rows.specs.Answer.{first_refusal, of_change, refused_by, review_checks}
 use Rattle.review_rows.specs.Changes.{Reading, change}
 use Rattle.review_rows.specs.Files.{File}
@@ -47,7 +47,3 @@ passed_fits had rows caller r c passes =
     rest : (xs : List (Bool × Refusal)) (a b : Bool) → AllByRecursion Passes (xs ++ (a, NoComment) ∷ (b, Limit) ∷ []) → (a ≡ true) × (b ≡ true)
     rest [] a b all = (all.0, all.1.0)
     rest (x ∷ xs) a b all = rest xs a b all.1
-
--- a review of a change that isn't there
-pub none_there : (reading : Reading) (h : List Entry) (caller n : ℕ) (r : ReviewOf) → is_account h caller ≡ true → change reading h n ≡ None → refused_by reading h caller (Review n r) ≡ Some NoChange
-none_there reading h caller n r account none = λ i. first_refusal ((account i, UnknownCaller) ∷ of_change (review_checks reading h caller r) (none i))

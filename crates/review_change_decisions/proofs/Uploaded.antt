@@ -5,53 +5,45 @@ use Rattle.std.specs.List.{AllByRecursion}
 use Rattle.review_names.specs.Forms.{most_patches}
 use Rattle.review_words.specs.History.{Entry, file_text, is_account}
 use Rattle.review_words.specs.declared.changes.NewPatch.{NewPatch}
-use Rattle.review_words.specs.declared.command.Command.TheVariants.{Upload}
-use Rattle.review_words.specs.declared.reply.Refusal.TheVariants.{UnknownCaller, NoChange, NotAllowed, Closed, CommitKnown, UnknownParent, Limit}
+use Rattle.review_words.specs.declared.command.Command.TheVariants.{OnChange}
+use Rattle.review_words.specs.declared.reply.Refusal.TheVariants.{UnknownCaller, NotAllowed, Closed, CommitKnown, UnknownParent, Limit}
 use Rattle.review_group_names.specs.Named.{copy_groups}
 use Rattle.review_project.specs.declared.parts.Right.TheVariants as right
 use Rattle.review_changes.specs.Change.{Change, copying, current, is_open}
 use Rattle.review_changes.specs.Sound.{fits}
-use Rattle.review_changes.specs.declared.commands.ChangeCommand.TheVariants.{Upload as UploadCommand}
+use Rattle.review_words.specs.declared.command.ChangeCommand.TheVariants.{Upload as UploadCommand}
 use Rattle.review_rows.specs.Answer.{first_refusal, of_change, refused_by, upload_checks}
-use Rattle.review_rows.specs.Changes.{Reading, change, setting_of}
+use Rattle.review_rows.specs.Changes.{Reading, setting_of}
 use Rattle.review_rows.specs.Files.{File}
 use Rattle.review_rows.specs.Known.{IsKnown, change_in, known}
-use Rattle.review_rows.specs.Steps.{HasFile, OfCommand, caller_in, patch_wants, sent_wants, text_in}
+use Rattle.review_rows.specs.Steps.{HasFile, OfCommand, caller_in}
 use Rattle.review_rows.specs.View.{AreEnough}
 use Rattle.review_rows.specs.declared.rows.Rows.{Rows}
 use Rattle.review_rows.specs.declared.rows.Want.TheVariants as want
-use Rattle.review_rows.proofs.Asked.{change_asked, file_asked}
-use Rattle.review_account_decisions.proofs.Told.{text_told}
+use Rattle.review_rows.proofs.Asked.{file_asked}
 use Rattle.review_change_laws.proofs.Sound.{all_pass}
 use Rattle.review_change_decisions.specs.Facts.{setting_in, upload_list}
 use Rattle.review_change_decisions.proofs.Copies.{GroupsSuffice, copying_told, split_all}
 use Rattle.review_change_decisions.proofs.Judged.{same_trees}
 use Rattle.review_change_decisions.proofs.Told.{OneFile, known_told, right_told}
-use Rattle.review_change_decisions.proofs.Undecided.{change_is}
+use Rattle.review_change_decisions.proofs.Undecided.{asked_by, change_is, file_is}
 
--- what a new patch set of a change asked
-asked_of_change : (reading : Reading) (h : List Entry) (caller n : ℕ) (p : NewPatch) (f : File) (rows : Rows) (c : Change) → change_in (known rows (want.Change n)) ≡ Some c →
-    AreEnough reading h caller (OfCommand (Upload n p)) (Some f) rows → AllByRecursion (IsKnown rows) (patch_wants c.project c.branch p.commit p.parent)
-asked_of_change reading h caller n p f rows c found l = subst (AllByRecursion (IsKnown rows)) (ap (sent_wants p) found) (change_asked (Some f) rows caller (OfCommand (Upload n p)) l.nothing_left)
-
--- and what it asked of groups
-asked_of_groups : (reading : Reading) (h : List Entry) (caller n : ℕ) (p : NewPatch) (f : File) (rows : Rows) → AreEnough reading h caller (OfCommand (Upload n p)) (Some f) rows →
+-- what a new patch set of a change asked of groups
+asked_of_groups : (reading : Reading) (h : List Entry) (caller n : ℕ) (p : NewPatch) (f : File) (rows : Rows) → AreEnough reading h caller (OfCommand (OnChange n (UploadCommand p))) (Some f) rows →
     AllByRecursion (IsKnown rows) (caller_in caller f.access.upload) × AllByRecursion (IsKnown rows) (map want.Group (copy_groups f))
-asked_of_groups reading h caller n p f rows l = split_all (IsKnown rows) (caller_in caller f.access.upload) (map want.Group (copy_groups f)) (file_asked (Some f) rows caller (OfCommand (Upload n p)) l.nothing_left)
+asked_of_groups reading h caller n p f rows l = split_all (IsKnown rows) (caller_in caller f.access.upload) (map want.Group (copy_groups f)) (file_asked (Some f) rows caller (OfCommand (OnChange n (UploadCommand p))) l.nothing_left)
 
 -- the file that was read is that of the change's project
 has_file : (reading : Reading) (h : List Entry) (caller n : ℕ) (p : NewPatch) (f : File) (rows : Rows) (c : Change) → change_in (known rows (want.Change n)) ≡ Some c →
-    AreEnough reading h caller (OfCommand (Upload n p)) (Some f) rows → HasFile (file_text h c.project) (Some f)
-has_file reading h caller n p f rows c found l =
-    subst (λ t. HasFile t (Some f))
-    (ap (λ o. text_in rows (option_map (λ (x : Change). x.project) o)) found ∙ text_told reading h rows c.project l.agree (asked_of_change reading h caller n p f rows c found l).0) l.file_is
+    AreEnough reading h caller (OfCommand (OnChange n (UploadCommand p))) (Some f) rows → HasFile (file_text h c.project) (Some f)
+has_file reading h caller n p f rows c found l = file_is reading h caller n (UploadCommand p) (Some f) rows c found (asked_by reading h caller n (UploadCommand p) (Some f) rows c found l).0 l
 
 -- what refuses a new patch set is what rows tell
 pub upload_told : OneFile → (reading : Reading) (h : List Entry) (caller n : ℕ) (p : NewPatch) (f : File) (rows : Rows) (c : Change) → is_account h caller ≡ true → change_in (known rows (want.Change n)) ≡ Some c →
-    AreEnough reading h caller (OfCommand (Upload n p)) (Some f) rows → refused_by reading h caller (Upload n p) ≡ first_refusal (upload_list f rows caller p c)
+    AreEnough reading h caller (OfCommand (OnChange n (UploadCommand p))) (Some f) rows → refused_by reading h caller (OnChange n (UploadCommand p)) ≡ first_refusal (upload_list f rows caller p c)
 upload_told one reading h caller n p f rows c account found l =
-    let told = change_is reading h caller n (Upload n p) refl (Some f) rows c found l in
-    let asked = asked_of_change reading h caller n p f rows c found l in
+    let told = change_is reading h caller n (UploadCommand p) (Some f) rows c found l in
+    let asked = asked_by reading h caller n (UploadCommand p) (Some f) rows c found l in
     let allowed = right_told one reading h rows c.project f right.Upload caller l.reads l.agree (has_file reading h caller n p f rows c found l) (asked_of_groups reading h caller n p f rows l).0 in
     let sent = known_told reading h rows c.project c.branch p.commit l.agree asked.1.0 asked.1.1.0 in
     let parent = known_told reading h rows c.project c.branch p.parent l.agree asked.1.1.1.0 asked.1.1.1.1.0 in
@@ -60,14 +52,10 @@ upload_told one reading h caller n p f rows c account found l =
 
 -- and it copies the votes that the history says
 pub copied_told : OneFile → GroupsSuffice → (reading : Reading) (h : List Entry) (caller n : ℕ) (p : NewPatch) (f : File) (rows : Rows) (c : Change) → change_in (known rows (want.Change n)) ≡ Some c →
-    AreEnough reading h caller (OfCommand (Upload n p)) (Some f) rows → copying (setting_in f rows) (UploadCommand p) caller c ≡ copying (setting_of reading h c.project) (UploadCommand p) caller c
+    AreEnough reading h caller (OfCommand (OnChange n (UploadCommand p))) (Some f) rows → copying (setting_in f rows) (UploadCommand p) caller c ≡ copying (setting_of reading h c.project) (UploadCommand p) caller c
 copied_told one law reading h caller n p f rows c found l =
     copying_told law reading h rows f p caller c l.agree (same_trees one reading h c.project f l.reads (has_file reading h caller n p f rows c found l)) (asked_of_groups reading h caller n p f rows l).1
 
 -- where no check refuses a new patch set, it fits
 pub upload_fits : (f : File) (rows : Rows) (caller : ℕ) (p : NewPatch) (c : Change) → first_refusal (upload_list f rows caller p c) ≡ None → fits (UploadCommand p) c ≡ true
 upload_fits f rows caller p c passes = (all_pass (upload_list f rows caller p c) passes).1.1.1.1.0
-
--- a new patch set of a change that isn't there
-pub none_there : (reading : Reading) (h : List Entry) (caller n : ℕ) (p : NewPatch) → is_account h caller ≡ true → change reading h n ≡ None → refused_by reading h caller (Upload n p) ≡ Some NoChange
-none_there reading h caller n p account none = λ i. first_refusal ((account i, UnknownCaller) ∷ of_change (upload_checks reading h caller p) (none i))

@@ -7,7 +7,7 @@ use Rattle.review_words.specs.History.{Entry, base_count, project_count}
 use Rattle.review_words.specs.declared.changes.Review.{Review as ReviewOf}
 use Rattle.review_words.specs.declared.changes.NewPatch.{NewPatch}
 use Rattle.review_words.specs.declared.command.Command.{Command}
-use Rattle.review_words.specs.declared.command.Command.TheVariants.{Review, Upload}
+use Rattle.review_words.specs.declared.command.Command.TheVariants.{OnChange}
 use Rattle.review_words.specs.declared.reply.Answer.{Answer}
 use Rattle.review_words.specs.declared.reply.Answer.TheVariants.{Patch, Reviewed}
 use Rattle.review_words.specs.declared.reply.Reply.{Reply}
@@ -15,7 +15,8 @@ use Rattle.review_words.specs.declared.reply.Reply.TheVariants.{Done}
 use Rattle.review_changes.specs.Change.{Change, after_copying, after_plain, carried, copying, current, is_lost, said, after as change_after_request}
 use Rattle.review_changes.specs.Counts.{AreMany}
 use Rattle.review_changes.specs.Votes.{voted}
-use Rattle.review_changes.specs.declared.commands.ChangeCommand.TheVariants.{Review as ReviewCommand, Upload as UploadCommand}
+use Rattle.review_words.specs.declared.command.ChangeCommand.{ChangeCommand}
+use Rattle.review_words.specs.declared.command.ChangeCommand.TheVariants.{Review as ReviewCommand, Upload as UploadCommand}
 use Rattle.review_rows.specs.Answer.{IsAnswerBy, IsOf, IsUploadAnswer, comment_numbers, most_requests, numbers_after, refused_by}
 use Rattle.review_rows.specs.Changes.{Reading, change, setting_of}
 use Rattle.review_rows.specs.Files.{File}
@@ -88,29 +89,37 @@ put_at : (f : Change → Change) (c : Change) (o : Option Change) (b : Bool) →
 put_at f c o true is = ap (option_map f) (is refl)
 put_at f c o false is = refl
 
-review_turns : (reading : Reading) (h : List Entry) (caller n : ℕ) (r : ReviewOf) (a : Answer) (c : Change) → change reading h n ≡ Some c → (k : Key) →
-    fact reading (entry_of caller [] (Review n r) a ∷ h) k ≡ fact_with reading h n (after_plain (ReviewCommand r) caller (length h + 1) c) k
-review_turns reading h caller n r a c told (AccountKey u) = refl
-review_turns reading h caller n r a c told (MemberKey g u) = refl
-review_turns reading h caller n r a c told (FileKey q) = refl
-review_turns reading h caller n r a c told (BaseKey q b u) = refl
-review_turns reading h caller n r a c told (PartKey k part) =
-    ap (λ o. option_map APart (part_of o part)) (put_at (λ x. after_plain (ReviewCommand r) caller (length h + 1) x) c (change reading h k) (n == k) (here reading h n k c told))
-review_turns reading h caller n r a c told (OddKey o) = refl
+-- the rows of the history with a request on a change that is done
+pub request_turns : (reading : Reading) (h : List Entry) (caller n : ℕ) (request : ChangeCommand) (a : Answer) (c : Change) → change reading h n ≡ Some c → (k : Key) →
+    fact reading (entry_of caller [] (OnChange n request) a ∷ h) k ≡ fact_with reading h n (change_after_request (setting_of reading h c.project) request caller (length h + 1) c) k
+request_turns reading h caller n request a c told (AccountKey u) = refl
+request_turns reading h caller n request a c told (MemberKey g u) = refl
+request_turns reading h caller n request a c told (FileKey q) = refl
+request_turns reading h caller n request a c told (BaseKey q b u) = refl
+request_turns reading h caller n request a c told (PartKey k part) =
+    ap (λ o. option_map APart (part_of o part))
+    (put_at (λ x. change_after_request (setting_of reading h x.project) request caller (length h + 1) x) c (change reading h k) (n == k) (here reading h n k c told))
+request_turns reading h caller n request a c told (OddKey o) = refl
 
-review_counts : (h : List Entry) (caller n : ℕ) (r : ReviewOf) (a : Answer) (k : Count) → counted (entry_of caller [] (Review n r) a ∷ h) k ≡ counted h k
-review_counts h caller n r a Projects = refl
-review_counts h caller n r a (BasesOf q) = refl
+request_counts : (h : List Entry) (caller n : ℕ) (request : ChangeCommand) (a : Answer) (k : Count) → counted (entry_of caller [] (OnChange n request) a ∷ h) k ≡ counted h k
+request_counts h caller n request a Projects = refl
+request_counts h caller n request a (BasesOf q) = refl
+
+-- a request that makes of a change what the history says is decided
+pub request_decided : (reading : Reading) (h : List Entry) (caller n : ℕ) (request : ChangeCommand) (a : Answer) (c : Change) (delta : Delta) → change reading h n ≡ Some c →
+    MakesChange n c (change_after_request (setting_of reading h c.project) request caller (length h + 1) c) delta → IsAnswerBy reading h caller (OnChange n request) (Done a) → IsDecided reading h caller (OnChange n request) delta (Done a)
+request_decided reading h caller n request a c delta told made answer =
+    change_decided reading h caller n (OnChange n request) a c (change_after_request (setting_of reading h c.project) request caller (length h + 1) c) delta told made answer
+    (request_turns reading h caller n request a c told) (request_counts h caller n request a)
 
 -- the review is done
-pub review_decided : (reading : Reading) (h : List Entry) (caller n : ℕ) (r : ReviewOf) (rows : Rows) (c : Change) (delta : Delta) (reply : Reply) → refused_by reading h caller (Review n r) ≡ None →
-    change reading h n ≡ Some c → next_request rows ≡ length h + 1 → IsReviewed n r caller rows c delta reply → IsDecided reading h caller (Review n r) delta reply
+pub review_decided : (reading : Reading) (h : List Entry) (caller n : ℕ) (r : ReviewOf) (rows : Rows) (c : Change) (delta : Delta) (reply : Reply) → refused_by reading h caller (OnChange n (ReviewCommand r)) ≡ None →
+    change reading h n ≡ Some c → next_request rows ≡ length h + 1 → IsReviewed n r caller rows c delta reply → IsDecided reading h caller (OnChange n (ReviewCommand r)) delta reply
 review_decided reading h caller n r rows c delta reply passes told request m =
-    subst (λ x. IsDecided reading h caller (Review n r) delta x) (sym m.reply_is)
-    (change_decided reading h caller n (Review n r) (Reviewed numbers) c (after_plain (ReviewCommand r) caller (length h + 1) c) delta told
+    subst (λ x. IsDecided reading h caller (OnChange n (ReviewCommand r)) delta x) (sym m.reply_is)
+    (request_decided reading h caller n (ReviewCommand r) (Reviewed numbers) c delta told
     (subst (λ q. MakesChange n c (after_plain (ReviewCommand r) caller q c) delta) request m.made)
-    (outcome_answer reading h caller (Review n r) (Done (Reviewed numbers)) passes (ap (λ l. Done (Reviewed l)) same_numbers))
-    (review_turns reading h caller n r (Reviewed numbers) c told) (review_counts h caller n r (Reviewed numbers)))
+    (outcome_answer reading h caller (OnChange n (ReviewCommand r)) (Done (Reviewed numbers)) passes (ap (λ l. Done (Reviewed l)) same_numbers)))
   where
     numbers : List ℕ
     numbers = next_numbers (length c.comments) (length (said r))
@@ -118,33 +127,17 @@ review_decided reading h caller n r rows c delta reply passes told request m =
     same_numbers : next_numbers (length c.comments) (length (said r)) ≡ comment_numbers r (change reading h n)
     same_numbers = sym (numbers_next (length c.comments) (said r)) ∙ ap (comment_numbers r) (sym told)
 
-upload_turns : (reading : Reading) (h : List Entry) (caller n : ℕ) (p : NewPatch) (a : Answer) (c : Change) → change reading h n ≡ Some c → (k : Key) →
-    fact reading (entry_of caller [] (Upload n p) a ∷ h) k ≡ fact_with reading h n (change_after_request (setting_of reading h c.project) (UploadCommand p) caller (length h + 1) c) k
-upload_turns reading h caller n p a c told (AccountKey u) = refl
-upload_turns reading h caller n p a c told (MemberKey g u) = refl
-upload_turns reading h caller n p a c told (FileKey q) = refl
-upload_turns reading h caller n p a c told (BaseKey q b u) = refl
-upload_turns reading h caller n p a c told (PartKey k part) =
-    ap (λ o. option_map APart (part_of o part))
-    (put_at (λ x. change_after_request (setting_of reading h x.project) (UploadCommand p) caller (length h + 1) x) c (change reading h k) (n == k) (here reading h n k c told))
-upload_turns reading h caller n p a c told (OddKey o) = refl
-
-upload_counts : (h : List Entry) (caller n : ℕ) (p : NewPatch) (a : Answer) (k : Count) → counted (entry_of caller [] (Upload n p) a ∷ h) k ≡ counted h k
-upload_counts h caller n p a Projects = refl
-upload_counts h caller n p a (BasesOf q) = refl
-
 -- the new patch set is done, where the votes are copied that the history says
-pub upload_decided : (reading : Reading) (h : List Entry) (caller n : ℕ) (p : NewPatch) (f : File) (rows : Rows) (c : Change) (delta : Delta) (reply : Reply) → refused_by reading h caller (Upload n p) ≡ None →
+pub upload_decided : (reading : Reading) (h : List Entry) (caller n : ℕ) (p : NewPatch) (f : File) (rows : Rows) (c : Change) (delta : Delta) (reply : Reply) → refused_by reading h caller (OnChange n (UploadCommand p)) ≡ None →
     change reading h n ≡ Some c → next_request rows ≡ length h + 1 →
     copying (setting_in f rows) (UploadCommand p) caller c ≡ copying (setting_of reading h c.project) (UploadCommand p) caller c → IsUploaded f n p caller rows c delta reply →
-    IsDecided reading h caller (Upload n p) delta reply
+    IsDecided reading h caller (OnChange n (UploadCommand p)) delta reply
 upload_decided reading h caller n p f rows c delta reply passes told request copies m =
-    subst (λ x. IsDecided reading h caller (Upload n p) delta x) (sym m.reply_is)
-    (change_decided reading h caller n (Upload n p) sent c (change_after_request (setting_of reading h c.project) (UploadCommand p) caller (length h + 1) c) delta told
+    subst (λ x. IsDecided reading h caller (OnChange n (UploadCommand p)) delta x) (sym m.reply_is)
+    (request_decided reading h caller n (UploadCommand p) sent c delta told
     (subst (λ k. MakesChange n c (after_copying k (UploadCommand p) caller (length h + 1) c) delta) copies
     (subst (λ q. MakesChange n c (after_copying (copying (setting_in f rows) (UploadCommand p) caller c) (UploadCommand p) caller q c) delta) request m.made))
-    (outcome_answer reading h caller (Upload n p) (Done sent) passes (subst (IsOf (λ x. IsUploadAnswer reading h caller n p x (Done sent))) (sym told) answer))
-    (upload_turns reading h caller n p sent c told) (upload_counts h caller n p sent))
+    (outcome_answer reading h caller (OnChange n (UploadCommand p)) (Done sent) passes (subst (IsOf (λ x. IsUploadAnswer reading h caller n p x (Done sent))) (sym told) answer)))
   where
     sent : Answer
     sent = Patch n (current c + 1) m.copied m.outdated

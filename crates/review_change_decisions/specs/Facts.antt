@@ -22,7 +22,7 @@ use Rattle.review_words.specs.declared.reply.Reply.{Reply}
 use Rattle.review_words.specs.declared.reply.Reply.TheVariants.{Done}
 use Rattle.review_table.specs.Rows.{after_change}
 use Rattle.review_changes.specs.Parts.{Part, part_row}
-use Rattle.review_changes.specs.declared.commands.ChangeCommand.TheVariants.{Review as ReviewCommand, Upload as UploadCommand}
+use Rattle.review_words.specs.declared.command.ChangeCommand.TheVariants.{Review as ReviewCommand, Upload as UploadCommand}
 use Rattle.review_parts.specs.Copies.{group_list}
 use Rattle.review_rows.specs.Answer.{is_value_of}
 use Rattle.review_rows.specs.Rows.{part_change}

@@ -4,7 +4,7 @@ ghost use Rattle.std.specs.Option.{option_map_or};
 ghost use Rattle.review_names.specs.Forms.{is_within, most_comments, most_patches};
 ghost use Rattle.review_words.specs.Texts.{IsStored};
 ghost use Rattle.review_words.specs.History.{Entry, is_account};
-ghost use Rattle.review_words.specs.declared.command.Command.TheVariants.{Review as ReviewCommand};
+ghost use Rattle.review_words.specs.declared.command.Command.TheVariants.{OnChange};
 ghost use Rattle.review_words.specs.declared.reply.NotTaken.TheVariants.{Damaged, Memory};
 ghost use Rattle.review_changes.specs.Change.{after_plain, current, reviewed, said};
 ghost use Rattle.review_changes.specs.Seen.{seen};
@@ -13,7 +13,7 @@ ghost use Rattle.review_rows.specs.Answer.{first_refusal, most_requests, numbers
 ghost use Rattle.review_rows.specs.Changes.{Reading};
 ghost use Rattle.review_rows.specs.Decisions.{IsUndecided, NamesEachOnce, NamesRowsOnce};
 ghost use Rattle.review_changes.specs.Parts.{Part, part_row};
-ghost use Rattle.review_changes.specs.declared.commands.ChangeCommand.TheVariants.{Review as ReviewOf};
+ghost use Rattle.review_words.specs.declared.command.ChangeCommand.TheVariants.{Review as ReviewOf};
 ghost use Rattle.review_table.specs.Rows.{after_change};
 ghost use Rattle.review_rows.specs.Rows.{HasNoEffect, part_change};
 ghost use Rattle.review_rows.specs.Steps.{OfCommand};
@@ -249,8 +249,8 @@ pub fn review(
     change: ChangeNo,
     review: &Review,
 ) -> Result<(Delta, Reply), NotTaken>
-    ensures decided { IfOk result (λ r. (reading : Reading) (h : List Entry) → length h < most_requests → is_account h caller ≡ true → AreEnough reading h caller (OfCommand (ReviewCommand change review.now)) (option_copied had.entry) rows.now → IsDecided reading h caller (ReviewCommand change review.now) r.0 r.1) }
-    ensures cause { IfErr result (IsUndecided caller (ReviewCommand change review.now) (option_copied had.entry) rows.now) }
+    ensures decided { IfOk result (λ r. (reading : Reading) (h : List Entry) → length h < most_requests → is_account h caller ≡ true → AreEnough reading h caller (OfCommand (OnChange change (ReviewOf review.now))) (option_copied had.entry) rows.now → IsDecided reading h caller (OnChange change (ReviewOf review.now)) r.0 r.1) }
+    ensures cause { IfErr result (IsUndecided caller (OnChange change (ReviewOf review.now)) (option_copied had.entry) rows.now) }
     ensures stored { IfOk result (λ r. IsStored r.1) }
     ensures refused { IfOk result (λ r. HasNoEffect r.1 r.0) }
     ensures once { IfOk result (λ r. NamesEachOnce r.0) }

@@ -3,13 +3,13 @@ ghost use Rattle.std.specs.Prelude.{◌≡◌, ◌<◌, ◌+◌, ◌==◌, ◌||
 ghost use Rattle.review_names.specs.Forms.{is_within, most_patches};
 ghost use Rattle.review_words.specs.Texts.{IsStored, IsStoredAnswer};
 ghost use Rattle.review_words.specs.History.{Entry, is_account};
-ghost use Rattle.review_words.specs.declared.command.Command.TheVariants.{Upload};
+ghost use Rattle.review_words.specs.declared.command.Command.TheVariants.{OnChange};
 ghost use Rattle.review_words.specs.declared.reply.Answer.TheVariants.{Patch};
 ghost use Rattle.review_project.specs.declared.parts.Right.TheVariants as right;
 ghost use Rattle.review_changes.specs.Change.{after, current};
 ghost use Rattle.review_changes.specs.Seen.{seen};
 ghost use Rattle.review_changes.specs.Sound.{fits};
-ghost use Rattle.review_changes.specs.declared.commands.ChangeCommand.TheVariants.{Upload as UploadOf};
+ghost use Rattle.review_words.specs.declared.command.ChangeCommand.TheVariants.{Upload as UploadOf};
 ghost use Rattle.review_rows.specs.Answer.{first_refusal, most_requests};
 ghost use Rattle.review_rows.specs.Changes.{Reading};
 ghost use Rattle.review_rows.specs.Decisions.{IsUndecided, NamesEachOnce};
@@ -117,8 +117,8 @@ pub fn upload(
     change: ChangeNo,
     patch: &NewPatch,
 ) -> Result<(Delta, Reply), NotTaken>
-    ensures decided { IfOk result (λ r. (reading : Reading) (h : List Entry) → length h < most_requests → is_account h caller ≡ true → AreEnough reading h caller (OfCommand (Upload change patch.now)) (option_copied had.entry) rows.now → IsDecided reading h caller (Upload change patch.now) r.0 r.1) }
-    ensures cause { IfErr result (IsUndecided caller (Upload change patch.now) (option_copied had.entry) rows.now) }
+    ensures decided { IfOk result (λ r. (reading : Reading) (h : List Entry) → length h < most_requests → is_account h caller ≡ true → AreEnough reading h caller (OfCommand (OnChange change (UploadOf patch.now))) (option_copied had.entry) rows.now → IsDecided reading h caller (OnChange change (UploadOf patch.now)) r.0 r.1) }
+    ensures cause { IfErr result (IsUndecided caller (OnChange change (UploadOf patch.now)) (option_copied had.entry) rows.now) }
     ensures stored { IfOk result (λ r. IsStored r.1) }
     ensures refused { IfOk result (λ r. HasNoEffect r.1 r.0) }
     ensures once { IfOk result (λ r. NamesEachOnce r.0) }

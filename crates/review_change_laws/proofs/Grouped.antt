@@ -15,7 +15,7 @@ use Rattle.review_names.specs.Groups.{GroupList, has_account, members_in}
 use Rattle.review_names.specs.Names.{administrators, registered_users}
 use Rattle.review_words.specs.History.{Entry, accepted, is_listed, listed_members, put}
 use Rattle.review_words.specs.declared.command.Command.{Command}
-use Rattle.review_words.specs.declared.command.Command.TheVariants.{CreateAccount, PutGroup, PutProject, RecordBase, CreateChange, Upload, Review}
+use Rattle.review_words.specs.declared.command.Command.TheVariants.{CreateAccount, PutGroup, PutProject, RecordBase, CreateChange, OnChange}
 use Rattle.review_rows.specs.Changes.{group_put, groups_of}
 
 abbrev by_name : List ℕ → List ℕ → Ordering
@@ -91,8 +91,7 @@ members_step (Some (PutGroup group members)) groups name before e =
 members_step (Some (PutProject project file)) groups name before e = e
 members_step (Some (RecordBase project branch commit)) groups name before e = e
 members_step (Some (CreateChange new)) groups name before e = e
-members_step (Some (Upload n patch)) groups name before e = e
-members_step (Some (Review n review)) groups name before e = e
+members_step (Some (OnChange n command)) groups name before e = e
 
 first_members : (b : Bool) (members : List ℕ) → unwrap_or (cond b (Some members) None) [] ≡ cond b members []
 first_members true members = refl

@@ -6,13 +6,12 @@ use Rattle.std.proofs.lemmas.Bool.{cases_Bool}
 use Rattle.review_words.specs.History.{Entry, accepted, file_text, if_done, is_account, is_project, text_put}
 use Rattle.review_words.specs.declared.changes.NewChange.{NewChange}
 use Rattle.review_words.specs.declared.command.Command.{Command}
-use Rattle.review_words.specs.declared.command.Command.TheVariants.{CreateAccount, PutGroup, PutProject, RecordBase, CreateChange, Upload, Review}
+use Rattle.review_words.specs.declared.command.Command.TheVariants.{CreateAccount, PutGroup, PutProject, RecordBase, CreateChange, OnChange}
 use Rattle.review_words.specs.declared.reply.Answer.{Answer}
 use Rattle.review_words.specs.declared.reply.Refusal.TheVariants.{UnknownCaller}
 use Rattle.review_words.specs.declared.reply.Reply.{Reply}
 use Rattle.review_words.specs.declared.reply.Reply.TheVariants.{Done, Refused, IdentityReused, NotTaken}
 use Rattle.review_changes.specs.Change.{Change, after, begun}
-use Rattle.review_changes.specs.declared.commands.ChangeCommand.TheVariants as on
 use Rattle.review_rows.specs.Answer.{IsAnswerBy, IsHistory, checks}
 use Rattle.review_rows.specs.Changes.{Reading, Reads, change, change_by, change_count, setting_of}
 use Rattle.review_change_laws.proofs.Sound.{all_pass, done_passes}
@@ -28,8 +27,7 @@ text_stays (Some (PutGroup group members)) project before some = some
 text_stays (Some (PutProject given text)) project before some = some_put (bytes_eq given project) text before some
 text_stays (Some (RecordBase in_project branch commit)) project before some = some
 text_stays (Some (CreateChange new)) project before some = some
-text_stays (Some (Upload n patch)) project before some = some
-text_stays (Some (Review n review)) project before some = some
+text_stays (Some (OnChange n command)) project before some = some
 
 named : (P : List ℕ → Type 0) (b : Bool) (o : Option Change) (f : Change → Change) (c : Change) → ((x : Change) → o ≡ Some x → P x.project) → ((x : Change) → (f x).project ≡ x.project) →
     cond b (option_map f o) o ≡ Some c → P c.project
@@ -50,10 +48,8 @@ project_by reading h caller n c (RecordBase project branch commit) a answer befo
 project_by reading h caller n c (CreateChange new) a answer before is =
     let pass = all_pass ((is_account h caller, UnknownCaller) ∷ checks reading h caller (CreateChange new)) (done_passes reading h caller (CreateChange new) a answer) in
     made (λ p. is_project h p ≡ true) (change_count h + 1 == n) (change reading h n) (begun new caller (length h + 1)) c before pass.1.0 is
-project_by reading h caller n c (Upload m patch) a answer before is =
-    named (λ p. is_project h p ≡ true) (m == n) (change reading h n) (λ x. after (setting_of reading h x.project) (on.Upload patch) caller (length h + 1) x) c before (λ x. refl) is
-project_by reading h caller n c (Review m review) a answer before is =
-    named (λ p. is_project h p ≡ true) (m == n) (change reading h n) (λ x. after (setting_of reading h x.project) (on.Review review) caller (length h + 1) x) c before (λ x. refl) is
+project_by reading h caller n c (OnChange m command) a answer before is =
+    named (λ p. is_project h p ≡ true) (m == n) (change reading h n) (λ x. after (setting_of reading h x.project) command caller (length h + 1) x) c before (λ x. refl) is
 
 step : (reading : Reading) (h : List Entry) (caller n : ℕ) (c : Change) (command : Command) (reply : Reply) → IsAnswerBy reading h caller command reply →
     ((x : Change) → change reading h n ≡ Some x → is_project h x.project ≡ true) → change_by reading h caller (if_done reply command) n (change reading h n) ≡ Some c → is_project h c.project ≡ true

@@ -8,7 +8,7 @@ use Rattle.review_words.specs.History.{Entry, if_done, is_account}
 use Rattle.review_words.specs.declared.changes.NewChange.{NewChange}
 use Rattle.review_words.specs.declared.changes.Review.{Review as ReviewOf}
 use Rattle.review_words.specs.declared.command.Command.{Command}
-use Rattle.review_words.specs.declared.command.Command.TheVariants.{CreateAccount, PutGroup, PutProject, RecordBase, CreateChange, Upload, Review}
+use Rattle.review_words.specs.declared.command.Command.TheVariants.{CreateAccount, PutGroup, PutProject, RecordBase, CreateChange, OnChange}
 use Rattle.review_words.specs.declared.reply.Answer.{Answer}
 use Rattle.review_words.specs.declared.reply.Refusal.{Refusal}
 use Rattle.review_words.specs.declared.reply.Refusal.TheVariants.{UnknownCaller, NoComment, Limit}
@@ -16,9 +16,9 @@ use Rattle.review_words.specs.declared.reply.Reply.{Reply}
 use Rattle.review_words.specs.declared.reply.Reply.TheVariants.{Done, Refused, IdentityReused, NotTaken}
 use Rattle.review_changes.specs.Change.{Change, Copying, Setting, after, after_copying, begun, copying, current, reviewed, said}
 use Rattle.review_changes.specs.Sound.{IsSound, answer_stored, fits}
-use Rattle.review_changes.specs.declared.commands.ChangeCommand.{ChangeCommand}
-use Rattle.review_changes.specs.declared.commands.ChangeCommand.TheVariants as on
-use Rattle.review_rows.specs.Answer.{IsAnswerBy, IsHistory, IsOutcome, first_refusal, given_checks, of_change, refused_by, review_checks, upload_checks}
+use Rattle.review_words.specs.declared.command.ChangeCommand.{ChangeCommand}
+use Rattle.review_words.specs.declared.command.ChangeCommand.TheVariants as on
+use Rattle.review_rows.specs.Answer.{IsAnswerBy, IsHistory, IsOutcome, first_refusal, given_checks, of_change, refused_by, request_checks}
 use Rattle.review_rows.specs.Changes.{Reading, Reads, change, change_by, change_count, setting_of}
 
 -- a new change is sound, and stays so
@@ -68,6 +68,19 @@ review_fits s caller r c within all =
     let rest = later_pass (given_checks s caller r c r.labels) ((answer_stored (length c.comments) r.comments, NoComment) ∷ (nat_le (length c.comments + length (said r)) most_comments, Limit) ∷ []) all in
     three (is_within (current c) (reviewed r c)) (answer_stored (length c.comments) r.comments) (nat_le (length c.comments + length (said r)) most_comments) within rest.0 rest.1.0
 
+-- a request on a change fits it where its checks pass
+pub request_fits : (reading : Reading) (h : List Entry) (caller : ℕ) (command : ChangeCommand) (c : Change) → AllByRecursion Passes (request_checks reading h caller command c) → fits command c ≡ true
+request_fits reading h caller (on.Upload patch) c pass = pass.1.1.1.1.0
+request_fits reading h caller (on.Review review) c pass = review_fits (setting_of reading h c.project) caller review c pass.0 pass.1
+request_fits reading h caller (on.AddReviewer account role) c pass = refl
+request_fits reading h caller (on.RemoveReviewer account) c pass = refl
+request_fits reading h caller on.SetWip c pass = refl
+request_fits reading h caller on.SetReady c pass = refl
+request_fits reading h caller on.Abandon c pass = refl
+request_fits reading h caller on.Restore c pass = refl
+request_fits reading h caller (on.AddAttention account reason) c pass = pass.1.1.0
+request_fits reading h caller (on.RemoveAttention account reason) c pass = refl
+
 -- what becomes of a change that a request names
 named_sound : (b : Bool) (o : Option Change) (f : Change → Change) (c : Change) → ((x : Change) → o ≡ Some x → IsSound x) → (b ≡ true → (x : Change) → o ≡ Some x → IsSound x → IsSound (f x)) →
     cond b (option_map f o) o ≡ Some c → IsSound c
@@ -87,17 +100,11 @@ done_sound begins stays reading h caller n c (PutProject project text) a answer 
 done_sound begins stays reading h caller n c (RecordBase project branch commit) a answer before is = before c is
 done_sound begins stays reading h caller n c (CreateChange new) a answer before is =
     made_sound (change_count h + 1 == n) (change reading h n) (begun new caller (length h + 1)) c before (begins new caller (length h + 1)) is
-done_sound begins stays reading h caller n c (Upload m patch) a answer before is =
-    named_sound (m == n) (change reading h n) (λ x. after (setting_of reading h x.project) (on.Upload patch) caller (length h + 1) x) c before
+done_sound begins stays reading h caller n c (OnChange m command) a answer before is =
+    named_sound (m == n) (change reading h n) (λ x. after (setting_of reading h x.project) command caller (length h + 1) x) c before
     (λ same x there sound.
-    let pass = checks_pass reading h caller (upload_checks reading h caller patch) (change reading h m) x (ap (change reading h) (eqb-true m n same) ∙ there) (done_passes reading h caller (Upload m patch) a answer) in
-    stays (copying (setting_of reading h x.project) (on.Upload patch) caller x) (on.Upload patch) caller (length h + 1) x sound pass.1.1.1.1.0)
-    is
-done_sound begins stays reading h caller n c (Review m review) a answer before is =
-    named_sound (m == n) (change reading h n) (λ x. after (setting_of reading h x.project) (on.Review review) caller (length h + 1) x) c before
-    (λ same x there sound.
-    let pass = checks_pass reading h caller (review_checks reading h caller review) (change reading h m) x (ap (change reading h) (eqb-true m n same) ∙ there) (done_passes reading h caller (Review m review) a answer) in
-    stays (copying (setting_of reading h x.project) (on.Review review) caller x) (on.Review review) caller (length h + 1) x sound (review_fits (setting_of reading h x.project) caller review x pass.0 pass.1))
+    let pass = checks_pass reading h caller (request_checks reading h caller command) (change reading h m) x (ap (change reading h) (eqb-true m n same) ∙ there) (done_passes reading h caller (OnChange m command) a answer) in
+    stays (copying (setting_of reading h x.project) command caller x) command caller (length h + 1) x sound (request_fits reading h caller command x pass))
     is
 
 step_sound : BeginsSound → StaysSound → (reading : Reading) (h : List Entry) (caller n : ℕ) (c : Change) (command : Command) (reply : Reply) → IsAnswerBy reading h caller command reply →

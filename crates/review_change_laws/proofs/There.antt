@@ -5,10 +5,10 @@ use Rattle.std.proofs.lemmas.Bool.{cases_lt, and_parts, leb-true}
 use Rattle.std.proofs.lemmas.Bool.Decides.{nat_tests}
 use Rattle.review_words.specs.History.{Entry, accepted}
 use Rattle.review_words.specs.declared.command.Command.{Command}
-use Rattle.review_words.specs.declared.command.Command.TheVariants.{CreateAccount, PutGroup, PutProject, RecordBase, CreateChange, Upload, Review}
+use Rattle.review_words.specs.declared.command.Command.TheVariants.{CreateAccount, PutGroup, PutProject, RecordBase, CreateChange, OnChange}
 use Rattle.review_changes.specs.Change.{Change, after}
 use Rattle.review_changes.specs.Parts.{TheHeader}
-use Rattle.review_changes.specs.declared.commands.ChangeCommand.{ChangeCommand}
+use Rattle.review_words.specs.declared.command.ChangeCommand.{ChangeCommand}
 use Rattle.review_rows.specs.Changes.{Reading, asked_of, change, change_after, change_by, change_count, change_counted, setting_of}
 use Rattle.review_rows.specs.Known.{IsLast, header_key, part_of}
 use Rattle.review_rows.specs.Rows.{Key, Row, APart}
@@ -51,8 +51,7 @@ there_step reading h caller (Some (PutGroup group members)) n before e = e
 there_step reading h caller (Some (PutProject project file)) n before e = e
 there_step reading h caller (Some (RecordBase project branch commit)) n before e = e
 there_step reading h caller (Some (CreateChange new)) n before e = some_made (change_count h + 1 == n) _ before ∙ (ap (λ b. (change_count h + 1 == n) || b) e ∙ one_more n (change_count h))
-there_step reading h caller (Some (Upload m patch)) n before e = asked_stays reading h caller (asked_of (Upload m patch)) n before ∙ e
-there_step reading h caller (Some (Review m review)) n before e = asked_stays reading h caller (asked_of (Review m review)) n before ∙ e
+there_step reading h caller (Some (OnChange m command)) n before e = asked_stays reading h caller (asked_of (OnChange m command)) n before ∙ e
 
 -- the changes are those up to their count
 pub change_there : (reading : Reading) (h : List Entry) (n : ℕ) → is_some (change reading h n) ≡ is_up_to (change_count h) n

@@ -4,8 +4,8 @@ use Rattle.std.specs.Prelude.{◌==◌, is_some, if◌then◌else◌, is_none}
 use Rattle.std.proofs.lemmas.Bool.{cases_Bool}
 use Rattle.review_words.specs.declared.changes.Role.{Role}
 use Rattle.review_words.specs.declared.changes.Role.TheVariants.{Reviewer, Cc}
-use Rattle.review_changes.specs.declared.commands.ChangeCommand.{ChangeCommand}
-use Rattle.review_changes.specs.declared.commands.ChangeCommand.TheVariants.{Upload, Review, AddReviewer, RemoveReviewer, SetWip, SetReady, Abandon, Restore, AddAttention, RemoveAttention}
+use Rattle.review_words.specs.declared.command.ChangeCommand.{ChangeCommand}
+use Rattle.review_words.specs.declared.command.ChangeCommand.TheVariants.{Upload, Review, AddReviewer, RemoveReviewer, SetWip, SetReady, Abandon, Restore, AddAttention, RemoveAttention}
 use Rattle.review_changes.specs.declared.rows.Called.{Called}
 use Rattle.review_changes.specs.declared.rows.Why.{Why}
 use Rattle.review_changes.specs.declared.rows.Why.TheVariants.{Told}

@@ -8,8 +8,8 @@ use Rattle.review_words.specs.declared.changes.NewChange.{NewChange}
 use Rattle.review_words.specs.declared.changes.NewPatch.{NewPatch}
 use Rattle.review_words.specs.declared.changes.Review.{Review as ReviewOf}
 use Rattle.review_words.specs.declared.changes.Role.{Role}
-use Rattle.review_changes.specs.declared.commands.ChangeCommand.{ChangeCommand}
-use Rattle.review_changes.specs.declared.commands.ChangeCommand.TheVariants.{Upload, Review, AddReviewer, RemoveReviewer, SetWip, SetReady, Abandon, Restore, AddAttention, RemoveAttention}
+use Rattle.review_words.specs.declared.command.ChangeCommand.{ChangeCommand}
+use Rattle.review_words.specs.declared.command.ChangeCommand.TheVariants.{Upload, Review, AddReviewer, RemoveReviewer, SetWip, SetReady, Abandon, Restore, AddAttention, RemoveAttention}
 use Rattle.review_changes.specs.declared.rows.PatchRow.{PatchRow}
 use Rattle.review_changes.specs.Change.{Change, Copying, after_copying, settled, begun, joined_at, current, eligible, reviewed, said, stored_as, new_comments, given_or, carried, gives_vote, says_something, writer_role, vote_by, role_by}
 use Rattle.review_changes.specs.Sound.{IsSound, fits, are_in_order, answer_stored}

@@ -22,14 +22,14 @@ use Rattle.review_expr.specs.declared.expr.Facts.TheVariants as facts
 use Rattle.review_expr.specs.Exprs.{holds_for}
 use Rattle.review_project.specs.View.{FileView, LabelView}
 use Rattle.review_project.specs.Rights.{least_value, greatest_value}
-use Rattle.review_changes.specs.declared.commands.ChangeCommand.{ChangeCommand}
-use Rattle.review_changes.specs.declared.commands.ChangeCommand.TheVariants.{Upload, Review, AddReviewer, RemoveReviewer, SetWip, SetReady, Abandon, Restore, AddAttention, RemoveAttention}
+use Rattle.review_words.specs.declared.command.ChangeCommand.{ChangeCommand}
+use Rattle.review_words.specs.declared.command.ChangeCommand.TheVariants.{Upload, Review, AddReviewer, RemoveReviewer, SetWip, SetReady, Abandon, Restore, AddAttention, RemoveAttention}
 use Rattle.review_changes.specs.declared.rows.Called.{Called}
 use Rattle.review_changes.specs.declared.rows.CommentRow.{CommentRow}
 use Rattle.review_changes.specs.declared.rows.PatchRow.{PatchRow}
 use Rattle.review_changes.specs.declared.rows.Post.{Post}
-use Rattle.review_changes.specs.declared.rows.State.{State}
-use Rattle.review_changes.specs.declared.rows.State.TheVariants.{New, Merged, Abandoned}
+use Rattle.review_words.specs.declared.shown.State.{State}
+use Rattle.review_words.specs.declared.shown.State.TheVariants.{New, Merged, Abandoned}
 use Rattle.review_changes.specs.declared.rows.Why.{Why}
 use Rattle.review_changes.specs.declared.rows.Why.TheVariants.{Added, Ready, Replied, RepliedInThread, LeftUnresolved, NotCopied, Told}
 use Rattle.review_changes.specs.Votes.{voted}
@@ -221,7 +221,7 @@ comments_by _ caller request c = c.comments
 
 -- ---- threads
 
--- the number of the comment that begins a comment's thread: that of the earlier comment which it answers, or else its own
+-- the number of the comment that begins a comment's thread: the one that begins the thread of the comment which it answers, or else itself
 abbrev pub root_of : List Post → CommentRow → ℕ
 root_of earlier x = option_map_or (λ p. p.root) (option_map_or (of_number earlier) x.answers None) (length earlier + 1)
 
@@ -234,7 +234,7 @@ threaded earlier (x ∷ xs) = threaded (earlier ++ record { author = x.author; r
 abbrev pub posts : List CommentRow → List Post
 posts comments = threaded [] comments
 
--- a thread is unresolved where its comment with the greatest number is: where no later comment of the thread follows
+-- some thread is unresolved: its comment with the greatest number is, which no later comment of the thread follows
 abbrev pub has_unresolved : List Post → Bool
 has_unresolved [] = false
 has_unresolved (p ∷ ps) = (p.unresolved && not (list_any (λ q. q.root == p.root) ps)) || has_unresolved ps
@@ -260,6 +260,7 @@ is_open _ = false
 
 -- ---- the attention set
 
+-- a role is that of a reviewer
 abbrev pub is_reviewer : Option Role → Bool
 is_reviewer (Some Reviewer) = true
 is_reviewer _ = false
@@ -276,7 +277,7 @@ wrote_in_answered stored new u = list_any (λ p. (p.author == u) && answers_thre
 abbrev pub is_lost : Copying → Change → ℕ → List ℕ → Bool
 is_lost k c u l = voted (c.vote (current c) l u) && not (k.copies l u (c.vote (current c) l u))
 
--- the first label, by name, on which an account's vote isn't copied
+-- the first label of the file, whose labels stand by name, on which an account's vote isn't copied
 abbrev pub first_lost : Copying → Change → ℕ → Option (List ℕ)
 first_lost k c u = find (is_lost k c u) k.labels
 
@@ -311,7 +312,7 @@ why_called k (AddReviewer v role) caller request b u = if (v == u) && (is_review
 why_called k SetReady caller request b u = if is_reviewer (b.role u) then Some Ready else None
 why_called k _ caller request b u = None
 
--- Why a request calls an account. The rules call nobody but the eligible, never the caller, and nobody on a change in work in progress.
+-- Why a request calls an account. AddAttention calls whom it names. All other rules call nobody but the eligible, never the caller, and nobody on a change in work in progress.
 abbrev pub called_by : Copying → ChangeCommand → ℕ → ℕ → Change → Change → ℕ → Option Why
 called_by k (AddAttention v reason) caller request b a u = if v == u then Some (Told reason) else None
 called_by k command caller request b a u = if eligible a u && (not (caller == u) && not a.wip) then why_called k command caller request b u else None

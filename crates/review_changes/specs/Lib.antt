@@ -5,3 +5,7 @@ pub mod Parts
 pub mod Sound
 pub mod Status
 pub mod Counts
+pub mod Listed
+pub mod Threads
+pub mod Facts
+pub mod Shown

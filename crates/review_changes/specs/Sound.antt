@@ -4,8 +4,8 @@ use Rattle.std.specs.List.{list_all}
 use Rattle.std.specs.Option.{option_map_or}
 use Rattle.review_names.specs.Forms.{is_within, most_patches, most_comments}
 use Rattle.review_words.specs.declared.changes.NewComment.{NewComment}
-use Rattle.review_changes.specs.declared.commands.ChangeCommand.{ChangeCommand}
-use Rattle.review_changes.specs.declared.commands.ChangeCommand.TheVariants.{Upload, Review, AddAttention}
+use Rattle.review_words.specs.declared.command.ChangeCommand.{ChangeCommand}
+use Rattle.review_words.specs.declared.command.ChangeCommand.TheVariants.{Upload, Review, AddAttention}
 use Rattle.review_changes.specs.declared.rows.CommentRow.{CommentRow}
 use Rattle.review_changes.specs.Change.{Change, current, eligible, reviewed, said}
 use Rattle.review_changes.specs.Votes.{voted}

@@ -5,8 +5,8 @@ use Rattle.review_expr.specs.declared.expr.Expr.{Expr}
 use Rattle.review_expr.specs.declared.expr.Facts.{Facts}
 use Rattle.review_expr.specs.Exprs.{holds_for}
 use Rattle.review_project.specs.View.{RequirementView}
-use Rattle.review_changes.specs.declared.rows.Status.{Status}
-use Rattle.review_changes.specs.declared.rows.Status.TheVariants.{NotApplicable, Overridden, Satisfied, Unsatisfied}
+use Rattle.review_words.specs.declared.shown.Status.{Status}
+use Rattle.review_words.specs.declared.shown.Status.TheVariants.{NotApplicable, Overridden, Satisfied, Unsatisfied}
 
 -- the status of a requirement by the facts of a change: the first that fits
 abbrev pub status_of : RequirementView Expr → Facts → Status

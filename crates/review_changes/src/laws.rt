@@ -1,7 +1,7 @@
 //! Laws of changes, as contracts of calls that do nothing.
 ghost use Rattle.std.specs.Prelude.{◌≡◌, ◌==◌, ◌+◌, ℕ, List, true, false};
 ghost use Rattle.review_words.specs.declared.changes.NewChange.{NewChange};
-ghost use Rattle.review_changes.specs.declared.commands.ChangeCommand.{ChangeCommand};
+ghost use Rattle.review_words.specs.declared.command.ChangeCommand.{ChangeCommand};
 ghost use Rattle.review_changes.specs.Change.{Change, Copying, Setting, after, after_copying, begun, current, eligible, joined_at};
 ghost use Rattle.review_changes.specs.Sound.{IsSound, fits};
 ghost use Rattle.review_changes.specs.Votes.{voted};

@@ -11,12 +11,8 @@
 //! (`stays_sound`). `review_core` makes the rows as these definitions say.
 #![tactic(auto)]
 
-pub mod commands;
 pub mod laws;
 pub mod rows;
 
-pub use commands::ChangeCommand;
 pub use laws::{begins_sound, joins_sound, stays_sound, voters_are_eligible};
-pub use rows::{
-    Called, ChangeRows, CommentRow, Header, PatchRow, Post, State, Status, Vote, VoteKey, Why,
-};
+pub use rows::{Called, ChangeRows, CommentRow, Header, PatchRow, Post, Vote, VoteKey, Why};

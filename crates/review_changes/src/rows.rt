@@ -6,27 +6,10 @@ use review_names::ChangeKind;
 use review_table::{Key, Table};
 use review_words::{
     AccountNo, BranchName, CommentNo, CommitName, LabelName, Message, PatchNo, Paths, Place,
-    ProjectName, Reason, Role, Subject,
+    ProjectName, Reason, Role, State, Subject,
 };
 use std::alloc::{AllocError, Global};
 use std::marker::Model;
-
-/// Where a change stands. Open means new.
-#[derive(Clone, Copy, Debug, PartialEq, Eq)]
-pub enum State {
-    New,
-    Merged,
-    Abandoned,
-}
-
-/// How a submit requirement stands for a change.
-#[derive(Clone, Copy, Debug, PartialEq, Eq)]
-pub enum Status {
-    NotApplicable,
-    Overridden,
-    Satisfied,
-    Unsatisfied,
-}
 
 /// What there is once of a change.
 #[derive(Drop)]

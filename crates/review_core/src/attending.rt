@@ -2,7 +2,7 @@
 ghost use Rattle.std.specs.Prelude.{◌≡◌, IfOk};
 ghost use Rattle.review_changes.specs.Change.{after_plain};
 ghost use Rattle.review_changes.specs.Seen.{seen};
-ghost use Rattle.review_changes.specs.declared.commands.ChangeCommand.TheVariants.{AddAttention, RemoveAttention};
+ghost use Rattle.review_words.specs.declared.command.ChangeCommand.TheVariants.{AddAttention, RemoveAttention};
 
 use review_changes::ChangeRows;
 use review_parts::{drop_called, tell};

@@ -3,9 +3,9 @@ ghost use Rattle.std.specs.Prelude.{◌≡◌, IfOk};
 ghost use Rattle.review_changes.specs.Change.{begun};
 ghost use Rattle.review_changes.specs.Seen.{seen};
 
-use review_changes::{ChangeRows, Header, PatchRow, State};
+use review_changes::{ChangeRows, Header, PatchRow};
 use review_table::Table;
-use review_words::{AccountNo, ChangeKind, NewChange};
+use review_words::{AccountNo, ChangeKind, NewChange, State};
 use std::alloc::{AllocError, Global};
 
 /// The rows of a new change.

@@ -3,8 +3,10 @@ ghost use Rattle.std.specs.Prelude.{◌≡◌, true, IfOk, MatchResult};
 ghost use Rattle.review_changes.specs.Change.{after, after_plain, begun, carried, copying, eligible, is_lost, joined_at};
 ghost use Rattle.review_changes.specs.Seen.{seen};
 ghost use Rattle.review_changes.specs.Sound.{IsSound, fits};
+ghost use Rattle.review_changes.specs.Threads.{threads};
 ghost use Rattle.review_changes.specs.Votes.{voted};
-ghost use Rattle.review_changes.specs.declared.commands.ChangeCommand.TheVariants.{Upload, Review as ReviewOf, AddReviewer, RemoveReviewer, SetWip, SetReady, Abandon, Restore, AddAttention, RemoveAttention};
+ghost use Rattle.review_statuses.specs.Grouped.{IsStatus};
+ghost use Rattle.review_words.specs.declared.command.ChangeCommand.TheVariants.{Upload, Review as ReviewOf, AddReviewer, RemoveReviewer, SetWip, SetReady, Abandon, Restore, AddAttention, RemoveAttention};
 ghost use Rattle.review_core.specs.Faults.{IsRefused};
 ghost use Rattle.review_parts.specs.Copies.{AreMany, group_list};
 
@@ -12,9 +14,9 @@ use crate::sound::{are_all, are_counted, are_eligible, are_in_order, are_in_plac
 use crate::uploading::{self, Copied};
 use crate::{attending, beginning, reviewing, roles, states};
 use review_changes::{ChangeRows, begins_sound, joins_sound, stays_sound};
-use review_file::ProjectFile;
+use review_file::{ProjectFile, Requirement};
 use review_parts::GroupTables;
-use review_words::{AccountNo, NewChange, NewPatch, Reason, Review, Role};
+use review_words::{AccountNo, Listed, NewChange, NewPatch, Reason, Review, Role, Status, Thread};
 use std::alloc::{AllocError, Global};
 
 /// The rows of one change, which fit together.
@@ -100,6 +102,28 @@ impl ChangeFile {
         let rows = &self.rows;
         let uploader = roles::last_uploader(rows.header.owner, &rows.patches);
         review_parts::is_eligible(rows.header.owner, uploader, &rows.roles, account)
+    }
+
+    /// The threads of its comments, by their first comments, each with its comments in order. An error is want of memory.
+    pub fn threads(&self, alloc: Global) -> Result<Listed<Thread>, AllocError>
+        ensures { IfOk result (λ v. v ≡ threads (seen self.now.rows).comments) }
+    {
+        let threads = review_threads::threads(alloc, &self.rows.comments)?;
+        Ok(threads)
+    }
+
+    /// How a submit requirement stands for it, by the file of its project, where tables tell who is in which group. An error is want
+    /// of memory.
+    pub fn status(
+        &self,
+        alloc: Global,
+        file: &ProjectFile,
+        groups: &GroupTables,
+        requirement: &Requirement,
+    ) -> Result<Status, AllocError>
+        ensures { IfOk result (IsStatus (record { file = file.now; groups = group_list groups.now }) (seen self.now.rows) requirement.now) }
+    {
+        review_statuses::status(alloc, &self.rows, file, groups, requirement)
     }
 
     /// A new patch set, with the numbers of votes that were copied to it and that weren't. The file and the groups are those

@@ -3,16 +3,16 @@ ghost use Rattle.std.specs.Prelude.{◌≡◌, ◌==◌, ◌&&◌, ◌||◌, not
 ghost use Rattle.review_names.specs.Forms.{is_within, most_patches};
 ghost use Rattle.review_changes.specs.Change.{after_plain, current, is_open, kept_or, why_commented, why_replied};
 ghost use Rattle.review_changes.specs.Seen.{of_account, seen};
-ghost use Rattle.review_changes.specs.declared.commands.ChangeCommand.TheVariants.{Review as ReviewOf};
+ghost use Rattle.review_words.specs.declared.command.ChangeCommand.TheVariants.{Review as ReviewOf};
 
 use crate::roles::{current_patch, who_for};
 use crate::states::is_open;
-use review_changes::{Called, ChangeRows, CommentRow, PatchRow, Post, State};
+use review_changes::{Called, ChangeRows, CommentRow, PatchRow, Post};
 use review_parts::{
     Origin, WhenReviewed, Who, call_eligible, drop_called, give, new_comments, posts, review_roles,
 };
 use review_table::Table;
-use review_words::{AccountNo, NewComment, PatchNo, Review, Role};
+use review_words::{AccountNo, NewComment, PatchNo, Review, Role, State};
 use std::alloc::{AllocError, Global};
 
 /// Whether who writes a review leaves the attention set.

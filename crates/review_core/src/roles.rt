@@ -3,13 +3,13 @@ ghost use Rattle.std.specs.Prelude.{◌≡◌, ◌==◌, ◌&&◌, ◌||◌, not
 ghost use Rattle.review_names.specs.Forms.{is_within, most_patches};
 ghost use Rattle.review_changes.specs.Change.{after_plain, current, is_open, is_reviewer, last_uploader};
 ghost use Rattle.review_changes.specs.Seen.{seen};
-ghost use Rattle.review_changes.specs.declared.commands.ChangeCommand.TheVariants.{AddReviewer, RemoveReviewer};
+ghost use Rattle.review_words.specs.declared.command.ChangeCommand.TheVariants.{AddReviewer, RemoveReviewer};
 ghost use Rattle.review_parts.specs.declared.attention.Who.{Who};
 
 use crate::states::is_open;
-use review_changes::{ChangeRows, Header, PatchRow, State};
+use review_changes::{ChangeRows, Header, PatchRow};
 use review_parts::{WhenAdded, Who, call_eligible, drop_called, drop_votes, set_role};
-use review_words::{AccountNo, PatchNo, Role};
+use review_words::{AccountNo, PatchNo, Role, State};
 use std::alloc::{AllocError, Global};
 
 /// Who sent the last of some patch sets.

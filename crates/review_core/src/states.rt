@@ -2,13 +2,13 @@
 ghost use Rattle.std.specs.Prelude.{◌≡◌, IfOk};
 ghost use Rattle.review_changes.specs.Change.{after_plain, is_open, joined_at};
 ghost use Rattle.review_changes.specs.Seen.{seen};
-ghost use Rattle.review_changes.specs.declared.commands.ChangeCommand.TheVariants.{SetWip, SetReady, Abandon, Restore};
+ghost use Rattle.review_words.specs.declared.command.ChangeCommand.TheVariants.{SetWip, SetReady, Abandon, Restore};
 
 use crate::roles::who_for;
-use review_changes::{ChangeRows, State};
+use review_changes::ChangeRows;
 use review_parts::{WhenReady, call_eligible};
 use review_table::Table;
-use review_words::AccountNo;
+use review_words::{AccountNo, State};
 use std::alloc::{AllocError, Global};
 
 pub fn is_open(state: State) -> bool

@@ -1,22 +1,24 @@
-//! The answer to a command and what it changes, from the rows that decide it.
+//! The answer to a command and what it changes, and the answer to a question, from the rows that decide them.
 ghost use Rattle.std.specs.Prelude.{◌≡◌, ◌<◌, List, IfOk, IfErr, length, option_copied, true};
 ghost use Rattle.review_file.specs.Texts.{file_read};
 ghost use Rattle.review_words.specs.Texts.{IsStored};
 ghost use Rattle.review_words.specs.History.{Entry, is_account};
 ghost use Rattle.review_rows.specs.Answer.{most_requests};
 ghost use Rattle.review_rows.specs.Changes.{Reading};
-ghost use Rattle.review_rows.specs.Decisions.{IsUndecided, NamesEachOnce};
+ghost use Rattle.review_rows.specs.Decisions.{IsDoneOrRefused, IsUndecided, IsUnshown, NamesEachOnce};
+ghost use Rattle.review_rows.specs.Questions.{IsQueryAnswerBy};
 ghost use Rattle.review_rows.specs.Rows.{HasNoEffect};
-ghost use Rattle.review_rows.specs.Steps.{OfCommand};
+ghost use Rattle.review_rows.specs.Steps.{OfCommand, OfQuery};
 ghost use Rattle.review_rows.specs.View.{AreEnough, IsDecided};
 
 use review_account_decisions::{create_account, put_group, refused};
 use review_branch_decisions::record_base;
-use review_change_decisions::{create_change, review, upload};
+use review_change_decisions::create_change;
 use review_file::{FileMemo, ProjectFile, ReadText};
 use review_file_decisions::{project_of, put_project};
+use review_request_decisions::on_change;
 use review_rows::{Delta, Matter, Rows};
-use review_words::{AccountNo, Command, NotTaken, Refusal, Reply};
+use review_words::{AccountNo, Command, NotTaken, Query, Refusal, Reply};
 use std::alloc::Global;
 
 /// The reply to a command and what it changes, where this file of its project was read: the first check that fails refuses, in the order of
@@ -38,8 +40,27 @@ pub fn decide(
     ensures once { IfOk result (λ r. NamesEachOnce r.0) }
 {
     let decided = decide_by(alloc, memo, file_of(&read), rows, caller, command);
-    remember(alloc, memo, read, rows, command);
+    remember(alloc, memo, read, rows, Matter::Command(command));
     decided
+}
+
+/// The answer to a question, where this file of its project was read: the first check that fails refuses, in the order of the question's checks.
+/// It changes nothing. An error is want of memory, or Damaged, where the rows are those of no history. The file that was read is remembered again.
+pub fn show(
+    alloc: Global,
+    memo: &mut FileMemo,
+    read: Option<ReadText>,
+    rows: &Rows,
+    caller: AccountNo,
+    query: &Query,
+) -> Result<Reply, NotTaken>
+    ensures shown { IfOk result (λ r. (reading : Reading) (h : List Entry) → AreEnough reading h caller (OfQuery query.now) (file_read read) rows.now → IsQueryAnswerBy reading h caller query.now r) }
+    ensures answered { IfOk result IsDoneOrRefused }
+    ensures cause { IfErr result (IsUnshown caller query.now (file_read read) rows.now) }
+{
+    let shown = review_questions::show(alloc, file_of(&read), rows, caller, query);
+    remember(alloc, memo, read, rows, Matter::Query(query));
+    shown
 }
 
 /// The file that was read.
@@ -52,18 +73,18 @@ fn file_of(read: &Option<ReadText>) -> Option<&ProjectFile>
     }
 }
 
-/// Remembers the file of a command's project again, where there is memory for it.
+/// Remembers the file of the project that was asked for again, where there is memory for it.
 fn remember(
     alloc: Global,
     memo: &mut FileMemo,
     read: Option<ReadText>,
     rows: &Rows,
-    command: &Command,
+    matter: Matter<'_>,
 ) {
     let Some(read) = read else {
         return;
     };
-    let Some(project) = project_of(rows, Matter::Command(command)) else {
+    let Some(project) = project_of(rows, matter) else {
         return;
     };
     let _ = memo.give_back(alloc, project, read);
@@ -117,10 +138,8 @@ fn decide_for(
             commit,
         } => record_base(alloc, rows, caller, project, branch, commit),
         Command::CreateChange(new) => create_change(alloc, had, rows, caller, new),
-        Command::Upload { change, patch } => upload(alloc, had, rows, caller, *change, patch),
-        Command::Review {
-            change,
-            review: said,
-        } => { review(alloc, had, rows, caller, *change, said) }
+        Command::OnChange { change, command } => {
+            on_change(alloc, had, rows, caller, *change, command)
+        }
     }
 }

@@ -1,17 +1,18 @@
--- The project file by which a command is judged, as it is gathered.
+-- The project file by which a command is judged or a question answered, as it is gathered.
 use Rattle.std.proofs.Common.{◌≡◌, ℕ, List, Option, Some, None, true, Result, Ok, Err, refl, sym, ap, ◌∙◌, subst}
 use Rattle.std.specs.Prelude.{is_some, option_map, IsSomeAnd, IfErr}
 use Rattle.std.specs.Result.{IsErr, IsErrAnd}
 use Rattle.review_words.specs.History.{Entry, file_text}
 use Rattle.review_words.specs.declared.command.Command.{Command}
-use Rattle.review_words.specs.declared.command.Command.TheVariants.{CreateAccount, PutGroup, PutProject, RecordBase, CreateChange, Upload, Review}
+use Rattle.review_words.specs.declared.command.Command.TheVariants.{CreateAccount, PutGroup, PutProject, RecordBase, CreateChange, OnChange}
+use Rattle.review_words.specs.declared.command.Query.TheVariants as asked
 use Rattle.review_words.specs.declared.reply.NotTaken.{NotTaken as Cause}
 use Rattle.review_words.specs.declared.reply.NotTaken.TheVariants.{Memory, Store, Damaged, Pattern, Full}
 use Rattle.review_changes.specs.Change.{Change}
 use Rattle.review_rows.specs.declared.rows.Rows.{Rows}
 use Rattle.review_rows.specs.declared.rows.Want.TheVariants as want
 use Rattle.review_rows.specs.Changes.{Reading, change}
-use Rattle.review_rows.specs.Decisions.{HasPatternIn, IsUnread, judging_project}
+use Rattle.review_rows.specs.Decisions.{HasPatternIn, IsUnread, judging_project, topic_project}
 use Rattle.review_rows.specs.Files.{File, HasPattern}
 use Rattle.review_rows.specs.Known.{Found, Number, Name, Holder, IsSo, Members, Text, Commits, AChange, part_of, known, Agrees, change_in, text_of}
 use Rattle.review_rows.specs.Rows.{APart, Tables}
@@ -67,8 +68,13 @@ judged_by reading h rows (PutGroup group members) project agree is = absurd (cc)
 judged_by reading h rows (PutProject given text) project agree is = is
 judged_by reading h rows (RecordBase given branch commit) project agree is = absurd (cc)
 judged_by reading h rows (CreateChange new) project agree is = is
-judged_by reading h rows (Upload n patch) project agree is = judged_by_change reading h rows n project agree is
-judged_by reading h rows (Review n review) project agree is = judged_by_change reading h rows n project agree is
+judged_by reading h rows (OnChange n command) project agree is = judged_by_change reading h rows n project agree is
+
+-- and that by whose file a question is answered
+topic_judged : (reading : Reading) (h : List Entry) (rows : Rows) (topic : Topic) (project : List ℕ) → Agrees (view reading h) rows → project_of rows topic ≡ Some project → topic_project reading h topic ≡ Some project
+topic_judged reading h rows (OfCommand command) project agree is = judged_by reading h rows command project agree is
+topic_judged reading h rows (OfQuery (asked.Branch given branch)) project agree is = absurd (cc)
+topic_judged reading h rows (OfQuery (asked.OnChange n query)) project agree is = judged_by_change reading h rows n project agree is
 
 -- the text of a project that was found
 text_of_project : (rows : Rows) (o : Option (List ℕ)) (text : List ℕ) → text_in rows o ≡ Some text →
@@ -92,14 +98,14 @@ change_stays first rows n project stays is =
     ap (λ k. option_map (λ (c : Change). c.project) (change_in k)) (stays (want.Change n) there) ∙ is
 
 project_stays : (first rows : Rows) (topic : Topic) (project : List ℕ) → StaysKnown first rows → project_of first topic ≡ Some project → project_of rows topic ≡ Some project
-project_stays first rows (OfQuery query) project stays is = absurd (cc)
+project_stays first rows (OfQuery (asked.Branch given branch)) project stays is = absurd (cc)
+project_stays first rows (OfQuery (asked.OnChange n query)) project stays is = change_stays first rows n project stays is
 project_stays first rows (OfCommand (CreateAccount name)) project stays is = absurd (cc)
 project_stays first rows (OfCommand (PutGroup group members)) project stays is = absurd (cc)
 project_stays first rows (OfCommand (PutProject given text)) project stays is = is
 project_stays first rows (OfCommand (RecordBase given branch commit)) project stays is = absurd (cc)
 project_stays first rows (OfCommand (CreateChange new)) project stays is = is
-project_stays first rows (OfCommand (Upload n patch)) project stays is = change_stays first rows n project stays is
-project_stays first rows (OfCommand (Review n review)) project stays is = change_stays first rows n project stays is
+project_stays first rows (OfCommand (OnChange n command)) project stays is = change_stays first rows n project stays is
 
 -- the text that is to be read stays
 text_stays : (first rows : Rows) (topic : Topic) (text : List ℕ) → StaysKnown first rows → text_for first topic ≡ Some text → text_for rows topic ≡ Some text
@@ -118,11 +124,10 @@ file_stays first rows topic file stays has = at (text_for first topic) refl has
 
 -- a text that is not read for a pattern is that of a file with one
 judged : (t : Tables) (rows : Rows) (topic : Topic) (text : List ℕ) → Agrees t rows → text_for rows topic ≡ Some text → IsUnread (Some text) Pattern → IsJudgedByPattern topic t
-judged t rows (OfQuery query) text agree is has = absurd (cc)
-judged t rows (OfCommand command) text agree is has = λ reading h reads v.
+judged t rows topic text agree is has = λ reading h reads v.
     let there = subst (λ (u : Tables). Agrees u rows) (view_of reading h t (v reading reads)) agree in
-    let found = text_is reading h rows (OfCommand command) text there is in
-    subst (HasPatternIn h) (sym (judged_by reading h rows command found.0 there found.1))
+    let found = text_is reading h rows topic text there is in
+    subst (HasPatternIn h) (sym (topic_judged reading h rows topic found.0 there found.1))
     (subst (λ o. IsSomeAnd o HasPattern) (sym found.2) has)
 
 -- tables with a text that spells no file are those of no history

@@ -6,7 +6,9 @@ use Rattle.std.proofs.lemmas.Bool.{and_parts, and_from, cases_Bool}
 use Rattle.std.proofs.lemmas.Slice.Eq.{bytes_eq-Decides}
 use Rattle.review_words.specs.Texts.{content_text, reply_text, IsStored}
 use Rattle.review_words.specs.declared.command.Command.{Command}
-use Rattle.review_words.specs.declared.command.Command.TheVariants.{CreateAccount, PutGroup, PutProject, RecordBase, CreateChange, Upload, Review}
+use Rattle.review_words.specs.declared.command.Command.TheVariants.{CreateAccount, PutGroup, PutProject, RecordBase, CreateChange, OnChange}
+use Rattle.review_words.specs.declared.command.ChangeCommand.{ChangeCommand}
+use Rattle.review_words.specs.declared.command.ChangeCommand.TheVariants as on
 use Rattle.review_words.specs.declared.changes.NewPatch.{NewPatch}
 use Rattle.review_words.specs.declared.reply.Reply.{Reply}
 use Rattle.review_words.specs.declared.reply.Reply.TheVariants.{Done, Refused, IdentityReused, NotTaken}
@@ -23,11 +25,12 @@ use Rattle.review_rows.specs.Steps.{Topic, OfCommand}
 use Rattle.review_rows.specs.Changes.{Reading, Reads, change}
 use Rattle.review_rows.specs.Decisions.{IsDoneOrRefused}
 use Rattle.review_rows.specs.Files.{File}
-use Rattle.review_rows.specs.Answer.{IsHistory, IsAnswer, IsAnswerBy, IsOf, IsOutcome, IsUploadAnswer, file_checks, first_refusal, refused_by, refused_or, most_requests}
+use Rattle.review_rows.specs.Answer.{IsHistory, IsAnswer, IsAnswerBy, IsOf, IsOutcome, IsRequestOutcome, IsUploadAnswer, file_checks, first_refusal, refused_by, refused_or, most_requests}
 use Rattle.review_rows.specs.View.{AreEnough, IsView, IsViewBy, IsDecided, view, fact, stored_answer, answer_row}
 use Rattle.review_rows.specs.Shelf.{IsCommitted, Shows, Views}
 use Rattle.review_rows.proofs.Asked.{requests_are}
 use Rattle.review_rows.proofs.Readings.{reading_of}
+use Rattle.review_rows.proofs.Requested.{IsToldDone, sent_or_done}
 use Rattle.review_deliveries.specs.Gathered.{IsAllAsked}
 use Rattle.review_deliveries.proofs.Stored.{answer_stored}
 
@@ -56,6 +59,14 @@ upload_given : (reading : Reading) (h : List Entry) (caller n : ℕ) (patch : Ne
 upload_given reading h caller n patch None reply is = absurd is
 upload_given reading h caller n patch (Some c) reply is = subst IsDoneOrRefused (sym is.reply_is) tt
 
+request_given : (reading : Reading) (h : List Entry) (caller n : ℕ) (command : ChangeCommand) (reply : Reply) → IsRequestOutcome reading h caller n command reply → IsDoneOrRefused reply
+request_given reading h caller n command reply is =
+    ⊎_elim
+    (λ (sent : (patch : NewPatch) × (command ≡ on.Upload patch)).
+    upload_given reading h caller n sent.0 (change reading h n) reply (subst (λ x. IsRequestOutcome reading h caller n x reply) sent.1 is))
+    (λ (done : IsToldDone command). subst IsDoneOrRefused (sym (done reading h caller n reply is)) tt)
+    (sent_or_done command)
+
 outcome_given : (reading : Reading) (h : List Entry) (caller : ℕ) (command : Command) (reply : Reply) → IsOutcome reading h caller command reply → IsDoneOrRefused reply
 outcome_given reading h caller (CreateAccount name) reply is = subst IsDoneOrRefused (sym is) tt
 outcome_given reading h caller (PutGroup group members) reply is = subst IsDoneOrRefused (sym is) tt
@@ -64,8 +75,7 @@ outcome_given reading h caller (PutProject project text) reply (inl f) = subst I
 outcome_given reading h caller (PutProject project text) reply (inr f) =
     subst IsDoneOrRefused (sym f.2) (file_given (first_refusal (file_checks h project (option_map reading (file_text h project)) f.0)))
 outcome_given reading h caller (CreateChange new) reply is = subst IsDoneOrRefused (sym is) tt
-outcome_given reading h caller (Upload n patch) reply is = upload_given reading h caller n patch (change reading h n) reply is
-outcome_given reading h caller (Review n review) reply is = subst IsDoneOrRefused (sym is) tt
+outcome_given reading h caller (OnChange n command) reply is = request_given reading h caller n command reply is
 
 pub answer_given_by : (reading : Reading) (h : List Entry) (caller : ℕ) (command : Command) (reply : Reply) → IsAnswerBy reading h caller command reply → IsDoneOrRefused reply
 answer_given_by reading h caller command reply is = at (refused_by reading h caller command) is

@@ -1,10 +1,11 @@
 -- One answer to each command, unless a pattern nests too deep.
-use Rattle.std.proofs.Common.{◌≡◌, ◌⊎◌, ℕ, List, [], ◌∷◌, Option, Some, None, true, ◌+◌, ◌||◌, ◌∙◌, sym, ap, inl, inr, refl, subst}
+use Rattle.std.proofs.Common.{◌≡◌, ◌⊎◌, ℕ, List, [], ◌∷◌, Option, Some, None, true, ◌+◌, ◌||◌, ◌∙◌, sym, ap, inl, inr, refl, subst, ⊎_elim}
 use Rattle.std.specs.Prelude.{nat_lt, option_map, MatchOption}
 use Rattle.std.specs.Option.{option_map_or}
 use Rattle.review_words.specs.declared.changes.NewPatch.{NewPatch}
 use Rattle.review_words.specs.declared.command.Command.{Command}
-use Rattle.review_words.specs.declared.command.Command.TheVariants.{CreateAccount, PutGroup, PutProject, RecordBase, CreateChange, Upload, Review}
+use Rattle.review_words.specs.declared.command.Command.TheVariants.{CreateAccount, PutGroup, PutProject, RecordBase, CreateChange, OnChange}
+use Rattle.review_words.specs.declared.command.ChangeCommand.{ChangeCommand}
 use Rattle.review_words.specs.declared.reply.Reply.{Reply}
 use Rattle.review_words.specs.declared.reply.Reply.TheVariants.{Done, Refused}
 use Rattle.review_words.specs.declared.reply.Answer.TheVariants.{Nothing, Patch}
@@ -14,12 +15,13 @@ use Rattle.review_words.specs.History.{Entry, is_project, project_count, file_te
 use Rattle.review_project.specs.Reading.{IsBadValue}
 use Rattle.review_project_laws.proofs.Together.{same_covers, never_both, one_refusal}
 use Rattle.review_changes.specs.Change.{Change, carried, copying, current, is_lost}
-use Rattle.review_changes.specs.declared.commands.ChangeCommand.TheVariants as change_asked
+use Rattle.review_words.specs.declared.command.ChangeCommand.TheVariants as change_asked
 use Rattle.review_changes.specs.Votes.{voted}
 use Rattle.review_rows.specs.Changes.{Reading, change, setting_of}
 use Rattle.review_rows.specs.Files.{File, IsRead, covers, HasDeepPattern}
-use Rattle.review_rows.specs.Answer.{IsAnswerBy, IsOf, IsOutcome, IsUploadAnswer, first_refusal, refused_by, refused_or}
+use Rattle.review_rows.specs.Answer.{IsAnswerBy, IsOf, IsOutcome, IsRequestOutcome, IsUploadAnswer, first_refusal, refused_by, refused_or}
 use Rattle.review_rows.proofs.Readings.{reading_of}
+use Rattle.review_rows.proofs.Requested.{IsToldDone, sent_or_done}
 use Rattle.review_deliveries.specs.Restart.{IsFree, RefusesBadValue, OneAnswer}
 use Rattle.review_deliveries.proofs.Votes.{one_count}
 
@@ -54,6 +56,15 @@ one_upload reading h caller n patch (Some c) r s a b =
     let outdated = one_count (λ l u. is_lost k c u l) a.outdated b.outdated a.many_outdated b.many_outdated in
     a.reply_is ∙ ((λ i. Done (Patch n (current c + 1) (copied i) (outdated i))) ∙ sym b.reply_is)
 
+-- one answer to a request on a change
+one_request : (reading : Reading) (h : List Entry) (caller n : ℕ) (command : ChangeCommand) (r s : Reply) → IsRequestOutcome reading h caller n command r → IsRequestOutcome reading h caller n command s → r ≡ s
+one_request reading h caller n command r s a b =
+    ⊎_elim
+    (λ (sent : (patch : NewPatch) × (command ≡ change_asked.Upload patch)).
+    one_upload reading h caller n sent.0 (change reading h n) r s (subst (λ x. IsRequestOutcome reading h caller n x r) sent.1 a) (subst (λ x. IsRequestOutcome reading h caller n x s) sent.1 b))
+    (λ (done : IsToldDone command). done reading h caller n r a ∙ sym (done reading h caller n s b))
+    (sent_or_done command)
+
 one_outcome : (reading : Reading) (h : List Entry) (caller : ℕ) (command : Command) (r s : Reply) → IsOutcome reading h caller command r → IsOutcome reading h caller command s →
     (r ≡ s) ⊎ (IsFree command × (RefusesBadValue r ⊎ RefusesBadValue s))
 one_outcome reading h caller (CreateAccount name) r s a b = inl (a ∙ sym b)
@@ -61,8 +72,7 @@ one_outcome reading h caller (PutGroup group members) r s a b = inl (a ∙ sym b
 one_outcome reading h caller (RecordBase project branch commit) r s a b = inl (a ∙ sym b)
 one_outcome reading h caller (PutProject project text) r s a b = one_put reading h caller project text r s a b
 one_outcome reading h caller (CreateChange new) r s a b = inl (a ∙ sym b)
-one_outcome reading h caller (Upload n patch) r s a b = inl (one_upload reading h caller n patch (change reading h n) r s a b)
-one_outcome reading h caller (Review n review) r s a b = inl (a ∙ sym b)
+one_outcome reading h caller (OnChange n command) r s a b = inl (one_request reading h caller n command r s a b)
 
 -- one answer, by one reading
 pub one_answer_by : (reading : Reading) (h : List Entry) (caller : ℕ) (command : Command) (r s : Reply) → IsAnswerBy reading h caller command r → IsAnswerBy reading h caller command s →

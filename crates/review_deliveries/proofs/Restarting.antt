@@ -61,10 +61,13 @@ settled_answer : (h : List Entry) (caller : ℕ) (command : Command) (r s : Repl
 settled_answer h caller command r s settled reading a b =
     ⊎_elim (λ (same : r ≡ s). same) (λ (free : IsFree command × (RefusesBadValue r ⊎ RefusesBadValue s)). absurd (settled free.0)) (one_answer_by reading.0 h caller command r s (a reading.0 reading.1) (b reading.0 reading.1))
 
--- one right reply
-one_told : (h : List Entry) (d : Delivery) (r s : Reply) → IsSettled d → HasReading h → IsTold h d r → IsTold h d s → r ≡ s
-one_told h (Read caller query) r s settled reading a b = a ∙ sym b
-one_told h (Write caller id command) r s settled reading a b = at (stored h (record { caller = caller; id = id })) refl
+-- two right replies to a write are one, and with either reply to a delivery the history goes on alike
+one_told : (h : List Entry) (d : Delivery) (r s : Reply) → IsSettled d → HasReading h → IsTold h d r → IsTold h d s →
+    AgreeFor d r s × (history_after h (d ∷ []) (s ∷ []) ≡ history_after h (d ∷ []) (r ∷ []))
+one_told h (Read caller query) r s settled reading a b = (tt, refl)
+one_told h (Write caller id command) r s settled reading a b =
+    let same = at (stored h (record { caller = caller; id = id })) refl in
+    (same, ap (λ x. history_after h (Write caller id command ∷ []) (x ∷ [])) (sym same))
   where
     at : (o : Option Entry) → stored h (record { caller = caller; id = id }) ≡ o → r ≡ s
     at None is = settled_answer h caller command r s settled reading (told_at h caller id command r None is a) (told_at h caller id command s None is b)
@@ -82,10 +85,10 @@ same_run h [] [] (s ∷ ss) settled reading a b = absurd b
 same_run h (d ∷ ds) [] ss settled reading a b = absurd a
 same_run h (d ∷ ds) (r ∷ rs) [] settled reading a b = absurd b
 same_run h (d ∷ ds) (r ∷ rs) (s ∷ ss) settled reading a b =
-    let e = one_told h d r s settled.0 reading a.1 b.1 in
-    let rest = same_run (history_after h (d ∷ []) (r ∷ [])) ds rs ss settled.1 (read_on h d r reading a.1) a.2 (subst (λ x. AreTold (history_after h (d ∷ []) (x ∷ [])) ds ss) (sym e) b.2) in (
-      (agrees d r s e, rest.0),
-      history_cons h d ds s ss ∙ ap (λ x. history_after (history_after h (d ∷ []) (x ∷ [])) ds ss) (sym e) ∙ rest.1 ∙ sym (history_cons h d ds r rs),
+    let one = one_told h d r s settled.0 reading a.1 b.1 in
+    let rest = same_run (history_after h (d ∷ []) (r ∷ [])) ds rs ss settled.1 (read_on h d r reading a.1) a.2 (subst (λ x. AreTold x ds ss) one.1 b.2) in (
+      (one.0, rest.0),
+      history_cons h d ds s ss ∙ ap (λ x. history_after x ds ss) one.1 ∙ rest.1 ∙ sym (history_cons h d ds r rs),
     )
 
 -- a delivery of the part that stood gets the same reply again, and changes nothing

@@ -11,24 +11,22 @@ use Rattle.review_words.specs.declared.command.Command.{Command}
 use Rattle.review_words.specs.declared.command.Delivery.{Delivery}
 use Rattle.review_words.specs.declared.command.Delivery.TheVariants.{Write, Read}
 use Rattle.review_words.specs.declared.command.Query.{Query}
-use Rattle.review_words.specs.declared.reply.Refusal.{Refusal}
-use Rattle.review_words.specs.declared.reply.Refusal.TheVariants.{UnknownCaller}
-use Rattle.review_words.specs.declared.reply.Answer.{Answer}
 use Rattle.review_words.specs.declared.reply.Reply.{Reply}
 use Rattle.review_words.specs.declared.reply.Reply.TheVariants.{Done, Refused, IdentityReused, NotTaken}
 use Rattle.review_words.specs.declared.reply.NotTaken.{NotTaken as Cause}
 use Rattle.review_words.specs.declared.reply.NotTaken.TheVariants.{Memory, Store, Damaged, Pattern, Full}
-use Rattle.review_words.specs.History.{Entry, Identity, stored, is_account}
+use Rattle.review_words.specs.History.{Entry, Identity, stored}
 use Rattle.review_rows.specs.declared.shelf.ShelfFault.{ShelfFault}
 use Rattle.review_rows.specs.declared.shelf.ShelfFault.TheVariants as fault
 use Rattle.review_rows.specs.declared.rows.Delta.{Delta}
 use Rattle.review_rows.specs.declared.rows.Rows.{Rows}
 use Rattle.review_rows.specs.Rows.{AnswerRow, Answered, Tables}
 use Rattle.review_rows.specs.Steps.{OfCommand, OfQuery}
-use Rattle.review_rows.specs.Answer.{IsHistory, IsAnswer, query_answer, query_checks, first_refusal, refused_or, told as told_of_query, most_requests}
+use Rattle.review_rows.specs.Answer.{IsHistory, IsAnswer, most_requests}
+use Rattle.review_rows.specs.Questions.{IsQueryAnswer, IsQueryAnswerBy}
 use Rattle.review_rows.specs.View.{AreEnough, IsView, IsDecided, answer_row}
 use Rattle.review_rows.specs.Shelf.{IsCommitted, Shown, Shows, Views, LeavesBy, StopLeavesOwnTables, AddsNoStop, IsCounted, Blames, cause_of}
-use Rattle.review_rows.specs.Decisions.{IsUndecided, IsDoneOrRefused}
+use Rattle.review_rows.specs.Decisions.{IsUndecided, IsUnshown, IsDoneOrRefused}
 use Rattle.review_rows.specs.Changes.{Reading, Reads}
 use Rattle.review_rows.specs.Files.{File}
 use Rattle.review_rows.specs.Known.{Agrees}
@@ -97,14 +95,10 @@ not_taken_served h (Write caller id command) cause old new hist v lawful stops =
 not_taken_served h (Read caller query) cause old new hist v lawful stops = record { right = lawful; history = hist; view = v; stops = stops; alone = λ n s. absurd n }
 
 -- a question that was answered
-right_read : (h : List Entry) (caller : ℕ) (query : Query) (reply : Reply) (o : Option Refusal) (a : Answer) (before after : ℕ) → reply ≡ query_answer h caller query → reply ≡ refused_or o a → after ≡ before → IsRight h (Read caller query) reply before after
-right_read h caller query reply None a before after told is same = subst (λ r. IsRight h (Read caller query) r before after) (sym is) (sym is ∙ told, same)
-right_read h caller query reply (Some r) a before after told is same = subst (λ r. IsRight h (Read caller query) r before after) (sym is) (sym is ∙ told, same)
-
-pub read_served : (h : List Entry) (caller : ℕ) (query : Query) (reply : Reply) (old new : Shown) → IsHistory h → Views h old.tables → reply ≡ query_answer h caller query →
+pub read_served : (h : List Entry) (caller : ℕ) (query : Query) (reply : Reply) (old new : Shown) → IsHistory h → Views h old.tables → IsDoneOrRefused reply → IsQueryAnswer h caller query reply →
     new.tables ≡ old.tables → new.faults ≡ old.faults → AddsNoStop old new → IsServed h (Read caller query) reply old new
-read_served h caller query reply old new hist v told stays quiet adds = record {
-  right = right_read h caller query reply (first_refusal ((is_account h caller, UnknownCaller) ∷ query_checks h query)) (told_of_query h query) old.faults new.faults told told quiet;
+read_served h caller query reply old new hist v given told stays quiet adds = record {
+  right = right_from_told h (Read caller query) reply old.faults new.faults (inl given) told quiet;
   history = hist;
   view = views_stay h old.tables new.tables stays v;
   stops = λ t x. inl (adds t x);
@@ -348,7 +342,7 @@ unread_lawful h caller query tables Store before after hist v u counted = counte
 unread_lawful h caller query None Damaged before after hist v u counted = absurd u
 unread_lawful h caller query (Some t) Damaged before after hist v u counted = absurd (u h hist v)
 unread_lawful h caller query None Pattern before after hist v u counted = absurd u
-unread_lawful h caller query (Some t) Pattern before after hist v u counted = absurd u
+unread_lawful h caller query (Some t) Pattern before after hist v u counted = ((λ reading reads. u reading h reads v), counted)
 unread_lawful h caller query tables Full before after hist v u counted = absurd u
 
 -- what is left where not all was gathered views the history as before
@@ -384,24 +378,37 @@ ungathered_keeps caller id command Damaged old new u left = (tt, left)
 ungathered_keeps caller id command Pattern old new u left = (tt, left)
 ungathered_keeps caller id command Full old new u left = absurd u
 
--- a question, answered or not for want of memory
-pub shown_served : (h : List Entry) (caller : ℕ) (query : Query) (r : Result Reply Cause) (file : Option File) (rows : Rows) (old new : Shown) → IsHistory h → Views h old.tables →
-    Shows old.tables (λ t. Agrees t rows) → IsAllAsked caller (OfQuery query) file rows →
-    IfOk r (λ reply. (reading : Reading) (h : List Entry) → AreEnough reading h caller (OfQuery query) file rows → reply ≡ query_answer h caller query) → IfErr r (λ e. e ≡ Memory) →
-    new.tables ≡ old.tables → new.faults ≡ old.faults → AddsNoStop old new → IsServed h (Read caller query) (reply_of r) old new
-shown_served h caller query (Ok reply) file rows old new hist v found asked shown cause stays quiet adds =
-    let r = reading_of h hist in
-    read_served h caller query reply old new hist v (shown r.0 h (enough_shown r.0 h old.tables caller (OfQuery query) file rows r.1 v found asked)) stays quiet adds
-shown_served h caller query (Err e) file rows old new hist v found asked shown cause stays quiet adds =
-    subst (λ c. IsServed h (Read caller query) (NotTaken c) old new) (sym cause)
-    (not_taken_served h (Read caller query) Memory old new hist (views_stay h old.tables new.tables stays v) quiet (λ t x. inl (adds t x)))
+-- a question that was not answered
+unshown_lawful : (h : List Entry) (caller : ℕ) (query : Query) (file : Option File) (rows : Rows) (cause : Cause) (before after : ℕ) → IsHistory h →
+    ((reading : Reading) → Reads reading h → AreEnough reading h caller (OfQuery query) file rows) → IsUnshown caller query file rows cause → after ≡ before → IsLawful h (Read caller query) cause before after
+unshown_lawful h caller query file rows Memory before after hist l u same = same
+unshown_lawful h caller query file rows Damaged before after hist l u same = let r = reading_of h hist in absurd (u r.0 h hist (l r.0 r.1))
+unshown_lawful h caller query file rows Pattern before after hist l u same = absurd u
+unshown_lawful h caller query file rows Store before after hist l u same = absurd u
+unshown_lawful h caller query file rows Full before after hist l u same = absurd u
 
-pub shown_counts : (r : Result Reply Cause) (before after : ℕ) → IfOk r IsDoneOrRefused → IfErr r (λ e. e ≡ Memory) → after ≡ before → CountsReply (reply_of r) before after
-shown_counts (Ok (Done a)) before after answered cause same = same
-shown_counts (Ok (Refused x)) before after answered cause same = same
-shown_counts (Ok IdentityReused) before after answered cause same = absurd answered
-shown_counts (Ok (NotTaken c)) before after answered cause same = absurd answered
-shown_counts (Err e) before after answered cause same = subst (λ c. CountsReply (NotTaken c) before after) (sym cause) same
+-- a question, answered or not
+pub shown_served : (h : List Entry) (caller : ℕ) (query : Query) (r : Result Reply Cause) (file : Option File) (rows : Rows) (old new : Shown) → IsHistory h → Views h old.tables →
+    Shows old.tables (λ t. Agrees t rows) → IsAllAsked caller (OfQuery query) file rows → IfOk r IsDoneOrRefused →
+    IfOk r (λ reply. (reading : Reading) (h : List Entry) → AreEnough reading h caller (OfQuery query) file rows → IsQueryAnswerBy reading h caller query reply) → IfErr r (IsUnshown caller query file rows) →
+    new.tables ≡ old.tables → new.faults ≡ old.faults → AddsNoStop old new → IsServed h (Read caller query) (reply_of r) old new
+shown_served h caller query (Ok reply) file rows old new hist v found asked answered shown cause stays quiet adds =
+    read_served h caller query reply old new hist v answered (λ reading reads. shown reading h (enough_shown reading h old.tables caller (OfQuery query) file rows reads v found asked)) stays quiet adds
+shown_served h caller query (Err e) file rows old new hist v found asked answered shown cause stays quiet adds =
+    not_taken_served h (Read caller query) e old new hist (views_stay h old.tables new.tables stays v)
+    (unshown_lawful h caller query file rows e old.faults new.faults hist (λ reading reads. enough_shown reading h old.tables caller (OfQuery query) file rows reads v found asked) cause quiet) (λ t x. inl (adds t x))
+
+pub shown_counts : (caller : ℕ) (query : Query) (file : Option File) (rows : Rows) (r : Result Reply Cause) (before after : ℕ) → IfOk r IsDoneOrRefused → IfErr r (IsUnshown caller query file rows) → after ≡ before →
+    CountsReply (reply_of r) before after
+shown_counts caller query file rows (Ok (Done a)) before after answered cause same = same
+shown_counts caller query file rows (Ok (Refused x)) before after answered cause same = same
+shown_counts caller query file rows (Ok IdentityReused) before after answered cause same = absurd answered
+shown_counts caller query file rows (Ok (NotTaken c)) before after answered cause same = absurd answered
+shown_counts caller query file rows (Err Memory) before after answered cause same = same
+shown_counts caller query file rows (Err Damaged) before after answered cause same = same
+shown_counts caller query file rows (Err Pattern) before after answered cause same = absurd cause
+shown_counts caller query file rows (Err Store) before after answered cause same = absurd cause
+shown_counts caller query file rows (Err Full) before after answered cause same = absurd cause
 
 pub shown_keeps : (caller : ℕ) (query : Query) (r : Result Reply Cause) (old new : Option Tables) → IfOk r IsDoneOrRefused → new ≡ old → KeepsUntaken (Read caller query) (reply_of r) old new
 shown_keeps caller query (Ok (Done a)) old new answered same = same

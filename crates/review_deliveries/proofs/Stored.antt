@@ -9,7 +9,9 @@ use Rattle.review_words.specs.declared.changes.Given.{Given}
 use Rattle.review_words.specs.declared.changes.NewPatch.{NewPatch}
 use Rattle.review_words.specs.declared.changes.Review.{Review as ReviewOf}
 use Rattle.review_words.specs.declared.command.Command.{Command}
-use Rattle.review_words.specs.declared.command.Command.TheVariants.{CreateAccount, PutGroup, PutProject, RecordBase, CreateChange, Upload, Review}
+use Rattle.review_words.specs.declared.command.Command.TheVariants.{CreateAccount, PutGroup, PutProject, RecordBase, CreateChange, OnChange}
+use Rattle.review_words.specs.declared.command.ChangeCommand.{ChangeCommand}
+use Rattle.review_words.specs.declared.command.ChangeCommand.TheVariants as on
 use Rattle.review_words.specs.declared.reply.Reply.{Reply}
 use Rattle.review_words.specs.declared.reply.Reply.TheVariants.{Done, Refused}
 use Rattle.review_words.specs.declared.reply.Answer.TheVariants.{Nothing, Reviewed}
@@ -19,7 +21,7 @@ use Rattle.review_words.specs.History.{Entry, is_account, account_count, file_te
 use Rattle.review_project_laws.proofs.Placed.{placed}
 use Rattle.review_changes.specs.Change.{Change, Setting, current, said}
 use Rattle.review_change_laws.proofs.Sound.{Passes, all_pass, later_pass}
-use Rattle.review_rows.specs.Answer.{IsHistory, IsAnswer, IsAnswerBy, IsOutcome, IsOf, IsUploadAnswer, checks, comment_numbers, file_checks, first_refusal, given_checks, numbers_after, of_change, refused_by, refused_or, review_checks, upload_checks}
+use Rattle.review_rows.specs.Answer.{IsHistory, IsAnswer, IsAnswerBy, IsOutcome, IsOf, IsRequestOutcome, IsUploadAnswer, checks, comment_numbers, file_checks, first_refusal, given_checks, numbers_after, of_change, refused_by, refused_or, request_checks, review_checks, upload_checks}
 use Rattle.review_rows.specs.Changes.{Reading, Reads, change, change_count, setting_of}
 use Rattle.review_rows.proofs.Readings.{reading_of}
 use Rattle.review_deliveries.proofs.Bounds.{change_bound, votes_bound}
@@ -47,14 +49,24 @@ given_stored : (s : Setting) (caller : ℕ) (r : ReviewOf) (c : Change) (gs : Li
 given_stored s caller r c [] = tt
 given_stored s caller r c (g ∷ gs) = (tt, (tt, (tt, (tt, (tt, tt)))))
 
-upload_stored : (reading : Reading) (h : List Entry) (caller : ℕ) (patch : NewPatch) (o : Option Change) → AllStored (of_change (upload_checks reading h caller patch) o)
-upload_stored reading h caller patch None = (tt, tt)
-upload_stored reading h caller patch (Some c) = (tt, (tt, (tt, (tt, (tt, tt)))))
-
-review_stored : (reading : Reading) (h : List Entry) (caller : ℕ) (review : ReviewOf) (o : Option Change) → AllStored (of_change (review_checks reading h caller review) o)
-review_stored reading h caller review None = (tt, tt)
-review_stored reading h caller review (Some c) =
+-- the refusals of a request on a change
+request_stored : (reading : Reading) (h : List Entry) (caller : ℕ) (command : ChangeCommand) (c : Change) → AllStored (request_checks reading h caller command c)
+request_stored reading h caller (on.Upload patch) c = (tt, (tt, (tt, (tt, (tt, tt)))))
+request_stored reading h caller (on.Review review) c =
     (tt, both_stored (given_checks (setting_of reading h c.project) caller review c review.labels) _ (given_stored (setting_of reading h c.project) caller review c review.labels) (tt, (tt, tt)))
+request_stored reading h caller (on.AddReviewer account role) c = (tt, (tt, tt))
+request_stored reading h caller (on.RemoveReviewer account) c = (tt, (tt, (tt, (tt, tt))))
+request_stored reading h caller on.SetWip c = (tt, (tt, (tt, tt)))
+request_stored reading h caller on.SetReady c = (tt, (tt, (tt, tt)))
+request_stored reading h caller on.Abandon c = (tt, (tt, tt))
+request_stored reading h caller on.Restore c = (tt, (tt, (tt, tt)))
+request_stored reading h caller (on.AddAttention account reason) c = (tt, (tt, (tt, (tt, tt))))
+request_stored reading h caller (on.RemoveAttention account reason) c = (tt, (tt, (tt, tt)))
+
+-- the refusals of what is asked of a change, where there is one
+on_stored : (each : Change → List (Bool × Refusal)) → ((c : Change) → AllStored (each c)) → (o : Option Change) → AllStored (of_change each o)
+on_stored each all None = (tt, tt)
+on_stored each all (Some c) = all c
 
 checks_stored : (reading : Reading) (h : List Entry) (caller : ℕ) (command : Command) → AllStored (checks reading h caller command)
 checks_stored reading h caller (CreateAccount name) = (tt, (tt, (tt, tt)))
@@ -62,8 +74,7 @@ checks_stored reading h caller (PutGroup group members) = (tt, (tt, (tt, tt)))
 checks_stored reading h caller (PutProject project text) = (tt, tt)
 checks_stored reading h caller (RecordBase project branch commit) = (tt, (tt, (tt, (tt, tt))))
 checks_stored reading h caller (CreateChange new) = (tt, (tt, (tt, (tt, (tt, (tt, tt))))))
-checks_stored reading h caller (Upload n patch) = upload_stored reading h caller patch (change reading h n)
-checks_stored reading h caller (Review n review) = review_stored reading h caller review (change reading h n)
+checks_stored reading h caller (OnChange n command) = on_stored (request_checks reading h caller command) (request_stored reading h caller command) (change reading h n)
 
 refused_or_stored : (o : Option Refusal) → ((r : Refusal) → o ≡ Some r → IsStored (Refused r)) → IsStored (refused_or o Nothing)
 refused_or_stored None stored = tt
@@ -96,6 +107,20 @@ uploaded_stored reading h caller n patch (Some c) reply history reads there pass
     let votes = votes_bound reading h caller n patch c reply history reads there is in
     subst IsStored (sym is.reply_is) (number.0, number.1, omega arith, omega arith, votes.0, votes.1)
 
+-- what a request on a change is told
+told_stored : (reading : Reading) (h : List Entry) (caller n : ℕ) (command : ChangeCommand) (reply : Reply) → IsHistory h → Reads reading h →
+    AllByRecursion Passes (of_change (request_checks reading h caller command) (change reading h n)) → IsRequestOutcome reading h caller n command reply → IsStored reply
+told_stored reading h caller n (on.Upload patch) reply history reads all is = uploaded_stored reading h caller n patch (change reading h n) reply history reads refl all is
+told_stored reading h caller n (on.Review review) reply history reads all is = subst IsStored (sym is) (reviewed_stored reading h caller review (change reading h n) all)
+told_stored reading h caller n (on.AddReviewer account role) reply history reads all is = subst IsStored (sym is) tt
+told_stored reading h caller n (on.RemoveReviewer account) reply history reads all is = subst IsStored (sym is) tt
+told_stored reading h caller n on.SetWip reply history reads all is = subst IsStored (sym is) tt
+told_stored reading h caller n on.SetReady reply history reads all is = subst IsStored (sym is) tt
+told_stored reading h caller n on.Abandon reply history reads all is = subst IsStored (sym is) tt
+told_stored reading h caller n on.Restore reply history reads all is = subst IsStored (sym is) tt
+told_stored reading h caller n (on.AddAttention account reason) reply history reads all is = subst IsStored (sym is) tt
+told_stored reading h caller n (on.RemoveAttention account reason) reply history reads all is = subst IsStored (sym is) tt
+
 outcome_stored : (reading : Reading) (h : List Entry) (caller : ℕ) (command : Command) (reply : Reply) → IsHistory h → Reads reading h → AllByRecursion Passes (checks reading h caller command) →
     IsOutcome reading h caller command reply → IsStored reply
 outcome_stored reading h caller (CreateAccount name) reply history reads all is =
@@ -109,8 +134,7 @@ outcome_stored reading h caller (PutProject project text) reply history reads al
 outcome_stored reading h caller (CreateChange new) reply history reads all is =
     let below : change_count h < most_changes = ltb-true (change_count h) most_changes all.1.1.1.1.1.0 in
     subst IsStored (sym is) (omega arith, omega arith, omega arith, omega arith)
-outcome_stored reading h caller (Upload n patch) reply history reads all is = uploaded_stored reading h caller n patch (change reading h n) reply history reads refl all is
-outcome_stored reading h caller (Review n review) reply history reads all is = subst IsStored (sym is) (reviewed_stored reading h caller review (change reading h n) all)
+outcome_stored reading h caller (OnChange n command) reply history reads all is = told_stored reading h caller n command reply history reads all is
 
 answer_stored_by : (reading : Reading) (h : List Entry) (caller : ℕ) (command : Command) (reply : Reply) → IsHistory h → Reads reading h → IsAnswerBy reading h caller command reply → IsStored reply
 answer_stored_by reading h caller command reply history reads is = at (refused_by reading h caller command) refl is

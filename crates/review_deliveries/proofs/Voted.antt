@@ -10,7 +10,8 @@ use Rattle.review_words.specs.declared.changes.Given.{Given}
 use Rattle.review_words.specs.declared.changes.NewPatch.{NewPatch}
 use Rattle.review_words.specs.declared.changes.Review.{Review as ReviewOf}
 use Rattle.review_words.specs.declared.command.Command.{Command}
-use Rattle.review_words.specs.declared.command.Command.TheVariants.{CreateAccount, PutGroup, PutProject, RecordBase, CreateChange, Upload, Review}
+use Rattle.review_words.specs.declared.command.Command.TheVariants.{CreateAccount, PutGroup, PutProject, RecordBase, CreateChange, OnChange}
+use Rattle.review_words.specs.declared.command.ChangeCommand.{ChangeCommand}
 use Rattle.review_words.specs.declared.reply.Answer.{Answer}
 use Rattle.review_words.specs.declared.reply.Answer.TheVariants.{Nothing}
 use Rattle.review_words.specs.declared.reply.Refusal.{Refusal}
@@ -24,9 +25,9 @@ use Rattle.review_expr.specs.declared.expr.Expr.{Expr}
 use Rattle.review_project_laws.proofs.Together.{same_covers}
 use Rattle.review_changes.specs.Change.{Change, Copying, Setting, after, begun, carried, copying, current, given_or, label_in, reviewed}
 use Rattle.review_changes.specs.Votes.{voted}
-use Rattle.review_changes.specs.declared.commands.ChangeCommand.TheVariants as on
+use Rattle.review_words.specs.declared.command.ChangeCommand.TheVariants as on
 use Rattle.review_change_laws.proofs.Sound.{Passes, all_pass, checks_pass, done_passes}
-use Rattle.review_rows.specs.Answer.{IsAnswerBy, IsFaultAnswer, IsFileAnswer, IsHistory, checks, first_refusal, given_checks, refused_by, refused_or, review_checks}
+use Rattle.review_rows.specs.Answer.{IsAnswerBy, IsFaultAnswer, IsFileAnswer, IsHistory, checks, first_refusal, given_checks, refused_by, refused_or, request_checks}
 use Rattle.review_rows.specs.Changes.{Reading, Reads, IsReadRight, change, change_by, change_count, file_of, setting_of}
 use Rattle.review_rows.specs.Files.{File, IsRead, covers}
 use Rattle.review_rows.specs.Limits.{most_projects}
@@ -130,8 +131,7 @@ stay_done reading h e (PutProject project text) a is right answer = record {
 stay_done reading h e (PutGroup group members) a is right answer = stay_alike reading h (e ∷ h) (ap (λ o. counted o (account_count h)) is) (λ p. ap (λ o. text_put o p (file_text h p)) is)
 stay_done reading h e (RecordBase project branch commit) a is right answer = stay_alike reading h (e ∷ h) (ap (λ o. counted o (account_count h)) is) (λ p. ap (λ o. text_put o p (file_text h p)) is)
 stay_done reading h e (CreateChange new) a is right answer = stay_alike reading h (e ∷ h) (ap (λ o. counted o (account_count h)) is) (λ p. ap (λ o. text_put o p (file_text h p)) is)
-stay_done reading h e (Upload n patch) a is right answer = stay_alike reading h (e ∷ h) (ap (λ o. counted o (account_count h)) is) (λ p. ap (λ o. text_put o p (file_text h p)) is)
-stay_done reading h e (Review n review) a is right answer = stay_alike reading h (e ∷ h) (ap (λ o. counted o (account_count h)) is) (λ p. ap (λ o. text_put o p (file_text h p)) is)
+stay_done reading h e (OnChange n command) a is right answer = stay_alike reading h (e ∷ h) (ap (λ o. counted o (account_count h)) is) (λ p. ap (λ o. text_put o p (file_text h p)) is)
 
 stay_undone : (reading : Reading) (h : List Entry) (e : Entry) → accepted e ≡ None → Stay reading h (e ∷ h)
 stay_undone reading h e is = stay_alike reading h (e ∷ h) (ap (λ o. counted o (account_count h)) is) (λ p. ap (λ o. text_put o p (file_text h p)) is)
@@ -203,6 +203,30 @@ was_reviewed reading h caller request r c account given has = record {
       (given_label (file_of reading h c.project) r.labels l (c.vote n l u) given (has.labels n l u)) (has.labels n l u) is;
 }
 
+-- a vote that wasn't taken away was there before
+left_vote : (b : Bool) (v : ℤ) → voted (cond b (pos 0) v) ≡ true → voted v ≡ true
+left_vote true v is = absurd (cc)
+left_vote false v is = is
+
+-- after a request on a change accounts voted on it, and on labels of its file: but for an Upload and a Review each vote was there before
+voters_after : (reading : Reading) (h : List Entry) (caller request : ℕ) (command : ChangeCommand) (c : Change) → is_account h caller ≡ true → AllByRecursion Passes (request_checks reading h caller command c) →
+    HasVoters reading h c → HasVoters reading h (after (setting_of reading h c.project) command caller request c)
+voters_after reading h caller request (on.Upload patch) c account pass has = uploaded reading h (setting_of reading h c.project) patch caller request c has
+voters_after reading h caller request (on.Review review) c account pass has =
+    was_reviewed reading h caller request review c account (labels_given (setting_of reading h c.project) caller review c review.labels _ pass.1) has
+voters_after reading h caller request (on.AddReviewer u role) c account pass has = record { project = has.project; voters = has.voters; labels = has.labels }
+voters_after reading h caller request (on.RemoveReviewer v) c account pass has = record {
+  project = has.project;
+  voters = λ n l u is. has.voters n l u (left_vote ((current c == n) && (v == u)) (c.vote n l u) is);
+  labels = λ n l u is. has.labels n l u (left_vote ((current c == n) && (v == u)) (c.vote n l u) is);
+}
+voters_after reading h caller request on.SetWip c account pass has = record { project = has.project; voters = has.voters; labels = has.labels }
+voters_after reading h caller request on.SetReady c account pass has = record { project = has.project; voters = has.voters; labels = has.labels }
+voters_after reading h caller request on.Abandon c account pass has = record { project = has.project; voters = has.voters; labels = has.labels }
+voters_after reading h caller request on.Restore c account pass has = record { project = has.project; voters = has.voters; labels = has.labels }
+voters_after reading h caller request (on.AddAttention u reason) c account pass has = record { project = has.project; voters = has.voters; labels = has.labels }
+voters_after reading h caller request (on.RemoveAttention u reason) c account pass has = record { project = has.project; voters = has.voters; labels = has.labels }
+
 -- what becomes of a change that a request names, or that is made
 by_choice : (Is : Change → Type 0) (b : Bool) (o : Option Change) (f : Change → Change) (c : Change) → ((x : Change) → o ≡ Some x → Is x) → (b ≡ true → (x : Change) → o ≡ Some x → Is x → Is (f x)) →
     cond b (option_map f o) o ≡ Some c → Is c
@@ -224,16 +248,13 @@ voters_done reading h caller n c (CreateChange new) a answer before is =
     let all = (all_pass ((is_account h caller, UnknownCaller) ∷ checks reading h caller (CreateChange new)) (done_passes reading h caller (CreateChange new) a answer)).1 in
     by_making (HasVoters reading h) (change_count h + 1 == n) (change reading h n) (begun new caller (length h + 1)) c before
     (record { project = all.0; voters = λ m l u none. absurd (cc); labels = λ m l u none. absurd (cc) }) is
-voters_done reading h caller n c (Upload m patch) a answer before is =
-    by_choice (HasVoters reading h) (m == n) (change reading h n) (λ x. after (setting_of reading h x.project) (on.Upload patch) caller (length h + 1) x) c before
-    (λ same x there has. uploaded reading h (setting_of reading h x.project) patch caller (length h + 1) x has) is
-voters_done reading h caller n c (Review m review) a answer before is =
-    let none = done_passes reading h caller (Review m review) a answer in
-    let account = (all_pass ((is_account h caller, UnknownCaller) ∷ checks reading h caller (Review m review)) none).0 in
-    by_choice (HasVoters reading h) (m == n) (change reading h n) (λ x. after (setting_of reading h x.project) (on.Review review) caller (length h + 1) x) c before
+voters_done reading h caller n c (OnChange m command) a answer before is =
+    let none = done_passes reading h caller (OnChange m command) a answer in
+    let account = (all_pass ((is_account h caller, UnknownCaller) ∷ checks reading h caller (OnChange m command)) none).0 in
+    by_choice (HasVoters reading h) (m == n) (change reading h n) (λ x. after (setting_of reading h x.project) command caller (length h + 1) x) c before
     (λ same x there has.
-    let pass = checks_pass reading h caller (review_checks reading h caller review) (change reading h m) x (ap (change reading h) (eqb-true m n same) ∙ there) none in
-    was_reviewed reading h caller (length h + 1) review x account (labels_given (setting_of reading h x.project) caller review x review.labels _ pass.1) has) is
+    let pass = checks_pass reading h caller (request_checks reading h caller command) (change reading h m) x (ap (change reading h) (eqb-true m n same) ∙ there) none in
+    voters_after reading h caller (length h + 1) command x account pass has) is
 
 -- one entry more
 voters_step : (reading : Reading) (h : List Entry) (e : Entry) (n : ℕ) (c : Change) (reply : Reply) → e.reply ≡ reply → IsReadRight reading (if_done reply e.command) → IsAnswerBy reading h e.identity.caller e.command reply →

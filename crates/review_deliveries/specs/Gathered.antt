@@ -7,12 +7,12 @@ use Rattle.review_words.specs.declared.reply.Reply.TheVariants.{NotTaken}
 use Rattle.review_rows.specs.declared.rows.Want.{Want}
 use Rattle.review_rows.specs.declared.rows.Rows.{Rows}
 use Rattle.review_rows.specs.Changes.{Reading, Reads}
-use Rattle.review_rows.specs.Decisions.{HasPatternIn, judging_project}
+use Rattle.review_rows.specs.Decisions.{HasPatternIn, topic_project}
 use Rattle.review_rows.specs.Files.{File}
 use Rattle.review_rows.specs.Known.{known, IsKnown, Agrees}
 use Rattle.review_rows.specs.Rows.{Tables}
 use Rattle.review_rows.specs.Shelf.{Shows, LeavesBy, IsDamaged}
-use Rattle.review_rows.specs.Steps.{Topic, OfCommand, OfQuery, HasFile, next, text_for}
+use Rattle.review_rows.specs.Steps.{Topic, HasFile, next, text_for}
 use Rattle.review_rows.specs.View.{IsView}
 use Rattle.review_deliveries.specs.Replies.{CountsReply}
 
@@ -28,11 +28,9 @@ StaysKnown first rows = (w : Want) → IsKnown first w → known rows w ≡ know
 abbrev pub IsAllAsked : ℕ → Topic → Option File → Rows → Type 0
 IsAllAsked caller topic file rows = (next file rows caller topic ≡ []) × HasFile (text_for rows topic) file
 
--- a command is judged by a file with a pattern, in each history whose tables these are
+-- a command is judged by a file with a pattern, or a question answered by one, in each history whose tables these are
 abbrev pub IsJudgedByPattern : Topic → Tables → Type 0
-IsJudgedByPattern (OfCommand command) t =
-    (reading : Reading) (h : List Entry) → Reads reading h → IsView h t → HasPatternIn h (judging_project reading h command)
-IsJudgedByPattern (OfQuery query) t = ⊥
+IsJudgedByPattern topic t = (reading : Reading) (h : List Entry) → Reads reading h → IsView h t → HasPatternIn h (topic_project reading h topic)
 
 -- Why not all is gathered: want of memory, a fault of the store, tables that are those of no history, or a pattern that the engine may refuse.
 abbrev pub IsUngathered : Topic → Option Tables → Cause → Type 0

@@ -9,11 +9,12 @@ use Rattle.review_words.specs.declared.reply.NotTaken.{NotTaken as Cause}
 use Rattle.review_words.specs.declared.reply.NotTaken.TheVariants.{Memory, Store, Damaged, Pattern, Full}
 use Rattle.review_words.specs.History.{Entry, Identity, stored, is_same}
 use Rattle.review_words.specs.Texts.{content_text, reply_text, IsStored}
-use Rattle.review_rows.specs.Answer.{IsHistory, IsAnswer, query_answer, most_requests}
+use Rattle.review_rows.specs.Answer.{IsHistory, IsAnswer, most_requests}
+use Rattle.review_rows.specs.Questions.{IsQueryAnswer}
 use Rattle.review_rows.specs.Rows.{Key, Count, Tables, AnswerRow, Answered}
 use Rattle.review_rows.specs.View.{IsView, answer_row}
 use Rattle.review_rows.specs.Changes.{Reading, Reads}
-use Rattle.review_rows.specs.Decisions.{ReadsPattern, IsDoneOrRefused}
+use Rattle.review_rows.specs.Decisions.{HasPatternIn, ReadsPattern, IsDoneOrRefused, asking_project}
 use Rattle.review_rows.specs.Shelf.{greatest_count, Shown, Shows, Views, LeavesBy, StopLeavesOwnTables}
 
 -- a delivery that was taken, as an entry
@@ -68,7 +69,7 @@ IsLawful h d Store before after = (before < after) ⊎ ((before ≡ greatest_cou
 IsLawful h d Damaged before after = ⊥
 IsLawful h (Write caller id command) Pattern before after = (stored h (record { caller = caller; id = id }) ≡ None) × ((reading : Reading) → Reads reading h → ReadsPattern reading h command) × (after ≡ before)
 IsLawful h (Write caller id command) Full before after = (stored h (record { caller = caller; id = id }) ≡ None) × (length h ≡ most_requests) × (after ≡ before)
-IsLawful h (Read caller query) Pattern before after = ⊥
+IsLawful h (Read caller query) Pattern before after = ((reading : Reading) → Reads reading h → HasPatternIn h (asking_project reading h query)) × (after ≡ before)
 IsLawful h (Read caller query) Full before after = ⊥
 
 -- what a write is told whose identity is stored: the stored reply where the command is the same, otherwise that the identity is used
@@ -79,7 +80,7 @@ pub record IsToldOfStored (e : Entry) (command : Command) (reply : Reply) : Type
 -- what a delivery is told after the history
 abbrev pub IsTold : List Entry → Delivery → Reply → Type 0
 IsTold h (Write caller id command) reply = MatchOption (stored h (record { caller = caller; id = id })) (IsAnswer h caller command reply) (λ e. IsToldOfStored e command reply)
-IsTold h (Read caller query) reply = reply ≡ query_answer h caller query
+IsTold h (Read caller query) reply = IsQueryAnswer h caller query reply
 
 -- the right reply after the history
 abbrev pub IsRight : List Entry → Delivery → Reply → ℕ → ℕ → Type 0

@@ -44,7 +44,7 @@ pub fn gather<S: Shelf, R: Rules>(
 /// The rows that decide a command or a question, with the project file by which it is judged, where there is one: first what is asked
 /// without the file, which tells the file's text; then the file is read; and then what is asked by the file.
 ///
-/// Pattern is answered only for a command that is judged by a file with a pattern.
+/// Pattern is answered only for a command that is judged by a file with a pattern, or a question answered by one.
 pub fn gathered<S: Shelf, R: Rules>(
     alloc: Global,
     shelf: &mut S,

@@ -11,13 +11,13 @@ pub trait Rules {
     ghost use Rattle.review_file.specs.Texts.{file_read};
     ghost use Rattle.review_words.specs.Texts.{IsStored};
     ghost use Rattle.review_words.specs.History.{Entry};
-    ghost use Rattle.review_words.specs.declared.reply.NotTaken.TheVariants.{Memory};
-    ghost use Rattle.review_rows.specs.Answer.{most_requests, query_answer};
+    ghost use Rattle.review_rows.specs.Answer.{most_requests};
+    ghost use Rattle.review_rows.specs.Questions.{IsQueryAnswerBy};
     ghost use Rattle.review_rows.specs.Changes.{Reading};
     ghost use Rattle.review_rows.specs.Rows.{HasNoEffect};
     ghost use Rattle.review_rows.specs.Steps.{HasFile, next, text_for, topic_of, wants_in, unless_none, OfCommand, OfQuery};
     ghost use Rattle.review_rows.specs.View.{AreEnough, IsDecided};
-    ghost use Rattle.review_rows.specs.Decisions.{IsUndecided, IsUnread, NamesEachOnce, IsDoneOrRefused};
+    ghost use Rattle.review_rows.specs.Decisions.{IsUndecided, IsUnread, IsUnshown, NamesEachOnce, IsDoneOrRefused};
 
     /// What a command or a question asks of the tables next, where this file was read; nothing where the rows decide it.
     fn next_need(
@@ -64,7 +64,7 @@ pub trait Rules {
         caller: AccountNo,
         query: &Query,
     ) -> Result<Reply, NotTaken>
-        ensures shown { IfOk result (λ r. (reading : Reading) (h : List Entry) → AreEnough reading h caller (OfQuery query.now) (file_read read) rows.now → r ≡ query_answer h caller query.now) }
+        ensures shown { IfOk result (λ r. (reading : Reading) (h : List Entry) → AreEnough reading h caller (OfQuery query.now) (file_read read) rows.now → IsQueryAnswerBy reading h caller query.now r) }
         ensures answered { IfOk result IsDoneOrRefused }
-        ensures cause { IfErr result (λ e. e ≡ Memory) };
+        ensures cause { IfErr result (IsUnshown caller query.now (file_read read) rows.now) };
 }

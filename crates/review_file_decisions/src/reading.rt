@@ -9,7 +9,7 @@ ghost use Rattle.review_file_decisions.specs.Files.{unread_cause};
 
 use review_file::{FileMemo, ReadFault, ReadText};
 use review_rows::{Matter, Rows};
-use review_words::{ChangeNo, Command, NotTaken, ProjectName};
+use review_words::{ChangeNo, Command, NotTaken, ProjectName, Query};
 use std::alloc::Global;
 
 /// Reads the file of the project by which a command or a question is judged, as rows know its text; none where there is none. What is
@@ -43,8 +43,8 @@ pub fn project_of<'r>(rows: &'r Rows, matter: Matter<'r>) -> Option<&'r ProjectN
     match matter {
         Matter::Command(Command::PutProject { project, file: _ }) => Some(project),
         Matter::Command(Command::CreateChange(new)) => Some(&new.project),
-        Matter::Command(Command::Upload { change, patch: _ }) => project_of_change(rows, *change),
-        Matter::Command(Command::Review { change, review: _ }) => project_of_change(rows, *change),
+        Matter::Command(Command::OnChange { change, .. }) => project_of_change(rows, *change),
+        Matter::Query(Query::OnChange { change, .. }) => project_of_change(rows, *change),
         _ => None,
     }
 }

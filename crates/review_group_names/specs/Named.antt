@@ -14,7 +14,7 @@ use Rattle.review_terms.specs.declared.terms.Voters.{Voters}
 use Rattle.review_terms.specs.declared.terms.Voters.TheVariants as voters
 use Rattle.review_expr.specs.declared.expr.Expr.{Expr}
 use Rattle.review_expr.specs.declared.expr.Expr.TheVariants as expr
-use Rattle.review_project.specs.View.{FileView, LabelView}
+use Rattle.review_project.specs.View.{FileView, LabelView, RequirementView}
 
 -- the group that a term of a copy condition names
 abbrev pub copy_group : CopyTerm → List (List ℕ)
@@ -58,6 +58,14 @@ copying_groups labels = flat_map (λ label. option_map_or groups_in label.copy_c
 -- the groups that the copy conditions of a file name
 abbrev pub copy_groups : FileView Expr → List (List ℕ)
 copy_groups file = copying_groups file.labels
+
+-- the groups that a submit requirement names
+abbrev pub groups_of_requirement : RequirementView Expr → List (List ℕ)
+groups_of_requirement q = option_map_or groups_in q.applicable_if [] ++ (option_map_or groups_in q.override_if [] ++ groups_in q.submittable_if)
+
+-- the groups that the submit requirements of a file name
+abbrev pub required_groups : FileView Expr → List (List ℕ)
+required_groups file = flat_map groups_of_requirement file.requirements
 
 -- two lists of groups have the same accounts in a group
 abbrev pub SameIn : GroupList → GroupList → List ℕ → Type 0

@@ -1,23 +1,20 @@
 -- The JSON of a reply.
-use Rattle.std.specs.Prelude.{ℕ, List, map, codes}
-use Rattle.serde_json.specs.Data.{Data, number, unsigned, string, array, object, Items, no_items, no_members, member}
-use Rattle.serde_json.specs.View.{items_of}
+use Rattle.std.specs.Prelude.{ℕ, List, codes}
+use Rattle.serde_json.specs.Data.{Data, string, array, object, no_items, no_members, member}
 use Rattle.review_words.specs.Refusals.{refusal_number, refusal_name}
 use Rattle.review_words.specs.Faults.{code_name, file_fault_name}
 use Rattle.review_words.specs.declared.reply.Reply.{Reply}
 use Rattle.review_words.specs.declared.reply.Reply.TheVariants.{Done, Refused, IdentityReused, NotTaken}
 use Rattle.review_words.specs.declared.reply.Answer.{Answer}
-use Rattle.review_words.specs.declared.reply.Answer.TheVariants.{Account, Nothing, Change, Patch, Reviewed, Branch}
+use Rattle.review_words.specs.declared.reply.Answer.TheVariants.{Account, Nothing, Change, Patch, Reviewed, Branch, Shown, Requirements, Threads, Attention}
 use Rattle.review_words.specs.declared.reply.Refusal.{Refusal}
 use Rattle.review_words.specs.declared.reply.Refusal.TheVariants.{BadFile}
 use Rattle.review_words.specs.declared.faults.FileFault.{FileFault}
 use Rattle.review_words.specs.declared.faults.FileFault.TheVariants.{Expr}
 use Rattle.review_words.specs.declared.reply.NotTaken.{NotTaken as Cause}
 use Rattle.review_words.specs.declared.reply.NotTaken.TheVariants.{Memory, Store, Damaged, Pattern, Full}
-
--- a whole number as JSON
-abbrev pub number_data : ℕ → Data
-number_data n = number (unsigned n)
+use Rattle.review_json.specs.Values.{number_data, texts_data, numbers_data}
+use Rattle.review_json.specs.Shown.{change_data, requirements_data, threads_data, calls_data}
 
 -- the name of a cause for which a delivery was not taken
 abbrev pub cause_name : Cause → List ℕ
@@ -26,14 +23,6 @@ cause_name Store = codes "STORE"
 cause_name Damaged = codes "DAMAGED"
 cause_name Pattern = codes "PATTERN"
 cause_name Full = codes "FULL"
-
--- texts in their order
-abbrev pub texts_data : List (List ℕ) → Items
-texts_data texts = items_of (map (λ text. string text) texts)
-
--- numbers in their order
-abbrev pub numbers_data : List ℕ → Items
-numbers_data numbers = items_of (map number_data numbers)
 
 -- what a command that was done gave, or what a query found; nothing joins a branch, since no change is merged
 abbrev pub answer_data : Answer → Data
@@ -47,6 +36,10 @@ answer_data (Patch change patch copied outdated) =
     (member (codes "patch_set") (number_data patch) no_members))))
 answer_data (Reviewed comments) = object (member (codes "comments") (array (numbers_data comments)) no_members)
 answer_data (Branch bases) = object (member (codes "bases") (array (texts_data bases)) (member (codes "joined") (array no_items) no_members))
+answer_data (Shown change) = change_data change
+answer_data (Requirements requirements) = array (requirements_data requirements)
+answer_data (Threads threads) = array (threads_data threads)
+answer_data (Attention calls) = array (calls_data calls)
 
 -- a refusal for a file with this fault; for an expression's fault with its code and its place
 abbrev pub bad_file_data : FileFault → Data
@@ -66,7 +59,7 @@ abbrev pub refusal_data : Refusal → Data
 refusal_data (BadFile fault) = bad_file_data fault
 refusal_data refusal = object (member (codes "number") (number_data (refusal_number refusal)) (member (codes "refused") (string (refusal_name refusal)) no_members))
 
--- the value of a reply, an object with its members in the order of their keys
+-- the value of a reply; the members of an object stand in the order of their keys
 abbrev pub reply_data : Reply → Data
 reply_data (Done answer) = answer_data answer
 reply_data (Refused refusal) = refusal_data refusal

@@ -1,14 +1,14 @@
 -- The command that a line and its body spell.
-use Rattle.std.specs.Prelude.{ℕ, List, if◌then◌else◌, Option, None, option_map, option_and_then, codes}
+use Rattle.std.specs.Prelude.{ℕ, List, if◌then◌else◌, Option, option_map, option_and_then, codes}
 use Rattle.std.specs.Str.{bytes_eq}
 use Rattle.serde_json.specs.Data.{Data}
 use Rattle.review_names.specs.Names.{is_word}
 use Rattle.review_names.specs.Forms.{is_slashed_name, is_commit}
 use Rattle.review_words.specs.declared.command.Command.{Command}
-use Rattle.review_words.specs.declared.command.Command.TheVariants.{CreateAccount, PutGroup, PutProject, RecordBase, CreateChange, Upload, Review}
+use Rattle.review_words.specs.declared.command.Command.TheVariants.{CreateAccount, PutGroup, PutProject, RecordBase, CreateChange, OnChange}
 use Rattle.review_bodies.specs.Parts.{text_at, name_at, members_at, change_at}
-use Rattle.review_bodies.specs.Changes.{new_change, new_patch}
-use Rattle.review_bodies.specs.Reviews.{has_refused, patch_in, said}
+use Rattle.review_bodies.specs.Changes.{new_change}
+use Rattle.review_json.specs.Asked.{asked_named}
 
 -- the body has the name
 unfoldable pub create_account : Data → Option Command
@@ -33,16 +33,10 @@ record_base line body =
 unfoldable pub create_change : Data → Option Command
 create_change body = option_map (λ change. CreateChange change) (new_change body)
 
--- the line has the change, the body its new patch set
-unfoldable pub upload : Data → Data → Option Command
-upload line body =
-    option_and_then (λ change. option_map (λ patch. Upload change patch) (new_patch body)) (change_at (codes "change") line)
-
--- the line has the change and the patch set, the body what is said, and none of the members that a review refuses
-unfoldable pub review : Data → Data → Option Command
-review line body =
-    if has_refused body then None
-    else option_and_then (λ change. option_and_then (λ patch. option_map (λ what. Review change what) (said patch body)) (patch_in line)) (change_at (codes "change") line)
+-- the line has the change, of which it asks something under a name
+unfoldable pub on_change : List ℕ → Data → Data → Option Command
+on_change name line body =
+    option_and_then (λ change. option_map (λ asked. OnChange change asked) (asked_named name line body)) (change_at (codes "change") line)
 
 -- the command of a name
 unfoldable pub command_named : List ℕ → Data → Data → Option Command
@@ -51,6 +45,4 @@ command_named name line body =
     else (if bytes_eq name (codes "PutGroup") then put_group line body
     else (if bytes_eq name (codes "PutProject") then put_project line body
     else (if bytes_eq name (codes "RecordBase") then record_base line body
-    else (if bytes_eq name (codes "CreateChange") then create_change body
-    else (if bytes_eq name (codes "Upload") then upload line body
-    else (if bytes_eq name (codes "Review") then review line body else None))))))
+    else (if bytes_eq name (codes "CreateChange") then create_change body else on_change name line body))))

@@ -2,8 +2,10 @@
 ghost use Rattle.std.specs.Prelude.{◌≡◌, IfOk, string_bytes};
 ghost use Rattle.serde_json.specs.View.{view, items_view};
 ghost use Rattle.serde_json.specs.Written.{compact_text};
-ghost use Rattle.review_json.specs.Answer.{cause_name, texts_data, numbers_data, answer_data, bad_file_data, refusal_data, reply_data};
+ghost use Rattle.review_json.specs.Values.{texts_data, numbers_data};
+ghost use Rattle.review_json.specs.Answer.{cause_name, answer_data, bad_file_data, refusal_data, reply_data};
 
+use crate::shown::{call_values, change_value, requirement_values, thread_values};
 use review_words::{Answer, CommentNo, CommitName, FileFault, NotTaken, Refusal, Reply};
 use serde_json::{Map, Value, json};
 use std::alloc::{AllocError, Global};
@@ -70,6 +72,19 @@ fn answer_value(alloc: Global, answer: &Answer) -> Result<Value, AllocError>
             // Nothing joins a branch, since no change is merged yet.
             json!(in alloc; {"bases": commits, "joined": []})
         }
+        Answer::Shown(change) => change_value(alloc, change),
+        Answer::Requirements(requirements) => {
+            let values = requirement_values(alloc, requirements.as_slice())?;
+            json!(in alloc; values)
+        }
+        Answer::Threads(threads) => {
+            let values = thread_values(alloc, threads.as_slice())?;
+            json!(in alloc; values)
+        }
+        Answer::Attention(calls) => {
+            let values = call_values(alloc, calls.as_slice())?;
+            json!(in alloc; values)
+        }
     }
 }
 
@@ -113,9 +128,11 @@ fn reply_value(alloc: Global, reply: &Reply) -> Result<Value, AllocError>
     }
 }
 
-/// The text of a reply: compact JSON, its members in the order of their keys, as `{"account":2}`,
-/// `{"number":2,"refused":"NOT_ADMIN"}`, `{"number":26,"reason":"TOML","refused":"BAD_FILE"}` or
-/// `{"not_taken":"MEMORY"}`. It fails for want of memory alone.
+/// The text of a reply: compact JSON, the members of each object in the order of their keys, as
+/// `{"account":2}`, `{"number":2,"refused":"NOT_ADMIN"}`,
+/// `{"number":26,"reason":"TOML","refused":"BAD_FILE"}` or `{"not_taken":"MEMORY"}`; a list of objects
+/// for requirements, threads and an attention set, as
+/// `[{"account":4,"reason":"Please look","request":12}]`. It fails for want of memory alone.
 pub fn answer_text(alloc: Global, reply: &Reply) -> Result<String, AllocError>
     ensures { IfOk result (λ text. string_bytes text ≡ compact_text (reply_data reply.now)) }
 {

@@ -1,12 +1,10 @@
 //! The commands, one function each: what is a part of its route stands in the line, the rest in the body.
 ghost use Rattle.serde_json.specs.View.{view};
 ghost use Rattle.review_bodies.specs.Parts.{Gives};
-ghost use Rattle.review_json.specs.Commands.{create_account, put_group, put_project, record_base, create_change, upload, review, command_named};
+ghost use Rattle.review_json.specs.Commands.{create_account, put_group, put_project, record_base, create_change, on_change, command_named};
 
-use review_bodies::{
-    BadBody, change_at, file_at, has_refused, members_at, name_at, new_change, new_patch, patch_in,
-    said,
-};
+use crate::asked::asked_named;
+use review_bodies::{BadBody, change_at, file_at, members_at, name_at, new_change};
 use review_words::Command;
 use serde_json::Value;
 use std::alloc::Global;
@@ -63,29 +61,14 @@ pub fn create_change(alloc: Global, body: &Value) -> Result<Command, BadBody>
     Ok(Command::CreateChange(new_change(alloc, body)?))
 }
 
-/// A new patch set: `change` in the line, the patch set in the body.
-#[tactic(auto, unfolding(crate::specs::Commands::upload))]
-pub fn upload(alloc: Global, line: &Value, body: &Value) -> Result<Command, BadBody>
-    ensures { Gives result (upload (view line.now) (view body.now)) }
+/// What is asked of a change under a name: `change` in the line.
+#[tactic(auto, unfolding(crate::specs::Commands::on_change))]
+pub fn on_change(alloc: Global, name: &str, line: &Value, body: &Value) -> Result<Command, BadBody>
+    ensures { Gives result (on_change name.now (view line.now) (view body.now)) }
 {
     let change = change_at("change", line)?;
-    let patch = new_patch(alloc, body)?;
-    Ok(Command::Upload { change, patch })
-}
-
-/// A review: `change` and `patch_set` in the line, what is said in the body, which has none of the
-/// members that a review refuses.
-#[tactic(auto, unfolding(crate::specs::Commands::review))]
-pub fn review(alloc: Global, line: &Value, body: &Value) -> Result<Command, BadBody>
-    ensures { Gives result (review (view line.now) (view body.now)) }
-{
-    if has_refused(body) {
-        return Err(BadBody::Form);
-    }
-    let change = change_at("change", line)?;
-    let patch = patch_in(line)?;
-    let review = said(alloc, patch, body)?;
-    Ok(Command::Review { change, review })
+    let command = asked_named(alloc, name, line, body)?;
+    Ok(Command::OnChange { change, command })
 }
 
 /// The command of a name.
@@ -113,11 +96,5 @@ pub fn command_named(
     if name == "CreateChange" {
         return create_change(alloc, body);
     }
-    if name == "Upload" {
-        return upload(alloc, line, body);
-    }
-    if name == "Review" {
-        return review(alloc, line, body);
-    }
-    Err(BadBody::Form)
+    on_change(alloc, name, line, body)
 }

@@ -1,16 +1,18 @@
 //! Deliveries and answers as JSON, over the bodies of `review_bodies`.
 //!
 //! A delivery is a line such as `{"caller":1,"id":"a1","do":"CreateAccount","body":{"name":"ann"}}`, or for a query
-//! `{"caller":1,"do":"Branch","project":"tools","branch":"main"}`, and the answer to it a text such as `{"account":2}` or
-//! `{"bases":[],"joined":[]}`. `delivery_of_line` gives the delivery that a line spells, and refuses a line exactly
-//! where it spells none, by the JSON reader's own definition of what a text spells. `answer_text` gives the compact text
-//! of an answer, with the members in the order of their keys.
+//! `{"caller":1,"do":"Branch","project":"tools","branch":"main"}`, and the answer to it a text such as `{"account":2}`,
+//! `{"bases":[],"joined":[]}` or `[{"name":"Code-Review","status":"SATISFIED"}]`. `delivery_of_line` gives the delivery that
+//! a line spells, and refuses a line exactly where it spells none, by the JSON reader's own definition of what a text
+//! spells. `answer_text` gives the compact text of an answer, with the members in the order of their keys.
 #![tactic(auto)]
 
 pub mod answer;
+pub mod asked;
 pub mod commands;
 pub mod line;
 pub mod queries;
+pub mod shown;
 
 pub use answer::answer_text;
 pub use line::delivery_of_line;

@@ -86,9 +86,9 @@ pub fn value_of(alloc: Global, bytes: &[u8]) -> Result<Value, BadBody>
 /// The delivery that the bytes of a line spell.
 ///
 /// A line is an object with `caller`, a number; `do`, the name of a command or a query; and the segments of its route, as
-/// `group`, or `project` and `branch`, or `change` and `patch_set`, of which a change is a number, and a patch set a number or
-/// the text `current`. A command's line has `id`, a name, too, and `body`, an object with the command's other parts, which is
-/// `{}` where it is absent.
+/// `group`, or `project` and `branch`, or `change`, and with it `patch_set` or `account`, of which a change and an account are
+/// numbers, and a patch set a number or the text `current`. A command's line has `id`, a name, too, and `body`, an object with
+/// the command's other parts, which is `{}` where it is absent.
 /// Members may come in any order; other members are ignored, as `id` and `body` of a query; of a key that is given twice
 /// the last value stays.
 /// A whole number is one that is written so: `2.0` and `1e0` are none. `null` isn't absent.

@@ -2,10 +2,10 @@
 ghost use Rattle.std.specs.Prelude.{◌≡◌};
 ghost use Rattle.serde_json.specs.View.{view};
 ghost use Rattle.review_bodies.specs.Parts.{Gives};
-ghost use Rattle.review_json.specs.Queries.{branch, is_query, query_named};
+ghost use Rattle.review_json.specs.Queries.{branch, change_query_named, of_change, is_query, query_named};
 
-use review_bodies::{BadBody, name_at};
-use review_words::Query;
+use review_bodies::{BadBody, change_at, name_at};
+use review_words::{ChangeQuery, Query};
 use serde_json::Value;
 use std::alloc::Global;
 
@@ -19,12 +19,35 @@ pub fn branch(alloc: Global, line: &Value) -> Result<Query, BadBody>
     Ok(Query::Branch { project, branch })
 }
 
+/// What is asked of a change under a name, or none where nothing is.
+#[tactic(auto, unfolding(crate::specs::Queries::change_query_named))]
+pub fn change_query_named(name: &str) -> Option<ChangeQuery>
+    ensures { result ≡ change_query_named name.now }
+{
+    match name {
+        "Change" => Some(ChangeQuery::Change),
+        "Requirements" => Some(ChangeQuery::Requirements),
+        "Threads" => Some(ChangeQuery::Threads),
+        "Attention" => Some(ChangeQuery::Attention),
+        _ => None,
+    }
+}
+
+/// How a change stands: `change` in the line.
+#[tactic(auto, unfolding(crate::specs::Queries::of_change))]
+pub fn of_change(query: ChangeQuery, line: &Value) -> Result<Query, BadBody>
+    ensures { Gives result (of_change query (view line.now)) }
+{
+    let change = change_at("change", line)?;
+    Ok(Query::OnChange { change, query })
+}
+
 /// Whether a query has the name.
 #[tactic(auto, unfolding(crate::specs::Queries::is_query))]
 pub fn is_query(name: &str) -> bool
     ensures { result ≡ is_query name.now }
 {
-    name == "Branch"
+    name == "Branch" || change_query_named(name).is_some()
 }
 
 /// The query of a name.
@@ -35,5 +58,8 @@ pub fn query_named(alloc: Global, name: &str, line: &Value) -> Result<Query, Bad
     if name == "Branch" {
         return branch(alloc, line);
     }
-    Err(BadBody::Form)
+    match change_query_named(name) {
+        Some(query) => of_change(query, line),
+        None => Err(BadBody::Form),
+    }
 }

@@ -8,19 +8,22 @@ use Rattle.std.specs.Str.{is_utf8, bytes_eq}
 use Rattle.serde_json.specs.Data.{Data}
 use Rattle.serde_json.specs.Find.{get, as_object}
 use Rattle.serde_json.specs.Read.{read}
-use Rattle.review_names.specs.Forms.{is_commit, is_slashed_name}
+use Rattle.review_names.specs.Forms.{is_commit, is_line, is_slashed_name}
 use Rattle.review_names.specs.Names.{is_word}
+use Rattle.review_words.specs.declared.command.ChangeCommand.{ChangeCommand}
 use Rattle.review_words.specs.declared.command.Command.{Command}
 use Rattle.review_words.specs.declared.command.Delivery.{Delivery}
 use Rattle.review_bodies.specs.Parts.{text_at, name_at, members_at, change_at, account_at}
 use Rattle.review_bodies.specs.Changes.{new_change, new_patch}
 use Rattle.review_bodies.specs.Comments.{comments_in}
 use Rattle.review_bodies.specs.Reviews.{message_in, patch_in, has_refused, said}
+use Rattle.review_bodies.specs.Roles.{account_named_at, role_in}
 use Rattle.review_bodies.specs.Votes.{labels_in}
-use Rattle.review_json.specs.Commands.{create_account, put_group, put_project, record_base, create_change, upload, review, command_named}
+use Rattle.review_json.specs.Asked.{upload, review, add_reviewer, remove_reviewer, add_attention, remove_attention, named_alone, asked_named}
+use Rattle.review_json.specs.Commands.{create_account, put_group, put_project, record_base, create_change, on_change, command_named}
 use Rattle.review_json.specs.Queries.{is_query, query_named}
 use Rattle.review_json.specs.Line.{value_spelled, object_or_empty, body_in, command_in, write_in, read_in, delivery_in, delivery_spelled}
-use Rattle.review_json_laws.specs.Laws.{made_comments, delivered_comments, CommentsGoByPlace}
+use Rattle.review_json_laws.specs.Laws.{asked_comments, made_comments, delivered_comments, CommentsGoByPlace}
 use Rattle.review_json_laws.proofs.Ordered.{map_some, map_any, then_some, then_any, either_some, IsInOrder, read_in_order, get_in_order}
 use Rattle.review_json_laws.proofs.Places.{bind_some, next_some, GoByPlace, comments_by_place, sorted}
 
@@ -32,12 +35,6 @@ in_said : (patch : Option ℕ) (body : Data) → IsInOrder body → IfSome (said
 unfolding said
 in_said patch body h =
     next_some (λ r. GoByPlace r.comments) _ (λ message. next_some (λ r. GoByPlace r.comments) _ (λ labels. bind_some GoByPlace (λ r. GoByPlace r.comments) _ (λ comments p. p) (comments_in body) (comments_by_place body h)) (labels_in body)) (message_in body)
-
-in_review : (line body : Data) → IsInOrder body → IfSome (review line body) IsByPlace
-unfolding review
-in_review line body h =
-    either_some IsByPlace (has_refused body) None _ tt
-    (then_any IsByPlace _ (λ change. then_any IsByPlace _ (λ patch. map_some (λ r. GoByPlace r.comments) IsByPlace _ (λ what p. p) (said patch body) (in_said patch body h)) (patch_in line)) (change_at (codes "change") line))
 
 in_create_account : (body : Data) → IfSome (create_account body) IsByPlace
 unfolding create_account
@@ -60,9 +57,58 @@ in_create_change : (body : Data) → IfSome (create_change body) IsByPlace
 unfolding create_change
 in_create_change body = map_any IsByPlace _ (λ change. tt) (new_change body)
 
-in_upload : (line body : Data) → IfSome (upload line body) IsByPlace
+-- the comments of what is asked of a change go by place
+abbrev IsAskedByPlace : ChangeCommand → Type 0
+IsAskedByPlace command = GoByPlace (asked_comments command)
+
+in_upload : (body : Data) → IfSome (upload body) IsAskedByPlace
 unfolding upload
-in_upload line body = then_any IsByPlace _ (λ change. map_any IsByPlace _ (λ patch. tt) (new_patch body)) (change_at (codes "change") line)
+in_upload body = map_any IsAskedByPlace _ (λ patch. tt) (new_patch body)
+
+in_review : (line body : Data) → IsInOrder body → IfSome (review line body) IsAskedByPlace
+unfolding review
+in_review line body h =
+    either_some IsAskedByPlace (has_refused body) None _ tt
+    (then_any IsAskedByPlace _ (λ patch. map_some (λ r. GoByPlace r.comments) IsAskedByPlace _ (λ what p. p) (said patch body) (in_said patch body h)) (patch_in line))
+
+in_add_reviewer : (body : Data) → IfSome (add_reviewer body) IsAskedByPlace
+unfolding add_reviewer
+in_add_reviewer body = then_any IsAskedByPlace _ (λ account. map_any IsAskedByPlace _ (λ role. tt) (role_in body)) (account_named_at (codes "reviewer") body)
+
+in_remove_reviewer : (line : Data) → IfSome (remove_reviewer line) IsAskedByPlace
+unfolding remove_reviewer
+in_remove_reviewer line = map_any IsAskedByPlace _ (λ account. tt) (account_at (codes "account") line)
+
+in_add_attention : (body : Data) → IfSome (add_attention body) IsAskedByPlace
+unfolding add_attention
+in_add_attention body = then_any IsAskedByPlace _ (λ account. map_any IsAskedByPlace _ (λ reason. tt) (name_at is_line (codes "reason") body)) (account_named_at (codes "user") body)
+
+in_remove_attention : (line body : Data) → IfSome (remove_attention line body) IsAskedByPlace
+unfolding remove_attention
+in_remove_attention line body = then_any IsAskedByPlace _ (λ account. map_any IsAskedByPlace _ (λ reason. tt) (name_at is_line (codes "reason") body)) (account_at (codes "account") line)
+
+in_named_alone : (name : List ℕ) → IfSome (named_alone name) IsAskedByPlace
+unfolding named_alone
+in_named_alone name =
+    either_some IsAskedByPlace (bytes_eq name (codes "SetWip")) _ _ tt
+    (either_some IsAskedByPlace (bytes_eq name (codes "SetReady")) _ _ tt
+    (either_some IsAskedByPlace (bytes_eq name (codes "Abandon")) _ _ tt
+    (either_some IsAskedByPlace (bytes_eq name (codes "Restore")) _ _ tt tt)))
+
+in_asked_named : (name : List ℕ) (line body : Data) → IsInOrder body → IfSome (asked_named name line body) IsAskedByPlace
+unfolding asked_named
+in_asked_named name line body h =
+    either_some IsAskedByPlace (bytes_eq name (codes "Upload")) _ _ (in_upload body)
+    (either_some IsAskedByPlace (bytes_eq name (codes "Review")) _ _ (in_review line body h)
+    (either_some IsAskedByPlace (bytes_eq name (codes "AddReviewer")) _ _ (in_add_reviewer body)
+    (either_some IsAskedByPlace (bytes_eq name (codes "RemoveReviewer")) _ _ (in_remove_reviewer line)
+    (either_some IsAskedByPlace (bytes_eq name (codes "AddAttention")) _ _ (in_add_attention body)
+    (either_some IsAskedByPlace (bytes_eq name (codes "RemoveAttention")) _ _ (in_remove_attention line body) (in_named_alone name))))))
+
+in_on_change : (name : List ℕ) (line body : Data) → IsInOrder body → IfSome (on_change name line body) IsByPlace
+unfolding on_change
+in_on_change name line body h =
+    then_any IsByPlace _ (λ change. map_some IsAskedByPlace IsByPlace _ (λ asked p. p) (asked_named name line body) (in_asked_named name line body h)) (change_at (codes "change") line)
 
 in_command_named : (name : List ℕ) (line body : Data) → IsInOrder body → IfSome (command_named name line body) IsByPlace
 unfolding command_named
@@ -71,9 +117,7 @@ in_command_named name line body h =
     (either_some IsByPlace (bytes_eq name (codes "PutGroup")) _ _ (in_put_group line body)
     (either_some IsByPlace (bytes_eq name (codes "PutProject")) _ _ (in_put_project line body)
     (either_some IsByPlace (bytes_eq name (codes "RecordBase")) _ _ (in_record_base line body)
-    (either_some IsByPlace (bytes_eq name (codes "CreateChange")) _ _ (in_create_change body)
-    (either_some IsByPlace (bytes_eq name (codes "Upload")) _ _ (in_upload line body)
-    (either_some IsByPlace (bytes_eq name (codes "Review")) _ _ (in_review line body h) tt))))))
+    (either_some IsByPlace (bytes_eq name (codes "CreateChange")) _ _ (in_create_change body) (in_on_change name line body h)))))
 
 in_object_or_empty : (o : Option Data) → IfSome o IsInOrder → IfSome (object_or_empty o) IsInOrder
 in_object_or_empty None h = tt

@@ -4,15 +4,22 @@ use Rattle.std.specs.Cmp.Lexicographic.{slice_cmp}
 use Rattle.std.specs.List.Sorted.{IsSortedByKey}
 use Rattle.std.specs.Ordering.{nat_cmp}
 use Rattle.review_words.specs.declared.changes.NewComment.{NewComment}
+use Rattle.review_words.specs.declared.command.ChangeCommand.{ChangeCommand}
+use Rattle.review_words.specs.declared.command.ChangeCommand.TheVariants.{Review}
 use Rattle.review_words.specs.declared.command.Command.{Command}
-use Rattle.review_words.specs.declared.command.Command.TheVariants.{Review}
+use Rattle.review_words.specs.declared.command.Command.TheVariants.{OnChange}
 use Rattle.review_words.specs.declared.command.Delivery.{Delivery}
 use Rattle.review_words.specs.declared.command.Delivery.TheVariants.{Write, Read}
 use Rattle.review_json.specs.Line.{delivery_spelled}
 
--- the comments that a command makes, which is a review's alone
+-- the comments that something asked of a change makes, which is a review alone
+abbrev pub asked_comments : ChangeCommand → List NewComment
+asked_comments (Review review) = review.comments
+asked_comments _ = []
+
+-- the comments that a command makes
 abbrev pub made_comments : Command → List NewComment
-made_comments (Review change review) = review.comments
+made_comments (OnChange change command) = asked_comments command
 made_comments _ = []
 
 -- the comments that a delivery is to make

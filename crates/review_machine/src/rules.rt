@@ -1,6 +1,5 @@
 //! The decisions as rules.
-use review_branch_decisions::show;
-use review_decisions::decide;
+use review_decisions::{decide, show};
 use review_deliveries::Rules;
 use review_file::{FileMemo, ReadText};
 use review_file_decisions::read_file_for;
@@ -56,15 +55,14 @@ impl Rules for DeskRules {
         decide(alloc, &mut self.memo, read, rows, caller, command)
     }
 
-    /// No file is read for a question.
     fn show(
         &mut self,
         alloc: Global,
-        _read: Option<ReadText>,
+        read: Option<ReadText>,
         rows: &Rows,
         caller: AccountNo,
         query: &Query,
     ) -> Result<Reply, NotTaken> {
-        show(alloc, rows, caller, query)
+        show(alloc, &mut self.memo, read, rows, caller, query)
     }
 }

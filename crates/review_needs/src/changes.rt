@@ -1,67 +1,130 @@
-//! What is asked by the change that a command names.
-ghost use Rattle.std.specs.Prelude.{◌≡◌, ◌++◌, IfOk, OnOk};
+//! What is asked by the change that a command or a question names.
+ghost use Rattle.std.specs.Prelude.{◌≡◌, ◌++◌, ◌∷◌, [], IfOk, OnOk};
 ghost use Rattle.review_rows.specs.Known.{known, change_in};
 ghost use Rattle.review_rows.specs.declared.rows.Want.TheVariants as want;
-ghost use Rattle.review_rows.specs.Steps.{change_wants, commit_wants, given_wants, patch_wants, sent_wants, topic_of};
+ghost use Rattle.review_changes.specs.Seen.{seen};
+ghost use Rattle.review_rows.specs.Steps.{change_wants, commit_wants, given_wants, patch_wants, question_wants, request_wants, topic_of, wants_by};
 
 use review_branch_decisions::base_of;
+use review_changes::{ChangeRows, Header};
 use review_rows::{Matter, Rows, Want};
-use review_words::{BranchName, ChangeNo, Command, CommitName, Labels, NewPatch, ProjectName};
+use review_words::{
+    BranchName, ChangeCommand, ChangeNo, ChangeQuery, Command, CommitName, Labels, NewPatch,
+    ProjectName, Query,
+};
 use std::alloc::{AllocError, Global};
 
-/// What a command asks by the change that it names, once that is known.
+/// What a command or a question asks by the change that it names, once that is known.
 pub fn change_wants(alloc: Global, rows: &Rows, matter: Matter<'_>) -> Result<Vec<Want>, AllocError>
     ensures { IfOk result (λ wants. wants.items ≡ change_wants rows.now (topic_of matter.entry)) }
 {
     match matter {
-        Matter::Command(Command::Upload { change, patch }) => {
-            sent_wants(alloc, rows, *change, patch)
+        Matter::Command(Command::OnChange { change, command }) => {
+            request_wants(alloc, rows, *change, command)
         }
-        Matter::Command(Command::Review { change, review }) => {
-            given_wants(alloc, rows, *change, &review.labels)
+        Matter::Query(Query::OnChange { change, query }) => {
+            question_wants(alloc, rows, *change, *query)
         }
         _ => Ok(Vec::new(alloc)),
     }
 }
 
-fn sent_wants(
+fn request_wants(
     alloc: Global,
     rows: &Rows,
     change: ChangeNo,
-    patch: &NewPatch,
+    command: &ChangeCommand,
 ) -> Result<Vec<Want>, AllocError>
-    ensures { IfOk result (λ wants. wants.items ≡ sent_wants patch.now (change_in (known rows.now (want.Change change)))) }
+    ensures { IfOk result (λ wants. wants.items ≡ wants_by (request_wants command.now) (change_in (known rows.now (want.Change change)))) }
+{
+    match rows.change(change) {
+        Some(found) => wants_of_request(alloc, command, found),
+        None => Ok(Vec::new(alloc)),
+    }
+}
+
+fn wants_of_request(
+    alloc: Global,
+    command: &ChangeCommand,
+    found: &ChangeRows,
+) -> Result<Vec<Want>, AllocError>
+    ensures { IfOk result (λ wants. wants.items ≡ request_wants command.now (seen found.now)) }
+{
+    let header = &found.header;
+    match command {
+        ChangeCommand::Upload(patch) => sent_wants(alloc, header, patch),
+        ChangeCommand::Review(review) => given_wants(alloc, &review.labels, &header.project),
+        ChangeCommand::Abandon => file_want(alloc, &header.project),
+        ChangeCommand::Restore => file_want(alloc, &header.project),
+        _ => Ok(Vec::new(alloc)),
+    }
+}
+
+fn question_wants(
+    alloc: Global,
+    rows: &Rows,
+    change: ChangeNo,
+    query: ChangeQuery,
+) -> Result<Vec<Want>, AllocError>
+    ensures { IfOk result (λ wants. wants.items ≡ wants_by (question_wants query) (change_in (known rows.now (want.Change change)))) }
+{
+    match rows.change(change) {
+        Some(found) => wants_of_question(alloc, query, found),
+        None => Ok(Vec::new(alloc)),
+    }
+}
+
+fn wants_of_question(
+    alloc: Global,
+    query: ChangeQuery,
+    found: &ChangeRows,
+) -> Result<Vec<Want>, AllocError>
+    ensures { IfOk result (λ wants. wants.items ≡ question_wants query (seen found.now)) }
+{
+    match query {
+        ChangeQuery::Requirements => file_want(alloc, &found.header.project),
+        _ => Ok(Vec::new(alloc)),
+    }
+}
+
+fn file_want(alloc: Global, project: &ProjectName) -> Result<Vec<Want>, AllocError>
+    ensures { IfOk result (λ wants. wants.items ≡ want.File project.now ∷ []) }
 {
     let mut wants = Vec::new(alloc);
-    if let Some(found) = rows.change(change) {
-        push_patch(
-            alloc,
-            &mut wants,
-            &found.header.project,
-            &found.header.branch,
-            &patch.commit,
-            &patch.parent,
-        )?;
-    }
+    wants.push(Want::File(project.copy(alloc)?))?;
+    Ok(wants)
+}
+
+fn sent_wants(
+    alloc: Global,
+    header: &Header,
+    patch: &NewPatch,
+) -> Result<Vec<Want>, AllocError>
+    ensures { IfOk result (λ wants. wants.items ≡ patch_wants header.now.project header.now.branch patch.now.commit patch.now.parent) }
+{
+    let mut wants = Vec::new(alloc);
+    push_patch(
+        alloc,
+        &mut wants,
+        &header.project,
+        &header.branch,
+        &patch.commit,
+        &patch.parent,
+    )?;
     Ok(wants)
 }
 
 fn given_wants(
     alloc: Global,
-    rows: &Rows,
-    change: ChangeNo,
     labels: &Labels,
+    project: &ProjectName,
 ) -> Result<Vec<Want>, AllocError>
-    ensures { IfOk result (λ wants. wants.items ≡ given_wants labels.now (change_in (known rows.now (want.Change change)))) }
+    ensures { IfOk result (λ wants. wants.items ≡ given_wants labels.now project.now) }
 {
-    let mut wants = Vec::new(alloc);
     if labels.as_slice().is_empty() {
-        return Ok(wants);
+        return Ok(Vec::new(alloc));
     }
-    if let Some(found) = rows.change(change) {
-        wants.push(Want::File(found.header.project.copy(alloc)?))?;
-    }
-    Ok(wants)
+    file_want(alloc, project)
 }
 
 /// Adds what a new patch set asks of the project and the branch that its change is for.

@@ -1,18 +1,22 @@
 //! What is asked by the project file that was read.
-ghost use Rattle.std.specs.Prelude.{◌≡◌, ◌++◌, ◌∷◌, [], IfOk, OnOk, map, option_copied};
-ghost use Rattle.review_group_names.specs.Named.{copying_groups};
+ghost use Rattle.std.specs.Prelude.{◌≡◌, ◌++◌, ◌∷◌, [], IfOk, OnOk, flat_map, map, option_copied};
+ghost use Rattle.std.specs.Option.{option_map_or};
+ghost use Rattle.review_group_names.specs.Named.{copying_groups, groups_in, groups_of_requirement};
 ghost use Rattle.review_project.specs.Rights.{grants_of};
 ghost use Rattle.review_rows.specs.declared.rows.Want.TheVariants as want;
-ghost use Rattle.review_rows.specs.Steps.{caller_in, file_wants, granted_groups, topic_of};
+ghost use Rattle.review_rows.specs.Steps.{caller_in, file_wants, granted_groups, question_groups, request_groups, topic_of};
 
-use review_file::{Grant, Label, ProjectFile, Right};
+use review_expr::Expr;
+use review_file::{Grant, Label, ProjectFile, Requirement, Right};
 use review_group_names::push_groups;
 use review_rows::{Matter, MemberKey, Want};
-use review_words::{AccountNo, Command, Given, GroupName, LabelName};
+use review_words::{
+    AccountNo, ChangeCommand, ChangeQuery, Command, Given, GroupName, LabelName, Query,
+};
 use std::alloc::{AllocError, Global};
 
 /// What is asked of groups, by the file that was read: whether the caller is in those of a right or of a range, and the members of those
-/// that copy conditions name.
+/// that copy conditions or submit requirements name.
 pub fn file_wants(
     alloc: Global,
     file: Option<&ProjectFile>,
@@ -29,16 +33,99 @@ pub fn file_wants(
         Matter::Command(Command::CreateChange(_)) => {
             push_caller(alloc, &mut wants, caller, file.groups(Right::Create))?;
         }
-        Matter::Command(Command::Upload { .. }) => {
-            push_caller(alloc, &mut wants, caller, file.groups(Right::Upload))?;
-            push_copying(alloc, &mut wants, file.labels())?;
+        Matter::Command(Command::OnChange { change: _, command }) => {
+            push_request(alloc, &mut wants, caller, file, command)?;
         }
-        Matter::Command(Command::Review { change: _, review }) => {
-            push_granted(alloc, &mut wants, caller, file, review.labels.as_slice())?;
+        Matter::Query(Query::OnChange { change: _, query }) => {
+            push_question(alloc, &mut wants, file, *query)?;
         }
         _ => {}
     }
     Ok(wants)
+}
+
+/// Adds what a request on a change asks of groups.
+fn push_request(
+    alloc: Global,
+    wants: &mut Vec<Want>,
+    caller: AccountNo,
+    file: &ProjectFile,
+    command: &ChangeCommand,
+) -> Result<(), AllocError>
+    ensures { OnOk result (wants.new.items ≡ wants.old.items ++ request_groups file.now caller command.now) }
+{
+    match command {
+        ChangeCommand::Upload(_) => {
+            push_caller(alloc, wants, caller, file.groups(Right::Upload))?;
+            push_copying(alloc, wants, file.labels())?;
+        }
+        ChangeCommand::Review(review) => {
+            push_granted(alloc, wants, caller, file, review.labels.as_slice())?;
+        }
+        ChangeCommand::Abandon => {
+            push_caller(alloc, wants, caller, file.groups(Right::Abandon))?;
+        }
+        ChangeCommand::Restore => {
+            push_caller(alloc, wants, caller, file.groups(Right::Abandon))?;
+        }
+        _ => {}
+    }
+    Ok(())
+}
+
+/// Adds what a question about a change asks of groups.
+fn push_question(
+    alloc: Global,
+    wants: &mut Vec<Want>,
+    file: &ProjectFile,
+    query: ChangeQuery,
+) -> Result<(), AllocError>
+    ensures { OnOk result (wants.new.items ≡ wants.old.items ++ question_groups file.now query) }
+{
+    if let ChangeQuery::Requirements = query {
+        push_required(alloc, wants, file.requirements())?;
+    }
+    Ok(())
+}
+
+/// Adds the members of the groups that submit requirements name.
+fn push_required(
+    alloc: Global,
+    wants: &mut Vec<Want>,
+    requirements: &[Requirement],
+) -> Result<(), AllocError>
+    ensures { OnOk result (wants.new.items ≡ wants.old.items ++ map want.Group (flat_map groups_of_requirement requirements.now)) }
+{
+    for requirement in requirements {
+        push_requirement(alloc, wants, requirement)?;
+    }
+    Ok(())
+}
+
+fn push_requirement(
+    alloc: Global,
+    wants: &mut Vec<Want>,
+    requirement: &Requirement,
+) -> Result<(), AllocError>
+    ensures { OnOk result (wants.new.items ≡ wants.old.items ++ map want.Group (groups_of_requirement requirement.now)) }
+{
+    let mut groups = Vec::new(alloc);
+    push_if_there(&mut groups, requirement.applicable_if())?;
+    push_if_there(&mut groups, requirement.override_if())?;
+    push_groups(&mut groups, requirement.submittable_if())?;
+    push_group_names(alloc, wants, &groups)
+}
+
+fn push_if_there<'e>(
+    groups: &mut Vec<&'e GroupName>,
+    expr: Option<&'e Expr>,
+) -> Result<(), AllocError>
+    ensures { OnOk result (map (λ g. g.now) groups.new.items ≡ map (λ g. g.now) groups.old.items ++ option_map_or groups_in (option_copied expr.entry) []) }
+{
+    if let Some(expr) = expr {
+        push_groups(groups, expr)?;
+    }
+    Ok(())
 }
 
 /// Adds whether the caller is in these groups.

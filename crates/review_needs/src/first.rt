@@ -2,19 +2,20 @@
 ghost use Rattle.std.specs.Prelude.{◌≡◌, ◌++◌, ◌∷◌, [], IfOk, OnOk, map};
 ghost use Rattle.review_words.specs.declared.command.Command.TheVariants.{RecordBase, CreateChange};
 ghost use Rattle.review_rows.specs.declared.rows.Want.TheVariants as want;
-ghost use Rattle.review_rows.specs.Steps.{caller_wants, command_wants, query_wants, first_wants, topic_of};
+ghost use Rattle.review_rows.specs.Steps.{caller_wants, command_wants, named_in, query_wants, first_wants, topic_of};
 
 use crate::changes::{push_commit, push_patch};
 use review_branch_decisions::branch_of;
 use review_rows::{Counted, Matter, MemberKey, Want};
 use review_words::{
-    AccountNo, BranchName, Command, CommitName, NewChange, ProjectName, Query, administrators,
+    AccountNo, BranchName, ChangeCommand, Command, CommitName, NewChange, ProjectName, Query,
+    administrators,
 };
 use std::alloc::{AllocError, Global};
 
 /// What a command or a question asks first. Of a command these are: how many requests are stored, the caller's account and those that it
 /// names, whether the caller is an administrator, and what it is to change or the change that it names; of a question the caller's
-/// account, whether the project is there, and the bases of the branch.
+/// account, and the change that it names, or whether the project is there and the bases of the branch.
 pub fn first_wants(
     alloc: Global,
     caller: AccountNo,
@@ -69,10 +70,30 @@ fn command_wants(
             commit,
         } => push_base(alloc, &mut wants, project, branch, commit)?,
         Command::CreateChange(new) => push_new(alloc, &mut wants, new)?,
-        Command::Upload { change, patch: _ } => wants.push(Want::Change(*change))?,
-        Command::Review { change, review: _ } => wants.push(Want::Change(*change))?,
+        Command::OnChange { change, command } => {
+            wants.push(Want::Change(*change))?;
+            push_named(&mut wants, command)?;
+        }
     }
     Ok(wants)
+}
+
+/// Adds whether the account that a request on a change names is there.
+fn push_named(wants: &mut Vec<Want>, command: &ChangeCommand) -> Result<(), AllocError>
+    ensures { OnOk result (wants.new.items ≡ wants.old.items ++ map want.Account (named_in command.now)) }
+{
+    match command {
+        ChangeCommand::AddReviewer { account, role: _ } => wants.push(Want::Account(*account))?,
+        ChangeCommand::RemoveReviewer { account } => wants.push(Want::Account(*account))?,
+        ChangeCommand::AddAttention { account, reason: _ } => {
+            wants.push(Want::Account(*account))?;
+        }
+        ChangeCommand::RemoveAttention { account, reason: _ } => {
+            wants.push(Want::Account(*account))?;
+        }
+        _ => {}
+    }
+    Ok(())
 }
 
 #[tactic(auto, using(crate::proofs::Asking::accounts_more))]
@@ -126,6 +147,7 @@ fn query_wants(alloc: Global, caller: AccountNo, query: &Query) -> Result<Vec<Wa
             wants.push(Want::Project(project.copy(alloc)?))?;
             wants.push(Want::Bases(branch_of(alloc, project, branch)?))?;
         }
+        Query::OnChange { change, query: _ } => wants.push(Want::Change(*change))?,
     }
     Ok(wants)
 }

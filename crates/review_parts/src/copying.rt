@@ -23,7 +23,7 @@ use std::alloc::{AllocError, Global};
 pub type GroupTables = Table<GroupName, Table<AccountNo, ()>>;
 
 /// Whether an account is in a group. Every account is in `Registered-Users`; a group that has no table is empty.
-fn is_in(groups: &GroupTables, group: &GroupName, account: AccountNo) -> bool
+pub fn is_in(groups: &GroupTables, group: &GroupName, account: AccountNo) -> bool
     ensures { result ≡ has_account (group_list groups.now) group.now account }
 {
     if group.as_str() == "Registered-Users" {

@@ -15,7 +15,7 @@ pub mod votes;
 
 pub use attention::{Rule, Who, call_eligible, drop_called, tell};
 pub use comments::{Origin, answered, new_comments, of_number};
-pub use copying::{GroupTables, Parted, part_votes};
+pub use copying::{GroupTables, Parted, is_in, part_votes};
 pub use reasons::reason_of;
 pub use roles::{is_eligible, review_roles, set_role};
 pub use rules::{WhenAdded, WhenLost, WhenReady, WhenReviewed};

@@ -6,7 +6,7 @@ use Rattle.std.specs.List.{All, AllByRecursion}
 use Rattle.std.proofs.lemmas.Bool.{cases_Bool}
 use Rattle.std.proofs.lemmas.List.Elements.{All-head, All-tail}
 use Rattle.review_words.specs.declared.command.Command.{Command}
-use Rattle.review_words.specs.declared.command.Command.TheVariants.{CreateAccount, PutGroup, PutProject, RecordBase, CreateChange, Upload, Review}
+use Rattle.review_words.specs.declared.command.Command.TheVariants.{CreateAccount, PutGroup, PutProject, RecordBase, CreateChange, OnChange}
 use Rattle.review_words.specs.declared.command.Query.TheVariants as asked
 use Rattle.review_rows.specs.declared.rows.Want.{Want}
 use Rattle.review_rows.specs.declared.rows.Want.TheVariants as want
@@ -14,7 +14,7 @@ use Rattle.review_rows.specs.declared.rows.Rows.{Rows}
 use Rattle.review_rows.specs.Rows.{Tables}
 use Rattle.review_rows.specs.Known.{Found, IsFound, known, number_of, change_in, Agrees, IsKnown, AreAdded}
 use Rattle.review_rows.specs.Files.{File}
-use Rattle.review_rows.specs.Steps.{Topic, OfCommand, OfQuery, first_wants, change_wants, file_wants, sent_wants, given_wants, unknown, or_next, next, left_where, AskingLowers}
+use Rattle.review_rows.specs.Steps.{Topic, OfCommand, OfQuery, first_wants, change_wants, file_wants, question_wants, request_wants, wants_by, unknown, or_next, next, left_where, AskingLowers}
 
 -- what a look-up that was made found in tables that agree
 pub found_of : (t : Tables) (rows : Rows) (w : Want) → Agrees t rows → IsKnown rows w → (f : Found) × (known rows w ≡ Some f) × IsFound t w f
@@ -96,16 +96,16 @@ known_stays rows more both w added there = added w ∙ stays (known rows w) (kno
 
 -- once the change is known, what it asks stays
 same_wants : (rows more both : Rows) (caller : ℕ) (topic : Topic) → AreAdded rows more both → unknown rows (first_wants caller topic) ≡ [] → change_wants both topic ≡ change_wants rows topic
-same_wants rows more both caller (OfQuery query) added none = refl
+same_wants rows more both caller (OfQuery (asked.Branch project branch)) added none = refl
+same_wants rows more both caller (OfQuery (asked.OnChange change query)) added none =
+    ap (λ k. wants_by (question_wants query) (change_in k)) (known_stays rows more both (want.Change change) added (each_known rows (first_wants caller (OfQuery (asked.OnChange change query))) none).1.0)
 same_wants rows more both caller (OfCommand (CreateAccount name)) added none = refl
 same_wants rows more both caller (OfCommand (PutGroup group members)) added none = refl
 same_wants rows more both caller (OfCommand (PutProject project text)) added none = refl
 same_wants rows more both caller (OfCommand (RecordBase project branch commit)) added none = refl
 same_wants rows more both caller (OfCommand (CreateChange new)) added none = refl
-same_wants rows more both caller (OfCommand (Upload change patch)) added none =
-    ap (λ k. sent_wants patch (change_in k)) (known_stays rows more both (want.Change change) added (each_known rows (first_wants caller (OfCommand (Upload change patch))) none).1.1.1.0)
-same_wants rows more both caller (OfCommand (Review change review)) added none =
-    ap (λ k. given_wants review.labels (change_in k)) (known_stays rows more both (want.Change change) added (each_known rows (first_wants caller (OfCommand (Review change review))) none).1.1.1.0)
+same_wants rows more both caller (OfCommand (OnChange change command)) added none =
+    ap (λ k. wants_by (request_wants command) (change_in k)) (known_stays rows more both (want.Change change) added (each_known rows (first_wants caller (OfCommand (OnChange change command))) none).1.1.1.0)
 
 at_most_one : (c : List Want) → left_where c 0 1 ≤ 1
 at_most_one [] = omega arith
@@ -169,6 +169,8 @@ pub asks_first : (file : Option File) (rows : Rows) (caller : ℕ) (topic : Topi
 asks_first file rows caller (OfCommand command) nothing none = unasked rows want.Requests (nothing want.Requests) (all_asked file rows caller (OfCommand command) none).0
 asks_first file rows caller (OfQuery (asked.Branch project branch)) nothing none =
     unasked rows (want.Account caller) (nothing (want.Account caller)) (all_asked file rows caller (OfQuery (asked.Branch project branch)) none).0
+asks_first file rows caller (OfQuery (asked.OnChange change query)) nothing none =
+    unasked rows (want.Account caller) (nothing (want.Account caller)) (all_asked file rows caller (OfQuery (asked.OnChange change query)) none).0
 
 -- how many requests tables have, as rows say that agree and have nothing left to ask
 pub requests_are : (t : Tables) (file : Option File) (rows : Rows) (caller : ℕ) (command : Command) → Agrees t rows → next file rows caller (OfCommand command) ≡ [] → number_of (known rows want.Requests) ≡ t.requests

@@ -3,3 +3,4 @@ pub mod Learning
 pub mod Adding
 pub mod Placing
 pub mod Readings
+pub mod Requested

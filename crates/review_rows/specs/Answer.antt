@@ -7,28 +7,32 @@ use Rattle.std.specs.List.{list_all, list_any}
 use Rattle.review_words.specs.declared.changes.Given.{Given}
 use Rattle.review_words.specs.declared.changes.NewPatch.{NewPatch}
 use Rattle.review_words.specs.declared.changes.Review.{Review as ReviewOf}
+use Rattle.review_words.specs.declared.changes.Role.{Role}
+use Rattle.review_words.specs.declared.changes.Role.TheVariants.{Reviewer, Cc}
+use Rattle.review_words.specs.declared.shown.State.{State}
+use Rattle.review_words.specs.declared.shown.State.TheVariants.{Merged}
 use Rattle.review_words.specs.declared.command.Command.{Command}
-use Rattle.review_words.specs.declared.command.Command.TheVariants.{CreateAccount, PutGroup, PutProject, RecordBase, CreateChange, Upload, Review}
-use Rattle.review_words.specs.declared.command.Query.{Query}
-use Rattle.review_words.specs.declared.command.Query.TheVariants as asked
+use Rattle.review_words.specs.declared.command.Command.TheVariants.{CreateAccount, PutGroup, PutProject, RecordBase, CreateChange, OnChange}
+use Rattle.review_words.specs.declared.command.ChangeCommand.{ChangeCommand}
+use Rattle.review_words.specs.declared.command.ChangeCommand.TheVariants.{Upload, Review, AddReviewer, RemoveReviewer, SetWip, SetReady, Abandon, Restore, AddAttention, RemoveAttention}
 use Rattle.review_words.specs.declared.reply.Reply.{Reply}
 use Rattle.review_words.specs.declared.reply.Reply.TheVariants.{Done, Refused}
 use Rattle.review_words.specs.declared.reply.Answer.{Answer}
-use Rattle.review_words.specs.declared.reply.Answer.TheVariants.{Account, Nothing, Change as AChange, Patch, Reviewed, Branch}
+use Rattle.review_words.specs.declared.reply.Answer.TheVariants.{Account, Nothing, Change as AChange, Patch, Reviewed}
 use Rattle.review_words.specs.declared.reply.Refusal.{Refusal}
-use Rattle.review_words.specs.declared.reply.Refusal.TheVariants.{UnknownCaller, NotAdmin, NoProject, NoBranch, NoChange, NoPatchSet, NoAccount, NoComment, NotAllowed, Closed, StalePatchSet, NoLabel, ValueOut, VoteRestricted, CommitKnown, UnknownParent, NameTaken, BadFile, LabelNarrowed, Limit}
+use Rattle.review_words.specs.declared.reply.Refusal.TheVariants.{UnknownCaller, NotAdmin, NoProject, NoBranch, NoChange, NoPatchSet, NoAccount, NoComment, NotAllowed, Closed, SameState, StalePatchSet, NoLabel, ValueOut, VoteRestricted, CommitKnown, UnknownParent, NotEligible, NameTaken, BadFile, LabelNarrowed, Limit}
 use Rattle.review_words.specs.declared.faults.FileFault.{FileFault}
-use Rattle.review_words.specs.History.{Entry, stored, account_count, name_taken, is_account, is_admin, file_text, is_project, project_count, bases, base_count, is_branch}
+use Rattle.review_words.specs.History.{Entry, stored, account_count, name_taken, is_account, is_admin, file_text, is_project, project_count, base_count, is_branch}
 use Rattle.review_names.specs.Forms.{is_within, most_changes, most_patches, most_comments}
 use Rattle.review_names.specs.Names.{registered_users}
 use Rattle.review_project.specs.Rights.{may, granted, least_of, greatest_of}
 use Rattle.review_project.specs.declared.parts.Right.{Right}
 use Rattle.review_project.specs.declared.parts.Right.TheVariants as right
-use Rattle.review_changes.specs.Change.{Change, Setting, carried, copying, current, is_lost, is_open, label_in, reviewed, said}
+use Rattle.review_changes.specs.Change.{Change, Setting, carried, copying, current, eligible, is_lost, is_open, is_reviewer, label_in, reviewed, said}
 use Rattle.review_changes.specs.Counts.{AreMany}
+use Rattle.review_changes.specs.Shown.{is_cc}
 use Rattle.review_changes.specs.Sound.{answer_stored}
 use Rattle.review_changes.specs.Votes.{voted}
-use Rattle.review_changes.specs.declared.commands.ChangeCommand.TheVariants as change_asked
 pub use Rattle.review_rows.specs.Limits.{most_requests, most_accounts, most_projects, most_bases}
 use Rattle.review_rows.specs.Changes.{Reading, Reads, change, change_count, file_of, groups_of, is_known, setting_of}
 use Rattle.review_rows.specs.Files.{File, IsRead, IsFileFault, covers}
@@ -69,6 +73,39 @@ review_checks reading h caller r c =
     ∷ (given_checks (setting_of reading h c.project) caller r c r.labels ++ (answer_stored (length c.comments) r.comments, NoComment)
     ∷ (nat_le (length c.comments + length (said r)) most_comments, Limit) ∷ [])
 
+-- whether an account has just this role
+abbrev pub has_role : Role → Option Role → Bool
+has_role Reviewer was = is_reviewer was
+has_role Cc was = is_cc was
+
+-- whether a change has joined its branch
+abbrev pub is_merged : State → Bool
+is_merged Merged = true
+is_merged _ = false
+
+-- whether an account runs a change: its owner, or who runs the desk
+abbrev pub runs : List Entry → ℕ → Change → Bool
+runs h caller c = (caller == c.owner) || is_admin h caller
+
+-- whether an account may abandon a change and restore it: who runs it, or has the right to
+abbrev pub may_abandon : Reading → List Entry → ℕ → Change → Bool
+may_abandon reading h caller c = runs h caller c || has_right reading h c.project right.Abandon caller
+
+-- the checks of a request on a change
+abbrev pub request_checks : Reading → List Entry → ℕ → ChangeCommand → Change → List (Bool × Refusal)
+request_checks reading h caller (Upload patch) c = upload_checks reading h caller patch c
+request_checks reading h caller (Review review) c = review_checks reading h caller review c
+request_checks reading h caller (AddReviewer account role) c = (is_account h account, NoAccount) ∷ (not (has_role role (c.role account)), SameState) ∷ []
+request_checks reading h caller (RemoveReviewer account) c =
+    (is_account h account, NoAccount) ∷ ((caller == account) || runs h caller c, NotAllowed) ∷ (is_open c.state, Closed) ∷ (is_some (c.role account), SameState) ∷ []
+request_checks reading h caller SetWip c = (runs h caller c, NotAllowed) ∷ (is_open c.state, Closed) ∷ (not c.wip, SameState) ∷ []
+request_checks reading h caller SetReady c = (runs h caller c, NotAllowed) ∷ (is_open c.state, Closed) ∷ (c.wip, SameState) ∷ []
+request_checks reading h caller Abandon c = (may_abandon reading h caller c, NotAllowed) ∷ (is_open c.state, Closed) ∷ []
+request_checks reading h caller Restore c = (may_abandon reading h caller c, NotAllowed) ∷ (not (is_merged c.state), Closed) ∷ (not (is_open c.state), SameState) ∷ []
+request_checks reading h caller (AddAttention account reason) c =
+    (is_account h account, NoAccount) ∷ (is_open c.state, Closed) ∷ (eligible c account, NotEligible) ∷ (not (is_some (c.attention account)), SameState) ∷ []
+request_checks reading h caller (RemoveAttention account reason) c = (is_account h account, NoAccount) ∷ (is_open c.state, Closed) ∷ (is_some (c.attention account), SameState) ∷ []
+
 -- checks of a change, where there is one
 abbrev pub of_change : (Change → List (Bool × Refusal)) → Option Change → List (Bool × Refusal)
 of_change each None = (false, NoChange) ∷ []
@@ -88,8 +125,7 @@ checks reading h caller (RecordBase project branch commit) =
 checks reading h caller (CreateChange new) =
     (is_project h new.project, NoProject) ∷ (is_branch h new.project new.branch, NoBranch) ∷ (has_right reading h new.project right.Create caller, NotAllowed)
     ∷ (commit_checks reading h new.project new.branch new.commit new.parent ++ (nat_lt (change_count h) most_changes, Limit) ∷ [])
-checks reading h caller (Upload n patch) = of_change (upload_checks reading h caller patch) (change reading h n)
-checks reading h caller (Review n review) = of_change (review_checks reading h caller review) (change reading h n)
+checks reading h caller (OnChange n command) = of_change (request_checks reading h caller command) (change reading h n)
 
 -- the refusal of the first check that fails
 abbrev pub first_refusal : List (Bool × Refusal) → Option Refusal
@@ -110,11 +146,15 @@ abbrev pub comment_numbers : ReviewOf → Option Change → List ℕ
 comment_numbers r None = []
 comment_numbers r (Some c) = numbers_after (length c.comments) (said r)
 
--- what a command gives that is done, but for an Upload, whose answer counts votes
+-- what a request on a change gives that is done, but for an Upload, whose answer counts votes
+abbrev pub done_on : ChangeCommand → Option Change → Answer
+done_on (Review review) c = Reviewed (comment_numbers review c)
+done_on _ c = Nothing
+
+-- what a command gives that is done, where it asks nothing of a change
 abbrev pub done : Reading → List Entry → Command → Answer
 done reading h (CreateAccount name) = Account (account_count h + 1)
 done reading h (CreateChange new) = AChange (change_count h + 1) 1
-done reading h (Review n review) = Reviewed (comment_numbers review (change reading h n))
 done reading h _ = Nothing
 
 -- a refusal where there is one, and otherwise this answer
@@ -140,8 +180,8 @@ IsFaultAnswer text reply = (fault : FileFault) × IsFileFault text fault × (rep
 pub record IsUploadAnswer (reading : Reading) (h : List Entry) (caller n : ℕ) (patch : NewPatch) (c : Change) (reply : Reply) : Type 0 where
   pub copied : ℕ
   pub outdated : ℕ
-  pub many_copied : AreMany (λ l u. voted (carried (copying (setting_of reading h c.project) (change_asked.Upload patch) caller c) c l u)) copied
-  pub many_outdated : AreMany (λ l u. is_lost (copying (setting_of reading h c.project) (change_asked.Upload patch) caller c) c u l) outdated
+  pub many_copied : AreMany (λ l u. voted (carried (copying (setting_of reading h c.project) (Upload patch) caller c) c l u)) copied
+  pub many_outdated : AreMany (λ l u. is_lost (copying (setting_of reading h c.project) (Upload patch) caller c) c u l) outdated
   pub reply_is : reply ≡ Done (Patch n (current c + 1) copied outdated)
 
 -- it holds of a change that is there
@@ -149,11 +189,16 @@ abbrev pub IsOf : (Change → Type 0) → Option Change → Type 0
 IsOf Holds None = ⊥
 IsOf Holds (Some c) = Holds c
 
+-- what a request on a change is told that no check refuses
+abbrev pub IsRequestOutcome : Reading → List Entry → ℕ → ℕ → ChangeCommand → Reply → Type 0
+IsRequestOutcome reading h caller n (Upload patch) reply = IsOf (λ c. IsUploadAnswer reading h caller n patch c reply) (change reading h n)
+IsRequestOutcome reading h caller n command reply = reply ≡ Done (done_on command (change reading h n))
+
 -- What a command is told that no check refuses. One place is left free: which fault a text is told where a pattern in it nests deeper than the pattern
 -- engine reads.
 abbrev pub IsOutcome : Reading → List Entry → ℕ → Command → Reply → Type 0
 IsOutcome reading h caller (PutProject project text) reply = IsFaultAnswer text reply ⊎ IsFileAnswer reading h project text reply
-IsOutcome reading h caller (Upload n patch) reply = IsOf (λ c. IsUploadAnswer reading h caller n patch c reply) (change reading h n)
+IsOutcome reading h caller (OnChange n command) reply = IsRequestOutcome reading h caller n command reply
 IsOutcome reading h caller command reply = reply ≡ Done (done reading h command)
 
 -- The reply is an answer to the command, by what is read of the texts that were put.
@@ -163,18 +208,6 @@ IsAnswerBy reading h caller command reply = MatchOption (refused_by reading h ca
 -- The reply is an answer to the command, where each text that was put is read right.
 abbrev pub IsAnswer : List Entry → ℕ → Command → Reply → Type 0
 IsAnswer h caller command reply = (reading : Reading) → Reads reading h → IsAnswerBy reading h caller command reply
-
--- the checks of a question in their order
-abbrev pub query_checks : List Entry → Query → List (Bool × Refusal)
-query_checks h (asked.Branch project branch) = (is_project h project, NoProject) ∷ (is_branch h project branch, NoBranch) ∷ []
-
--- what a question is told that no check refuses
-abbrev pub told : List Entry → Query → Answer
-told h (asked.Branch project branch) = Branch (bases h project branch)
-
--- the answer to a question
-abbrev pub query_answer : List Entry → ℕ → Query → Reply
-query_answer h caller query = refused_or (first_refusal ((is_account h caller, UnknownCaller) ∷ query_checks h query)) (told h query)
 
 -- A history: each identity stands once, each reply is an answer after what stood before, and there are at most so many requests. Nothing is
 -- asked of the forms of names and numbers in it, so where a history is assumed, more lists are spoken of than the desk can make.

@@ -14,8 +14,7 @@ use Rattle.review_words.specs.declared.command.Command.TheVariants as asked
 use Rattle.review_expr.specs.declared.expr.Expr.{Expr}
 use Rattle.review_project.specs.Reading.{IsRead}
 use Rattle.review_project.specs.View.{FileView}
-use Rattle.review_changes.specs.declared.commands.ChangeCommand.{ChangeCommand}
-use Rattle.review_changes.specs.declared.commands.ChangeCommand.TheVariants.{Upload, Review}
+use Rattle.review_words.specs.declared.command.ChangeCommand.{ChangeCommand}
 use Rattle.review_changes.specs.Change.{Change, Setting, after, begun}
 
 -- what is read of each text that spells a project file
@@ -62,8 +61,7 @@ change_count (e ∷ h) = change_counted (accepted e) (change_count h)
 
 -- what a command asks of a change, and of which
 abbrev pub asked_of : Command → Option (ℕ × ChangeCommand)
-asked_of (asked.Upload change patch) = Some (change, Upload patch)
-asked_of (asked.Review change review) = Some (change, Review review)
+asked_of (asked.OnChange change command) = Some (change, command)
 asked_of _ = None
 
 -- a change after what is asked of one, by an account after a history

@@ -5,7 +5,9 @@ use Rattle.std.specs.Ordering.{nat_cmp}
 use Rattle.review_table.specs.Rows.{change_of}
 use Rattle.review_table.specs.declared.table.Change.{Change}
 use Rattle.review_words.specs.declared.command.Command.{Command}
-use Rattle.review_words.specs.declared.command.Command.TheVariants.{PutProject, CreateChange, Upload, Review}
+use Rattle.review_words.specs.declared.command.Command.TheVariants.{PutProject, CreateChange, OnChange}
+use Rattle.review_words.specs.declared.command.Query.{Query}
+use Rattle.review_words.specs.declared.command.Query.TheVariants as asked
 use Rattle.review_words.specs.declared.reply.Reply.{Reply}
 use Rattle.review_words.specs.declared.reply.Reply.TheVariants.{Done, Refused}
 use Rattle.review_words.specs.declared.reply.NotTaken.{NotTaken as Cause}
@@ -22,22 +24,31 @@ use Rattle.review_rows.specs.declared.rows.ChangeEdit.{ChangeEdit}
 use Rattle.review_rows.specs.declared.rows.Rows.{Rows}
 use Rattle.review_rows.specs.declared.rows.Delta.{Delta}
 use Rattle.review_rows.specs.Rows.{member_cmp}
-use Rattle.review_rows.specs.Steps.{OfCommand}
+use Rattle.review_rows.specs.Steps.{Topic, OfCommand, OfQuery}
 
--- the project by whose file a command is judged
+-- the project that a command concerns, by whose file it may be judged
 abbrev pub judging_project : Reading → List Entry → Command → Option (List ℕ)
 judging_project reading h (PutProject project text) = Some project
 judging_project reading h (CreateChange new) = Some new.project
-judging_project reading h (Upload n patch) = option_map (λ c. c.project) (change reading h n)
-judging_project reading h (Review n review) = option_map (λ c. c.project) (change reading h n)
+judging_project reading h (OnChange n command) = option_map (λ c. c.project) (change reading h n)
 judging_project reading h command = None
+
+-- the project of the change that a question asks about, by whose file it may be answered
+abbrev pub asking_project : Reading → List Entry → Query → Option (List ℕ)
+asking_project reading h (asked.OnChange n query) = option_map (λ c. c.project) (change reading h n)
+asking_project reading h query = None
+
+-- the project by whose file a command is judged, or a question answered
+abbrev pub topic_project : Reading → List Entry → Topic → Option (List ℕ)
+topic_project reading h (OfCommand command) = judging_project reading h command
+topic_project reading h (OfQuery query) = asking_project reading h query
 
 -- the file of the project has a pattern
 abbrev pub HasPatternIn : List Entry → Option (List ℕ) → Type 0
 HasPatternIn h None = ⊥
 HasPatternIn h (Some project) = IsSomeAnd (file_text h project) HasPattern
 
--- a pattern that the engine refuses in the text that a command puts, all before it being good
+-- a pattern that the engine may refuse in the text that a command puts, all before it being good
 abbrev pub PutsPattern : Command → Type 0
 PutsPattern (PutProject project text) = IsReadFault text read.Pattern
 PutsPattern command = ⊥
@@ -46,12 +57,22 @@ PutsPattern command = ⊥
 abbrev pub ReadsPattern : Reading → List Entry → Command → Type 0
 ReadsPattern reading h command = PutsPattern command ⊎ HasPatternIn h (judging_project reading h command)
 
--- Why a command is not decided: want of memory, a pattern that the engine refuses in the file that it puts, or rows that are those of no history.
+-- The rows are those of no history.
+abbrev pub IsOfNoHistory : ℕ → Topic → Option File → Rows → Type 0
+IsOfNoHistory caller topic file rows = (reading : Reading) (h : List Entry) → IsHistory h → AreEnough reading h caller topic file rows → ⊥
+
+-- Why a command is not decided: want of memory, a pattern that the engine may refuse in the file that it puts, or rows that are those of no history.
 abbrev pub IsUndecided : ℕ → Command → Option File → Rows → Cause → Type 0
 IsUndecided caller command file rows Memory = Unit {0}
 IsUndecided caller command file rows Pattern = PutsPattern command
-IsUndecided caller command file rows Damaged = (reading : Reading) (h : List Entry) → IsHistory h → AreEnough reading h caller (OfCommand command) file rows → ⊥
+IsUndecided caller command file rows Damaged = IsOfNoHistory caller (OfCommand command) file rows
 IsUndecided caller command file rows _ = ⊥
+
+-- Why a question is not answered: want of memory, or rows that are those of no history.
+abbrev pub IsUnshown : ℕ → Query → Option File → Rows → Cause → Type 0
+IsUnshown caller query file rows Memory = Unit {0}
+IsUnshown caller query file rows Damaged = IsOfNoHistory caller (OfQuery query) file rows
+IsUnshown caller query file rows _ = ⊥
 
 -- Why the file of a project is not read: want of memory, a pattern that the engine refuses, or a text that spells no file.
 abbrev pub IsUnread : Option (List ℕ) → Cause → Type 0

@@ -5,6 +5,7 @@ pub mod Known
 pub mod Steps
 pub mod Changes
 pub mod Answer
+pub mod Questions
 pub mod View
 pub mod Count
 pub mod Shelf

@@ -3,10 +3,13 @@ use Rattle.std.specs.Prelude.{ℕ, ◌+◌, ◌<◌, ◌≡◌, Option, Some, No
 use Rattle.std.specs.List.{All, filter}
 use Rattle.review_names.specs.Names.{administrators}
 use Rattle.review_words.specs.declared.command.Command.{Command}
-use Rattle.review_words.specs.declared.command.Command.TheVariants.{CreateAccount, PutGroup, PutProject, RecordBase, CreateChange, Upload, Review}
+use Rattle.review_words.specs.declared.command.Command.TheVariants.{CreateAccount, PutGroup, PutProject, RecordBase, CreateChange, OnChange}
 use Rattle.review_words.specs.declared.changes.Given.{Given}
-use Rattle.review_words.specs.declared.changes.NewPatch.{NewPatch}
-use Rattle.review_group_names.specs.Named.{copy_groups}
+use Rattle.review_words.specs.declared.command.ChangeCommand.{ChangeCommand}
+use Rattle.review_words.specs.declared.command.ChangeCommand.TheVariants.{Upload, Review, AddReviewer, RemoveReviewer, Abandon, Restore, AddAttention, RemoveAttention}
+use Rattle.review_words.specs.declared.command.ChangeQuery.{ChangeQuery}
+use Rattle.review_words.specs.declared.command.ChangeQuery.TheVariants.{Requirements}
+use Rattle.review_group_names.specs.Named.{copy_groups, required_groups}
 use Rattle.review_project.specs.Rights.{grants_of}
 use Rattle.review_changes.specs.Change.{Change}
 use Rattle.review_rows.specs.Files.{File, IsRead}
@@ -44,6 +47,14 @@ commit_wants project branch commit =
 abbrev pub patch_wants : List ℕ → List ℕ → List ℕ → List ℕ → List Want
 patch_wants project branch commit parent = want.File project ∷ (commit_wants project branch commit ++ commit_wants project branch parent)
 
+-- the account that a request on a change names
+abbrev pub named_in : ChangeCommand → List ℕ
+named_in (AddReviewer account role) = account ∷ []
+named_in (RemoveReviewer account) = account ∷ []
+named_in (AddAttention account reason) = account ∷ []
+named_in (RemoveAttention account reason) = account ∷ []
+named_in _ = []
+
 -- what a command asks beside that
 abbrev pub command_wants : Command → List Want
 command_wants (CreateAccount name) = want.AccountNamed name ∷ want.LastAccount ∷ []
@@ -54,33 +65,45 @@ command_wants (RecordBase project branch commit) =
     ∷ (commit_wants project branch commit ++ want.Room (counted.BasesOf project) ∷ want.LastPlace (record { project = project; branch = branch }) ∷ [])
 command_wants (CreateChange new) =
     want.LastPlace (record { project = new.project; branch = new.branch }) ∷ want.LastChange ∷ patch_wants new.project new.branch new.commit new.parent
-command_wants (Upload change patch) = want.Change change ∷ []
-command_wants (Review change review) = want.Change change ∷ []
+command_wants (OnChange change command) = want.Change change ∷ map want.Account (named_in command)
 
 -- what a question asks
 abbrev pub query_wants : ℕ → Query → List Want
 query_wants caller (asked.Branch project branch) = want.Account caller ∷ want.Project project ∷ want.Bases (record { project = project; branch = branch }) ∷ []
+query_wants caller (asked.OnChange change query) = want.Account caller ∷ want.Change change ∷ []
 
 -- what a command or a question asks first
 abbrev pub first_wants : ℕ → Topic → List Want
 first_wants caller (OfCommand command) = caller_wants caller ++ command_wants command
 first_wants caller (OfQuery query) = query_wants caller query
 
--- what a new patch set of a change asks
-abbrev pub sent_wants : NewPatch → Option Change → List Want
-sent_wants patch None = []
-sent_wants patch (Some c) = patch_wants c.project c.branch patch.commit patch.parent
+-- what values on labels ask: the project's file; nothing where none are given
+abbrev pub given_wants : List Given → List ℕ → List Want
+given_wants [] project = []
+given_wants (g ∷ gs) project = want.File project ∷ []
 
--- what values on labels of a change ask: its project's file; nothing where none are given
-abbrev pub given_wants : List Given → Option Change → List Want
-given_wants [] c = []
-given_wants (g ∷ gs) None = []
-given_wants (g ∷ gs) (Some c) = want.File c.project ∷ []
+-- what a request on a change asks by it
+abbrev pub request_wants : ChangeCommand → Change → List Want
+request_wants (Upload patch) c = patch_wants c.project c.branch patch.commit patch.parent
+request_wants (Review review) c = given_wants review.labels c.project
+request_wants Abandon c = want.File c.project ∷ []
+request_wants Restore c = want.File c.project ∷ []
+request_wants _ c = []
+
+-- what a question about a change asks by it
+abbrev pub question_wants : ChangeQuery → Change → List Want
+question_wants Requirements c = want.File c.project ∷ []
+question_wants _ c = []
+
+-- what is asked by a change, where there is one
+abbrev pub wants_by : (Change → List Want) → Option Change → List Want
+wants_by each None = []
+wants_by each (Some c) = each c
 
 -- what a command or a question asks next, by the change that it names
 abbrev pub change_wants : Rows → Topic → List Want
-change_wants rows (OfCommand (Upload change patch)) = sent_wants patch (change_in (known rows (want.Change change)))
-change_wants rows (OfCommand (Review change review)) = given_wants review.labels (change_in (known rows (want.Change change)))
+change_wants rows (OfCommand (OnChange change command)) = wants_by (request_wants command) (change_in (known rows (want.Change change)))
+change_wants rows (OfQuery (asked.OnChange change query)) = wants_by (question_wants query) (change_in (known rows (want.Change change)))
 change_wants rows topic = []
 
 -- whether the caller is in these groups
@@ -91,12 +114,25 @@ caller_in caller groups = map (λ group. want.Member (record { group = group; ac
 abbrev pub granted_groups : File → List Given → List (List ℕ)
 granted_groups file given = flat_map (λ g. map (λ grant. grant.group) (grants_of file g.label)) given
 
--- what is asked of groups, by the file that was read: whether the caller is in those of a right or of a range, and the members of those that copy conditions name
+-- what a request on a change asks of groups, by the project's file: whether the caller is in those of a right or of a range, and the members of those that copy conditions name
+abbrev pub request_groups : File → ℕ → ChangeCommand → List Want
+request_groups file caller (Upload patch) = caller_in caller file.access.upload ++ map want.Group (copy_groups file)
+request_groups file caller (Review review) = caller_in caller (granted_groups file review.labels)
+request_groups file caller Abandon = caller_in caller file.access.abandon
+request_groups file caller Restore = caller_in caller file.access.abandon
+request_groups file caller _ = []
+
+-- what a question about a change asks of groups, by the project's file: the members of those that submit requirements name
+abbrev pub question_groups : File → ChangeQuery → List Want
+question_groups file Requirements = map want.Group (required_groups file)
+question_groups file _ = []
+
+-- what is asked of groups, by the file that was read
 abbrev pub file_wants : Option File → ℕ → Topic → List Want
 file_wants None caller topic = []
 file_wants (Some file) caller (OfCommand (CreateChange new)) = caller_in caller file.access.create
-file_wants (Some file) caller (OfCommand (Upload change patch)) = caller_in caller file.access.upload ++ map want.Group (copy_groups file)
-file_wants (Some file) caller (OfCommand (Review change review)) = caller_in caller (granted_groups file review.labels)
+file_wants (Some file) caller (OfCommand (OnChange change command)) = request_groups file caller command
+file_wants (Some file) caller (OfQuery (asked.OnChange change query)) = question_groups file query
 file_wants (Some file) caller topic = []
 
 -- The look-ups of a command or a question, step by step, where this file was read: what a step asks may depend on what the steps before it found.
@@ -107,8 +143,8 @@ steps file rows caller topic = first_wants caller topic ∷ change_wants rows to
 abbrev pub project_of : Rows → Topic → Option (List ℕ)
 project_of rows (OfCommand (PutProject project text)) = Some project
 project_of rows (OfCommand (CreateChange new)) = Some new.project
-project_of rows (OfCommand (Upload change patch)) = option_map (λ c. c.project) (change_in (known rows (want.Change change)))
-project_of rows (OfCommand (Review change review)) = option_map (λ c. c.project) (change_in (known rows (want.Change change)))
+project_of rows (OfCommand (OnChange change command)) = option_map (λ c. c.project) (change_in (known rows (want.Change change)))
+project_of rows (OfQuery (asked.OnChange change query)) = option_map (λ c. c.project) (change_in (known rows (want.Change change)))
 project_of rows topic = None
 
 -- the text of a project's file, as rows know it

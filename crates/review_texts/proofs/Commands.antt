@@ -17,10 +17,13 @@ use Rattle.review_words.specs.declared.changes.NewChange.{NewChange}
 use Rattle.review_words.specs.declared.changes.NewComment.{NewComment}
 use Rattle.review_words.specs.declared.changes.NewPatch.{NewPatch}
 use Rattle.review_words.specs.declared.changes.Review.{Review}
+use Rattle.review_words.specs.declared.changes.Role.{Role}
+use Rattle.review_words.specs.declared.changes.Role.TheVariants as role
+use Rattle.review_words.specs.declared.command.ChangeCommand.{ChangeCommand}
+use Rattle.review_words.specs.declared.command.ChangeCommand.TheVariants as asked
 use Rattle.review_words.specs.declared.command.Command.{Command}
-use Rattle.review_words.specs.declared.command.Command.TheVariants.{CreateAccount, PutGroup, PutProject, RecordBase, CreateChange, Upload}
-use Rattle.review_words.specs.declared.command.Command.TheVariants as command
-use Rattle.review_words.specs.Texts.{command_fields, comment_fields, given_fields, shown_flag, shown_link, shown_patch, shown_truth, signed}
+use Rattle.review_words.specs.declared.command.Command.TheVariants.{CreateAccount, PutGroup, PutProject, RecordBase, CreateChange, OnChange}
+use Rattle.review_words.specs.Texts.{asked_fields, asked_name, command_fields, comment_fields, given_fields, role_name, role_named, shown_flag, shown_link, shown_patch, shown_truth, signed}
 use Rattle.review_texts.specs.Reading.{at}
 
 -- What fields are read as; whatever where they are none of a command.
@@ -74,6 +77,23 @@ abbrev pub review_of : List (List ℕ) → Review
 review_of fields = let n = value (at fields 2) in
     record { patch = patch_of (at fields 0); message = at fields 1; labels = members_at given_of 2 n (drop 3 fields); comments = comments_of (drop (2 * n) (drop 3 fields)) }
 
+abbrev pub role_of : List ℕ → Role
+role_of text = unwrap_or (role_named text) role.Cc
+
+-- what is asked of a change, by its name and its fields
+abbrev pub asked_of : List ℕ → List (List ℕ) → ChangeCommand
+asked_of name fields = let account = value (at fields 0) in
+    if bytes_eq name (codes "Upload") then asked.Upload (new_patch_of fields)
+    else if bytes_eq name (codes "Review") then asked.Review (review_of fields)
+    else if bytes_eq name (codes "AddReviewer") then asked.AddReviewer account (role_of (at fields 1))
+    else if bytes_eq name (codes "RemoveReviewer") then asked.RemoveReviewer account
+    else if bytes_eq name (codes "SetWip") then asked.SetWip
+    else if bytes_eq name (codes "SetReady") then asked.SetReady
+    else if bytes_eq name (codes "Abandon") then asked.Abandon
+    else if bytes_eq name (codes "Restore") then asked.Restore
+    else if bytes_eq name (codes "AddAttention") then asked.AddAttention account (at fields 1)
+    else asked.RemoveAttention account (at fields 1)
+
 -- the command of fields
 abbrev pub command_of : List (List ℕ) → Command
 command_of fields = let name = at fields 0 in let rest = drop 1 fields in
@@ -82,8 +102,7 @@ command_of fields = let name = at fields 0 in let rest = drop 1 fields in
     else if bytes_eq name (codes "PutProject") then PutProject (at rest 0) (at rest 1)
     else if bytes_eq name (codes "RecordBase") then RecordBase (at rest 0) (at rest 1) (at rest 2)
     else if bytes_eq name (codes "CreateChange") then CreateChange (new_change_of rest)
-    else if bytes_eq name (codes "Upload") then Upload (value (at rest 0)) (new_patch_of (drop 1 rest))
-    else command.Review (value (at rest 0)) (review_of (drop 1 rest))
+    else OnChange (value (at rest 0)) (asked_of name (drop 1 rest))
 
 numbers_back : (ns : List ℕ) → map value (map numeral ns) ≡ ns
 numbers_back [] = refl
@@ -140,6 +159,11 @@ kind_back kind.TrivialRebaseWithMessageUpdate = refl
 kind_back kind.MergeFirstParentUpdate = refl
 kind_back kind.Rework = refl
 
+role_back : (r : Role) → role_of (role_name r) ≡ r
+unfolding role_named
+role_back role.Reviewer = refl
+role_back role.Cc = refl
+
 given_back : (g : Given) (rest : List (List ℕ)) → given_of (given_fields g ++ rest) ≡ g
 given_back g rest = ap (λ v. record { label = g.label; value = v }) (signed_back g.value)
 
@@ -177,15 +201,14 @@ comments_back cs =
     ap (λ m. members_at comment_of 5 m (flat_map comment_fields cs)) (value_numeral (length cs))
     ∙ (ap (members_at comment_of 5 (length cs)) (sym (append-nil (flat_map comment_fields cs))) ∙ members_back comment_of comment_fields 5 (λ c r. (comment_back c r, refl)) cs [])
 
-review_back : (change : ℕ) (r : Review) → command_of (command_fields (command.Review change r)) ≡ command.Review change r
-review_back change r =
+review_back : (r : Review) → review_of (asked_fields (asked.Review r)) ≡ r
+review_back r =
     let behind = numeral (length r.comments) ∷ flat_map comment_fields r.comments in
     let count = value_numeral (length r.labels) in
-    let number = value_numeral change in
     let patch = patch_back r.patch in
     let labels = labels_back r.labels behind (value (numeral (length r.labels))) count in
     let comments = ap comments_of (behind_labels r.labels behind (value (numeral (length r.labels))) count) ∙ comments_back r.comments in
-    λ i. command.Review (number i) (record { patch = patch i; message = r.message; labels = labels i; comments = comments i })
+    λ i. record { patch = patch i; message = r.message; labels = labels i; comments = comments i }
 
 change_back : (new : NewChange) → command_of (command_fields (CreateChange new)) ≡ CreateChange new
 change_back new =
@@ -195,11 +218,43 @@ change_back new =
     let wip = ap (λ fields. truth_of (at fields 0)) (drop_at new.paths behind (value (numeral (length new.paths))) count) ∙ truth_back new.wip in
     λ i. CreateChange (record { project = new.project; branch = new.branch; subject = new.subject; commit = new.commit; parent = new.parent; paths = paths i; wip = wip i })
 
-upload_back : (change : ℕ) (new : NewPatch) → command_of (command_fields (Upload change new)) ≡ Upload change new
-upload_back change new =
+patch_set_back : (new : NewPatch) → new_patch_of (asked_fields (asked.Upload new)) ≡ new
+patch_set_back new = ap (λ kind. record { commit = new.commit; parent = new.parent; kind = kind; paths = new.paths }) (kind_back new.kind)
+
+call_back : (ask : ℕ → List ℕ → ChangeCommand) (account : ℕ) (reason : List ℕ) → ask (value (numeral account)) reason ≡ ask account reason
+call_back ask account reason = ap (λ n. ask n reason) (value_numeral account)
+
+-- one line for each command on a change
+asked_back : (c : ChangeCommand) → asked_of (asked_name c) (asked_fields c) ≡ c
+asked_back (asked.Upload new) = ap asked.Upload (patch_set_back new)
+asked_back (asked.Review review) = ap asked.Review (review_back review)
+asked_back (asked.AddReviewer account as_what) = let number = value_numeral account in let back = role_back as_what in λ i. asked.AddReviewer (number i) (back i)
+asked_back (asked.RemoveReviewer account) = ap asked.RemoveReviewer (value_numeral account)
+asked_back asked.SetWip = refl
+asked_back asked.SetReady = refl
+asked_back asked.Abandon = refl
+asked_back asked.Restore = refl
+asked_back (asked.AddAttention account reason) = call_back asked.AddAttention account reason
+asked_back (asked.RemoveAttention account reason) = call_back asked.RemoveAttention account reason
+
+-- A name of what is asked of a change is that of no other command.
+asked_alone : (c : ChangeCommand) (rest : List (List ℕ)) → command_of (asked_name c ∷ rest) ≡ OnChange (value (at rest 0)) (asked_of (asked_name c) (drop 1 rest))
+asked_alone (asked.Upload new) rest = refl
+asked_alone (asked.Review review) rest = refl
+asked_alone (asked.AddReviewer account as_what) rest = refl
+asked_alone (asked.RemoveReviewer account) rest = refl
+asked_alone asked.SetWip rest = refl
+asked_alone asked.SetReady rest = refl
+asked_alone asked.Abandon rest = refl
+asked_alone asked.Restore rest = refl
+asked_alone (asked.AddAttention account reason) rest = refl
+asked_alone (asked.RemoveAttention account reason) rest = refl
+
+on_change_back : (change : ℕ) (c : ChangeCommand) → command_of (command_fields (OnChange change c)) ≡ OnChange change c
+on_change_back change c =
     let number = value_numeral change in
-    let kind = kind_back new.kind in
-    λ i. Upload (number i) (record { commit = new.commit; parent = new.parent; kind = kind i; paths = new.paths })
+    let back = asked_back c in
+    asked_alone c (numeral change ∷ asked_fields c) ∙ (λ i. OnChange (number i) (back i))
 
 -- one line for each command
 pub command_back : (c : Command) → command_of (command_fields c) ≡ c
@@ -208,5 +263,4 @@ command_back (PutGroup group members) = ap (PutGroup group) (numbers_back member
 command_back (PutProject project file) = refl
 command_back (RecordBase project branch commit) = refl
 command_back (CreateChange new) = change_back new
-command_back (Upload change new) = upload_back change new
-command_back (command.Review change review) = review_back change review
+command_back (OnChange change command) = on_change_back change command

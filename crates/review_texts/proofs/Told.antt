@@ -20,9 +20,9 @@ use Rattle.review_names.specs.Numerals.{◌>>=◌, number_of}
 use Rattle.review_texts.specs.Reading.{comments_of, expr_fault_of, file_fault_of, new_change_of, new_patch_of, number_within, numbers_in, plain_reply_of, refusal_of, reply_of, Gives}
 use Rattle.review_words.specs.declared.reply.Reply.{Reply}
 use Rattle.review_words.specs.declared.reply.Reply.TheVariants.{Done, Refused, IdentityReused, NotTaken}
-use Rattle.review_words.specs.declared.reply.Answer.TheVariants.{Account, Nothing, Change, Patch, Reviewed, Branch}
+use Rattle.review_words.specs.declared.reply.Answer.TheVariants.{Account, Nothing, Change, Patch, Reviewed, Branch, Shown, Requirements, Threads, Attention}
 use Rattle.review_words.specs.declared.reply.Refusal.{Refusal}
-use Rattle.review_words.specs.declared.reply.Refusal.TheVariants.{UnknownCaller, NotAdmin, NoProject, NoBranch, NoChange, NoPatchSet, NoAccount, NoComment, NotAllowed, Closed, StalePatchSet, NoLabel, ValueOut, VoteRestricted, CommitKnown, UnknownParent, NameTaken, BadFile, LabelNarrowed, Limit}
+use Rattle.review_words.specs.declared.reply.Refusal.TheVariants.{UnknownCaller, NotAdmin, NoProject, NoBranch, NoChange, NoPatchSet, NoAccount, NoComment, NotAllowed, Closed, SameState, StalePatchSet, NoLabel, ValueOut, VoteRestricted, CommitKnown, UnknownParent, NotEligible, NameTaken, BadFile, LabelNarrowed, Limit}
 use Rattle.review_words.specs.declared.faults.ExprCode.{ExprCode}
 use Rattle.review_words.specs.declared.faults.ExprCode.TheVariants as code
 use Rattle.review_words.specs.declared.faults.FileFault.{FileFault}
@@ -72,12 +72,14 @@ refused_back NoAccount s = rw (number_back 7 (omega arith)) refl
 refused_back NoComment s = rw (number_back 8 (omega arith)) refl
 refused_back NotAllowed s = rw (number_back 9 (omega arith)) refl
 refused_back Closed s = rw (number_back 10 (omega arith)) refl
+refused_back SameState s = rw (number_back 11 (omega arith)) refl
 refused_back StalePatchSet s = rw (number_back 13 (omega arith)) refl
 refused_back NoLabel s = rw (number_back 14 (omega arith)) refl
 refused_back ValueOut s = rw (number_back 15 (omega arith)) refl
 refused_back VoteRestricted s = rw (number_back 16 (omega arith)) refl
 refused_back CommitKnown s = rw (number_back 17 (omega arith)) refl
 refused_back UnknownParent s = rw (number_back 18 (omega arith)) refl
+refused_back NotEligible s = rw (number_back 24 (omega arith)) refl
 refused_back NameTaken s = rw (number_back 25 (omega arith)) refl
 refused_back (BadFile f) s = rw (number_back 26 (omega arith), file_back f s) refl
 refused_back LabelNarrowed s = rw (number_back 27 (omega arith)) refl
@@ -114,6 +116,10 @@ reply_back (Done (Patch change patch copied outdated)) s =
     rw (within_back most_changes change (omega arith) s.0 s.1, within_back most_patches patch (omega arith) s.2 s.3, number_back copied s.4, number_back outdated s.5) refl
 reply_back (Done (Reviewed comments)) s = rw (comments_back comments s.0 s.1) refl
 reply_back (Done (Branch bases)) s = absurd s
+reply_back (Done (Shown change)) s = absurd s
+reply_back (Done (Requirements listed)) s = absurd s
+reply_back (Done (Threads listed)) s = absurd s
+reply_back (Done (Attention listed)) s = absurd s
 reply_back (Refused r) s = refused_back r s
 reply_back IdentityReused s = absurd s
 reply_back (NotTaken c) s = absurd s
@@ -159,12 +165,14 @@ below NoAccount = omega arith
 below NoComment = omega arith
 below NotAllowed = omega arith
 below Closed = omega arith
+below SameState = omega arith
 below StalePatchSet = omega arith
 below NoLabel = omega arith
 below ValueOut = omega arith
 below VoteRestricted = omega arith
 below CommitKnown = omega arith
 below UnknownParent = omega arith
+below NotEligible = omega arith
 below NameTaken = omega arith
 below (BadFile f) = omega arith
 below LabelNarrowed = omega arith
@@ -192,12 +200,14 @@ short_refusal NoAccount s = tt
 short_refusal NoComment s = tt
 short_refusal NotAllowed s = tt
 short_refusal Closed s = tt
+short_refusal SameState s = tt
 short_refusal StalePatchSet s = tt
 short_refusal NoLabel s = tt
 short_refusal ValueOut s = tt
 short_refusal VoteRestricted s = tt
 short_refusal CommitKnown s = tt
 short_refusal UnknownParent s = tt
+short_refusal NotEligible s = tt
 short_refusal NameTaken s = tt
 short_refusal (BadFile f) s = (short_numeral (file_fault_number f) (fault_below f), short_expr f s)
 short_refusal LabelNarrowed s = tt
@@ -215,6 +225,10 @@ short_reply (Done (Patch change patch copied outdated)) s =
     (omega arith, (short_numeral change (omega (arith, s.1)), (short_numeral patch (omega (arith, s.3)), (short_numeral copied s.4, (short_numeral outdated s.5, tt)))))
 short_reply (Done (Reviewed comments)) s = (omega arith, (short_numeral (length comments) (omega (arith, s.0)), short_numbers comments s.1))
 short_reply (Done (Branch bases)) s = absurd s
+short_reply (Done (Shown change)) s = absurd s
+short_reply (Done (Requirements listed)) s = absurd s
+short_reply (Done (Threads listed)) s = absurd s
+short_reply (Done (Attention listed)) s = absurd s
 short_reply (Refused r) s = (omega arith, (short_numeral (refusal_number r) (below r), short_refusal r s))
 short_reply IdentityReused s = absurd s
 short_reply (NotTaken c) s = absurd s

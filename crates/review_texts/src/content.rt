@@ -1,16 +1,17 @@
 //! The texts of commands.
 ghost use Rattle.std.specs.Prelude.{◌≡◌, ◌++◌, ◌∷◌, [], flat_map, map, IfOk, OnOk, string_bytes};
 ghost use Rattle.review_names.specs.Numerals.{numeral};
-ghost use Rattle.review_words.specs.Texts.{comment_fields, content_text, given_fields, shown_flag, shown_link, shown_patch, shown_truth};
-ghost use Rattle.review_words.specs.declared.command.Command.TheVariants.{CreateAccount, CreateChange, PutGroup, Upload};
-ghost use Rattle.review_words.specs.declared.command.Command.TheVariants as of_command;
+ghost use Rattle.review_words.specs.Texts.{asked_fields, asked_name, comment_fields, content_text, given_fields, shown_flag, shown_link, shown_patch, shown_truth};
+ghost use Rattle.review_words.specs.declared.command.Command.TheVariants.{CreateAccount, CreateChange, OnChange, PutGroup};
+ghost use Rattle.review_words.specs.declared.command.ChangeCommand.TheVariants.{Upload};
+ghost use Rattle.review_words.specs.declared.command.ChangeCommand.TheVariants as asked;
 ghost use Rattle.review_texts.specs.Shown.{shown};
 
 use crate::pieces::{Piece, joined};
 use review_names::{
     AccountName, AccountNo, ChangeNo, CommentNo, GroupName, Members, PatchNo, Path,
 };
-use review_words::{Command, Given, NewChange, NewComment, NewPatch, Review};
+use review_words::{ChangeCommand, Command, Given, NewChange, NewComment, NewPatch, Review};
 use std::alloc::{AllocError, Global};
 
 fn add_accounts(out: &mut Vec<Piece<'_>>, accounts: &[AccountNo]) -> Result<(), AllocError>
@@ -136,42 +137,102 @@ fn change_text(alloc: Global, new: &NewChange) -> Result<String, AllocError>
     joined(alloc, &out)
 }
 
-fn upload_text(alloc: Global, change: ChangeNo, new: &NewPatch) -> Result<String, AllocError>
-    ensures { IfOk result (λ t. string_bytes t ≡ content_text (Upload change new.now)) }
+fn add_upload<'a>(out: &mut Vec<Piece<'a>>, new: &'a NewPatch) -> Result<(), AllocError>
+    ensures { OnOk result (map shown out.new.items ≡ map shown out.old.items ++ asked_fields (Upload new.now)) }
 {
     let paths = new.paths.as_slice();
-    let mut out = vec![in alloc;
-        Piece::Text("Upload"),
-        Piece::Number(change.get() as u64),
-        Piece::Text(new.commit.as_str()),
-        Piece::Text(new.parent.as_str()),
-        Piece::Text(new.kind.name()),
-        Piece::Number(paths.len() as u64),
-    ]?;
-    add_paths(&mut out, paths)?;
-    joined(alloc, &out)
+    out.push(Piece::Text(new.commit.as_str()))?;
+    out.push(Piece::Text(new.parent.as_str()))?;
+    out.push(Piece::Text(new.kind.name()))?;
+    out.push(Piece::Number(paths.len() as u64))?;
+    add_paths(out, paths)?;
+    Ok(())
 }
 
-fn review_text(alloc: Global, change: ChangeNo, review: &Review) -> Result<String, AllocError>
-    ensures { IfOk result (λ t. string_bytes t ≡ content_text (of_command.Review change review.now)) }
+fn add_review<'a>(out: &mut Vec<Piece<'a>>, review: &'a Review) -> Result<(), AllocError>
+    ensures { OnOk result (map shown out.new.items ≡ map shown out.old.items ++ asked_fields (asked.Review review.now)) }
 {
     let labels = review.labels.as_slice();
     let comments = review.comments.as_slice();
-    let mut out = vec![in alloc;
-        Piece::Text("Review"),
-        Piece::Number(change.get() as u64),
-        patch_piece(review.patch),
-        Piece::Text(review.message.as_str()),
-        Piece::Number(labels.len() as u64),
-    ]?;
-    add_labels(&mut out, labels)?;
+    out.push(patch_piece(review.patch))?;
+    out.push(Piece::Text(review.message.as_str()))?;
+    out.push(Piece::Number(labels.len() as u64))?;
+    add_labels(out, labels)?;
     out.push(Piece::Number(comments.len() as u64))?;
-    add_comments(&mut out, comments)?;
+    add_comments(out, comments)?;
+    Ok(())
+}
+
+fn add_call<'a>(
+    out: &mut Vec<Piece<'a>>,
+    account: AccountNo,
+    text: &'a str,
+) -> Result<(), AllocError>
+    ensures { OnOk result (map shown out.new.items ≡ map shown out.old.items ++ numeral account ∷ text.now ∷ []) }
+{
+    out.push(Piece::Number(account.get() as u64))?;
+    out.push(Piece::Text(text))?;
+    Ok(())
+}
+
+/// Adds the fields of what is asked of a change.
+fn add_asked<'a>(out: &mut Vec<Piece<'a>>, command: &'a ChangeCommand) -> Result<(), AllocError>
+    ensures { OnOk result (map shown out.new.items ≡ map shown out.old.items ++ asked_fields command.now) }
+{
+    match command {
+        ChangeCommand::Upload(new) => add_upload(out, new),
+        ChangeCommand::Review(review) => add_review(out, review),
+        ChangeCommand::AddReviewer { account, role } => add_call(out, *account, role.name()),
+        ChangeCommand::RemoveReviewer { account } => {
+            out.push(Piece::Number(account.get() as u64))?;
+            Ok(())
+        }
+        ChangeCommand::AddAttention { account, reason }
+        | ChangeCommand::RemoveAttention { account, reason } => {
+            add_call(out, *account, reason.as_str())
+        }
+        ChangeCommand::SetWip
+        | ChangeCommand::SetReady
+        | ChangeCommand::Abandon
+        | ChangeCommand::Restore => Ok(()),
+    }
+}
+
+fn asked_name(command: &ChangeCommand) -> &str
+    ensures { result.now ≡ asked_name command.now }
+{
+    match command {
+        ChangeCommand::Upload(_) => "Upload",
+        ChangeCommand::Review(_) => "Review",
+        ChangeCommand::AddReviewer { .. } => "AddReviewer",
+        ChangeCommand::RemoveReviewer { .. } => "RemoveReviewer",
+        ChangeCommand::SetWip => "SetWip",
+        ChangeCommand::SetReady => "SetReady",
+        ChangeCommand::Abandon => "Abandon",
+        ChangeCommand::Restore => "Restore",
+        ChangeCommand::AddAttention { .. } => "AddAttention",
+        ChangeCommand::RemoveAttention { .. } => "RemoveAttention",
+    }
+}
+
+fn asked_text(
+    alloc: Global,
+    change: ChangeNo,
+    command: &ChangeCommand,
+) -> Result<String, AllocError>
+    ensures { IfOk result (λ t. string_bytes t ≡ content_text (OnChange change command.now)) }
+{
+    let mut out = vec![in alloc;
+        Piece::Text(asked_name(command)),
+        Piece::Number(change.get() as u64),
+    ]?;
+    add_asked(&mut out, command)?;
     joined(alloc, &out)
 }
 
 /// The text of a command: its name, then its fields, a set or a list as its count and then its
-/// members, a file as its text, each with its length in bytes before it. Equal texts come only from
+/// members, a file as its text, each with its length in bytes before it; where something is asked of
+/// a change, the change before its other fields. Equal texts come only from
 /// equal commands. An error where there was no memory for it.
 pub fn content_text(alloc: Global, command: &Command) -> Result<String, AllocError>
     ensures { IfOk result (λ t. string_bytes t ≡ content_text command.now) }
@@ -201,7 +262,6 @@ pub fn content_text(alloc: Global, command: &Command) -> Result<String, AllocErr
             joined(alloc, &pieces)
         }
         Command::CreateChange(new) => change_text(alloc, new),
-        Command::Upload { change, patch } => upload_text(alloc, *change, patch),
-        Command::Review { change, review } => review_text(alloc, *change, review),
+        Command::OnChange { change, command } => asked_text(alloc, *change, command),
     }
 }

@@ -66,7 +66,11 @@ fn answer_text(alloc: Global, answer: &Answer) -> Result<String, AllocError>
             joined(alloc, &pieces)
         }
         Answer::Reviewed(numbers) => reviewed_text(alloc, numbers),
-        Answer::Branch(_) => Ok(String::new(alloc)),
+        Answer::Branch(_)
+        | Answer::Shown(_)
+        | Answer::Requirements(_)
+        | Answer::Threads(_)
+        | Answer::Attention(_) => Ok(String::new(alloc)),
     }
 }
 

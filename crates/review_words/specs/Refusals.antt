@@ -1,7 +1,7 @@
 -- The numbers, names and statuses of refusals.
 use Rattle.std.specs.Prelude.{ℕ, List, codes, ◌==◌, if◌then◌else◌, Option, Some, None}
 use Rattle.review_words.specs.declared.reply.Refusal.{Refusal}
-use Rattle.review_words.specs.declared.reply.Refusal.TheVariants.{UnknownCaller, NotAdmin, NoProject, NoBranch, NoChange, NoPatchSet, NoAccount, NoComment, NotAllowed, Closed, StalePatchSet, NoLabel, ValueOut, VoteRestricted, CommitKnown, UnknownParent, NameTaken, BadFile, LabelNarrowed, Limit}
+use Rattle.review_words.specs.declared.reply.Refusal.TheVariants.{UnknownCaller, NotAdmin, NoProject, NoBranch, NoChange, NoPatchSet, NoAccount, NoComment, NotAllowed, Closed, SameState, StalePatchSet, NoLabel, ValueOut, VoteRestricted, CommitKnown, UnknownParent, NotEligible, NameTaken, BadFile, LabelNarrowed, Limit}
 
 -- the number of a refusal
 abbrev pub refusal_number : Refusal → ℕ
@@ -15,12 +15,14 @@ refusal_number NoAccount = 7
 refusal_number NoComment = 8
 refusal_number NotAllowed = 9
 refusal_number Closed = 10
+refusal_number SameState = 11
 refusal_number StalePatchSet = 13
 refusal_number NoLabel = 14
 refusal_number ValueOut = 15
 refusal_number VoteRestricted = 16
 refusal_number CommitKnown = 17
 refusal_number UnknownParent = 18
+refusal_number NotEligible = 24
 refusal_number NameTaken = 25
 refusal_number (BadFile fault) = 26
 refusal_number LabelNarrowed = 27
@@ -38,12 +40,14 @@ refusal_name NoAccount = codes "NO_ACCOUNT"
 refusal_name NoComment = codes "NO_COMMENT"
 refusal_name NotAllowed = codes "NOT_ALLOWED"
 refusal_name Closed = codes "CLOSED"
+refusal_name SameState = codes "SAME_STATE"
 refusal_name StalePatchSet = codes "STALE_PATCH_SET"
 refusal_name NoLabel = codes "NO_LABEL"
 refusal_name ValueOut = codes "VALUE_OUT"
 refusal_name VoteRestricted = codes "VOTE_RESTRICTED"
 refusal_name CommitKnown = codes "COMMIT_KNOWN"
 refusal_name UnknownParent = codes "UNKNOWN_PARENT"
+refusal_name NotEligible = codes "NOT_ELIGIBLE"
 refusal_name NameTaken = codes "NAME_TAKEN"
 refusal_name (BadFile fault) = codes "BAD_FILE"
 refusal_name LabelNarrowed = codes "LABEL_NARROWED"
@@ -61,12 +65,14 @@ refusal_status NoAccount = 404
 refusal_status NoComment = 404
 refusal_status NotAllowed = 403
 refusal_status Closed = 409
+refusal_status SameState = 409
 refusal_status StalePatchSet = 409
 refusal_status NoLabel = 400
 refusal_status ValueOut = 400
 refusal_status VoteRestricted = 403
 refusal_status CommitKnown = 409
 refusal_status UnknownParent = 409
+refusal_status NotEligible = 409
 refusal_status NameTaken = 409
 refusal_status (BadFile fault) = 400
 refusal_status LabelNarrowed = 409
@@ -85,12 +91,14 @@ refusal_of_number number =
     else if number == 8 then Some NoComment
     else if number == 9 then Some NotAllowed
     else if number == 10 then Some Closed
+    else if number == 11 then Some SameState
     else if number == 13 then Some StalePatchSet
     else if number == 14 then Some NoLabel
     else if number == 15 then Some ValueOut
     else if number == 16 then Some VoteRestricted
     else if number == 17 then Some CommitKnown
     else if number == 18 then Some UnknownParent
+    else if number == 24 then Some NotEligible
     else if number == 25 then Some NameTaken
     else if number == 27 then Some LabelNarrowed
     else if number == 28 then Some Limit

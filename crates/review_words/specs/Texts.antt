@@ -1,17 +1,22 @@
 -- The text of a command and of a reply: fields, each its length, a colon, its bytes and a comma.
-use Rattle.std.specs.Prelude.{ℕ, ℤ, pos, negsuc, List, [], ◌∷◌, ◌++◌, length, map, ◌+◌, ◌≤◌, ◌<◌, codes, flat_map, Bool, true, false, Option, Some, None}
+use Rattle.std.specs.Prelude.{ℕ, ℤ, pos, negsuc, List, [], ◌∷◌, ◌++◌, length, map, ◌+◌, ◌≤◌, ◌<◌, codes, flat_map, Bool, true, false, if◌then◌else◌, Option, Some, None}
 use Rattle.std.specs.List.{AllByRecursion}
+use Rattle.std.specs.Str.{bytes_eq}
 use Rattle.review_names.specs.Forms.{most_changes, most_comments, most_patches}
 use Rattle.review_names.specs.Kinds.{kind_name}
 use Rattle.review_names.specs.Numerals.{numeral}
 use Rattle.review_words.specs.declared.changes.Given.{Given}
 use Rattle.review_words.specs.declared.changes.NewComment.{NewComment}
 use Rattle.review_words.specs.declared.command.Command.{Command}
-use Rattle.review_words.specs.declared.command.Command.TheVariants.{CreateAccount, PutGroup, PutProject, RecordBase, CreateChange, Upload, Review}
+use Rattle.review_words.specs.declared.changes.Role.{Role}
+use Rattle.review_words.specs.declared.changes.Role.TheVariants.{Reviewer, Cc}
+use Rattle.review_words.specs.declared.command.ChangeCommand.{ChangeCommand}
+use Rattle.review_words.specs.declared.command.ChangeCommand.TheVariants.{Upload, Review, AddReviewer, RemoveReviewer, SetWip, SetReady, Abandon, Restore, AddAttention, RemoveAttention}
+use Rattle.review_words.specs.declared.command.Command.TheVariants.{CreateAccount, PutGroup, PutProject, RecordBase, CreateChange, OnChange}
 use Rattle.review_words.specs.declared.reply.Reply.{Reply}
 use Rattle.review_words.specs.declared.reply.Reply.TheVariants.{Done, Refused}
 use Rattle.review_words.specs.declared.reply.Answer.{Answer}
-use Rattle.review_words.specs.declared.reply.Answer.TheVariants.{Account, Nothing, Change, Patch, Reviewed, Branch}
+use Rattle.review_words.specs.declared.reply.Answer.TheVariants.{Account, Nothing, Change, Patch, Reviewed}
 use Rattle.review_words.specs.declared.reply.Refusal.{Refusal}
 use Rattle.review_words.specs.declared.reply.Refusal.TheVariants.{BadFile}
 use Rattle.review_words.specs.declared.faults.FileFault.{FileFault}
@@ -60,6 +65,40 @@ given_fields given = given.label ∷ signed given.value ∷ []
 abbrev pub comment_fields : NewComment → List (List ℕ)
 comment_fields comment = comment.path ∷ numeral comment.line ∷ comment.message ∷ shown_flag comment.unresolved ∷ shown_link comment.in_reply_to ∷ []
 
+-- the name of a role
+abbrev pub role_name : Role → List ℕ
+role_name Reviewer = codes "REVIEWER"
+role_name Cc = codes "CC"
+
+-- the role that has a name
+unfoldable pub role_named : List ℕ → Option Role
+role_named name = if bytes_eq name (codes "REVIEWER") then Some Reviewer else if bytes_eq name (codes "CC") then Some Cc else None
+
+-- the name of what is asked of a change
+abbrev pub asked_name : ChangeCommand → List ℕ
+asked_name (Upload new) = codes "Upload"
+asked_name (Review review) = codes "Review"
+asked_name (AddReviewer account role) = codes "AddReviewer"
+asked_name (RemoveReviewer account) = codes "RemoveReviewer"
+asked_name SetWip = codes "SetWip"
+asked_name SetReady = codes "SetReady"
+asked_name Abandon = codes "Abandon"
+asked_name Restore = codes "Restore"
+asked_name (AddAttention account reason) = codes "AddAttention"
+asked_name (RemoveAttention account reason) = codes "RemoveAttention"
+
+-- the fields of what is asked of a change
+abbrev pub asked_fields : ChangeCommand → List (List ℕ)
+asked_fields (Upload new) = new.commit ∷ new.parent ∷ kind_name new.kind ∷ numeral (length new.paths) ∷ new.paths
+asked_fields (Review review) =
+    shown_patch review.patch ∷ review.message ∷ numeral (length review.labels)
+    ∷ (flat_map given_fields review.labels ++ numeral (length review.comments) ∷ flat_map comment_fields review.comments)
+asked_fields (AddReviewer account role) = numeral account ∷ role_name role ∷ []
+asked_fields (RemoveReviewer account) = numeral account ∷ []
+asked_fields (AddAttention account reason) = numeral account ∷ reason ∷ []
+asked_fields (RemoveAttention account reason) = numeral account ∷ reason ∷ []
+asked_fields _ = []
+
 -- the name of a command, then its fields; a set or a list is its count, then its members; a file is its text as it was sent
 abbrev pub command_fields : Command → List (List ℕ)
 command_fields (CreateAccount name) = codes "CreateAccount" ∷ name ∷ []
@@ -68,10 +107,7 @@ command_fields (PutProject project file) = codes "PutProject" ∷ project ∷ fi
 command_fields (RecordBase project branch commit) = codes "RecordBase" ∷ project ∷ branch ∷ commit ∷ []
 command_fields (CreateChange new) =
     codes "CreateChange" ∷ new.project ∷ new.branch ∷ new.subject ∷ new.commit ∷ new.parent ∷ numeral (length new.paths) ∷ (new.paths ++ shown_truth new.wip ∷ [])
-command_fields (Upload change new) = codes "Upload" ∷ numeral change ∷ new.commit ∷ new.parent ∷ kind_name new.kind ∷ numeral (length new.paths) ∷ new.paths
-command_fields (Review change review) =
-    codes "Review" ∷ numeral change ∷ shown_patch review.patch ∷ review.message ∷ numeral (length review.labels)
-    ∷ (flat_map given_fields review.labels ++ numeral (length review.comments) ∷ flat_map comment_fields review.comments)
+command_fields (OnChange change command) = asked_name command ∷ numeral change ∷ asked_fields command
 
 -- the content text of a command
 abbrev pub content_text : Command → List ℕ
@@ -117,7 +153,7 @@ IsStoredAnswer (Change change patch) = (1 ≤ change) × (change ≤ most_change
 IsStoredAnswer (Patch change patch copied outdated) =
     (1 ≤ change) × (change ≤ most_changes) × (1 ≤ patch) × (patch ≤ most_patches) × (copied < 18446744073709551616) × (outdated < 18446744073709551616)
 IsStoredAnswer (Reviewed comments) = (length comments ≤ most_comments) × AllByRecursion IsCommentNumber comments
-IsStoredAnswer (Branch bases) = ⊥
+IsStoredAnswer _ = ⊥
 
 -- a file's fault whose place, if it has one, is below 2^64
 abbrev pub IsPlaced : FileFault → Type 0

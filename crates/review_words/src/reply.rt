@@ -5,11 +5,13 @@ ghost use Rattle.review_words.specs.Refusals.{refusal_number, refusal_name, refu
 use crate::branches::Bases;
 use crate::changes::CommentNumbers;
 use crate::faults::FileFault;
+use crate::lists::Listed;
+use crate::shown::{ShownCall, ShownChange, ShownRequirement, Thread};
 use review_names::{AccountNo, ChangeNo, PatchNo};
 use std::alloc::{AllocError, AllocFailed};
 
 /// What a command that was done gave, or what a query found.
-#[derive(Debug, Drop, PartialEq, Eq)]
+#[derive(Debug, Drop)]
 pub enum Answer {
     /// The number of the new account.
     Account(AccountNo),
@@ -29,8 +31,17 @@ pub enum Answer {
     },
     /// The numbers of the new comments.
     Reviewed(CommentNumbers),
-    /// The commits that were recorded as bases of the branch. It answers a query.
+    /// The commits that were recorded as bases of the branch. It answers a query, as do all that
+    /// follow.
     Branch(Bases),
+    /// A change.
+    Shown(ShownChange),
+    /// The submit requirements of a change's project, by name.
+    Requirements(Listed<ShownRequirement>),
+    /// The threads of a change, by their first comments.
+    Threads(Listed<Thread>),
+    /// Who is in the attention set of a change, by account.
+    Attention(Listed<ShownCall>),
 }
 
 /// Why a command was refused. A refusal is stored as the answer of its request.
@@ -56,6 +67,8 @@ pub enum Refusal {
     NotAllowed,
     /// The change is merged or abandoned.
     Closed,
+    /// It is as asked already.
+    SameState,
     /// Values are given on a patch set that isn't the change's current one.
     StalePatchSet,
     /// The project's file has no such label.
@@ -68,6 +81,8 @@ pub enum Refusal {
     CommitKnown,
     /// The parent isn't known in the branch.
     UnknownParent,
+    /// The account isn't the owner, the current uploader, a reviewer or a CC.
+    NotEligible,
     /// The name is in use, or may not be put.
     NameTaken,
     /// The text is no project file.
@@ -118,12 +133,14 @@ impl Refusal {
             Refusal::NoComment => RefusalRow::new(8, "NO_COMMENT", 404),
             Refusal::NotAllowed => RefusalRow::new(9, "NOT_ALLOWED", 403),
             Refusal::Closed => RefusalRow::new(10, "CLOSED", 409),
+            Refusal::SameState => RefusalRow::new(11, "SAME_STATE", 409),
             Refusal::StalePatchSet => RefusalRow::new(13, "STALE_PATCH_SET", 409),
             Refusal::NoLabel => RefusalRow::new(14, "NO_LABEL", 400),
             Refusal::ValueOut => RefusalRow::new(15, "VALUE_OUT", 400),
             Refusal::VoteRestricted => RefusalRow::new(16, "VOTE_RESTRICTED", 403),
             Refusal::CommitKnown => RefusalRow::new(17, "COMMIT_KNOWN", 409),
             Refusal::UnknownParent => RefusalRow::new(18, "UNKNOWN_PARENT", 409),
+            Refusal::NotEligible => RefusalRow::new(24, "NOT_ELIGIBLE", 409),
             Refusal::NameTaken => RefusalRow::new(25, "NAME_TAKEN", 409),
             Refusal::BadFile(_) => RefusalRow::new(26, "BAD_FILE", 400),
             Refusal::LabelNarrowed => RefusalRow::new(27, "LABEL_NARROWED", 409),
@@ -168,12 +185,14 @@ impl Refusal {
             8 => Some(Refusal::NoComment),
             9 => Some(Refusal::NotAllowed),
             10 => Some(Refusal::Closed),
+            11 => Some(Refusal::SameState),
             13 => Some(Refusal::StalePatchSet),
             14 => Some(Refusal::NoLabel),
             15 => Some(Refusal::ValueOut),
             16 => Some(Refusal::VoteRestricted),
             17 => Some(Refusal::CommitKnown),
             18 => Some(Refusal::UnknownParent),
+            24 => Some(Refusal::NotEligible),
             25 => Some(Refusal::NameTaken),
             27 => Some(Refusal::LabelNarrowed),
             28 => Some(Refusal::Limit),
@@ -198,7 +217,7 @@ pub enum NotTaken {
 }
 
 /// The answer to a delivery.
-#[derive(Debug, Drop, PartialEq, Eq)]
+#[derive(Debug, Drop)]
 pub enum Reply {
     Done(Answer),
     Refused(Refusal),

@@ -1,27 +1,15 @@
 //! The content texts of commands on changes.
 
+use crate::asked::asked;
 use crate::fault::{Fault, named};
 use crate::sets::{given_paths, labels};
-use crate::texts::on_a_line;
+use crate::texts::{cut, on_a_line, truth};
 use review_texts::content_text;
 use review_words::{
-    BranchName, ChangeKind, ChangeNo, Command, CommentNo, Comments, CommitName, Message, NewChange,
-    NewComment, NewPatch, PatchNo, Paths, Place, ProjectName, Review, Subject,
+    BranchName, ChangeCommand, ChangeKind, ChangeNo, Command, CommentNo, Comments, CommitName,
+    Message, NewChange, NewComment, NewPatch, PatchNo, Paths, Place, ProjectName, Review, Subject,
 };
 use std::alloc::Global;
-
-/// What stands before the next separator, and the rest.
-fn cut<'a>(text: &'a str, separator: &str) -> Result<(&'a str, &'a str), Fault> {
-    text.split_once(separator).ok_or(Fault::Form)
-}
-
-fn truth(text: &str) -> Result<bool, Fault> {
-    match text {
-        "true" => Ok(true),
-        "false" => Ok(false),
-        _ => Err(Fault::Form),
-    }
-}
 
 fn new_change(alloc: Global, text: &str) -> Result<Command, Fault> {
     let (project, rest) = cut(text, " ")?;
@@ -46,14 +34,14 @@ fn new_patch(alloc: Global, text: &str) -> Result<Command, Fault> {
     let (commit, rest) = cut(rest, " ")?;
     let (parent, rest) = cut(rest, " ")?;
     let (kind, paths) = cut(rest, " ")?;
-    Ok(Command::Upload {
+    Ok(Command::OnChange {
         change: ChangeNo::read(change)?,
-        patch: NewPatch {
+        command: ChangeCommand::Upload(NewPatch {
             commit: CommitName::read(alloc, commit)?,
             parent: CommitName::read(alloc, parent)?,
             kind: ChangeKind::from_name(kind).ok_or(Fault::Form)?,
             paths: Paths::from_vec(alloc, given_paths(alloc, paths)?)?,
-        },
+        }),
     })
 }
 
@@ -94,9 +82,9 @@ fn review(alloc: Global, text: &str) -> Result<Option<Command>, Fault> {
     let Some(comments) = named(Comments::from_vec(comments(alloc, rest)?))? else {
         return Ok(None);
     };
-    Ok(Some(Command::Review {
+    Ok(Some(Command::OnChange {
         change: ChangeNo::read(change)?,
-        review: Review {
+        command: ChangeCommand::Review(Review {
             patch: match patch {
                 "current" => None,
                 number => Some(PatchNo::read(number)?),
@@ -104,8 +92,18 @@ fn review(alloc: Global, text: &str) -> Result<Option<Command>, Fault> {
             message: Message::read(alloc, message)?,
             labels: labels(alloc, given)?,
             comments,
-        },
+        }),
     }))
+}
+
+/// What a word asks of the change that a text names first.
+fn on_change(alloc: Global, word: &str, text: &str) -> Result<Option<Command>, Fault> {
+    let (change, rest) = text.split_once(" ").unwrap_or((text, ""));
+    let Some(command) = asked(alloc, word, rest)? else {
+        return Ok(None);
+    };
+    let change = ChangeNo::read(change)?;
+    Ok(Some(Command::OnChange { change, command }))
 }
 
 /// The content text of a command, if a word asks for one.
@@ -114,7 +112,10 @@ pub fn command(alloc: Global, word: &str, text: &str) -> Result<Option<String>, 
         "create-change" => Some(new_change(alloc, text)?),
         "upload" => Some(new_patch(alloc, text)?),
         "review" => review(alloc, text)?,
-        _ => return Ok(None),
+        _ => match on_change(alloc, word, text)? {
+            Some(command) => Some(command),
+            None => return Ok(None),
+        },
     };
     let answer = match &command {
         Some(command) => on_a_line(alloc, content_text(alloc, command)?.as_str())?,

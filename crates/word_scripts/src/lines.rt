@@ -4,7 +4,7 @@ use crate::fault::{Fault, spelled};
 use crate::texts::{on_a_line, with_byte};
 use review_json::delivery_of_line;
 use review_texts::content_text;
-use review_words::{AccountNo, Command, Delivery, Query, RequestId};
+use review_words::{AccountNo, ChangeQuery, Command, Delivery, Query, RequestId};
 use std::alloc::{AllocError, Global};
 
 fn write_text(
@@ -20,12 +20,29 @@ fn write_text(
     Ok(format!(in alloc; "account {number}, id {name}: {content}")?)
 }
 
+fn what_of_change(query: ChangeQuery) -> &'static str {
+    match query {
+        ChangeQuery::Change => "change",
+        ChangeQuery::Requirements => "the requirements of change",
+        ChangeQuery::Threads => "the threads of change",
+        ChangeQuery::Attention => "the attention set of change",
+    }
+}
+
 fn read_text(alloc: Global, caller: AccountNo, query: &Query) -> Result<String, AllocError> {
-    let Query::Branch { project, branch } = query;
     let number = caller.get();
-    let branch = branch.as_str();
-    let project = project.as_str();
-    format!(in alloc; "account {number} asks for branch {branch} of {project}")
+    match query {
+        Query::Branch { project, branch } => {
+            let branch = branch.as_str();
+            let project = project.as_str();
+            format!(in alloc; "account {number} asks for branch {branch} of {project}")
+        }
+        Query::OnChange { change, query } => {
+            let what = what_of_change(*query);
+            let change = change.get();
+            format!(in alloc; "account {number} asks for {what} {change}")
+        }
+    }
 }
 
 fn delivery_text(alloc: Global, delivery: &Delivery) -> Result<String, Fault> {

@@ -16,20 +16,28 @@
 //! - `create-change PROJECT BRANCH COMMIT PARENT PATH,.. WIP SUBJECT`, `upload CHANGE COMMIT PARENT KIND PATH,..`,
 //!   `review CHANGE PATCH-SET LABEL=VALUE,..|MESSAGE|COMMENT|..`, where a comment is `PLACE LINE UNRESOLVED ANSWERED MESSAGE`: the content
 //!   text of the command. An empty list is `-`, and what isn't said of a comment is `absent`. Or `no form`, for comments without a message;
+//! - `add-reviewer CHANGE ACCOUNT ROLE`, where a role is `reviewer` or `cc`, `remove-reviewer CHANGE ACCOUNT`, `set-wip CHANGE`,
+//!   `set-ready CHANGE`, `abandon CHANGE`, `restore CHANGE`, `add-attention CHANGE ACCOUNT REASON`, `remove-attention CHANGE ACCOUNT REASON`:
+//!   the content text of the command;
 //! - `line LINE`: who asks for what by a line of JSON, under which id, and the content text of a command; or `no delivery`. In
 //!   `line-with-byte HEX LINE` each star of the line is the byte of two digits;
 //! - `reply TEXT`: the stored reply of a text: its JSON, the status of a refusal, and its text again; or `no stored reply`. Replies that
-//!   have no text are `branch-with COMMIT,COMMIT,..`, `not-taken CAUSE` and `identity-reused`.
+//!   have no text are `branch-with COMMIT,COMMIT,..`, `not-taken CAUSE`, `identity-reused`, and the answers to questions about a change:
+//!   `change-with CHANGE PROJECT BRANCH OWNER|STATE WIP UPDATED|PATCH-SET COMMIT UPLOADER|REVIEWER,.. CC,.. LABEL=VALUE@ACCOUNT,..|SUBJECT`,
+//!   `requirements-with NAME=STATUS,..`, `attention-with ACCOUNT REQUEST REASON|..`, and `threads-with ROOT UNRESOLVED COMMENT;COMMENT;..|..`,
+//!   where a comment is `NUMBER PATCH-SET PLACE LINE AUTHOR UNRESOLVED ANSWERED MESSAGE`. An empty list is `-`.
 //!
 //! In a line `{N:PART}` is PART N times, `{A..B}` the numbers from A to B with commas between, `{"A..B"}` the same with each in
 //! quotes, and `{U+HEX}` a character; any other brace is itself. In an answer `\n` is a line feed, and a text of more than 300 bytes
 //! is told by its length.
 #![tactic(auto)]
 
+mod asked;
 mod commands;
 mod fault;
 mod lines;
 mod names;
+mod questions;
 mod replies;
 mod sets;
 mod texts;

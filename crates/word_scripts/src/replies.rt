@@ -1,6 +1,7 @@
 //! Replies, their stored texts and their JSON.
 
 use crate::fault::{Fault, stored};
+use crate::questions;
 use review_json::answer_text;
 use review_texts::{read_reply, reply_text};
 use review_words::{Answer, Bases, CommitName, NotTaken, Reply};
@@ -63,7 +64,10 @@ pub fn reply(alloc: Global, word: &str, text: &str) -> Result<Option<String>, Fa
         "branch-with" => told(alloc, &Reply::Done(Answer::Branch(bases(alloc, text)?))),
         "not-taken" => told(alloc, &Reply::NotTaken(not_taken(text)?)),
         "identity-reused" => told(alloc, &Reply::IdentityReused),
-        _ => return Ok(None),
+        _ => match questions::answer(alloc, word, text)? {
+            Some(answer) => told(alloc, &Reply::Done(answer)),
+            None => return Ok(None),
+        },
     };
     Ok(Some(answer?))
 }

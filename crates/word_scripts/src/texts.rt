@@ -1,7 +1,20 @@
-//! Texts that a line writes in short, and texts that are shown on a line.
+//! Texts that a line writes in short, their parts, and texts that are shown on a line.
 
 use crate::fault::Fault;
 use std::alloc::{AllocError, Global};
+
+/// What stands before the next separator, and the rest.
+pub fn cut<'a>(text: &'a str, separator: &str) -> Result<(&'a str, &'a str), Fault> {
+    text.split_once(separator).ok_or(Fault::Form)
+}
+
+pub fn truth(text: &str) -> Result<bool, Fault> {
+    match text {
+        "true" => Ok(true),
+        "false" => Ok(false),
+        _ => Err(Fault::Form),
+    }
+}
 
 /// The character of `U+HEX`.
 fn character(inner: &str) -> Option<char> {

@@ -1,7 +1,5 @@
-//! Tests of what no script of words shows: which values are equal, and what tables hold.
+//! Tests of what no script of words shows: what tables hold.
 #![tactic(auto)]
 
-#[cfg(test)]
-mod equal;
 #[cfg(test)]
 mod tables;

@@ -1,9 +1,16 @@
-//! Tables by numbers of accounts: each call that can want for memory, with ample memory.
+//! Keys of tables, and tables by numbers of accounts: each call that can want for memory, with ample memory.
 
-use review_table::{BadRows, Change, Table};
-use review_words::AccountNo;
+use review_table::{BadRows, Change, Key, Table};
+use review_words::{AccountNo, Form, LabelName};
 use std::alloc::{AllocError, Global};
 use std::test::Fail;
+
+#[test]
+fn a_key_is_copied(rt: HostRuntime) -> Result<(), Fail> {
+    let label = LabelName::read(rt.alloc(), "Verified")?;
+    assert!(rt; Key::copy(&label, rt.alloc())? == label);
+    Ok(())
+}
 
 /// The account of a number, or the last one.
 fn account(number: u64) -> AccountNo {

@@ -7,7 +7,7 @@ use Rattle.review_words.specs.declared.reply.Reply.TheVariants.{Done}
 use Rattle.review_changes.specs.Change.{after_plain, said}
 use Rattle.review_changes.specs.Parts.{part_row}
 use Rattle.review_changes.specs.Seen.{seen}
-use Rattle.review_changes.specs.declared.commands.ChangeCommand.TheVariants.{Review as ReviewOf}
+use Rattle.review_words.specs.declared.command.ChangeCommand.TheVariants.{Review as ReviewOf}
 use Rattle.review_change_decisions.specs.Facts.{next_numbers, next_request}
 use Rattle.review_change_decisions.proofs.Reviewed.{numbers_count, numbers_fit, room_for}
 use Rattle.review_change_decisions.proofs.reviewing.reviewed.Goals as goal

@@ -1,7 +1,7 @@
 use Rattle.std.proofs.Common.{◌≡◌, ◌∙◌, [], ap, refl}
 use Rattle.review_changes.specs.Change.{after_plain, new_comments}
 use Rattle.review_changes.specs.Seen.{seen}
-use Rattle.review_changes.specs.declared.commands.ChangeCommand.TheVariants.{Review as ReviewOf}
+use Rattle.review_words.specs.declared.command.ChangeCommand.TheVariants.{Review as ReviewOf}
 use Rattle.review_change_decisions.proofs.Edited.{comments_go, patches_go, unchanged}
 use Rattle.review_change_decisions.proofs.reviewing.with_review.Goals as goal
 

@@ -7,7 +7,7 @@ use Rattle.review_changes.specs.Counts.{AreMany}
 use Rattle.review_changes.specs.Parts.{part_row}
 use Rattle.review_changes.specs.Seen.{seen}
 use Rattle.review_changes.specs.Votes.{voted}
-use Rattle.review_changes.specs.declared.commands.ChangeCommand.TheVariants.{Upload as UploadOf}
+use Rattle.review_words.specs.declared.command.ChangeCommand.TheVariants.{Upload as UploadOf}
 use Rattle.review_change_decisions.specs.Facts.{next_request, setting_in}
 use Rattle.review_change_decisions.proofs.Edited.{comments_go, patches_go, unchanged}
 use Rattle.review_change_decisions.proofs.uploading.uploaded.Goals as goal

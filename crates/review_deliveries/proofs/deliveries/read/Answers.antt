@@ -11,11 +11,11 @@ returns-clause-served g c = λ honest h hist v.
     let a = c.args in
     let old = g.S.Shelf.state a.shelf.now in
     let new = g.S.Shelf.state c.gathered.new.shelf in
-    shown_served h a.caller a.query.now c.show.result (file_read c.in_ok-rows.read) c.in_ok-rows.rows old new hist v (x.found honest) x.enough c.show.ensures.shown c.show.ensures.cause (x.tables honest) x.counted (x.stops honest)
+    shown_served h a.caller a.query.now c.show.result (file_read c.in_ok-rows.read) c.in_ok-rows.rows old new hist v (x.found honest) x.enough c.show.ensures.answered c.show.ensures.shown c.show.ensures.cause (x.tables honest) x.counted (x.stops honest)
 
 pub returns-clause-counted : goal.returns-clause-counted
 returns-clause-counted g c =
-    shown_counts c.show.result (g.S.Shelf.state c.args.shelf.now).faults (g.S.Shelf.state c.gathered.new.shelf).faults c.show.ensures.answered c.show.ensures.cause c.in_ok-rows.ensures.counted
+    shown_counts c.args.caller c.args.query.now (file_read c.in_ok-rows.read) c.in_ok-rows.rows c.show.result (g.S.Shelf.state c.args.shelf.now).faults (g.S.Shelf.state c.gathered.new.shelf).faults c.show.ensures.answered c.show.ensures.cause c.in_ok-rows.ensures.counted
 
 pub returns-clause-unchanged : goal.returns-clause-unchanged
 returns-clause-unchanged g c = λ honest.

@@ -44,3 +44,7 @@ returns-clause-found g c = λ h so_far.
     let topic = topic_of c.args.matter in
     so_far_shown (g.S.Shelf.state c.args.shelf.now).tables file rows c.args.caller topic (c.loop-rows.invariant.found h so_far)
     (none_asked file rows c.args.caller topic _ c.in_default.is c.in_ok-need.ensures)
+
+pub returns-clause-enough : goal.returns-clause-enough
+returns-clause-enough g c =
+    none_asked (file_read (option_copied c.args.read)) c.loop-rows.rows c.args.caller (topic_of c.args.matter) _ c.in_default.is c.in_ok-need.ensures

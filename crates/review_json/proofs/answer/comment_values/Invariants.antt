@@ -1,6 +1,6 @@
 use Rattle.std.proofs.Common.{◌≡◌, ◌++◌, drop, map}
 use Rattle.serde_json.specs.View.{view}
-use Rattle.review_json.specs.Answer.{number_data}
+use Rattle.review_json.specs.Values.{number_data}
 use Rattle.review_json.proofs.answer.comment_values.Given as goal
 
 abbrev pub invariant-loop-comment : goal.invariant-loop-comment

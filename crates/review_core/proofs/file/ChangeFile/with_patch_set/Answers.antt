@@ -1,6 +1,6 @@
 use Rattle.review_names.specs.Forms.{most_patches}
 use Rattle.review_changes.specs.Change.{Setting, after, copying, current}
-use Rattle.review_changes.specs.declared.commands.ChangeCommand.TheVariants.{Upload}
+use Rattle.review_words.specs.declared.command.ChangeCommand.TheVariants.{Upload}
 use Rattle.review_changes.specs.Seen.{seen}
 use Rattle.review_changes.proofs.Within.{within_next}
 use Rattle.review_parts.specs.Copies.{group_list}

@@ -1,0 +1,70 @@
+"""What benchmarks of the built program share: a desk as a process that is sent lines, and how rates are compared."""
+import json
+import os
+import subprocess
+import sys
+import time
+
+TOP = os.path.dirname(os.path.dirname(os.path.abspath(__file__)))
+PROGRAM = os.path.join(TOP, "crates", "review_desk", "out", "review_desk")
+
+
+def build():
+    """Builds the program where it isn't built yet; from here on this script, and the desks that it starts, share one CPU."""
+    subprocess.run([os.path.join(TOP, "desk"), "apply", ":memory:"], input=b"", check=True)
+    os.sched_setaffinity(0, {min(os.sched_getaffinity(0))})
+
+
+def request(do, id, caller, body, **route):
+    return json.dumps({"caller": caller, "id": id, "do": do, **route, "body": body}, separators=(",", ":")) + "\n"
+
+
+def question(do, **route):
+    return json.dumps({"caller": 1, "do": do, **route}, separators=(",", ":")) + "\n"
+
+
+def account(number):
+    return request("CreateAccount", f"a{number}", 1, {"name": f"n{number}"})
+
+
+def change(number, owner=2):
+    body = {"project": "tools", "branch": "main", "subject": "Fix", "commit": f"{number:040x}", "parent": "0" * 40, "paths": ["src/a.rs"]}
+    return request("CreateChange", f"c{number}", owner, body)
+
+
+class Desk:
+    """A desk with three accounts and a project with this file."""
+
+    def __init__(self, file):
+        self.process = subprocess.Popen([PROGRAM, "apply", ":memory:"], stdin=subprocess.PIPE, stdout=subprocess.PIPE)
+        self.timed([
+            account(2), account(3), account(4), request("PutGroup", "g", 1, {"members": [3]}, group="Core"),
+            request("PutProject", "p", 1, {"file": file}, project="tools"),
+            request("RecordBase", "b", 1, {"commit": "0" * 40}, project="tools", branch="main"),
+        ])
+
+    def timed(self, lines):
+        """Sends lines, and waits for the answer to each, none of which may be a refusal: microseconds a line."""
+        begun = time.perf_counter()
+        self.process.stdin.write("".join(lines).encode())
+        self.process.stdin.flush()
+        for line in lines:
+            answer = self.process.stdout.readline()
+            assert answer.startswith((b"{}", b'{"account"', b'{"change"', b'{"comments"', b"[")), (line, answer)
+        return (time.perf_counter() - begun) / len(lines) * 1e6
+
+    def ended(self):
+        self.process.stdin.close()
+        assert self.process.wait() == 0
+
+
+def is_met(what, rates, than, others, most):
+    """Prints the least time of each, and says whether the first is at most so many times the second."""
+    one, other = min(rates), min(others)
+    is_right = one <= most * other
+    print(f"{what}: {one:.1f} us; {than}: {other:.1f} us; {one / other:.2f} times; at most {most}: {'yes' if is_right else 'NO'}")
+    return is_right
+
+
+def ends(met):
+    sys.exit(0 if all(met) else 1)

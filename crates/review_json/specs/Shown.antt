@@ -1,0 +1,118 @@
+-- The JSON of what questions about a change are told; the members of an object stand in the order of their keys.
+use Rattle.std.specs.Prelude.{ℕ, List, map, codes, Option, Some, None}
+use Rattle.serde_json.specs.Data.{Data, boolean, number, string, array, object, Items, Members, no_members, member}
+use Rattle.serde_json.specs.Find.{of_integer}
+use Rattle.serde_json.specs.View.{items_of}
+use Rattle.review_words.specs.declared.shown.ShownCall.{ShownCall}
+use Rattle.review_words.specs.declared.shown.ShownChange.{ShownChange}
+use Rattle.review_words.specs.declared.shown.ShownComment.{ShownComment}
+use Rattle.review_words.specs.declared.shown.ShownRequirement.{ShownRequirement}
+use Rattle.review_words.specs.declared.shown.ShownVote.{ShownVote}
+use Rattle.review_words.specs.declared.shown.State.{State}
+use Rattle.review_words.specs.declared.shown.State.TheVariants.{New, Merged, Abandoned}
+use Rattle.review_words.specs.declared.shown.Status.{Status}
+use Rattle.review_words.specs.declared.shown.Status.TheVariants.{NotApplicable, Overridden, Satisfied, Unsatisfied}
+use Rattle.review_words.specs.declared.shown.Thread.{Thread}
+use Rattle.review_json.specs.Values.{number_data, numbers_data}
+
+-- the name of where a change stands
+abbrev pub state_name : State → List ℕ
+state_name New = codes "NEW"
+state_name Merged = codes "MERGED"
+state_name Abandoned = codes "ABANDONED"
+
+-- the name of how a submit requirement stands
+abbrev pub status_name : Status → List ℕ
+status_name NotApplicable = codes "NOT_APPLICABLE"
+status_name Overridden = codes "OVERRIDDEN"
+status_name Satisfied = codes "SATISFIED"
+status_name Unsatisfied = codes "UNSATISFIED"
+
+-- a vote
+abbrev pub vote_data : ShownVote → Data
+vote_data vote =
+    object (member (codes "account") (number_data vote.account)
+    (member (codes "label") (string vote.label)
+    (member (codes "value") (number (of_integer vote.value)) no_members)))
+
+-- votes in their order
+abbrev pub votes_data : List ShownVote → Items
+votes_data votes = items_of (map vote_data votes)
+
+-- the first members of a change, in front of further ones
+abbrev pub first_members : ShownChange → Members → Members
+first_members c members =
+    member (codes "branch") (string c.branch)
+    (member (codes "ccs") (array (numbers_data c.ccs))
+    (member (codes "change") (number_data c.change)
+    (member (codes "commit") (string c.commit)
+    (member (codes "current_patch_set") (number_data c.patch)
+    (member (codes "owner") (number_data c.owner)
+    (member (codes "project") (string c.project) members))))))
+
+-- the last members of a change
+abbrev pub last_members : ShownChange → Members
+last_members c =
+    member (codes "reviewers") (array (numbers_data c.reviewers))
+    (member (codes "status") (string (state_name c.state))
+    (member (codes "subject") (string c.subject)
+    (member (codes "updated") (number_data c.updated)
+    (member (codes "uploader") (number_data c.uploader)
+    (member (codes "votes") (array (votes_data c.votes))
+    (member (codes "work_in_progress") (boolean c.wip) no_members))))))
+
+-- a change
+abbrev pub change_data : ShownChange → Data
+change_data c = object (first_members c (last_members c))
+
+-- a submit requirement
+abbrev pub requirement_data : ShownRequirement → Data
+requirement_data requirement =
+    object (member (codes "name") (string requirement.name)
+    (member (codes "status") (string (status_name requirement.status)) no_members))
+
+-- submit requirements in their order
+abbrev pub requirements_data : List ShownRequirement → Items
+requirements_data requirements = items_of (map requirement_data requirements)
+
+-- the comment that is answered, if one is, in front of further members
+abbrev pub with_answered : Option ℕ → Members → Members
+with_answered (Some comment) members = member (codes "in_reply_to") (number_data comment) members
+with_answered None members = members
+
+-- a comment
+abbrev pub comment_data : ShownComment → Data
+comment_data comment =
+    object (member (codes "author") (number_data comment.author)
+    (member (codes "id") (number_data comment.number)
+    (with_answered comment.answers (member (codes "line") (number_data comment.line)
+    (member (codes "message") (string comment.message)
+    (member (codes "patch_set") (number_data comment.patch)
+    (member (codes "path") (string comment.path)
+    (member (codes "unresolved") (boolean comment.unresolved) no_members))))))))
+
+-- comments in their order
+abbrev pub comments_data : List ShownComment → Items
+comments_data comments = items_of (map comment_data comments)
+
+-- a thread
+abbrev pub thread_data : Thread → Data
+thread_data thread =
+    object (member (codes "comments") (array (comments_data thread.comments))
+    (member (codes "root") (number_data thread.root)
+    (member (codes "unresolved") (boolean thread.unresolved) no_members)))
+
+-- threads in their order
+abbrev pub threads_data : List Thread → Items
+threads_data threads = items_of (map thread_data threads)
+
+-- that an account is in the attention set
+abbrev pub call_data : ShownCall → Data
+call_data call =
+    object (member (codes "account") (number_data call.account)
+    (member (codes "reason") (string call.reason)
+    (member (codes "request") (number_data call.request) no_members)))
+
+-- an attention set in its order
+abbrev pub calls_data : List ShownCall → Items
+calls_data calls = items_of (map call_data calls)

@@ -1,0 +1,4 @@
+pub mod Shown
+pub mod Loaded
+pub mod Standing
+pub mod Answered

@@ -1,0 +1,20 @@
+-- Which accounts a `label:` term counts.
+use Rattle.std.specs.Prelude.{ℕ, Bool, true, not, ◌==◌, ◌&&◌, option_map}
+use Rattle.review_names.specs.Groups.{has_account}
+use Rattle.review_terms.specs.declared.terms.LabelTerm.{LabelTerm}
+use Rattle.review_terms.specs.declared.terms.Voters.{Voters}
+use Rattle.review_terms.specs.declared.terms.Voters.TheVariants as voters
+use Rattle.review_judging.specs.Holds.{meets}
+use Rattle.review_changes.specs.Change.{Change, Setting, current, label_in, range_of, uploader}
+
+-- whether an account is among the voters that a term asks for
+abbrev pub is_asked_for : Setting → Change → Voters → ℕ → Bool
+is_asked_for s c voters.Everyone account = true
+is_asked_for s c voters.NonUploader account = not (account == uploader c)
+is_asked_for s c voters.Owner account = account == c.owner
+is_asked_for s c (voters.Account asked) account = account == asked
+is_asked_for s c (voters.Group group) account = has_account s.groups group account
+
+-- an account counts for a term where its vote on the label on the current patch set meets the comparison, and it is asked for
+abbrev pub counts : Setting → Change → LabelTerm → ℕ → Bool
+counts s c t account = meets (option_map range_of (label_in s.file t.label)) t.comparison (c.vote (current c) t.label account) && is_asked_for s c t.voters account

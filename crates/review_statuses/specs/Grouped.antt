@@ -1,0 +1,19 @@
+-- The facts of a change, where tables tell who is in which group, and how a requirement stands by them.
+use Rattle.std.specs.Prelude.{◌≡◌}
+use Rattle.review_words.specs.declared.shown.Status.{Status}
+use Rattle.review_judging.specs.declared.facts.ChangeFacts.{ChangeFacts}
+use Rattle.review_expr.specs.declared.expr.Expr.{Expr}
+use Rattle.review_expr.specs.declared.expr.Facts.TheVariants as facts
+use Rattle.review_project.specs.View.{RequirementView}
+use Rattle.review_changes.specs.Change.{Change, Setting}
+use Rattle.review_changes.specs.Facts.{AreFacts}
+use Rattle.review_changes.specs.Status.{status_of}
+use Rattle.review_parts.specs.Copies.{GroupTable, group_list}
+
+-- the facts with the groups of a table
+abbrev pub grouped : ChangeFacts → GroupTable → ChangeFacts
+grouped f t = record f { groups = group_list t }
+
+-- how a requirement stands for a change
+abbrev pub IsStatus : Setting → Change → RequirementView Expr → Status → Type 0
+IsStatus s c q status = (f : ChangeFacts) × AreFacts s c f × (status ≡ status_of q (facts.Change f))

@@ -1,0 +1,3 @@
+pub mod InThreads
+pub mod FromLast
+mod Law

@@ -1,0 +1,11 @@
+//! The law of unresolved threads, as a contract of a call that does nothing.
+ghost use Rattle.std.specs.Prelude.{◌≡◌, List};
+ghost use Rattle.std.specs.List.{list_any};
+ghost use Rattle.review_changes.specs.Change.{has_unresolved, posts};
+ghost use Rattle.review_changes.specs.Threads.{threads};
+ghost use Rattle.review_changes.specs.declared.rows.CommentRow.{CommentRow};
+
+/// A change has an unresolved thread just where one of its threads is shown as unresolved.
+pub fn unresolved_threads()
+    ensures { (comments : List CommentRow) → has_unresolved (posts comments) ≡ list_any (λ t. t.unresolved) (threads comments) }
+{}
