@@ -31,7 +31,7 @@ pub fn file_at(alloc: Global, key: &str, value: &Value) -> Result<FileText, BadB
     ensures { Gives result (text_at key.now (view value.now)) }
 {
     let text = text_at(key, value).ok_or(BadBody::Form)?;
-    Ok(FileText::new(String::from_str(alloc, text)?))
+    Ok(FileText::from_str(alloc, text)?)
 }
 
 /// The account of a whole number.

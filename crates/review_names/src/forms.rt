@@ -1,5 +1,6 @@
 //! Texts of a fixed form. Contracts see a name's bytes.
-ghost use Rattle.std.specs.Prelude.{◌≡◌, ◌==◌, ℕ, List, Bool, Some, Err, true, false, IfOk, IsTrue, refl, string_bytes};
+ghost use Rattle.std.specs.Prelude.{◌≡◌, ◌==◌, ℕ, List, Bool, Some, Err, true, false, IfOk, IsTrue, refl};
+ghost use Rattle.std.specs.Rc.{rc_str_bytes};
 ghost use Rattle.std.specs.Cmp.Lexicographic.{pointwise, slice_cmp, nat_list_eq_equiv, nat_list_cmp_total, texts_ties, texts_po};
 ghost use Rattle.std.specs.Ordering.{nat_cmp};
 ghost use Rattle.std.specs.Cmp as Cmp;
@@ -9,6 +10,7 @@ use review_key::Key;
 use std::alloc::{AllocError, Global};
 use std::cmp::Ordering;
 use std::marker::{Model, PhantomData};
+use std::rc::RcStr;
 
 /// A form that a text has or has not.
 pub trait Form {
@@ -19,21 +21,22 @@ pub trait Form {
         ensures { result ≡ is_form text.now };
 }
 
-/// A name of a form. Contracts see its bytes.
+/// A name of a form. Contracts see its bytes; its copies share one text.
 #[derive(Debug, Drop)]
 pub struct Name<F: Form> {
-    text: String,
+    text: RcStr,
     form: PhantomData<F>,
 }
 
 impl<F: Form> Model for Name<F> {
-    ghost use Rattle.std.specs.Prelude.{ℕ, List, IsTrue, string_bytes};
+    ghost use Rattle.std.specs.Prelude.{ℕ, List, IsTrue};
+    ghost use Rattle.std.specs.Rc.{rc_str_bytes};
 
     ghost Value = { List ℕ };
 
-    ghost view = { λ n. string_bytes n.text };
+    ghost view = { λ n. rc_str_bytes n.text };
 
-    ghost invariant = { λ n. IsTrue (F.is_form (string_bytes n.text)) };
+    ghost invariant = { λ n. IsTrue (F.is_form (rc_str_bytes n.text)) };
 }
 
 impl<F: Form> Name<F> {
@@ -46,21 +49,19 @@ impl<F: Form> Name<F> {
         if !F::is_met(text) {
             return Err(BadName::Form);
         }
-        Ok(Name {
-            text: String::from_str(alloc, text)?,
-            form: PhantomData,
-        })
+        Ok(Name::of_form(alloc, text)?)
     }
 
-    /// The name that a text is which is known to be of the form.
-    pub(crate) fn of_form(text: String) -> Name<F>
-        requires { IsTrue (F.is_form (string_bytes text)) }
-        ensures { result ≡ string_bytes text }
+    /// The name that a text is which is known to be of the form. An error where there was no memory for it.
+    pub(crate) fn of_form(alloc: Global, text: &str) -> Result<Name<F>, AllocError>
+        requires { IsTrue (F.is_form text.now) }
+        ensures { IfOk result (λ n. n ≡ text.now) }
     {
-        Name {
+        let text = RcStr::from_str(alloc, text)?;
+        Ok(Name {
             text,
             form: PhantomData,
-        }
+        })
     }
 
     /// The text.
@@ -71,11 +72,12 @@ impl<F: Form> Name<F> {
         self.text.as_str()
     }
 
-    /// The same name once more. An error where there was no memory for it.
-    pub fn copy(&self, alloc: Global) -> Result<Name<F>, AllocError>
+    /// The same name once more, which shares the text and takes no memory. An error where there are
+    /// as many copies as can be counted.
+    pub fn copy(&self, _alloc: Global) -> Result<Name<F>, AllocError>
         ensures { IfOk result (λ n. n ≡ self.now) }
     {
-        let text = String::from_str(alloc, self.as_str())?;
+        let text = self.text.clone()?;
         Ok(Name {
             text,
             form: PhantomData,

@@ -1,5 +1,5 @@
 //! Names and numbers of fixed forms. Contracts see a name's bytes, and a number itself.
-ghost use Rattle.std.specs.Prelude.{◌≡◌, ◌+◌, ◌≤◌, ◌<◌, ◌==◌, ℕ, List, Bool, Option, Some, None, Err, true, false, IfOk, IfErr, IfSome, length, IsTrue, if◌then◌else◌, refl, string_bytes};
+ghost use Rattle.std.specs.Prelude.{◌≡◌, ◌+◌, ◌≤◌, ◌<◌, ◌==◌, ℕ, List, Bool, Option, Some, None, Err, true, false, IfOk, IfErr, IfSome, length, IsTrue, if◌then◌else◌, refl};
 ghost use Rattle.std.specs.List.{list_all, list_any};
 ghost use Rattle.std.specs.Cmp.Lexicographic.{pointwise, slice_cmp, nat_list_eq_equiv, nat_list_cmp_total, texts_ties, texts_po};
 ghost use Rattle.std.specs.Ordering.{nat_cmp};
@@ -201,8 +201,7 @@ impl Form for OfRequest {
 pub fn administrators(alloc: Global) -> Result<GroupName, AllocError>
     ensures { IfOk result (λ w. w ≡ administrators) }
 {
-    let text = String::from_str(alloc, "Administrators")?;
-    Ok(Name::of_form(text))
+    Name::of_form(alloc, "Administrators")
 }
 
 /// The name of account 1, `admin`. An error where there was no memory for it.
@@ -210,8 +209,7 @@ pub fn administrators(alloc: Global) -> Result<GroupName, AllocError>
 pub fn admin_name(alloc: Global) -> Result<AccountName, AllocError>
     ensures { IfOk result (λ w. w ≡ admin_name) }
 {
-    let text = String::from_str(alloc, "admin")?;
-    Ok(Name::of_form(text))
+    Name::of_form(alloc, "admin")
 }
 
 /// The account whose number the bytes are, if they are one.

@@ -202,6 +202,5 @@ fn is_slashed_name(text: &str) -> bool
 pub fn patch_set_level(alloc: Global) -> Result<Place, AllocError>
     ensures { IfOk result (λ p. p ≡ patch_set_level) }
 {
-    let text = String::from_str(alloc, "/PATCHSET_LEVEL")?;
-    Ok(Name::of_form(text))
+    Name::of_form(alloc, "/PATCHSET_LEVEL")
 }

@@ -127,6 +127,6 @@ pub fn compared(alloc: Global, word: &str, text: &str) -> Result<Option<String>,
 
 /// The text of a copy of a file.
 pub fn file_text(alloc: Global, text: &str) -> Result<String, Fault> {
-    let file = FileText::new(String::from_str(alloc, text)?);
+    let file = FileText::from_str(alloc, text)?;
     on_a_line(alloc, file.copy(alloc)?.as_str())
 }
