@@ -224,8 +224,22 @@ fn is_known(found: Option<&bool>) -> bool
     }
 }
 
-// Adds the rows of a table whose keys have none in another one.
+// Adds the rows of a table whose keys have none in another one. It is taken whole where the other has no row.
 fn add_all<K: Key, V: Drop>(
+    alloc: Global,
+    rows: &mut Table<K, V>,
+    more: Table<K, V>,
+) -> Result<(), AllocError>
+    ensures { OnOk result ((q : K) → row_in K.cmp (rows_of rows.new) q ≡ option_or (row_in K.cmp (rows_of rows.old) q) (row_in K.cmp (rows_of more) q)) }
+{
+    if rows.last_key().is_none() {
+        *rows = more;
+        return Ok(());
+    }
+    add_each(alloc, rows, more)
+}
+
+fn add_each<K: Key, V: Drop>(
     alloc: Global,
     rows: &mut Table<K, V>,
     more: Table<K, V>,

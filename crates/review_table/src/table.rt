@@ -100,6 +100,7 @@ impl<K: Key, V: Drop> Table<K, V> {
     }
 
     /// Makes a place for a key, which is copied where it has none. An `Err` changes no row.
+    #[tactic(auto, using(crate::proofs::Places::rows_of_inserted))]
     fn reserve_like(&mut self, alloc: Global, key: &K) -> Result<(), AllocError>
         ensures same { rows_of self.new ≡ rows_of self.old }
         ensures rows { (q : K) → row_at K.cmp self.new q ≡ row_at K.cmp self.old q }
@@ -110,7 +111,7 @@ impl<K: Key, V: Drop> Table<K, V> {
     {
         if !self.places.contains_key(key) {
             let key = key.copy(alloc)?;
-            self.reserve(key)?;
+            self.places.insert(key, None)?;
         }
         Ok(())
     }
@@ -121,19 +122,9 @@ impl<K: Key, V: Drop> Table<K, V> {
         ensures stay { (q : K) → has_place K.cmp self.new q ≡ has_place K.cmp self.old q }
         ensures each { (q : K) → place_at K.cmp self.new q ≡ option_map (λ was. if is_at (K.cmp key) q then row else was) (place_at K.cmp self.old q) }
     {
-        if self.places.contains_key(&key) {
-            self.set_place(key, row);
+        if let Some(place) = self.places.get_mut(&key) {
+            *place = row;
         }
-    }
-
-    /// Puts or takes away the row at a place.
-    fn set_place(&mut self, key: K, row: Option<V>)
-        requires { HasPlace K.cmp self.old key }
-        ensures rows { (q : K) → row_at K.cmp self.new q ≡ (if is_at (K.cmp key) q then row else row_at K.cmp self.old q) }
-        ensures stay { (q : K) → has_place K.cmp self.new q ≡ has_place K.cmp self.old q }
-        ensures each { (q : K) → place_at K.cmp self.new q ≡ (if is_at (K.cmp key) q then Some row else place_at K.cmp self.old q) }
-    {
-        let _ = self.places.insert(key, row);
     }
 
     /// Adds a row with a new key.
