@@ -95,11 +95,7 @@ fn file_want(alloc: Global, project: &ProjectName) -> Result<Vec<Want>, AllocErr
     Ok(wants)
 }
 
-fn sent_wants(
-    alloc: Global,
-    header: &Header,
-    patch: &NewPatch,
-) -> Result<Vec<Want>, AllocError>
+fn sent_wants(alloc: Global, header: &Header, patch: &NewPatch) -> Result<Vec<Want>, AllocError>
     ensures { IfOk result (λ wants. wants.items ≡ patch_wants header.now.project header.now.branch patch.now.commit patch.now.parent) }
 {
     let mut wants = Vec::new(alloc);
