@@ -43,7 +43,7 @@ in_answered : (answered : Option ℕ) (ms : Members) → members_have_float (wit
 in_answered (Some comment) ms = refl
 in_answered None ms = refl
 
-in_comment : (c : ShownComment) → has_float (comment_data c) ≡ false
+pub in_comment : (c : ShownComment) → has_float (comment_data c) ≡ false
 in_comment c = in_answered c.answers _
 
 in_thread : (t : Thread) → has_float (thread_data t) ≡ false

@@ -1,11 +1,12 @@
 //! The JSON text of a reply.
-ghost use Rattle.std.specs.Prelude.{◌≡◌, IfOk, string_bytes};
+ghost use Rattle.std.specs.Prelude.{◌≡◌, IfOk, false, string_bytes};
 ghost use Rattle.serde_json.specs.View.{view, items_view};
 ghost use Rattle.serde_json.specs.Written.{compact_text};
 ghost use Rattle.review_json.specs.Values.{texts_data, numbers_data};
-ghost use Rattle.review_json.specs.Answer.{cause_name, answer_data, bad_file_data, refusal_data, reply_data};
+ghost use Rattle.review_json.specs.Answer.{are_threads, tells_threads, cause_name, answer_data, bad_file_data, refusal_data, reply_data};
 
-use crate::shown::{call_values, change_value, requirement_values, thread_values};
+use crate::shown::{call_values, change_value, requirement_values};
+use crate::threads::threads_text;
 use review_words::{Answer, CommentNo, CommitName, FileFault, NotTaken, Refusal, Reply};
 use serde_json::{Map, Value, json};
 use std::alloc::{AllocError, Global};
@@ -43,7 +44,9 @@ fn comment_values(alloc: Global, comments: &[CommentNo]) -> Result<Vec<Value>, A
     Ok(values)
 }
 
+/// The value of an answer but threads, whose text is written at once.
 fn answer_value(alloc: Global, answer: &Answer) -> Result<Value, AllocError>
+    requires { are_threads answer.now ≡ false }
     ensures { IfOk result (λ v. view v ≡ answer_data answer.now) }
 {
     match answer {
@@ -77,10 +80,7 @@ fn answer_value(alloc: Global, answer: &Answer) -> Result<Value, AllocError>
             let values = requirement_values(alloc, requirements.as_slice())?;
             json!(in alloc; values)
         }
-        Answer::Threads(threads) => {
-            let values = thread_values(alloc, threads.as_slice())?;
-            json!(in alloc; values)
-        }
+        Answer::Threads(_) => unreachable!(),
         Answer::Attention(calls) => {
             let values = call_values(alloc, calls.as_slice())?;
             json!(in alloc; values)
@@ -118,6 +118,7 @@ fn refusal_value(alloc: Global, refusal: Refusal) -> Result<Value, AllocError>
 }
 
 fn reply_value(alloc: Global, reply: &Reply) -> Result<Value, AllocError>
+    requires { tells_threads reply.now ≡ false }
     ensures { IfOk result (λ v. view v ≡ reply_data reply.now) }
 {
     match reply {
@@ -134,6 +135,16 @@ fn reply_value(alloc: Global, reply: &Reply) -> Result<Value, AllocError>
 /// for requirements, threads and an attention set, as
 /// `[{"account":4,"reason":"Please look","request":12}]`. It fails for want of memory alone.
 pub fn answer_text(alloc: Global, reply: &Reply) -> Result<String, AllocError>
+    ensures { IfOk result (λ text. string_bytes text ≡ compact_text (reply_data reply.now)) }
+{
+    match reply {
+        Reply::Done(Answer::Threads(threads)) => threads_text(alloc, threads.as_slice()),
+        _ => value_text(alloc, reply),
+    }
+}
+
+fn value_text(alloc: Global, reply: &Reply) -> Result<String, AllocError>
+    requires { tells_threads reply.now ≡ false }
     ensures { IfOk result (λ text. string_bytes text ≡ compact_text (reply_data reply.now)) }
 {
     let value = reply_value(alloc, reply)?;

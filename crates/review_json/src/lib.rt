@@ -13,6 +13,7 @@ pub mod commands;
 pub mod line;
 pub mod queries;
 pub mod shown;
+pub mod threads;
 
 pub use answer::answer_text;
 pub use line::delivery_of_line;

@@ -3,11 +3,11 @@ ghost use Rattle.std.specs.Prelude.{◌≡◌, IfOk, OnOk, Some, None};
 ghost use Rattle.serde_json.specs.Data.{no_members, string, put as with_member};
 ghost use Rattle.serde_json.specs.View.{view, items_view, members_view};
 ghost use Rattle.review_json.specs.Values.{number_data, numbers_data};
-ghost use Rattle.review_json.specs.Shown.{state_name, status_name, vote_data, votes_data, first_members, last_members, change_data, requirement_data, requirements_data, comment_data, comments_data, thread_data, threads_data, call_data, calls_data};
+ghost use Rattle.review_json.specs.Shown.{state_name, status_name, vote_data, votes_data, first_members, last_members, change_data, requirement_data, requirements_data, comment_data, call_data, calls_data};
 
 use review_words::{
     AccountNo, CommentNo, ShownCall, ShownChange, ShownComment, ShownRequirement, ShownVote, State,
-    Status, Thread,
+    Status,
 };
 use serde_json::{Map, Value, json, put};
 use std::alloc::{AllocError, Global};
@@ -190,45 +190,14 @@ fn answer_comment_value(
     })
 }
 
-fn comment_value(alloc: Global, comment: &ShownComment) -> Result<Value, AllocError>
+/// The value of a comment.
+pub fn comment_value(alloc: Global, comment: &ShownComment) -> Result<Value, AllocError>
     ensures { IfOk result (λ v. view v ≡ comment_data comment.now) }
 {
     match comment.answers {
         Some(answered) => answer_comment_value(alloc, comment, answered),
         None => first_comment_value(alloc, comment),
     }
-}
-
-fn comment_values(alloc: Global, comments: &[ShownComment]) -> Result<Vec<Value>, AllocError>
-    ensures { IfOk result (λ v. items_view v.items ≡ comments_data comments.now) }
-{
-    let mut values = Vec::new(alloc);
-    for comment in comments {
-        values.push(comment_value(alloc, comment)?)?;
-    }
-    Ok(values)
-}
-
-fn thread_value(alloc: Global, thread: &Thread) -> Result<Value, AllocError>
-    ensures { IfOk result (λ v. view v ≡ thread_data thread.now) }
-{
-    let comments = comment_values(alloc, thread.comments.as_slice())?;
-    json!(in alloc; {
-        "comments": comments,
-        "root": thread.root.get(),
-        "unresolved": thread.unresolved,
-    })
-}
-
-/// The values of threads, in their order.
-pub fn thread_values(alloc: Global, threads: &[Thread]) -> Result<Vec<Value>, AllocError>
-    ensures { IfOk result (λ v. items_view v.items ≡ threads_data threads.now) }
-{
-    let mut values = Vec::new(alloc);
-    for thread in threads {
-        values.push(thread_value(alloc, thread)?)?;
-    }
-    Ok(values)
 }
 
 fn call_value(alloc: Global, call: &ShownCall) -> Result<Value, AllocError>

@@ -1,6 +1,6 @@
 use Rattle.std.proofs.lemmas.Result.{IfOk-weaker}
 use Rattle.review_json.proofs.Floats.{no_float}
-use Rattle.review_json.proofs.answer.answer_text.Goals as goal
+use Rattle.review_json.proofs.answer.value_text.Goals as goal
 
 pub returns : goal.returns
 returns c =
