@@ -5,9 +5,7 @@ use crate::questions;
 use crate::texts::cut;
 use review_json::answer_text;
 use review_texts::{read_reply, reply_text};
-use review_words::{
-    Answer, Bases, ChangeNo, CommitName, JoinedChange, Listed, NotTaken, Reply,
-};
+use review_words::{Answer, Bases, ChangeNo, CommitName, JoinedChange, Listed, NotTaken, Reply};
 use std::alloc::Global;
 
 /// The status of a refusal, and what a reply is stored as.
