@@ -1,5 +1,5 @@
 //! The answer to a question about a branch.
-ghost use Rattle.std.specs.Prelude.{◌≡◌, List, Option, IfOk, IfErr};
+ghost use Rattle.std.specs.Prelude.{◌≡◌, List, [], Option, IfOk, IfErr};
 ghost use Rattle.review_words.specs.History.{Entry};
 ghost use Rattle.review_words.specs.declared.command.Query.TheVariants.{Branch};
 ghost use Rattle.review_words.specs.declared.reply.NotTaken.TheVariants.{Memory};
@@ -15,10 +15,13 @@ ghost use Rattle.review_rows.specs.Decisions.{IsDoneOrRefused};
 use crate::keys::branch_of;
 use review_account_decisions::is_asker;
 use review_rows::{BranchKey, Rows};
-use review_words::{AccountNo, Answer, Bases, BranchName, NotTaken, ProjectName, Refusal, Reply};
+use review_words::{
+    AccountNo, Answer, Bases, BranchName, JoinedChange, Listed, NotTaken, ProjectName, Refusal,
+    Reply,
+};
 use std::alloc::{AllocError, Global};
 
-/// The bases of a branch. Refused for an unknown caller, a project that isn't there, or a branch without bases, in this order; an error
+/// The bases of a branch, which nothing has joined. Refused for an unknown caller, a project that isn't there, or a branch without bases, in this order; an error
 /// is want of memory.
 pub fn show_branch(
     alloc: Global,
@@ -43,7 +46,17 @@ pub fn show_branch(
     if bases.is_empty() {
         return Ok(Reply::Refused(Refusal::NoBranch));
     }
-    Ok(Reply::Done(Answer::Branch(bases)))
+    Ok(Reply::Done(Answer::Branch {
+        bases,
+        joined: nothing_joined(alloc),
+    }))
+}
+
+// No changes, since no command makes one join its branch.
+fn nothing_joined(alloc: Global) -> Listed<JoinedChange>
+    ensures { result ≡ [] }
+{
+    Listed::from_vec(Vec::new(alloc))
 }
 
 // The bases of a branch, as they are known.

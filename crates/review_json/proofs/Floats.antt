@@ -5,7 +5,7 @@ use Rattle.serde_json.specs.Data.{Data, number, string, Members}
 use Rattle.serde_json.specs.Find.{of_integer}
 use Rattle.serde_json.specs.View.{items_of}
 use Rattle.review_json.specs.Values.{number_data, texts_data, numbers_data}
-use Rattle.review_json.specs.Shown.{vote_data, change_data, requirement_data, with_answered, comment_data, thread_data, call_data}
+use Rattle.review_json.specs.Shown.{vote_data, change_data, joined_change_data, requirement_data, with_answered, comment_data, thread_data, call_data}
 use Rattle.review_json.specs.Answer.{bad_file_data, refusal_data, reply_data}
 use Rattle.review_words.specs.declared.shown.ShownChange.{ShownChange}
 use Rattle.review_words.specs.declared.shown.ShownComment.{ShownComment}
@@ -13,9 +13,9 @@ use Rattle.review_words.specs.declared.shown.ShownVote.{ShownVote}
 use Rattle.review_words.specs.declared.shown.Thread.{Thread}
 use Rattle.review_words.specs.declared.reply.Reply.{Reply}
 use Rattle.review_words.specs.declared.reply.Reply.TheVariants.{Done, Refused, IdentityReused, NotTaken}
-use Rattle.review_words.specs.declared.reply.Answer.TheVariants.{Account, Nothing, Change, Patch, Reviewed, Branch, Shown, Requirements, Threads, Attention}
+use Rattle.review_words.specs.declared.reply.Answer.TheVariants.{Account, Nothing, Change, Patch, Reviewed, Submitted, Branch, Shown, Requirements, Threads, Attention}
 use Rattle.review_words.specs.declared.reply.Refusal.{Refusal}
-use Rattle.review_words.specs.declared.reply.Refusal.TheVariants.{UnknownCaller, NotAdmin, NoProject, NoBranch, NoChange, NoPatchSet, NoAccount, NoComment, NotAllowed, Closed, SameState, StalePatchSet, NoLabel, ValueOut, VoteRestricted, CommitKnown, UnknownParent, NotEligible, NameTaken, BadFile, LabelNarrowed, Limit}
+use Rattle.review_words.specs.declared.reply.Refusal.TheVariants.{UnknownCaller, NotAdmin, NoProject, NoBranch, NoChange, NoPatchSet, NoAccount, NoComment, NotAllowed, Closed, SameState, WorkInProgress, StalePatchSet, NoLabel, ValueOut, VoteRestricted, CommitKnown, UnknownParent, ChainOutdated, ChainAbandoned, ChainWip, ChainTooLong, RequirementUnsatisfied, NotEligible, NameTaken, BadFile, LabelNarrowed, Limit}
 use Rattle.review_words.specs.declared.faults.FileFault.{FileFault}
 use Rattle.review_words.specs.declared.faults.FileFault.TheVariants.{Toml, UnknownKey, Missing, BadName, Twice, BadValues, Expr, UnknownLabel, Limit as PastLimit}
 
@@ -72,12 +72,18 @@ in_refusal NoComment = refl
 in_refusal NotAllowed = refl
 in_refusal Closed = refl
 in_refusal SameState = refl
+in_refusal WorkInProgress = refl
 in_refusal StalePatchSet = refl
 in_refusal NoLabel = refl
 in_refusal ValueOut = refl
 in_refusal VoteRestricted = refl
 in_refusal CommitKnown = refl
 in_refusal UnknownParent = refl
+in_refusal ChainOutdated = refl
+in_refusal ChainAbandoned = refl
+in_refusal ChainWip = refl
+in_refusal ChainTooLong = refl
+in_refusal (RequirementUnsatisfied change requirement) = refl
 in_refusal NotEligible = refl
 in_refusal NameTaken = refl
 in_refusal (BadFile fault) = in_fault fault
@@ -90,7 +96,8 @@ no_float (Done Nothing) = refl
 no_float (Done (Change change patch)) = refl
 no_float (Done (Patch change patch copied outdated)) = refl
 no_float (Done (Reviewed comments)) = rw (in_numbers comments)
-no_float (Done (Branch bases)) = rw (in_texts bases)
+no_float (Done (Submitted joined)) = rw (in_numbers joined)
+no_float (Done (Branch bases joined)) = rw (in_texts bases, in_list joined_change_data (λ change. refl) joined)
 no_float (Done (Shown change)) = in_change change
 no_float (Done (Requirements requirements)) = in_list requirement_data (λ requirement. refl) requirements
 no_float (Done (Threads threads)) = in_list thread_data in_thread threads

@@ -1,20 +1,20 @@
 -- The JSON of a reply.
 use Rattle.std.specs.Prelude.{ℕ, List, codes, Bool, true, false}
-use Rattle.serde_json.specs.Data.{Data, string, array, object, no_items, no_members, member}
+use Rattle.serde_json.specs.Data.{Data, string, array, object, no_members, member}
 use Rattle.review_words.specs.Refusals.{refusal_number, refusal_name}
 use Rattle.review_words.specs.Faults.{code_name, file_fault_name}
 use Rattle.review_words.specs.declared.reply.Reply.{Reply}
 use Rattle.review_words.specs.declared.reply.Reply.TheVariants.{Done, Refused, IdentityReused, NotTaken}
 use Rattle.review_words.specs.declared.reply.Answer.{Answer}
-use Rattle.review_words.specs.declared.reply.Answer.TheVariants.{Account, Nothing, Change, Patch, Reviewed, Branch, Shown, Requirements, Threads, Attention}
+use Rattle.review_words.specs.declared.reply.Answer.TheVariants.{Account, Nothing, Change, Patch, Reviewed, Submitted, Branch, Shown, Requirements, Threads, Attention}
 use Rattle.review_words.specs.declared.reply.Refusal.{Refusal}
-use Rattle.review_words.specs.declared.reply.Refusal.TheVariants.{BadFile}
+use Rattle.review_words.specs.declared.reply.Refusal.TheVariants.{BadFile, RequirementUnsatisfied}
 use Rattle.review_words.specs.declared.faults.FileFault.{FileFault}
 use Rattle.review_words.specs.declared.faults.FileFault.TheVariants.{Expr}
 use Rattle.review_words.specs.declared.reply.NotTaken.{NotTaken as Cause}
 use Rattle.review_words.specs.declared.reply.NotTaken.TheVariants.{Memory, Store, Damaged, Pattern, Full}
 use Rattle.review_json.specs.Values.{number_data, texts_data, numbers_data}
-use Rattle.review_json.specs.Shown.{change_data, requirements_data, threads_data, calls_data}
+use Rattle.review_json.specs.Shown.{joined_data, change_data, requirements_data, threads_data, calls_data}
 
 -- the name of a cause for which a delivery was not taken
 abbrev pub cause_name : Cause → List ℕ
@@ -24,7 +24,7 @@ cause_name Damaged = codes "DAMAGED"
 cause_name Pattern = codes "PATTERN"
 cause_name Full = codes "FULL"
 
--- what a command that was done gave, or what a query found; nothing joins a branch, since no change is merged
+-- what a command that was done gave, or what a query found
 abbrev pub answer_data : Answer → Data
 answer_data (Account account) = object (member (codes "account") (number_data account) no_members)
 answer_data Nothing = object no_members
@@ -35,7 +35,8 @@ answer_data (Patch change patch copied outdated) =
     (member (codes "outdated") (number_data outdated)
     (member (codes "patch_set") (number_data patch) no_members))))
 answer_data (Reviewed comments) = object (member (codes "comments") (array (numbers_data comments)) no_members)
-answer_data (Branch bases) = object (member (codes "bases") (array (texts_data bases)) (member (codes "joined") (array no_items) no_members))
+answer_data (Submitted joined) = object (member (codes "joined") (array (numbers_data joined)) no_members)
+answer_data (Branch bases joined) = object (member (codes "bases") (array (texts_data bases)) (member (codes "joined") (array (joined_data joined)) no_members))
 answer_data (Shown change) = change_data change
 answer_data (Requirements requirements) = array (requirements_data requirements)
 answer_data (Threads threads) = array (threads_data threads)
@@ -64,9 +65,18 @@ bad_file_data fault =
     (member (codes "reason") (string (file_fault_name fault))
     (member (codes "refused") (string (codes "BAD_FILE")) no_members)))
 
+-- a refusal for a change whose requirement isn't satisfied
+abbrev pub unsatisfied_data : ℕ → List ℕ → Data
+unsatisfied_data change requirement =
+    object (member (codes "change") (number_data change)
+    (member (codes "number") (number_data 23)
+    (member (codes "refused") (string (codes "REQUIREMENT_UNSATISFIED"))
+    (member (codes "requirement") (string requirement) no_members))))
+
 -- a refusal by its number and its name
 abbrev pub refusal_data : Refusal → Data
 refusal_data (BadFile fault) = bad_file_data fault
+refusal_data (RequirementUnsatisfied change requirement) = unsatisfied_data change requirement
 refusal_data refusal = object (member (codes "number") (number_data (refusal_number refusal)) (member (codes "refused") (string (refusal_name refusal)) no_members))
 
 -- the value of a reply; the members of an object stand in the order of their keys

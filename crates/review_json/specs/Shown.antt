@@ -1,8 +1,9 @@
--- The JSON of what questions about a change are told; the members of an object stand in the order of their keys.
+-- The JSON of what questions about a change or a branch are told; the members of an object stand in the order of their keys.
 use Rattle.std.specs.Prelude.{ℕ, List, map, codes, Option, Some, None}
 use Rattle.serde_json.specs.Data.{Data, boolean, number, string, array, object, Items, Members, no_members, member}
 use Rattle.serde_json.specs.Find.{of_integer}
 use Rattle.serde_json.specs.View.{items_of}
+use Rattle.review_words.specs.declared.shown.JoinedChange.{JoinedChange}
 use Rattle.review_words.specs.declared.shown.ShownCall.{ShownCall}
 use Rattle.review_words.specs.declared.shown.ShownChange.{ShownChange}
 use Rattle.review_words.specs.declared.shown.ShownComment.{ShownComment}
@@ -64,6 +65,16 @@ last_members c =
 -- a change
 abbrev pub change_data : ShownChange → Data
 change_data c = object (first_members c (last_members c))
+
+-- a change that joined its branch
+abbrev pub joined_change_data : JoinedChange → Data
+joined_change_data joined =
+    object (member (codes "change") (number_data joined.change)
+    (member (codes "commit") (string joined.commit) no_members))
+
+-- the changes that joined a branch, in their order
+abbrev pub joined_data : List JoinedChange → Items
+joined_data joined = items_of (map joined_change_data joined)
 
 -- a submit requirement
 abbrev pub requirement_data : ShownRequirement → Data

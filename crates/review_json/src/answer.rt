@@ -1,13 +1,18 @@
 //! The JSON text of a reply.
 ghost use Rattle.std.specs.Prelude.{◌≡◌, IfOk, false, string_bytes};
+ghost use Rattle.review_words.specs.declared.reply.Answer.TheVariants.{Branch, Submitted};
+ghost use Rattle.serde_json.specs.Data.{no_members, object};
 ghost use Rattle.serde_json.specs.View.{view, items_view};
 ghost use Rattle.serde_json.specs.Written.{compact_text};
 ghost use Rattle.review_json.specs.Values.{texts_data, numbers_data};
 ghost use Rattle.review_json.specs.Answer.{are_threads, tells_threads, cause_name, answer_data, bad_file_data, refusal_data, reply_data};
 
-use crate::shown::{call_values, change_value, requirement_values};
+use crate::shown::{call_values, change_value, joined_values, requirement_values};
 use crate::threads::threads_text;
-use review_words::{Answer, CommentNo, CommitName, FileFault, NotTaken, Refusal, Reply};
+use review_words::{
+    Answer, Bases, ChangeNo, CommentNo, CommitName, FileFault, JoinedChange, NotTaken, Refusal,
+    Reply,
+};
 use serde_json::{Map, Value, json};
 use std::alloc::{AllocError, Global};
 
@@ -44,6 +49,37 @@ fn comment_values(alloc: Global, comments: &[CommentNo]) -> Result<Vec<Value>, A
     Ok(values)
 }
 
+fn change_numbers(alloc: Global, changes: &[ChangeNo]) -> Result<Vec<Value>, AllocError>
+    ensures { IfOk result (λ v. items_view v.items ≡ numbers_data changes.now) }
+{
+    let mut values = Vec::new(alloc);
+    for change in changes {
+        values.push(Value::from(change.get()))?;
+    }
+    Ok(values)
+}
+
+fn empty_object(alloc: Global) -> Value
+    ensures { view result ≡ object no_members }
+{
+    Value::Object(Map::new(alloc))
+}
+
+fn submitted_value(alloc: Global, changes: &[ChangeNo]) -> Result<Value, AllocError>
+    ensures { IfOk result (λ v. view v ≡ answer_data (Submitted changes.now)) }
+{
+    let numbers = change_numbers(alloc, changes)?;
+    json!(in alloc; {"joined": numbers})
+}
+
+fn branch_value(alloc: Global, bases: &Bases, joined: &[JoinedChange]) -> Result<Value, AllocError>
+    ensures { IfOk result (λ v. view v ≡ answer_data (Branch bases.now joined.now)) }
+{
+    let commits = commit_values(alloc, bases.as_slice())?;
+    let changes = joined_values(alloc, joined)?;
+    json!(in alloc; {"bases": commits, "joined": changes})
+}
+
 /// The value of an answer but threads, whose text is written at once.
 fn answer_value(alloc: Global, answer: &Answer) -> Result<Value, AllocError>
     requires { are_threads answer.now ≡ false }
@@ -51,7 +87,7 @@ fn answer_value(alloc: Global, answer: &Answer) -> Result<Value, AllocError>
 {
     match answer {
         Answer::Account(account) => json!(in alloc; {"account": account.get()}),
-        Answer::Nothing => Ok(Value::Object(Map::new(alloc))),
+        Answer::Nothing => Ok(empty_object(alloc)),
         Answer::Change { change, patch } => {
             json!(in alloc; {"change": change.get(), "patch_set": patch.get()})
         }
@@ -70,11 +106,8 @@ fn answer_value(alloc: Global, answer: &Answer) -> Result<Value, AllocError>
             let numbers = comment_values(alloc, comments.as_slice())?;
             json!(in alloc; {"comments": numbers})
         }
-        Answer::Branch(bases) => {
-            let commits = commit_values(alloc, bases.as_slice())?;
-            // Nothing joins a branch, since no change is merged yet.
-            json!(in alloc; {"bases": commits, "joined": []})
-        }
+        Answer::Submitted(changes) => submitted_value(alloc, changes.as_slice()),
+        Answer::Branch { bases, joined } => branch_value(alloc, bases, joined.as_slice()),
         Answer::Shown(change) => change_value(alloc, change),
         Answer::Requirements(requirements) => {
             let values = requirement_values(alloc, requirements.as_slice())?;
@@ -91,28 +124,36 @@ fn answer_value(alloc: Global, answer: &Answer) -> Result<Value, AllocError>
 fn bad_file_value(alloc: Global, fault: FileFault) -> Result<Value, AllocError>
     ensures { IfOk result (λ v. view v ≡ bad_file_data fault) }
 {
-    let refusal = Refusal::BadFile(fault);
     match fault {
         FileFault::Expr(expr) => json!(in alloc; {
             "expr": expr.code.name(),
-            "number": refusal.number(),
+            "number": 26u8,
             "place": expr.place,
             "reason": fault.name(),
-            "refused": refusal.name(),
+            "refused": "BAD_FILE",
         }),
         _ => json!(in alloc; {
-            "number": refusal.number(),
+            "number": 26u8,
             "reason": fault.name(),
-            "refused": refusal.name(),
+            "refused": "BAD_FILE",
         }),
     }
 }
 
-fn refusal_value(alloc: Global, refusal: Refusal) -> Result<Value, AllocError>
-    ensures { IfOk result (λ v. view v ≡ refusal_data refusal) }
+fn refusal_value(alloc: Global, refusal: &Refusal) -> Result<Value, AllocError>
+    ensures { IfOk result (λ v. view v ≡ refusal_data refusal.now) }
 {
     match refusal {
-        Refusal::BadFile(fault) => bad_file_value(alloc, fault),
+        Refusal::BadFile(fault) => bad_file_value(alloc, *fault),
+        Refusal::RequirementUnsatisfied {
+            change,
+            requirement,
+        } => json!(in alloc; {
+            "change": change.get(),
+            "number": refusal.number(),
+            "refused": refusal.name(),
+            "requirement": requirement.as_str(),
+        }),
         _ => json!(in alloc; {"number": refusal.number(), "refused": refusal.name()}),
     }
 }
@@ -123,7 +164,7 @@ fn reply_value(alloc: Global, reply: &Reply) -> Result<Value, AllocError>
 {
     match reply {
         Reply::Done(answer) => answer_value(alloc, answer),
-        Reply::Refused(refusal) => refusal_value(alloc, *refusal),
+        Reply::Refused(refusal) => refusal_value(alloc, refusal),
         Reply::IdentityReused => json!(in alloc; {"refused": "IDENTITY_REUSED"}),
         Reply::NotTaken(cause) => json!(in alloc; {"not_taken": cause_name(*cause)}),
     }
@@ -131,6 +172,7 @@ fn reply_value(alloc: Global, reply: &Reply) -> Result<Value, AllocError>
 
 /// The text of a reply: compact JSON, the members of each object in the order of their keys, as
 /// `{"account":2}`, `{"number":2,"refused":"NOT_ADMIN"}`,
+/// `{"change":1,"number":23,"refused":"REQUIREMENT_UNSATISFIED","requirement":"Code-Review"}`,
 /// `{"number":26,"reason":"TOML","refused":"BAD_FILE"}` or `{"not_taken":"MEMORY"}`; a list of objects
 /// for requirements, threads and an attention set, as
 /// `[{"account":4,"reason":"Please look","request":12}]`. It fails for want of memory alone.

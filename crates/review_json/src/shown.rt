@@ -1,13 +1,13 @@
-//! What questions about a change are told, as JSON.
+//! What questions about a change or a branch are told, as JSON.
 ghost use Rattle.std.specs.Prelude.{◌≡◌, IfOk, OnOk, Some, None};
 ghost use Rattle.serde_json.specs.Data.{no_members, string, put as with_member};
 ghost use Rattle.serde_json.specs.View.{view, items_view, members_view};
 ghost use Rattle.review_json.specs.Values.{number_data, numbers_data};
-ghost use Rattle.review_json.specs.Shown.{state_name, status_name, vote_data, votes_data, first_members, last_members, change_data, requirement_data, requirements_data, comment_data, call_data, calls_data};
+ghost use Rattle.review_json.specs.Shown.{state_name, status_name, vote_data, votes_data, first_members, last_members, change_data, joined_change_data, joined_data, requirement_data, requirements_data, comment_data, call_data, calls_data};
 
 use review_words::{
-    AccountNo, CommentNo, ShownCall, ShownChange, ShownComment, ShownRequirement, ShownVote, State,
-    Status,
+    AccountNo, CommentNo, JoinedChange, ShownCall, ShownChange, ShownComment, ShownRequirement,
+    ShownVote, State, Status,
 };
 use serde_json::{Map, Value, json, put};
 use std::alloc::{AllocError, Global};
@@ -130,6 +130,26 @@ pub fn change_value(alloc: Global, shown: &ShownChange) -> Result<Value, AllocEr
     let first = first_members(alloc, shown)?;
     let members = with_last_members(alloc, first, shown)?;
     Ok(Value::Object(members))
+}
+
+fn joined_value(alloc: Global, joined: &JoinedChange) -> Result<Value, AllocError>
+    ensures { IfOk result (λ v. view v ≡ joined_change_data joined.now) }
+{
+    json!(in alloc; {
+        "change": joined.change.get(),
+        "commit": joined.commit.as_str(),
+    })
+}
+
+/// The values of the changes that joined a branch, in their order.
+pub fn joined_values(alloc: Global, joined: &[JoinedChange]) -> Result<Vec<Value>, AllocError>
+    ensures { IfOk result (λ v. items_view v.items ≡ joined_data joined.now) }
+{
+    let mut values = Vec::new(alloc);
+    for change in joined {
+        values.push(joined_value(alloc, change)?)?;
+    }
+    Ok(values)
 }
 
 fn requirement_value(alloc: Global, requirement: &ShownRequirement) -> Result<Value, AllocError>

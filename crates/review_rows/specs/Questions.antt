@@ -22,9 +22,9 @@ query_checks reading h (asked.OnChange n query) = (is_some (change reading h n),
 abbrev pub query_refused_by : Reading → List Entry → ℕ → Query → Option Refusal
 query_refused_by reading h caller query = first_refusal ((is_account h caller, UnknownCaller) ∷ query_checks reading h query)
 
--- what a question is told that no check refuses
+-- what a question is told that no check refuses; nothing has joined a branch, since no command merges a change
 abbrev pub IsToldTo : Reading → List Entry → Query → Answer → Type 0
-IsToldTo reading h (asked.Branch project branch) told = told ≡ Branch (bases h project branch)
+IsToldTo reading h (asked.Branch project branch) told = told ≡ Branch (bases h project branch) []
 IsToldTo reading h (asked.OnChange n query) told = IsOf (λ c. IsToldOf (setting_of reading h c.project) n query c told) (change reading h n)
 
 -- The reply is an answer to the question, by what is read of the texts that were put.

@@ -2,5 +2,6 @@ mod Cutting
 mod Splitting
 pub mod Signed
 mod Commands
+mod Labels
 mod Told
 pub mod Fields

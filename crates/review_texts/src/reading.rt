@@ -1,17 +1,20 @@
 //! Texts of replies, read.
-ghost use Rattle.std.specs.Prelude.{◌≡◌, ◌≤◌, drop, map, IfOk, IfErr, IfSome};
+ghost use Rattle.std.specs.Prelude.{◌≡◌, ◌≤◌, drop, map, option_map, true, IfOk, IfErr, IfSome};
 ghost use Rattle.std.specs.Str.{bytes_eq};
-ghost use Rattle.review_names.specs.Forms.{most_changes, most_comments, most_patches};
-ghost use Rattle.review_words.specs.Texts.{reply_text, IsCommentNumber, IsStored, IsStoredAnswer};
-ghost use Rattle.review_words.specs.declared.reply.Answer.TheVariants.{Reviewed};
+ghost use Rattle.review_names.specs.Forms.{is_label, most_changes, most_comments, most_patches};
+ghost use Rattle.review_words.specs.Texts.{most_joined, reply_text, IsCommentNumber, IsRefusalOf, IsStored, IsStoredAnswer};
+ghost use Rattle.review_words.specs.declared.reply.Answer.TheVariants.{Reviewed, Submitted};
+ghost use Rattle.review_words.specs.declared.reply.Refusal.TheVariants.{BadFile};
 ghost use Rattle.review_words.specs.declared.reply.Reply.{Reply};
-ghost use Rattle.review_texts.specs.Reading.{comments_of, expr_fault_of, file_fault_of, new_change_of, new_patch_of, number_within, numbers_in, plain_reply_of, refusal_of, reply_of, Gives};
+ghost use Rattle.review_texts.specs.Reading.{expr_fault_of, file_fault_of, label_of, list_of, new_change_of, new_patch_of, number_within, numbers_in, plain_answer_of, refusal_of, reply_of, unsatisfied_of, Gives};
 ghost use Rattle.review_texts.specs.declared.reading.BadReply.TheVariants.{Form};
 
 use crate::pieces::{cut, field_at};
 use crate::replies::reply_text;
-use review_names::{ChangeNo, CommentNo, PatchNo, read_account, read_number};
-use review_words::{Answer, CommentNumbers, ExprCode, ExprFault, FileFault, Refusal, Reply};
+use review_names::{BadName, ChangeNo, CommentNo, LabelName, PatchNo, read_account, read_number};
+use review_words::{
+    Answer, CommentNumbers, ExprCode, ExprFault, FileFault, Listed, Refusal, Reply,
+};
 use std::alloc::{AllocError, AllocFailed, Global};
 
 /// Why a text was not read as a reply.
@@ -75,18 +78,6 @@ fn read_file_fault(fields: &[&[u8]]) -> Option<FileFault>
     FileFault::from_number(number)
 }
 
-#[tactic(auto, unfolding(crate::specs::Reading::refusal_of))]
-fn read_refusal(fields: &[&[u8]]) -> Option<Refusal>
-    ensures { result ≡ refusal_of (map (λ f. f.now) fields.now) }
-{
-    let number = read_number(field_at(fields, 1))?;
-    if number == 26 {
-        let fault = read_file_fault(fields)?;
-        return Some(Refusal::BadFile(fault));
-    }
-    Refusal::from_number(number)
-}
-
 #[tactic(auto, unfolding(crate::specs::Reading::number_within, review_names::specs::Forms::is_within))]
 fn read_change(bytes: &[u8]) -> Option<ChangeNo>
     ensures change { result ≡ number_within most_changes bytes.now }
@@ -138,31 +129,84 @@ fn read_new_patch(fields: &[&[u8]]) -> Option<Answer>
     })
 }
 
-/// The reply of fields that tell no numbers of comments.
-#[tactic(auto, unfolding(crate::specs::Reading::plain_reply_of))]
-fn read_plain(fields: &[&[u8]]) -> Option<Reply>
-    ensures reply { result ≡ plain_reply_of (map (λ f. f.now) fields.now) }
-    ensures stored { IfSome result IsStored }
+/// The name of a label or a requirement that a field is.
+#[tactic(auto, unfolding(crate::specs::Reading::label_of))]
+fn read_label(alloc: Global, bytes: &[u8]) -> Result<LabelName, BadReply>
+    ensures name { Gives result (label_of bytes.now) }
+    ensures form { IfOk result (λ n. is_label n ≡ true) }
+{
+    let Ok(text) = str::from_utf8(bytes) else {
+        return Err(BadReply::Form);
+    };
+    match LabelName::read(alloc, text) {
+        Ok(name) => Ok(name),
+        Err(BadName::Form) => Err(BadReply::Form),
+        Err(BadName::Memory) => Err(BadReply::Memory),
+    }
+}
+
+/// The change that fields tell, and its requirement that isn't satisfied.
+#[tactic(auto, unfolding(crate::specs::Reading::unsatisfied_of))]
+fn read_unsatisfied(alloc: Global, fields: &[&[u8]]) -> Result<Refusal, BadReply>
+    ensures refusal { Gives result (unsatisfied_of (map (λ f. f.now) fields.now)) }
+    ensures stored { IfOk result IsRefusalOf }
+{
+    let Some(change) = read_change(field_at(fields, 2)) else {
+        return Err(BadReply::Form);
+    };
+    let requirement = read_label(alloc, field_at(fields, 3))?;
+    Ok(Refusal::RequirementUnsatisfied {
+        change,
+        requirement,
+    })
+}
+
+fn read_bad_file(fields: &[&[u8]]) -> Option<Refusal>
+    ensures refusal { result ≡ option_map (λ fault. BadFile fault) (file_fault_of (map (λ f. f.now) fields.now)) }
+    ensures stored { IfSome result IsRefusalOf }
+{
+    let fault = read_file_fault(fields)?;
+    Some(Refusal::BadFile(fault))
+}
+
+#[tactic(auto, unfolding(crate::specs::Reading::refusal_of))]
+fn read_refusal(alloc: Global, fields: &[&[u8]]) -> Result<Refusal, BadReply>
+    ensures refusal { Gives result (refusal_of (map (λ f. f.now) fields.now)) }
+    ensures stored { IfOk result IsRefusalOf }
+{
+    let Some(number) = read_number(field_at(fields, 1)) else {
+        return Err(BadReply::Form);
+    };
+    if number == 23 {
+        return read_unsatisfied(alloc, fields);
+    }
+    let refusal = if number == 26 {
+        read_bad_file(fields)
+    } else {
+        Refusal::from_number(number)
+    };
+    refusal.ok_or(BadReply::Form)
+}
+
+/// The answer of fields that tell no list.
+#[tactic(auto, unfolding(crate::specs::Reading::plain_answer_of))]
+fn read_plain(fields: &[&[u8]]) -> Option<Answer>
+    ensures answer { result ≡ plain_answer_of (map (λ f. f.now) fields.now) }
+    ensures stored { IfSome result IsStoredAnswer }
 {
     let name = field_at(fields, 0);
     if is(name, "Account") {
         let account = read_account(field_at(fields, 1))?;
-        return Some(Reply::Done(Answer::Account(account)));
+        return Some(Answer::Account(account));
     }
     if is(name, "Nothing") {
-        return Some(Reply::Done(Answer::Nothing));
+        return Some(Answer::Nothing);
     }
     if is(name, "Change") {
-        let answer = read_new_change(fields)?;
-        return Some(Reply::Done(answer));
+        return read_new_change(fields);
     }
     if is(name, "Patch") {
-        let answer = read_new_patch(fields)?;
-        return Some(Reply::Done(answer));
-    }
-    if is(name, "Refused") {
-        let refusal = read_refusal(fields)?;
-        return Some(Reply::Refused(refusal));
+        return read_new_patch(fields);
     }
     None
 }
@@ -179,8 +223,8 @@ fn fields_from<'a, 'b>(fields: &'b [&'a [u8]], first: usize) -> &'b [&'a [u8]]
 }
 
 /// The numbers of comments that fields tell.
-fn read_numbers(alloc: Global, fields: &[&[u8]]) -> Result<CommentNumbers, BadReply>
-    ensures { Gives result (numbers_in (map (λ f. f.now) fields.now)) }
+fn read_comment_numbers(alloc: Global, fields: &[&[u8]]) -> Result<CommentNumbers, BadReply>
+    ensures { Gives result (numbers_in most_comments (map (λ f. f.now) fields.now)) }
 {
     let mut numbers = Vec::new(alloc);
     for field in fields {
@@ -192,16 +236,42 @@ fn read_numbers(alloc: Global, fields: &[&[u8]]) -> Result<CommentNumbers, BadRe
     Ok(CommentNumbers::from_vec(numbers))
 }
 
+/// The numbers of changes that fields tell.
+fn read_change_numbers(alloc: Global, fields: &[&[u8]]) -> Result<Listed<ChangeNo>, BadReply>
+    ensures { Gives result (numbers_in most_changes (map (λ f. f.now) fields.now)) }
+{
+    let mut numbers = Vec::new(alloc);
+    for field in fields {
+        let Some(number) = read_change(field) else {
+            return Err(BadReply::Form);
+        };
+        numbers.push(number)?;
+    }
+    Ok(Listed::from_vec(numbers))
+}
+
 /// The numbers of comments that fields tell, at most 10,000.
-#[tactic(auto, unfolding(crate::specs::Reading::comments_of))]
+#[tactic(auto, unfolding(crate::specs::Reading::list_of))]
 fn read_comments(alloc: Global, fields: &[&[u8]]) -> Result<CommentNumbers, BadReply>
-    ensures comments { Gives result (comments_of (map (λ f. f.now) fields.now)) }
+    ensures comments { Gives result (list_of most_comments most_comments (map (λ f. f.now) fields.now)) }
     ensures stored { IfOk result (λ c. IsStoredAnswer (Reviewed c)) }
 {
     if fields.len() > 10_000 {
         return Err(BadReply::Form);
     }
-    read_numbers(alloc, fields)
+    read_comment_numbers(alloc, fields)
+}
+
+/// The changes that joined, at most 100.
+#[tactic(auto, unfolding(crate::specs::Reading::list_of))]
+fn read_joined(alloc: Global, fields: &[&[u8]]) -> Result<Listed<ChangeNo>, BadReply>
+    ensures joined { Gives result (list_of most_joined most_changes (map (λ f. f.now) fields.now)) }
+    ensures stored { IfOk result (λ c. IsStoredAnswer (Submitted c)) }
+{
+    if fields.len() > 100 {
+        return Err(BadReply::Form);
+    }
+    read_change_numbers(alloc, fields)
 }
 
 #[tactic(auto, unfolding(crate::specs::Reading::reply_of))]
@@ -209,12 +279,21 @@ fn read_fields(alloc: Global, fields: &[&[u8]]) -> Result<Reply, BadReply>
     ensures reply { Gives result (reply_of (map (λ f. f.now) fields.now)) }
     ensures stored { IfOk result IsStored }
 {
-    if is(field_at(fields, 0), "Reviewed") {
+    let name = field_at(fields, 0);
+    if is(name, "Reviewed") {
         let comments = read_comments(alloc, fields_from(fields, 2))?;
         return Ok(Reply::Done(Answer::Reviewed(comments)));
     }
+    if is(name, "Submitted") {
+        let joined = read_joined(alloc, fields_from(fields, 2))?;
+        return Ok(Reply::Done(Answer::Submitted(joined)));
+    }
+    if is(name, "Refused") {
+        let refusal = read_refusal(alloc, fields)?;
+        return Ok(Reply::Refused(refusal));
+    }
     match read_plain(fields) {
-        Some(reply) => Ok(reply),
+        Some(answer) => Ok(Reply::Done(answer)),
         None => Err(BadReply::Form),
     }
 }

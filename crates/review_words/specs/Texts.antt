@@ -1,8 +1,8 @@
 -- The text of a command and of a reply: fields, each its length, a colon, its bytes and a comma.
-use Rattle.std.specs.Prelude.{ℕ, ℤ, pos, negsuc, List, [], ◌∷◌, ◌++◌, length, map, ◌+◌, ◌≤◌, ◌<◌, codes, flat_map, Bool, true, false, if◌then◌else◌, Option, Some, None}
+use Rattle.std.specs.Prelude.{◌≡◌, ℕ, ℤ, pos, negsuc, List, [], ◌∷◌, ◌++◌, length, map, ◌+◌, ◌≤◌, ◌<◌, codes, flat_map, Bool, true, false, if◌then◌else◌, Option, Some, None}
 use Rattle.std.specs.List.{AllByRecursion}
 use Rattle.std.specs.Str.{bytes_eq}
-use Rattle.review_names.specs.Forms.{most_changes, most_comments, most_patches}
+use Rattle.review_names.specs.Forms.{is_label, most_changes, most_comments, most_patches}
 use Rattle.review_names.specs.Kinds.{kind_name}
 use Rattle.review_names.specs.Numerals.{numeral}
 use Rattle.review_words.specs.declared.changes.Given.{Given}
@@ -16,9 +16,9 @@ use Rattle.review_words.specs.declared.command.Command.TheVariants.{CreateAccoun
 use Rattle.review_words.specs.declared.reply.Reply.{Reply}
 use Rattle.review_words.specs.declared.reply.Reply.TheVariants.{Done, Refused}
 use Rattle.review_words.specs.declared.reply.Answer.{Answer}
-use Rattle.review_words.specs.declared.reply.Answer.TheVariants.{Account, Nothing, Change, Patch, Reviewed}
+use Rattle.review_words.specs.declared.reply.Answer.TheVariants.{Account, Nothing, Change, Patch, Reviewed, Submitted}
 use Rattle.review_words.specs.declared.reply.Refusal.{Refusal}
-use Rattle.review_words.specs.declared.reply.Refusal.TheVariants.{BadFile}
+use Rattle.review_words.specs.declared.reply.Refusal.TheVariants.{BadFile, RequirementUnsatisfied}
 use Rattle.review_words.specs.declared.faults.FileFault.{FileFault}
 use Rattle.review_words.specs.declared.faults.FileFault.TheVariants.{Expr}
 use Rattle.review_words.specs.Faults.{code_number, file_fault_number}
@@ -125,6 +125,7 @@ fault_fields fault = numeral (file_fault_number fault) ∷ expr_fields fault
 -- what a refusal tells beside its number
 abbrev pub refusal_fields : Refusal → List (List ℕ)
 refusal_fields (BadFile fault) = fault_fields fault
+refusal_fields (RequirementUnsatisfied change requirement) = numeral change ∷ requirement ∷ []
 refusal_fields _ = []
 
 -- the fields of a reply; those that are never stored have none
@@ -134,6 +135,7 @@ reply_fields (Done Nothing) = codes "Nothing" ∷ []
 reply_fields (Done (Change change patch)) = codes "Change" ∷ numeral change ∷ numeral patch ∷ []
 reply_fields (Done (Patch change patch copied outdated)) = codes "Patch" ∷ numeral change ∷ numeral patch ∷ numeral copied ∷ numeral outdated ∷ []
 reply_fields (Done (Reviewed comments)) = codes "Reviewed" ∷ numeral (length comments) ∷ map numeral comments
+reply_fields (Done (Submitted joined)) = codes "Submitted" ∷ numeral (length joined) ∷ map numeral joined
 reply_fields (Refused refusal) = codes "Refused" ∷ numeral (refusal_number refusal) ∷ refusal_fields refusal
 reply_fields _ = []
 
@@ -145,6 +147,14 @@ reply_text reply = text_of (reply_fields reply)
 abbrev pub IsCommentNumber : ℕ → Type 0
 IsCommentNumber number = (1 ≤ number) × (number ≤ most_comments)
 
+-- the number of a change
+abbrev pub IsChangeNumber : ℕ → Type 0
+IsChangeNumber number = (1 ≤ number) × (number ≤ most_changes)
+
+-- the most changes that join at once
+abbrev pub most_joined : ℕ
+most_joined = 100
+
 -- an answer that is stored, with numbers of their forms, and counts below 2^64; a query's never is
 abbrev pub IsStoredAnswer : Answer → Type 0
 IsStoredAnswer (Account number) = (1 ≤ number) × (number ≤ 1000000)
@@ -153,6 +163,7 @@ IsStoredAnswer (Change change patch) = (1 ≤ change) × (change ≤ most_change
 IsStoredAnswer (Patch change patch copied outdated) =
     (1 ≤ change) × (change ≤ most_changes) × (1 ≤ patch) × (patch ≤ most_patches) × (copied < 18446744073709551616) × (outdated < 18446744073709551616)
 IsStoredAnswer (Reviewed comments) = (length comments ≤ most_comments) × AllByRecursion IsCommentNumber comments
+IsStoredAnswer (Submitted joined) = (length joined ≤ most_joined) × AllByRecursion IsChangeNumber joined
 IsStoredAnswer _ = ⊥
 
 -- a file's fault whose place, if it has one, is below 2^64
@@ -160,9 +171,10 @@ abbrev pub IsPlaced : FileFault → Type 0
 IsPlaced (Expr fault) = fault.place < 18446744073709551616
 IsPlaced _ = Unit {0}
 
--- a refusal with numbers of their forms
+-- a refusal with numbers and names of their forms
 abbrev pub IsRefusalOf : Refusal → Type 0
 IsRefusalOf (BadFile fault) = IsPlaced fault
+IsRefusalOf (RequirementUnsatisfied change requirement) = IsChangeNumber change × (is_label requirement ≡ true)
 IsRefusalOf _ = Unit {0}
 
 -- a reply that is stored

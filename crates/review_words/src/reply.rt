@@ -6,8 +6,8 @@ use crate::branches::Bases;
 use crate::changes::CommentNumbers;
 use crate::faults::FileFault;
 use crate::lists::Listed;
-use crate::shown::{ShownCall, ShownChange, ShownRequirement, Thread};
-use review_names::{AccountNo, ChangeNo, PatchNo};
+use crate::shown::{JoinedChange, ShownCall, ShownChange, ShownRequirement, Thread};
+use review_names::{AccountNo, ChangeNo, LabelName, PatchNo};
 use std::alloc::{AllocError, AllocFailed};
 
 /// What a command that was done gave, or what a query found.
@@ -31,9 +31,14 @@ pub enum Answer {
     },
     /// The numbers of the new comments.
     Reviewed(CommentNumbers),
-    /// The commits that were recorded as bases of the branch. It answers a query, as do all that
-    /// follow.
-    Branch(Bases),
+    /// The changes that joined their branch, ancestors first.
+    Submitted(Listed<ChangeNo>),
+    /// The commits that were recorded as bases of the branch, and the changes that joined it, by
+    /// their places. It answers a query, as do all that follow.
+    Branch {
+        bases: Bases,
+        joined: Listed<JoinedChange>,
+    },
     /// A change.
     Shown(ShownChange),
     /// The submit requirements of a change's project, by name.
@@ -45,7 +50,7 @@ pub enum Answer {
 }
 
 /// Why a command was refused. A refusal is stored as the answer of its request.
-#[derive(Clone, Copy, Debug, PartialEq, Eq)]
+#[derive(Debug, Drop)]
 pub enum Refusal {
     /// The caller is no account.
     UnknownCaller,
@@ -69,6 +74,8 @@ pub enum Refusal {
     Closed,
     /// It is as asked already.
     SameState,
+    /// The change is in work in progress.
+    WorkInProgress,
     /// Values are given on a patch set that isn't the change's current one.
     StalePatchSet,
     /// The project's file has no such label.
@@ -81,6 +88,20 @@ pub enum Refusal {
     CommitKnown,
     /// The parent isn't known in the branch.
     UnknownParent,
+    /// A change that would join stands on a patch set that isn't its change's current one.
+    ChainOutdated,
+    /// An ancestor is abandoned.
+    ChainAbandoned,
+    /// An ancestor is in work in progress.
+    ChainWip,
+    /// More than 100 changes would join at once.
+    ChainTooLong,
+    /// A submit requirement isn't satisfied for a change that would join: the first such change,
+    /// ancestors first, and its first such requirement by name.
+    RequirementUnsatisfied {
+        change: ChangeNo,
+        requirement: LabelName,
+    },
     /// The account isn't the owner, the current uploader, a reviewer or a CC.
     NotEligible,
     /// The name is in use, or may not be put.
@@ -117,10 +138,10 @@ impl RefusalRow {
 
 impl Refusal {
     /// The one table of refusals.
-    fn row(self) -> RefusalRow
-        ensures number { result.number ≡ refusal_number self }
-        ensures name { result.name.now ≡ refusal_name self }
-        ensures status { result.status ≡ refusal_status self }
+    fn row(&self) -> RefusalRow
+        ensures number { result.number ≡ refusal_number self.now }
+        ensures name { result.name.now ≡ refusal_name self.now }
+        ensures status { result.status ≡ refusal_status self.now }
     {
         match self {
             Refusal::UnknownCaller => RefusalRow::new(1, "UNKNOWN_CALLER", 403),
@@ -134,12 +155,20 @@ impl Refusal {
             Refusal::NotAllowed => RefusalRow::new(9, "NOT_ALLOWED", 403),
             Refusal::Closed => RefusalRow::new(10, "CLOSED", 409),
             Refusal::SameState => RefusalRow::new(11, "SAME_STATE", 409),
+            Refusal::WorkInProgress => RefusalRow::new(12, "WORK_IN_PROGRESS", 409),
             Refusal::StalePatchSet => RefusalRow::new(13, "STALE_PATCH_SET", 409),
             Refusal::NoLabel => RefusalRow::new(14, "NO_LABEL", 400),
             Refusal::ValueOut => RefusalRow::new(15, "VALUE_OUT", 400),
             Refusal::VoteRestricted => RefusalRow::new(16, "VOTE_RESTRICTED", 403),
             Refusal::CommitKnown => RefusalRow::new(17, "COMMIT_KNOWN", 409),
             Refusal::UnknownParent => RefusalRow::new(18, "UNKNOWN_PARENT", 409),
+            Refusal::ChainOutdated => RefusalRow::new(19, "CHAIN_OUTDATED", 409),
+            Refusal::ChainAbandoned => RefusalRow::new(20, "CHAIN_ABANDONED", 409),
+            Refusal::ChainWip => RefusalRow::new(21, "CHAIN_WIP", 409),
+            Refusal::ChainTooLong => RefusalRow::new(22, "CHAIN_TOO_LONG", 409),
+            Refusal::RequirementUnsatisfied { .. } => {
+                RefusalRow::new(23, "REQUIREMENT_UNSATISFIED", 409)
+            }
             Refusal::NotEligible => RefusalRow::new(24, "NOT_ELIGIBLE", 409),
             Refusal::NameTaken => RefusalRow::new(25, "NAME_TAKEN", 409),
             Refusal::BadFile(_) => RefusalRow::new(26, "BAD_FILE", 400),
@@ -149,22 +178,22 @@ impl Refusal {
     }
 
     /// The number by which it is stored and shown, from 1 to 28.
-    pub fn number(self) -> u8
-        ensures { result ≡ refusal_number self }
+    pub fn number(&self) -> u8
+        ensures { result ≡ refusal_number self.now }
     {
         self.row().number
     }
 
     /// The name by which it is shown, in capitals with underscores.
-    pub fn name(self) -> &'static str
-        ensures { result.now ≡ refusal_name self }
+    pub fn name(&self) -> &'static str
+        ensures { result.now ≡ refusal_name self.now }
     {
         self.row().name
     }
 
     /// The HTTP status with which it is answered: 400, 403, 404 or 409.
-    pub fn status(self) -> u16
-        ensures { result ≡ refusal_status self }
+    pub fn status(&self) -> u16
+        ensures { result ≡ refusal_status self.now }
     {
         self.row().status
     }
@@ -186,12 +215,17 @@ impl Refusal {
             9 => Some(Refusal::NotAllowed),
             10 => Some(Refusal::Closed),
             11 => Some(Refusal::SameState),
+            12 => Some(Refusal::WorkInProgress),
             13 => Some(Refusal::StalePatchSet),
             14 => Some(Refusal::NoLabel),
             15 => Some(Refusal::ValueOut),
             16 => Some(Refusal::VoteRestricted),
             17 => Some(Refusal::CommitKnown),
             18 => Some(Refusal::UnknownParent),
+            19 => Some(Refusal::ChainOutdated),
+            20 => Some(Refusal::ChainAbandoned),
+            21 => Some(Refusal::ChainWip),
+            22 => Some(Refusal::ChainTooLong),
             24 => Some(Refusal::NotEligible),
             25 => Some(Refusal::NameTaken),
             27 => Some(Refusal::LabelNarrowed),

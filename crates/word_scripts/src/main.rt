@@ -22,7 +22,8 @@
 //! - `line LINE`: who asks for what by a line of JSON, under which id, and the content text of a command; or `no delivery`. In
 //!   `line-with-byte HEX LINE` each star of the line is the byte of two digits;
 //! - `reply TEXT`: the stored reply of a text: its JSON, the status of a refusal, and its text again; or `no stored reply`. Replies that
-//!   have no text are `branch-with COMMIT,COMMIT,..`, `not-taken CAUSE`, `identity-reused`, and the answers to questions about a change:
+//!   have no text are `branch-with COMMIT,.. CHANGE@COMMIT,..`, a branch's bases and what joined it, `not-taken CAUSE`,
+//!   `identity-reused`, and the answers to questions about a change:
 //!   `change-with CHANGE PROJECT BRANCH OWNER|STATE WIP UPDATED|PATCH-SET COMMIT UPLOADER|REVIEWER,.. CC,.. LABEL=VALUE@ACCOUNT,..|SUBJECT`,
 //!   `requirements-with NAME=STATUS,..`, `attention-with ACCOUNT REQUEST REASON|..`, and `threads-with ROOT UNRESOLVED COMMENT;COMMENT;..|..`,
 //!   where a comment is `NUMBER PATCH-SET PLACE LINE AUTHOR UNRESOLVED ANSWERED MESSAGE`. An empty list is `-`.

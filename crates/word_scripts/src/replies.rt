@@ -2,9 +2,10 @@
 
 use crate::fault::{Fault, stored};
 use crate::questions;
+use crate::texts::cut;
 use review_json::answer_text;
 use review_texts::{read_reply, reply_text};
-use review_words::{Answer, Bases, CommitName, NotTaken, Reply};
+use review_words::{Answer, Bases, ChangeNo, CommitName, JoinedChange, Listed, NotTaken, Reply};
 use std::alloc::Global;
 
 /// The status of a refusal, and what a reply is stored as.
@@ -37,13 +38,39 @@ fn read(alloc: Global, text: &str) -> Result<String, Fault> {
 
 fn bases(alloc: Global, text: &str) -> Result<Bases, Fault> {
     let mut bases = Bases::new(alloc);
-    if text.is_empty() {
-        return Ok(bases);
-    }
-    for commit in text.split(",") {
-        bases.push(CommitName::read(alloc, commit)?)?;
+    if text != "-" {
+        for commit in text.split(",") {
+            bases.push(CommitName::read(alloc, commit)?)?;
+        }
     }
     Ok(bases)
+}
+
+fn joined_change(alloc: Global, text: &str) -> Result<JoinedChange, Fault> {
+    let (change, commit) = cut(text, "@")?;
+    Ok(JoinedChange {
+        change: ChangeNo::read(change)?,
+        commit: CommitName::read(alloc, commit)?,
+    })
+}
+
+fn joined(alloc: Global, text: &str) -> Result<Listed<JoinedChange>, Fault> {
+    let mut changes = Vec::new(alloc);
+    if text != "-" {
+        for part in text.split(",") {
+            changes.push(joined_change(alloc, part)?)?;
+        }
+    }
+    Ok(Listed::from_vec(changes))
+}
+
+/// The bases of a branch, and what joined it.
+fn branch(alloc: Global, text: &str) -> Result<Answer, Fault> {
+    let (recorded, changes) = cut(text, " ")?;
+    Ok(Answer::Branch {
+        bases: bases(alloc, recorded)?,
+        joined: joined(alloc, changes)?,
+    })
 }
 
 fn not_taken(cause: &str) -> Result<NotTaken, Fault> {
@@ -61,7 +88,7 @@ fn not_taken(cause: &str) -> Result<NotTaken, Fault> {
 pub fn reply(alloc: Global, word: &str, text: &str) -> Result<Option<String>, Fault> {
     let answer = match word {
         "reply" => read(alloc, text),
-        "branch-with" => told(alloc, &Reply::Done(Answer::Branch(bases(alloc, text)?))),
+        "branch-with" => told(alloc, &Reply::Done(branch(alloc, text)?)),
         "not-taken" => told(alloc, &Reply::NotTaken(not_taken(text)?)),
         "identity-reused" => told(alloc, &Reply::IdentityReused),
         _ => match questions::answer(alloc, word, text)? {

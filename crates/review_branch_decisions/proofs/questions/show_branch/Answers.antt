@@ -39,7 +39,7 @@ returns-clause-shown c = λ reading had h l.
     let there = sym (project_asked h a.caller a.project.now a.branch.now a.rows.now l) ∙ (sym c.has_project.ensures ∙ c.if-not-has_project.false) in
     let all = c.in_ok-bases.ensures ∙ (ap (λ k. commits_of (known a.rows.now (want.Bases k))) c.in_ok-key.ensures ∙ bases_asked h a.caller a.project.now a.branch.now a.rows.now l) in
     let empty = c.if-is_empty.false in
-    told_question reading h a.caller (Branch a.project.now a.branch.now) (made.Branch c.in_ok-bases.bases)
+    told_question reading h a.caller (Branch a.project.now a.branch.now) (made.Branch c.in_ok-bases.bases c.nothing_joined.result)
     (branch_refused reading h a.caller a.project.now a.branch.now true true true there_is there
     (some_there (bases h a.project.now a.branch.now) (λ e. let t = c.is_empty.ensures.1 (all ∙ e) in absurd (cc))))
-    (ap (λ bs. made.Branch bs) all)
+    (λ i. made.Branch (all i) (c.nothing_joined.ensures i))
