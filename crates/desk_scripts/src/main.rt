@@ -21,19 +21,15 @@
 //! - `@times COUNT LINE`: so many lines, the star being 1 in the first, 2 in the second. Only the last one's answer is printed;
 //! - `@unended LINE`: the line itself, without its end.
 //!
-//! Behind the scripts it prints what no script shows: readers, writers and shelves that fail at one of their calls, input that comes slowly,
-//! answers that are waited for.
+//! Behind the scripts it prints what no script shows: how many requests are stored, and shelves that fail at one of their calls.
 #![tactic(auto)]
 
 mod fault;
 mod forms;
-mod pace;
 mod runs;
 mod say;
 mod script;
 mod shelves;
-mod streams;
-mod writers;
 
 use fault::Fault;
 use script::Script;
@@ -86,11 +82,8 @@ fn transcribe(rt: &HostRuntime) -> Result<(), Fault> {
 
 /// Prints what no script shows.
 fn check(rt: &HostRuntime) -> Result<(), Fault> {
-    runs::readers(rt)?;
-    writers::writers(rt)?;
     runs::requests(rt)?;
-    shelves::shelves(rt)?;
-    pace::pace(rt)
+    shelves::shelves(rt)
 }
 
 fn print_all(rt: &HostRuntime) -> Result<(), Fault> {

@@ -1,8 +1,7 @@
-//! Runs over readers and shelves that fail at one of their calls, and how many requests are stored then.
+//! How many requests runs store, and runs over shelves that fail at one of their calls.
 
 use crate::fault::Fault;
 use crate::say::{say, say_call, say_count};
-use crate::streams::PoorReader;
 use review_machine::{Outcome, apply_lines};
 use review_rows::{Need, Shelf, Want};
 use review_shelves::{FaultyShelf, MemoryShelf};
@@ -10,16 +9,16 @@ use std::alloc::Global;
 use std::io::Read;
 
 /// Account 1 creates `ann` by its request `a1`, 65 bytes.
-pub const ANN: &str = r#"{"caller":1,"id":"a1","do":"CreateAccount","body":{"name":"ann"}}"#;
+const ANN: &str = r#"{"caller":1,"id":"a1","do":"CreateAccount","body":{"name":"ann"}}"#;
 
 /// That request three times.
-pub const THRICE: &str = r#"{"caller":1,"id":"a1","do":"CreateAccount","body":{"name":"ann"}}
+const THRICE: &str = r#"{"caller":1,"id":"a1","do":"CreateAccount","body":{"name":"ann"}}
 {"caller":1,"id":"a1","do":"CreateAccount","body":{"name":"ann"}}
 {"caller":1,"id":"a1","do":"CreateAccount","body":{"name":"ann"}}
 "#;
 
 /// How a run ended, in words.
-pub fn ending(end: Result<Outcome, review_machine::Fault>) -> &'static str {
+fn ending(end: Result<Outcome, review_machine::Fault>) -> &'static str {
     match end {
         Ok(Outcome::Complete) => "complete",
         Ok(Outcome::Incomplete) => "incomplete",
@@ -60,7 +59,7 @@ fn say_answers(rt: &HostRuntime, answers: &str) -> Result<(), Fault> {
 }
 
 /// Runs over what a reader gives, and prints the answers and how it ended.
-pub fn print_run<R: Read, S: Shelf>(
+fn print_run<R: Read, S: Shelf>(
     rt: &HostRuntime,
     reader: &mut R,
     shelf: &mut S,
@@ -79,31 +78,6 @@ fn print_stored<R: Read, S: Shelf>(
     print_run(rt, reader, shelf)?;
     let requests = stored(rt.alloc(), shelf)?;
     say_count(rt, requests, "stored")
-}
-
-/// Three equal requests from a reader that fails at one of its calls.
-fn print_read_until(rt: &HostRuntime, failing: u64) -> Result<(), Fault> {
-    let mut shelf = MemoryShelf::new(rt.alloc())?;
-    let mut reader = PoorReader {
-        left: THRICE.as_bytes(),
-        most: 20,
-        calls: 0,
-        failing,
-    };
-    print_stored(rt, &mut reader, &mut shelf)
-}
-
-/// A reader that fails at each of its calls in turn.
-pub fn readers(rt: &HostRuntime) -> Result<(), Fault> {
-    say(
-        rt,
-        "\n### Three equal requests, of 66 bytes with their ends. A reader gives 20 bytes a call, so that the end comes at call 11, and fails at one",
-    )?;
-    for failing in 1..=12u64 {
-        say_call(rt, failing)?;
-        print_read_until(rt, failing)?;
-    }
-    Ok(())
 }
 
 /// Refusals, what they asked for, and lines that store nothing.
