@@ -1,0 +1,5 @@
+pub mod Before
+pub mod Walking
+pub mod Parting
+pub mod LookingUp
+pub mod Learning

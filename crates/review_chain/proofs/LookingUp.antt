@@ -1,0 +1,2 @@
+-- Look-ups end.
+use Rattle.std.proofs.Common.{ℕ}

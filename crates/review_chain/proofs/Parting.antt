@@ -1,0 +1,2 @@
+-- Parts of a branch.
+use Rattle.std.proofs.Common.{ℕ}
