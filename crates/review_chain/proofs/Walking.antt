@@ -1,13 +1,19 @@
 -- Walks that grow at the front, and how they end.
-use Rattle.std.proofs.Common.{◌≡◌, ◌≢◌, ℕ, zero, suc, ◌+◌, ◌<◌, ◌≤◌, Bool, true, false, List, [], ◌∷◌, ◌++◌, length, Option, Some, ◌⊎◌, inl, inr, refl, sym, ap, ◌∙◌, subst, arith}
-use Rattle.std.specs.Prelude.{◌==◌}
+use Rattle.std.proofs.Common.{◌≡◌, ◌≢◌, ℕ, zero, suc, ◌+◌, ◌<◌, ◌≤◌, Bool, true, false, List, [], ◌∷◌, ◌++◌, length, Option, Some, None, not, ◌⊎◌, inl, inr, refl, sym, ap, ◌∙◌, subst, arith}
+use Rattle.std.specs.Prelude.{◌==◌, if◌then◌else◌, option_and_then}
 use Rattle.std.proofs.lemmas.Bool.{cases_Bool, false≢true, eqb-true}
 use Rattle.std.proofs.lemmas.Bool.Decides.{nat_tests}
+use Rattle.review_words.specs.declared.shown.State.{State}
+use Rattle.review_words.specs.declared.shown.State.TheVariants.{New, Merged as MergedState, Abandoned as AbandonedState}
+use Rattle.review_chain.specs.declared.links.Link.{Link}
+use Rattle.review_chain.specs.declared.links.Standing.{Standing}
+use Rattle.review_chain.specs.declared.links.Standing.TheVariants.{InBranch, PatchSet, Nowhere}
 use Rattle.review_chain.specs.declared.walks.ChainFault.{ChainFault}
+use Rattle.review_chain.specs.declared.walks.ChainFault.TheVariants.{Memory, Unknown, TooLong, Outdated, Abandoned, Wip, Broken}
 use Rattle.review_chain.specs.Branches.{Branch}
-use Rattle.review_chain.specs.Walks.{Follows, IsWalk, first_of, IsChain, IsBadLink, most_changes}
-use Rattle.review_chain.specs.Parts.{Want, IsWanted}
-use Rattle.review_chain.specs.Steps.{Before, TheBase, Change, Bad, Wants, before}
+use Rattle.review_chain.specs.Walks.{Follows, IsWalk, first_of, IsChain, IsBadLink, most_changes, link_fault, patch_set_fault, is_abandoned, is_merged}
+use Rattle.review_chain.specs.Parts.{Want, IsWanted, IsDecided}
+use Rattle.review_chain.specs.Steps.{Before, TheBase, Change, Bad, Wants, before, IsFault}
 use Rattle.review_chain.proofs.Before.{meaning, follows_stands, lacks_stands, bad_stands, base_stands}
 
 pub IsWalk-more : (b : Branch) (walk : List ℕ) (d c : ℕ) → IsWalk b walk c → Follows b d (first_of walk) → IsWalk b (d ∷ walk) c
@@ -170,3 +176,56 @@ ends_from b c (suc fuel) walk (Change d) enough h =
 
 pub ending : (b : Branch) (c : ℕ) → Ending b c
 ending b c = ends_from b c 99 (c ∷ []) (before b 1 c) (omega arith) (record { walks = refl; short = omega arith; meets = refl })
+
+-- what the code finds before a walk
+pub met : (b : Branch) (walk : List ℕ) (c n first : ℕ) (v : Before) → IsWalk b walk c → n ≤ 100 → length walk ≡ n → first_of walk ≡ first → v ≡ before b n first → Meets b walk c v
+met b walk c n first v walks short counted begins e =
+    record { walks = walks; short = omega arith; meets = rw (counted, begins) (sym e) }
+
+-- a fault that is wrong with a link isn't that something is unknown
+never_unknown : (b : Branch) (n : ℕ) (s : Standing) → link_fault b n s ≡ Some Unknown → ⊥
+never_unknown b n InBranch e = absurd (let f : None ≡ Some Unknown = e in cc)
+never_unknown b n Nowhere e = absurd (let f : Some Broken ≡ Some Unknown = e in cc)
+never_unknown b n (PatchSet d k) e = by_tests (n == most_changes) (b.link d) e
+  where
+    by_parts : (same wip : Bool) (s : State) → (if not same then Some Outdated else if is_abandoned s then Some Abandoned else if wip then Some Wip else if is_merged s then Some Broken else None) ≡ Some Unknown → ⊥
+    by_parts false wip s e = let f : Some Outdated ≡ Some Unknown = e in cc
+    by_parts true wip AbandonedState e = let f : Some Abandoned ≡ Some Unknown = e in cc
+    by_parts true true New e = let f : Some Wip ≡ Some Unknown = e in cc
+    by_parts true true MergedState e = let f : Some Wip ≡ Some Unknown = e in cc
+    by_parts true false New e = let f : None ≡ Some Unknown = e in cc
+    by_parts true false MergedState e = let f : Some Broken ≡ Some Unknown = e in cc
+
+    by_tests : (full : Bool) (o : Option Link) → (if full then Some TooLong else option_and_then (patch_set_fault k) o) ≡ Some Unknown → ⊥
+    by_tests true o e = let f : Some TooLong ≡ Some Unknown = e in cc
+    by_tests false None e = let f : None ≡ Some Unknown = e in cc
+    by_tests false (Some l) e = by_parts (k == l.patch) l.wip l.state e
+
+pub bad_fault : (b : Branch) (walk : List ℕ) (c : ℕ) (fault : ChainFault) → IsBadLink b walk c fault → IsFault b c fault
+bad_fault b walk c Memory h = tt
+bad_fault b walk c Unknown h = absurd (never_unknown b (length walk) h.parent h.wrong)
+bad_fault b walk c TooLong h = (walk, h)
+bad_fault b walk c Outdated h = (walk, h)
+bad_fault b walk c Abandoned h = (walk, h)
+bad_fault b walk c Wip h = (walk, h)
+bad_fault b walk c Broken h = (walk, h)
+
+-- ---- what an end decides
+
+-- nothing is missing there
+abbrev pub IsTold : Before → Type 0
+IsTold TheBase = Unit {0}
+IsTold (Change d) = ⊥
+IsTold (Bad fault) = Unit {0}
+IsTold (Wants want) = ⊥
+
+told_end : (v : Before) → IsTold v → IsEnd v
+told_end TheBase t = tt
+told_end (Change d) t = t
+told_end (Bad fault) t = tt
+told_end (Wants want) t = absurd t
+
+-- where a walk to a change ends and nothing is missing, nothing is wanted
+pub decided : (b : Branch) (walk : List ℕ) (c : ℕ) (v : Before) → Meets b walk c v → IsTold v → IsDecided b c
+decided b walk c v h told = λ other want w.
+    subst IsTold (one_end b walk other c v (Wants want) h (told_end v told) (wanted_meets b other c want w) tt) told

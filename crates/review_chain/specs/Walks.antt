@@ -23,6 +23,13 @@ pub record Follows (b : Branch) (before c : ℕ) : Type 0 where
   pub is_open : link.state ≡ New
   pub is_ready : link.wip ≡ false
 
+-- A change is open and not in work in progress.
+pub record IsReady (b : Branch) (c : ℕ) : Type 0 where
+  pub link : Link
+  pub there : b.link c ≡ Some link
+  pub is_open : link.state ≡ New
+  pub is_ready : link.wip ≡ false
+
 -- A walk to a change: changes that end in it, each standing before the next.
 abbrev pub IsWalk : Branch → List ℕ → ℕ → Type 0
 IsWalk b [] c = ⊥

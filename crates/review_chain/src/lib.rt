@@ -12,8 +12,13 @@
 pub mod walks;
 pub mod places;
 
+pub mod laws;
 pub mod links;
 
 pub use walks::{ChainFault, LookUp, chain, wanted};
 pub use places::joins;
+pub use laws::{
+    each_front_is_a_chain, each_has_one, look_ups_end, only_one_chain, parts_decide, parts_keep,
+    places_go_on,
+};
 pub use links::{Link, Links, Standing};

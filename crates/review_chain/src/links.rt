@@ -56,7 +56,8 @@ impl Links {
         ensures err { OnErr result ((c : ℕ) → (known self.new).link c ≡ (known self.old).link c) }
         ensures commits { (x : List ℕ) → (known self.new).standing x ≡ (known self.old).standing x }
     {
-        self.changes.put(change, link)
+        self.changes.put(change, link)?;
+        Ok(())
     }
 
     /// Learns what a commit is to the branch, in place of what was known of it. An error is want of memory, and leaves what was known.
@@ -66,6 +67,7 @@ impl Links {
         ensures err { OnErr result ((x : List ℕ) → (known self.new).standing x ≡ (known self.old).standing x) }
         ensures changes { (c : ℕ) → (known self.new).link c ≡ (known self.old).link c }
     {
-        self.commits.put(commit, standing)
+        self.commits.put(commit, standing)?;
+        Ok(())
     }
 }

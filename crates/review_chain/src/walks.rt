@@ -138,9 +138,9 @@ pub fn chain(alloc: Global, links: &Links, change: ChangeNo) -> Result<Vec<Chang
             Step::AtBase => return Ok(walk),
             Step::AtFault(fault) => return Err(fault),
             Step::AtUnknown(_) => return Err(ChainFault::Unknown),
-            Step::At(change) => {
-                walk.insert(0, change)?;
-                first = change;
+            Step::At(earlier) => {
+                walk.insert(0, earlier)?;
+                first = earlier;
             }
         }
     }
@@ -157,7 +157,7 @@ pub fn wanted<'a>(links: &'a Links, change: ChangeNo) -> Option<LookUp<'a>>
         match before(links, count, first) {
             Step::AtBase | Step::AtFault(_) => return None,
             Step::AtUnknown(wanted) => return Some(wanted),
-            Step::At(change) => first = change,
+            Step::At(earlier) => first = earlier,
         }
     }
     None
