@@ -219,7 +219,7 @@ IsTold (Change d) = ⊥
 IsTold (Bad fault) = Unit {0}
 IsTold (Wants want) = ⊥
 
-told_end : (v : Before) → IsTold v → IsEnd v
+pub told_end : (v : Before) → IsTold v → IsEnd v
 told_end TheBase t = tt
 told_end (Change d) t = t
 told_end (Bad fault) t = tt

@@ -1,5 +1,5 @@
 -- One step back from a change.
-use Rattle.std.specs.Prelude.{ℕ, zero, suc, ◌+◌, ◌*◌, ◌==◌, List, Option, Some, None, if◌then◌else◌}
+use Rattle.std.specs.Prelude.{ℕ, zero, suc, ◌+◌, ◌-◌, ◌*◌, ◌==◌, List, Option, Some, None, if◌then◌else◌}
 use Rattle.std.specs.Option.{option_map_or}
 use Rattle.review_chain.specs.declared.links.Link.{Link}
 use Rattle.review_chain.specs.declared.links.Standing.{Standing}
@@ -73,7 +73,7 @@ left_by twice (Wants (TheCommit x)) further = twice + 1
 -- how many look-ups may be made from a change on whose link is known, before which so many may stand
 unfoldable pub left_from : Branch → ℕ → ℕ → ℕ
 left_from b zero c = left_by 0 (before b most_changes c) (λ d. 0)
-left_from b (suc more) c = left_by (2 * more + 2) (before b 0 c) (λ d. left_from b more d)
+left_from b (suc more) c = left_by (2 * more + 2) (before b (most_changes - suc more) c) (λ d. left_from b more d)
 
 -- How many look-ups may still be made for the chain of a change: 200 where nothing is known of it.
 abbrev pub left : Branch → ℕ → ℕ

@@ -155,7 +155,8 @@ pub fn wanted<'a>(links: &'a Links, change: ChangeNo) -> Option<LookUp<'a>>
     let mut first = change;
     'back: for count in 1..101 {
         match before(links, count, first) {
-            Step::AtBase | Step::AtFault(_) => return None,
+            Step::AtBase => return None,
+            Step::AtFault(_) => return None,
             Step::AtUnknown(wanted) => return Some(wanted),
             Step::At(earlier) => first = earlier,
         }
