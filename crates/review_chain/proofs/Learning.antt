@@ -1,5 +1,5 @@
 -- Tables that learn a row.
-use Rattle.std.proofs.Common.{◌≡◌, ◌≢◌, ℕ, List, Option, Some, Bool, true, false, cond, sym, ap, ◌∙◌, inl, inr, ⊎_elim}
+use Rattle.std.proofs.Common.{◌≡◌, ◌≢◌, List, Option, Some, true, false, cond, sym, ap, ◌∙◌, ⊎_elim, subst}
 use Rattle.std.specs.declared.cmp.Ordering.{Ordering}
 use Rattle.std.specs.Ordering.{is_eq}
 use Rattle.std.specs.BTreeMap.{is_at}
@@ -23,4 +23,15 @@ learnt_there {R = R} exact old new key row with q other =
     ⊎_elim
     (λ (t : is_at (R key) q ≡ true). absurd (other (sym (tells_apart exact key q t))))
     (λ (f : is_at (R key) q ≡ false). with q ∙ ap (λ b. cond b (Some row) (row_in R (rows_of old) q)) f)
+    (cases_Bool (is_at (R key) q))
+
+-- what it knows is so, where this is so of the other rows and of the new one
+pub learnt_so : {K X : Type 0} {R : K → K → Ordering} (exact : CmpEqualImpliesEq R) (old new : List (K × Option X)) (key : K) (row : X) (whole : K → Option X) → WithRow R old key row new →
+    ((q : K) (r : X) → row_in R (rows_of old) q ≡ Some r → whole q ≡ Some r) → whole key ≡ Some row → (q : K) (r : X) → row_in R (rows_of new) q ≡ Some r → whole q ≡ Some r
+learnt_so {R = R} exact old new key row whole with before here q r e =
+    ⊎_elim
+    (λ (t : is_at (R key) q ≡ true).
+    let there : Some row ≡ Some r = sym (with q ∙ ap (λ b. cond b (Some row) (row_in R (rows_of old) q)) t) ∙ e in
+    subst (λ x. whole x ≡ Some r) (tells_apart exact key q t) (here ∙ there))
+    (λ (f : is_at (R key) q ≡ false). before q r (sym (with q ∙ ap (λ b. cond b (Some row) (row_in R (rows_of old) q)) f) ∙ e))
     (cases_Bool (is_at (R key) q))

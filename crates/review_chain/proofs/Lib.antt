@@ -3,3 +3,5 @@ pub mod Walking
 pub mod Parting
 pub mod LookingUp
 pub mod Learning
+pub mod Fronts
+pub mod Placing

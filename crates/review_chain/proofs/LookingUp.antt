@@ -1,6 +1,6 @@
 -- Look-ups of what is wanted end.
 use Rattle.std.proofs.Common.{◌≡◌, ℕ, zero, suc, ◌+◌, ◌-◌, ◌*◌, ◌<◌, ◌≤◌, Bool, true, false, List, [], ◌∷◌, length, Option, Some, None, IsSome, ◌⊎◌, inl, inr, refl, sym, ap, ◌∙◌, subst, arith}
-use Rattle.std.specs.Prelude.{◌==◌, if◌then◌else◌, option_and_then, option_map}
+use Rattle.std.specs.Prelude.{◌==◌, if◌then◌else◌, option_map}
 use Rattle.std.specs.Option.{option_map_or}
 use Rattle.std.proofs.lemmas.Bool.Decides.{nat_tests}
 use Rattle.review_chain.specs.declared.links.Link.{Link}
@@ -9,7 +9,7 @@ use Rattle.review_chain.specs.declared.links.Standing.TheVariants.{InBranch, Pat
 use Rattle.review_chain.specs.declared.walks.ChainFault.{ChainFault}
 use Rattle.review_chain.specs.declared.walks.ChainFault.TheVariants.{TooLong}
 use Rattle.review_chain.specs.Branches.{Branch, parent_standing}
-use Rattle.review_chain.specs.Walks.{Follows, IsWalk, first_of, most_changes, patch_set_fault}
+use Rattle.review_chain.specs.Walks.{IsWalk, first_of, most_changes, patch_set_fault}
 use Rattle.review_chain.specs.Parts.{Want, TheChange, TheCommit, IsWanted, IsPart, Knows, Lacks, NeedsChange}
 use Rattle.review_chain.specs.Steps.{Before, TheBase, Change, Bad, Wants, before, before_link, before_known, before_change, before_fault, before_parent, left, left_by, left_from}
 use Rattle.review_chain.proofs.Before.{meaning, before_by_parent, lacks_stands}
@@ -173,9 +173,9 @@ lower b after c zero is learns walk count there walks =
 lower b after c (suc more) is learns walk count there walks =
     lower_one b after c more is learns walk (before b (length walk) (first_of walk)) (omega arith) (omega arith) there (record { walks = walks; short = omega arith; meets = refl })
     (λ d h.
-        let on = goes_on b walk c d h in
-        let f = (meaning b (length walk) (first_of walk) (Change d) h.meets).1 in
-        lower b after c more is learns (d ∷ walk) (omega arith) (rw f.there refl) on.walks)
+    let on = goes_on b walk c d h in
+    let f = (meaning b (length walk) (first_of walk) (Change d) h.meets).1 in
+    lower b after c more is learns (d ∷ walk) (omega arith) (rw f.there refl) on.walks)
 
 pub fewer_left : (b after : Branch) (walk : List ℕ) (c : ℕ) (want : Want) → IsPart b after → IsWanted b walk c want → Knows after want → left after c < left b c
 fewer_left b after walk c want is wanted knows = by_link (b.link c) refl

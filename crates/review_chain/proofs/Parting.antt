@@ -1,5 +1,5 @@
 -- Parts of a branch have its chain or its bad link, and whole branches one of the two.
-use Rattle.std.proofs.Common.{◌≡◌, ◌≢◌, ℕ, ◌≤◌, Bool, true, false, not, List, [], ◌∷◌, length, Option, Some, None, IsSome, ◌⊎◌, inl, inr, refl, sym, ap, ◌∙◌, subst}
+use Rattle.std.proofs.Common.{◌≡◌, ◌≢◌, ℕ, Bool, true, false, not, List, [], ◌∷◌, length, Option, Some, None, IsSome, ◌⊎◌, inl, inr, refl, sym, ap, ◌∙◌, subst}
 use Rattle.std.specs.Prelude.{◌==◌, if◌then◌else◌, option_and_then, option_map}
 use Rattle.std.proofs.lemmas.Bool.{false≢true, eqb-true}
 use Rattle.review_words.specs.declared.shown.State.{State}
@@ -11,9 +11,9 @@ use Rattle.review_chain.specs.declared.walks.ChainFault.{ChainFault}
 use Rattle.review_chain.specs.declared.walks.ChainFault.TheVariants.{TooLong, Outdated, Abandoned, Wip, Broken}
 use Rattle.review_chain.specs.Branches.{Branch, IsWhole, parent_standing}
 use Rattle.review_chain.specs.Walks.{Follows, IsWalk, first_of, IsChain, IsBadLink, is_abandoned, is_merged, link_fault, most_changes, patch_set_fault}
-use Rattle.review_chain.specs.Parts.{Want, TheChange, TheCommit, IsWanted, IsDecided, IsPart, NeedsChange, Lacks}
+use Rattle.review_chain.specs.Parts.{Want, TheChange, TheCommit, IsDecided, IsPart, NeedsChange, Lacks}
 use Rattle.review_chain.specs.Steps.{Before, TheBase, Change, Bad, Wants, before, before_link, before_parent, before_known, before_change}
-use Rattle.review_chain.proofs.Walking.{Meets, IsEnd, IsTold, Ending, ending, one_walk, one_end, chain_meets, bad_meets, meets_chain, meets_bad, meets_wanted, told_end}
+use Rattle.review_chain.proofs.Walking.{Meets, IsEnd, IsTold, ending, one_walk, one_end, chain_meets, bad_meets, meets_chain, meets_bad, meets_wanted, told_end}
 
 -- ---- what a part has, the whole has
 
@@ -135,21 +135,20 @@ IsGood b (Some InBranch) = Unit {0}
 IsGood b (Some Nowhere) = ⊥
 IsGood b (Some (PatchSet d k)) = IsSome (b.link d)
 
+good_commit : (b : Branch) (o : Option Standing) (d k : ℕ) → o ≡ Some (PatchSet d k) → IsSome (b.link d) → IsGood b o
+good_commit b o d k e there = subst (IsGood b) (sym e) there
+
 good_parent : (b : Branch) → IsWhole b → (c : ℕ) (l : Link) (o : Option Standing) → b.link c ≡ Some l → b.standing l.parent ≡ o → IsGood b o
-good_parent b whole c l (Some InBranch) e p = tt
-good_parent b whole c l None e p =
-    let good = whole.based c l e (λ q. let f : None ≡ Some InBranch = sym p ∙ q in cc) in
-    let f : None ≡ Some (PatchSet good.0 good.1) = sym p ∙ good.2 in
-    absurd (cc)
-good_parent b whole c l (Some Nowhere) e p =
-    let good = whole.based c l e (λ q. let f : Some Nowhere ≡ Some InBranch = sym p ∙ q in cc) in
-    let f : Some Nowhere ≡ Some (PatchSet good.0 good.1) = sym p ∙ good.2 in
-    absurd (cc)
-good_parent b whole c l (Some (PatchSet d k)) e p =
-    let good = whole.based c l e (λ q. let f : Some (PatchSet d k) ≡ Some InBranch = sym p ∙ q in cc) in
-    let f : Some (PatchSet d k) ≡ Some (PatchSet good.0 good.1) = sym p ∙ good.2 in
-    let same : good.0 ≡ d = cc in
-    subst (λ (x : ℕ). IsSome (b.link x)) same good.3
+good_parent b whole c l o e p = by_base o p
+  where
+    by_based : (o : Option Standing) → b.standing l.parent ≡ o → b.standing l.parent ≢ Some InBranch → IsGood b o
+    by_based o p outside = let good = whole.based c l e outside in good_commit b o good.0 good.1 (sym p ∙ good.2) good.3
+
+    by_base : (o : Option Standing) → b.standing l.parent ≡ o → IsGood b o
+    by_base (Some InBranch) p = tt
+    by_base None p = by_based None p (λ q. let f : None ≡ Some InBranch = sym p ∙ q in cc)
+    by_base (Some Nowhere) p = by_based (Some Nowhere) p (λ q. let f : Some Nowhere ≡ Some InBranch = sym p ∙ q in cc)
+    by_base (Some (PatchSet d k)) p = by_based (Some (PatchSet d k)) p (λ q. let f : Some (PatchSet d k) ≡ Some InBranch = sym p ∙ q in cc)
 
 good_standing : (b : Branch) → IsWhole b → (c : ℕ) (s : Standing) (o : Option Link) → b.link c ≡ o → option_and_then (λ l. b.standing l.parent) o ≡ Some s → IsGood b (Some s)
 good_standing b whole c s None e p = absurd (let f : None ≡ Some s = p in cc)

@@ -9,16 +9,15 @@
 //! one chain or one bad link, and that a part in which nothing is wanted decides for the whole branch.
 #![tactic(auto)]
 
-pub mod walks;
-pub mod places;
-
 pub mod laws;
 pub mod links;
+pub mod places;
+pub mod walks;
 
-pub use walks::{ChainFault, LookUp, chain, wanted};
-pub use places::joins;
 pub use laws::{
     each_front_is_a_chain, each_has_one, look_ups_end, only_one_chain, parts_decide, parts_keep,
     places_go_on,
 };
 pub use links::{Link, Links, Standing};
+pub use places::joins;
+pub use walks::{ChainFault, LookUp, chain, wanted};

@@ -1,7 +1,8 @@
 //! What is known of the changes for a branch.
 ghost use Rattle.std.specs.Prelude.{◌≡◌, ◌≢◌, ℕ, List, Some, None, OnOk, OnErr};
 ghost use Rattle.review_table.specs.Rows.{rows_of};
-ghost use Rattle.review_chain.specs.Branches.{known};
+ghost use Rattle.review_chain.specs.Branches.{Branch, known};
+ghost use Rattle.review_chain.specs.Parts.{IsPart};
 
 use review_table::Table;
 use review_words::{ChangeNo, CommitName, PatchNo, State};
@@ -54,6 +55,7 @@ impl Links {
         ensures learnt { OnOk result ((known self.new).link change ≡ Some link) }
         ensures others { OnOk result ((c : ℕ) → c ≢ change → (known self.new).link c ≡ (known self.old).link c) }
         ensures err { OnErr result ((c : ℕ) → (known self.new).link c ≡ (known self.old).link c) }
+        ensures part { (whole : Branch) → IsPart (known self.old) whole → whole.link change ≡ Some link → IsPart (known self.new) whole }
         ensures commits { (x : List ℕ) → (known self.new).standing x ≡ (known self.old).standing x }
     {
         self.changes.put(change, link)?;
@@ -65,6 +67,7 @@ impl Links {
         ensures learnt { OnOk result ((known self.new).standing commit ≡ Some standing) }
         ensures others { OnOk result ((x : List ℕ) → x ≢ commit → (known self.new).standing x ≡ (known self.old).standing x) }
         ensures err { OnErr result ((x : List ℕ) → (known self.new).standing x ≡ (known self.old).standing x) }
+        ensures part { (whole : Branch) → IsPart (known self.old) whole → whole.standing commit ≡ Some standing → IsPart (known self.new) whole }
         ensures changes { (c : ℕ) → (known self.new).link c ≡ (known self.old).link c }
     {
         self.commits.put(commit, standing)?;

@@ -1,8 +1,7 @@
-use Rattle.std.proofs.Common.{◌≡◌, ◌≤◌, ◌<◌, [], ◌∷◌, length, List, refl, sym, ◌∙◌, arith}
+use Rattle.std.proofs.Common.{◌≡◌, ◌≤◌, ◌<◌, [], ◌∷◌, length, refl, sym, ◌∙◌, arith}
 use Rattle.std.proofs.lemmas.Grind.{common_steps}
 use Rattle.review_chain.specs.Branches.{known}
-use Rattle.review_chain.specs.Walks.{IsWalk, first_of}
-use Rattle.review_chain.specs.Steps.{Before, before, TheBase, Change, Bad, Wants, want_of}
+use Rattle.review_chain.specs.Steps.{TheBase, Change, Bad, Wants, want_of}
 use Rattle.review_chain.proofs.Walking.{met, meets_chain, meets_bad, meets_wanted, bad_fault, goes_on}
 use Rattle.review_chain.proofs.walks.chain.Goals as goal
 

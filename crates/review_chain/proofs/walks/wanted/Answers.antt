@@ -1,7 +1,6 @@
-use Rattle.std.proofs.Common.{◌≡◌, ◌≤◌, ◌<◌, [], ◌∷◌, length, List, refl, sym, ◌∙◌, arith}
+use Rattle.std.proofs.Common.{◌<◌, [], ◌∷◌, length, refl, arith}
 use Rattle.review_chain.specs.Branches.{known}
-use Rattle.review_chain.specs.Walks.{IsWalk, first_of}
-use Rattle.review_chain.specs.Steps.{Before, before, TheBase, Change, Bad, Wants, want_of}
+use Rattle.review_chain.specs.Steps.{TheBase, Change, Bad, Wants, want_of}
 use Rattle.review_chain.proofs.Walking.{met, decided, meets_wanted, goes_on}
 use Rattle.review_chain.proofs.walks.wanted.Goals as goal
 
