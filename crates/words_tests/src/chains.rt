@@ -120,15 +120,15 @@ fn a_change_may_stand_on_its_older_patch_set(rt: HostRuntime) -> Result<(), Fail
 
 /// The change that is wanted for the chain of a change.
 fn wanted_change(links: &Links, of: ChangeNo) -> Option<ChangeNo> {
-    match wanted(links, of) {
-        Some(LookUp::Change(change)) => Some(change),
+    match &wanted(links, of) {
+        Some(LookUp::Change(change)) => Some(*change),
         _ => None,
     }
 }
 
 /// Whether a commit is wanted for the chain of a change.
 fn wants_commit(links: &Links, of: ChangeNo, commit: &CommitName) -> bool {
-    match wanted(links, of) {
+    match &wanted(links, of) {
         Some(LookUp::Commit(wanted)) => wanted.as_str() == commit.as_str(),
         _ => false,
     }
