@@ -1,5 +1,7 @@
-//! Tests of what no script of words shows: what tables hold.
+//! Tests of what no script of words shows: what tables hold, and chains of changes.
 #![tactic(auto)]
 
+#[cfg(test)]
+mod chains;
 #[cfg(test)]
 mod tables;

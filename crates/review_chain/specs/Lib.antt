@@ -1,0 +1,5 @@
+pub mod Branches
+pub mod Walks
+pub mod Parts
+pub mod Places
+pub mod Steps

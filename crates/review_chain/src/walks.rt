@@ -1,0 +1,165 @@
+//! The chain of a change, and what has to be looked up to find it.
+ghost use Rattle.std.specs.Prelude.{◌≡◌, ◌≤◌, ◌==◌, ℕ, List, Option, None, IfOk, IfErr, IfSome, IfNone};
+ghost use Rattle.review_chain.specs.Branches.{known};
+ghost use Rattle.review_chain.specs.Walks.{IsChain, patch_set_fault};
+ghost use Rattle.review_chain.specs.Parts.{IsDecided, IsWanted};
+ghost use Rattle.review_chain.specs.Steps.{IsFault, before, before_change, before_of, before_parent, want_of};
+
+use crate::links::{Link, Links, Standing};
+use review_words::{ChangeNo, CommitName, PatchNo, State};
+use std::alloc::{AllocError, AllocFailed, Global};
+
+/// Why a change has no chain.
+#[derive(Clone, Copy, Debug, PartialEq, Eq)]
+pub enum ChainFault {
+    /// A link is the commit of an older patch set.
+    Outdated,
+    /// A link is the current commit of an abandoned change.
+    Abandoned,
+    /// A link is the current commit of a change in work in progress.
+    Wip,
+    /// Before 100 changes there is a further link.
+    TooLong,
+    /// No branch has these links: a parent is nowhere, or a merged change's current commit isn't in the branch.
+    Broken,
+    /// Something isn't known that [`wanted`] names.
+    Unknown,
+    /// There was no memory for the chain.
+    Memory,
+}
+
+impl From<AllocError> for ChainFault {
+    ghost use Rattle.std.specs.Prelude.{◌≡◌};
+    ghost use Rattle.review_chain.specs.declared.walks.ChainFault.TheVariants.{Memory};
+
+    ghost from_gives = { λ _ e. e ≡ Memory };
+
+    fn from(_error: AllocError) -> ChainFault {
+        ChainFault::Memory
+    }
+}
+
+impl<T: Drop> From<AllocFailed<T>> for ChainFault {
+    ghost use Rattle.std.specs.Prelude.{◌≡◌};
+    ghost use Rattle.review_chain.specs.declared.walks.ChainFault.TheVariants.{Memory};
+
+    ghost from_gives = { λ _ e. e ≡ Memory };
+
+    fn from(_error: AllocFailed<T>) -> ChainFault {
+        ChainFault::Memory
+    }
+}
+
+/// What has to be looked up.
+#[derive(Clone, Copy)]
+pub enum LookUp<'a> {
+    /// The link of a change.
+    Change(ChangeNo),
+    /// What a commit is to the branch.
+    Commit(&'a CommitName),
+}
+
+/// What stands before the first change of a walk.
+#[derive(Clone, Copy)]
+enum Step<'a> {
+    AtBase,
+    At(ChangeNo),
+    AtFault(ChainFault),
+    AtUnknown(LookUp<'a>),
+}
+
+// What is wrong with a patch set of a change as a link.
+fn patch_set_fault(patch: PatchNo, link: &Link) -> Option<ChainFault>
+    ensures { result ≡ patch_set_fault patch link.now }
+{
+    if patch != link.patch {
+        return Some(ChainFault::Outdated);
+    }
+    match link.state {
+        State::Abandoned => Some(ChainFault::Abandoned),
+        _ if link.wip => Some(ChainFault::Wip),
+        State::Merged => Some(ChainFault::Broken),
+        State::New => None,
+    }
+}
+
+// What stands before, where it is a patch set of a change.
+fn before_change<'a>(links: &'a Links, change: ChangeNo, patch: PatchNo) -> Step<'a>
+    ensures { before_of result ≡ before_change change patch ((known links.now).link change) }
+{
+    match links.changes.get(&change) {
+        None => Step::AtUnknown(LookUp::Change(change)),
+        Some(link) => match patch_set_fault(patch, link) {
+            None => Step::At(change),
+            Some(fault) => Step::AtFault(fault),
+        },
+    }
+}
+
+// What stands before a walk of so many changes whose first has this parent.
+fn before_parent<'a>(links: &'a Links, count: usize, parent: &'a CommitName) -> Step<'a>
+    ensures { before_of result ≡ before_parent (known links.now) count parent.now ((known links.now).standing parent.now) }
+{
+    match links.commits.get(parent) {
+        None => Step::AtUnknown(LookUp::Commit(parent)),
+        Some(Standing::InBranch) => Step::AtBase,
+        Some(Standing::Nowhere) => Step::AtFault(ChainFault::Broken),
+        Some(Standing::PatchSet { change, patch }) => {
+            if count == 100 {
+                Step::AtFault(ChainFault::TooLong)
+            } else {
+                before_change(links, *change, *patch)
+            }
+        }
+    }
+}
+
+// What stands before a walk of so many changes that begins at a change.
+fn before<'a>(links: &'a Links, count: usize, first: ChangeNo) -> Step<'a>
+    ensures { before_of result ≡ before (known links.now) count first }
+{
+    match links.changes.get(&first) {
+        None => Step::AtUnknown(LookUp::Change(first)),
+        Some(link) => before_parent(links, count, &link.parent),
+    }
+}
+
+/// The chain of a change, ancestors first and the change last, or its fault: the name of its bad link, that something isn't known, or want of
+/// memory. A change has at most one chain or bad link (`only_one_chain`), and where all is known one of the two (`each_has_one`).
+pub fn chain(alloc: Global, links: &Links, change: ChangeNo) -> Result<Vec<ChangeNo>, ChainFault>
+    ensures chain { IfOk result (λ walk. IsChain (known links.now) walk.items change) }
+    ensures fault { IfErr result (IsFault (known links.now) change) }
+{
+    let mut walk = Vec::new(alloc);
+    walk.push(change)?;
+    let mut first = change;
+    'back: loop {
+        match before(links, walk.len(), first) {
+            Step::AtBase => return Ok(walk),
+            Step::AtFault(fault) => return Err(fault),
+            Step::AtUnknown(_) => return Err(ChainFault::Unknown),
+            Step::At(earlier) => {
+                walk.insert(0, earlier)?;
+                first = earlier;
+            }
+        }
+    }
+}
+
+/// What has to be looked up next to find the chain of a change, or none where the links decide its chain or its bad link. After at most 200
+/// look-ups nothing is wanted (`look_ups_end`). It takes no memory.
+pub fn wanted<'a>(links: &'a Links, change: ChangeNo) -> Option<LookUp<'a>>
+    ensures some { IfSome result (λ w. (walk : List ℕ) × IsWanted (known links.now) walk change (want_of w)) }
+    ensures none { IfNone result (IsDecided (known links.now) change) }
+{
+    let mut first = change;
+    'back: for count in 1..101 {
+        match before(links, count, first) {
+            Step::AtBase => return None,
+            Step::AtFault(_) => return None,
+            Step::AtUnknown(wanted) => return Some(wanted),
+            Step::At(earlier) => first = earlier,
+        }
+    }
+    None
+}
