@@ -110,8 +110,8 @@ impl<K: Key, V: Drop> Table<K, V> {
         ensures err { OnErr result (self.new ≡ self.old) }
     {
         if !self.places.contains_key(key) {
-            let key = key.copy(alloc)?;
-            self.places.insert(key, None)?;
+            let copied = key.copy(alloc)?;
+            self.places.insert(copied, None)?;
         }
         Ok(())
     }
