@@ -1,10 +1,11 @@
 //! Deltas that change nothing.
-ghost use Rattle.std.specs.Prelude.{◌≡◌, [], None};
+ghost use Rattle.std.specs.Prelude.{◌≡◌, ◌<◌, [], None};
+ghost use Rattle.review_words.specs.Texts.{IsPlaced, IsStored};
 ghost use Rattle.review_words.specs.declared.reply.Reply.TheVariants.{Refused};
 ghost use Rattle.review_account_decisions.specs.Decisions.{IsEmpty};
 
 use review_rows::Delta;
-use review_words::{Refusal, Reply};
+use review_words::{FileFault, Refusal, Reply};
 use std::alloc::Global;
 
 /// The delta that changes nothing.
@@ -24,6 +25,37 @@ pub fn nothing(alloc: Global) -> Delta
 pub fn refused(alloc: Global, refusal: Refusal) -> (Delta, Reply)
     ensures empty { IsEmpty result.0 }
     ensures reply { result.1 ≡ Refused refusal }
+    ensures stored { IsStored result.1 }
 {
+    is_stored(&refusal);
     (nothing(alloc), Reply::Refused(refusal))
 }
+
+// The numbers and names in a refusal are of their forms.
+fn is_stored(refusal: &Refusal)
+    ensures { IsStored (Refused refusal.now) }
+{
+    match refusal {
+        Refusal::BadFile(fault) => is_placed(fault),
+        Refusal::RequirementUnsatisfied {
+            change,
+            requirement,
+        } => {
+            let _ = change.get();
+            let _ = requirement.as_str();
+        }
+        _ => {}
+    }
+}
+
+fn is_placed(fault: &FileFault)
+    ensures { IsPlaced fault.now }
+{
+    if let FileFault::Expr(expr) = fault {
+        is_number(expr.place);
+    }
+}
+
+fn is_number(place: usize)
+    ensures { place < 18446744073709551616 }
+{}

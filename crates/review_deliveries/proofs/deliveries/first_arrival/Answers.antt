@@ -14,7 +14,7 @@ use Rattle.review_deliveries.specs.Replies.{entry_of, IsServed, KeepsUntaken, Co
 use Rattle.review_deliveries.proofs.Histories.{history_length, enough_shown, requests_told}
 use Rattle.review_deliveries.proofs.Served.{undecided_lawful, undecided_keeps, undecided_counts, first_served, not_taken_served, fault_served, ungathered_served, ungathered_keeps, after_read, views_stay, effect, err_reply}
 use Rattle.review_words.specs.History.{Identity}
-use Rattle.review_deliveries.proofs.Effects.{stores_once, stored_shown, full_keeps, decided_keeps, fault_keeps, fault_counts}
+use Rattle.review_deliveries.proofs.Effects.{stores_once, stored_shown, full_keeps, decided_keeps, fault_keeps, fault_counts, stored_counts}
 use Rattle.review_deliveries.proofs.Asking.{left_before}
 use Rattle.review_deliveries.proofs.deliveries.first_arrival.Goals as goal
 
@@ -52,6 +52,10 @@ returns-clause-served g c = λ honest h hist v fresh.
     (λ t s. ⊎_elim (λ (k : mid.stops t). inl k)
     (λ (k : Shows mid.tables (λ was. IsCommitted was c.in_ok-delta.delta row t)). inr (effect h mid.tables t c.in_ok-delta.delta row a.caller a.id.now a.command.now c.in_ok-delta.reply hist view fresh room d is k))
     (y.stops honest t s)))
+
+pub returns-clause-counted : goal.returns-clause-counted
+returns-clause-counted g c =
+    stored_counts c.in_ok-delta.reply (g.S.Shelf.state c.args.shelf.now).faults (g.S.Shelf.state c.commit.new.self).faults c.in_ok-delta.ensures.stored (c.in_ok-commit.ensures.counted ∙ c.in_ok-rows.ensures.counted)
 
 pub returns-in_err-commit-clause-served : goal.returns-in_err-commit-clause-served
 returns-in_err-commit-clause-served g c = λ honest h hist v fresh.
