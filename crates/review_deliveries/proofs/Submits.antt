@@ -1,5 +1,6 @@
 -- One answer to a submit.
 use Rattle.std.proofs.Common.{◌≡◌, ◌⊎◌, ◌∙◌, ℕ, List, [], ◌∷◌, Option, Some, None, refl, sym, ap, subst, inl, inr}
+use Rattle.std.specs.Prelude.{MatchOption}
 use Rattle.review_words.specs.declared.reply.Refusal.{Refusal}
 use Rattle.review_words.specs.declared.reply.Reply.{Reply}
 use Rattle.review_words.specs.declared.reply.Reply.TheVariants.{Refused}
@@ -9,10 +10,10 @@ use Rattle.review_chain.specs.declared.walks.ChainFault.{ChainFault}
 use Rattle.review_chain.specs.Branches.{Branch}
 use Rattle.review_chain.specs.Steps.{TheBase, Bad}
 use Rattle.review_chain.proofs.Walking.{one_walk, one_end, chain_meets, bad_meets}
-use Rattle.review_changes.specs.Change.{Change}
-use Rattle.review_changes.specs.Facts.{AreStanding}
-use Rattle.review_rows.specs.Changes.{Reading, change, setting_of}
-use Rattle.review_rows.specs.Submits.{HasBadLink, HasChain, IsFirstUnsatisfied, IsOf, IsSubmitAnswer, branch_after, checked_reply, first_of, refusal_of, unsatisfied_in}
+use Rattle.review_changes.specs.Change.{Change, Setting}
+use Rattle.review_changes.specs.Facts.{AreStanding, IsFirstUnsatisfied, unsatisfied_in}
+use Rattle.review_rows.specs.Changes.{Reading}
+use Rattle.review_rows.specs.Submits.{HasBadLink, HasChain, IsOf, IsSubmitAnswer, branch_after, checked_reply, judged_after, refusal_of}
 use Rattle.review_statuses.proofs.One.{one}
 
 one_named : (f g : ChainFault) (r s : Refusal) → f ≡ g → refusal_of f ≡ Some r → refusal_of g ≡ Some s → r ≡ s
@@ -26,27 +27,31 @@ one_bad b n r s x y =
     x.reply_is ∙ (ap Refused (one_named x.fault y.fault x.refusal y.refusal same x.named y.named) ∙ sym y.reply_is)
 
 -- one requirement that is found first
-one_found : (reading : Reading) (h : List Entry) (chain : List ℕ) (a b : Option (ℕ × List ℕ)) → IsFirstUnsatisfied reading h chain a → IsFirstUnsatisfied reading h chain b → a ≡ b
-one_found reading h [] a b x y = x ∙ sym y
-one_found reading h (n ∷ ns) a b x y = at (change reading h n) x y
+one_found : (at : ℕ → Option (Setting × Change)) (chain : List ℕ) (a b : Option (ℕ × List ℕ)) → IsFirstUnsatisfied at chain a → IsFirstUnsatisfied at chain b → a ≡ b
+one_found at [] a b x y = x ∙ sym y
+one_found at (n ∷ ns) a b x y = of (at n) x y
   where
-    abbrev IsFound : Option (ℕ × List ℕ) → Option Change → Type 0
-    IsFound found o =
-        IsOf (λ c. (shown : List ShownRequirement) × AreStanding (setting_of reading h c.project) c shown
-        × (later : Option (ℕ × List ℕ)) × IsFirstUnsatisfied reading h ns later × (found ≡ first_of n (unsatisfied_in shown) later)) o
+    abbrev IsFound : Option (ℕ × List ℕ) → Option (List ℕ) → Type 0
+    IsFound found o = MatchOption o (IsFirstUnsatisfied at ns found) (λ requirement. found ≡ Some (n, requirement))
 
-    at : (o : Option Change) → IsFound a o → IsFound b o → a ≡ b
-    at None x y = absurd x
-    at (Some c) x y =
-        let shown = one (setting_of reading h c.project) c x.0 y.0 x.1 y.1 in
-        let later = one_found reading h ns x.2 y.2 x.3 y.3 in
-        x.4 ∙ ((λ i. first_of n (unsatisfied_in (shown i)) (later i)) ∙ sym y.4)
+    abbrev IsFoundAt : Option (ℕ × List ℕ) → Option (Setting × Change) → Type 0
+    IsFoundAt found o = MatchOption o ⊥ (λ c. (shown : List ShownRequirement) × AreStanding c.0 c.1 shown × IsFound found (unsatisfied_in shown))
+
+    by : (o : Option (List ℕ)) → IsFound a o → IsFound b o → a ≡ b
+    by None x y = one_found at ns a b x y
+    by (Some requirement) x y = x ∙ sym y
+
+    of : (o : Option (Setting × Change)) → IsFoundAt a o → IsFoundAt b o → a ≡ b
+    of None x y = absurd x
+    of (Some c) x y =
+        let shown = one c.0 c.1 y.0 x.0 y.1 x.1 in
+        by (unsatisfied_in x.0) x.2 (subst (λ l. IsFound b (unsatisfied_in l)) shown y.2)
 
 -- one chain, and what is found of it
 one_checked : (reading : Reading) (h : List Entry) (b : Branch) (n : ℕ) (r s : Reply) → HasChain reading h b n r → HasChain reading h b n s → r ≡ s
 one_checked reading h b n r s x y =
     let chain = one_walk b x.chain y.chain n TheBase TheBase (chain_meets b x.chain n x.is_chain) tt (chain_meets b y.chain n y.is_chain) tt in
-    let found = one_found reading h y.chain x.found y.found (subst (λ l. IsFirstUnsatisfied reading h l x.found) chain x.checked) y.checked in
+    let found = one_found (judged_after reading h) y.chain x.found y.found (subst (λ l. IsFirstUnsatisfied (judged_after reading h) l x.found) chain x.checked) y.checked in
     x.reply_is ∙ ((λ i. checked_reply (chain i) (found i)) ∙ sym y.reply_is)
 
 -- not both a bad link and a chain

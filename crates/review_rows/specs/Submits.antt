@@ -8,11 +8,8 @@ use Rattle.review_words.specs.declared.reply.Reply.TheVariants.{Done, Refused}
 use Rattle.review_words.specs.declared.reply.Answer.TheVariants.{Submitted}
 use Rattle.review_words.specs.declared.reply.Refusal.{Refusal}
 use Rattle.review_words.specs.declared.reply.Refusal.TheVariants.{ChainOutdated, ChainAbandoned, ChainWip, ChainTooLong, RequirementUnsatisfied}
-use Rattle.review_words.specs.declared.shown.ShownRequirement.{ShownRequirement}
 use Rattle.review_words.specs.declared.shown.State.{State}
 use Rattle.review_words.specs.declared.shown.State.TheVariants.{Merged}
-use Rattle.review_words.specs.declared.shown.Status.{Status}
-use Rattle.review_words.specs.declared.shown.Status.TheVariants as status
 use Rattle.review_chain.specs.declared.links.Link.{Link}
 use Rattle.review_chain.specs.declared.links.Standing.{Standing}
 use Rattle.review_chain.specs.declared.links.Standing.TheVariants.{InBranch, PatchSet, Nowhere}
@@ -20,8 +17,8 @@ use Rattle.review_chain.specs.declared.walks.ChainFault.{ChainFault}
 use Rattle.review_chain.specs.declared.walks.ChainFault.TheVariants.{Outdated, Abandoned, Wip, TooLong}
 use Rattle.review_chain.specs.Branches.{Branch}
 use Rattle.review_chain.specs.Walks.{IsBadLink, IsChain}
-use Rattle.review_changes.specs.Change.{Change, commit, current, parent}
-use Rattle.review_changes.specs.Facts.{AreStanding}
+use Rattle.review_changes.specs.Change.{Change, Setting, commit, current, parent}
+use Rattle.review_changes.specs.Facts.{IsFirstUnsatisfied}
 use Rattle.review_changes.specs.declared.rows.PatchRow.{PatchRow}
 use Rattle.review_rows.specs.Changes.{Reading, change, change_count, is_for, setting_of, some_change}
 
@@ -97,27 +94,9 @@ pub record HasBadLink (b : Branch) (n : ℕ) (reply : Reply) : Type 0 where
   pub named : refusal_of fault ≡ Some refusal
   pub reply_is : reply ≡ Refused refusal
 
--- whether a requirement isn't satisfied
-abbrev pub is_unsatisfied : Status → Bool
-is_unsatisfied status.Unsatisfied = true
-is_unsatisfied _ = false
-
--- the first requirement that isn't satisfied, of some by name
-abbrev pub unsatisfied_in : List ShownRequirement → Option (List ℕ)
-unsatisfied_in [] = None
-unsatisfied_in (q ∷ qs) = if is_unsatisfied q.status then Some q.name else unsatisfied_in qs
-
--- this change with its requirement, where it has one, and otherwise what was found among later ones
-abbrev pub first_of : ℕ → Option (List ℕ) → Option (ℕ × List ℕ) → Option (ℕ × List ℕ)
-first_of n None later = later
-first_of n (Some requirement) later = Some (n, requirement)
-
--- The first of some changes, in their order, with its first requirement that isn't satisfied, by name.
-abbrev pub IsFirstUnsatisfied : Reading → List Entry → List ℕ → Option (ℕ × List ℕ) → Type 0
-IsFirstUnsatisfied reading h [] found = found ≡ None
-IsFirstUnsatisfied reading h (n ∷ ns) found =
-    IsOf (λ c. (shown : List ShownRequirement) × AreStanding (setting_of reading h c.project) c shown
-    × (later : Option (ℕ × List ℕ)) × IsFirstUnsatisfied reading h ns later × (found ≡ first_of n (unsatisfied_in shown) later)) (change reading h n)
+-- a change after a history, with the setting that it is judged in
+abbrev pub judged_after : Reading → List Entry → ℕ → Option (Setting × Change)
+judged_after reading h n = option_map (λ c. (setting_of reading h c.project, c)) (change reading h n)
 
 -- what a submit of a chain is told, by the requirement that was found
 abbrev pub checked_reply : List ℕ → Option (ℕ × List ℕ) → Reply
@@ -129,7 +108,7 @@ pub record HasChain (reading : Reading) (h : List Entry) (b : Branch) (n : ℕ) 
   pub chain : List ℕ
   pub is_chain : IsChain b chain n
   pub found : Option (ℕ × List ℕ)
-  pub checked : IsFirstUnsatisfied reading h chain found
+  pub checked : IsFirstUnsatisfied (judged_after reading h) chain found
   pub reply_is : reply ≡ checked_reply chain found
 
 -- What a submit of a change is told that no check of the change refuses.
