@@ -97,16 +97,19 @@ abbrev pub joined : List Entry → List ℕ → List ℕ → List ℕ
 joined [] project branch = []
 joined (e ∷ h) project branch = joined h project branch ++ joined_by h (accepted e) e.reply project branch
 
--- where a change stands in a list, counted from 1; 0 where it doesn't
-abbrev pub place_in : List ℕ → ℕ → ℕ
-place_in [] n = 0
-place_in (c ∷ cs) n = if c == n then 1 else (if place_in cs n == 0 then 0 else place_in cs n + 1)
+-- the place of a change in a list, counted from 1
+abbrev pub place_in : List ℕ → ℕ → Option ℕ
+place_in [] n = None
+place_in (c ∷ cs) n = if c == n then Some 1 else option_map (λ k. k + 1) (place_in cs n)
 
--- a change, where this request makes these changes join their branch after those that joined before
+-- a change, where it is this one of those that join their branch: they get the places after those that joined before
+abbrev pub joining_at : List Entry → Option ℕ → Option Change → Option Change
+joining_at h None before = before
+joining_at h (Some place) before = option_map (λ c. joined_at (length (joined h c.project c.branch) + place) (length h + 1) c) before
+
+-- a change, where these changes join their branch
 abbrev pub joining : List Entry → List ℕ → ℕ → Option Change → Option Change
-joining h [] n before = before
-joining h (j ∷ js) n before =
-    if place_in (j ∷ js) n == 0 then before else option_map (λ c. joined_at (length (joined h c.project c.branch) + place_in (j ∷ js) n) (length h + 1) c) before
+joining h changes n before = joining_at h (place_in changes n) before
 
 -- what a command asks of a change, and of which
 abbrev pub asked_of : Command → Option (ℕ × ChangeCommand)
