@@ -21,8 +21,8 @@ use Rattle.review_change_laws.proofs.Sound.{Passes, all_pass, done_passes}
 pub record IsAccepted (reading : Reading) (h : List Entry) (m : ℕ) (a : Answer) : Type 0 where
   pub of : Change
   pub there : change reading h m ≡ Some of
-  pub open : is_open of.state ≡ true
-  pub ready : of.wip ≡ false
+  pub was_open : is_open of.state ≡ true
+  pub was_ready : of.wip ≡ false
   pub chain : List ℕ
   pub is_chain : IsChain (branch_after reading h of.project of.branch) chain m
   pub satisfied : IsFirstUnsatisfied (judged_after reading h) chain None
@@ -45,8 +45,8 @@ accepted_of reading h caller m (Some c) a there pass (inr good) =
     record {
       of = c;
       there = there;
-      open = pass.1.0;
-      ready = not_true c.wip pass.1.1.0;
+      was_open = pass.1.0;
+      was_ready = not_true c.wip pass.1.1.0;
       chain = good.chain;
       is_chain = good.is_chain;
       satisfied = subst (IsFirstUnsatisfied (judged_after reading h) good.chain) none.0 good.checked;

@@ -43,14 +43,14 @@ and_false false = refl
 
 -- a change that isn't merged has none
 not_placed : (project branch : List ℕ) (c : Change) → is_merged c.state ≡ false → place_of project branch (Some c) ≡ None
-not_placed project branch c open =
-    ap (λ b. cond (is_for project branch c && b) (Some c.place) None) open ∙ ap (λ b. cond b (Some c.place) None) (and_false (is_for project branch c))
+not_placed project branch c free =
+    ap (λ b. cond (is_for project branch c && b) (Some c.place) None) free ∙ ap (λ b. cond b (Some c.place) None) (and_false (is_for project branch c))
 
 -- ---- requests on a change keep its place
 
 open_unmerged : (s : State) → is_open s ≡ true → is_merged s ≡ false
-open_unmerged New open = refl
-open_unmerged Merged open = absurd (cc)
+open_unmerged New e = refl
+open_unmerged Merged e = absurd (cc)
 open_unmerged Abandoned open = absurd (cc)
 
 from_not : (b : Bool) → not b ≡ true → b ≡ false
@@ -77,8 +77,8 @@ named_place project branch true (Some x) f keeps = keeps refl x refl
 named_place project branch false o f keeps = refl
 
 made_place : (project branch : List ℕ) (b : Bool) (o : Option Change) (new : Change) → is_merged new.state ≡ false → (b ≡ true → o ≡ None) → place_of project branch (cond b (Some new) o) ≡ place_of project branch o
-made_place project branch true o new open none = not_placed project branch new open ∙ ap (place_of project branch) (sym (none refl))
-made_place project branch false o new open none = refl
+made_place project branch true o new free none = not_placed project branch new free ∙ ap (place_of project branch) (sym (none refl))
+made_place project branch false o new free none = refl
 
 none_from : {X : Type 0} (o : Option X) → is_some o ≡ false → o ≡ None
 none_from None e = refl
@@ -135,7 +135,7 @@ unmerged reading h m a s n k is =
       of = s.of;
       there = ap (change reading h) last ∙ s.there;
       is_for_it = and_from (bytes_eq s.of.project s.of.project) (bytes_eq s.of.branch s.of.branch) ((bytes_eq-Decides s.of.project s.of.project).1 refl) ((bytes_eq-Decides s.of.branch s.of.branch).1 refl);
-      unmerged = open_unmerged s.of.state s.open;
+      unmerged = open_unmerged s.of.state s.was_open;
     })
     (λ (before : IsReady (branch_after reading h s.of.project s.of.branch) n). linked reading h s.of.project s.of.branch n (change reading h n) before.link refl before.there before.is_open)
     (at_place (λ d. (d ≡ m) ⊎ IsReady (branch_after reading h s.of.project s.of.branch) d) s.chain n k (chain_ready (branch_after reading h s.of.project s.of.branch) s.chain m s.is_chain) is)
