@@ -51,7 +51,7 @@ not_placed project branch c free =
 open_unmerged : (s : State) → is_open s ≡ true → is_merged s ≡ false
 open_unmerged New e = refl
 open_unmerged Merged e = absurd (cc)
-open_unmerged Abandoned open = absurd (cc)
+open_unmerged Abandoned e = absurd (cc)
 
 from_not : (b : Bool) → not b ≡ true → b ≡ false
 from_not true e = absurd (cc)

@@ -26,26 +26,27 @@ one_bad b n r s x y =
     let same : x.fault ≡ y.fault = cc in
     x.reply_is ∙ (ap Refused (one_named x.fault y.fault x.refusal y.refusal same x.named y.named) ∙ sym y.reply_is)
 
+-- what is found first from this change on, by its own requirement that isn't satisfied
+abbrev IsFound : (ℕ → Option (Setting × Change)) → ℕ → List ℕ → Option (ℕ × List ℕ) → Option (List ℕ) → Type 0
+IsFound at n ns found o = MatchOption o (IsFirstUnsatisfied at ns found) (λ requirement. found ≡ Some (n, requirement))
+
+abbrev IsFoundAt : (ℕ → Option (Setting × Change)) → ℕ → List ℕ → Option (ℕ × List ℕ) → Option (Setting × Change) → Type 0
+IsFoundAt at n ns found o = MatchOption o ⊥ (λ c. (shown : List ShownRequirement) × AreStanding c.0 c.1 shown × IsFound at n ns found (unsatisfied_in shown))
+
 -- one requirement that is found first
 one_found : (at : ℕ → Option (Setting × Change)) (chain : List ℕ) (a b : Option (ℕ × List ℕ)) → IsFirstUnsatisfied at chain a → IsFirstUnsatisfied at chain b → a ≡ b
 one_found at [] a b x y = x ∙ sym y
 one_found at (n ∷ ns) a b x y = of (at n) x y
   where
-    abbrev IsFound : Option (ℕ × List ℕ) → Option (List ℕ) → Type 0
-    IsFound found o = MatchOption o (IsFirstUnsatisfied at ns found) (λ requirement. found ≡ Some (n, requirement))
-
-    abbrev IsFoundAt : Option (ℕ × List ℕ) → Option (Setting × Change) → Type 0
-    IsFoundAt found o = MatchOption o ⊥ (λ c. (shown : List ShownRequirement) × AreStanding c.0 c.1 shown × IsFound found (unsatisfied_in shown))
-
-    by : (o : Option (List ℕ)) → IsFound a o → IsFound b o → a ≡ b
+    by : (o : Option (List ℕ)) → IsFound at n ns a o → IsFound at n ns b o → a ≡ b
     by None x y = one_found at ns a b x y
     by (Some requirement) x y = x ∙ sym y
 
-    of : (o : Option (Setting × Change)) → IsFoundAt a o → IsFoundAt b o → a ≡ b
+    of : (o : Option (Setting × Change)) → IsFoundAt at n ns a o → IsFoundAt at n ns b o → a ≡ b
     of None x y = absurd x
     of (Some c) x y =
         let shown = one c.0 c.1 y.0 x.0 y.1 x.1 in
-        by (unsatisfied_in x.0) x.2 (subst (λ l. IsFound b (unsatisfied_in l)) shown y.2)
+        by (unsatisfied_in x.0) x.2 (subst (λ l. IsFound at n ns b (unsatisfied_in l)) shown y.2)
 
 -- one chain, and what is found of it
 one_checked : (reading : Reading) (h : List Entry) (b : Branch) (n : ℕ) (r s : Reply) → HasChain reading h b n r → HasChain reading h b n s → r ≡ s
