@@ -8,3 +8,5 @@ pub mod Sending
 pub mod Left
 pub mod Ordered
 pub mod Shown
+pub mod Puts
+pub mod Placed

@@ -2,8 +2,12 @@
 #![tactic(auto)]
 
 pub mod edits;
-pub mod kept;
 pub mod loading;
+pub mod places;
+
+pub mod kept;
+
+mod branches;
 
 pub use edits::ChangeTables;
 pub use kept::{KeptChanges, Prepared};
