@@ -10,3 +10,4 @@ pub mod Ordered
 pub mod Shown
 pub mod Puts
 pub mod Placed
+pub mod Merged

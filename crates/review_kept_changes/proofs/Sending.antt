@@ -21,12 +21,12 @@ use Rattle.review_kept_changes.specs.declared.kept.SentKey.{SentKey}
 use Rattle.review_kept_changes.specs.Kept.{has_commit, is_sent, part_where, row_of, sent_cmp, AreListed, IsNumbered}
 
 -- a patch set of the commit is there
-record HasPatch (o : Option PatchRow) (commit : List ℕ) : Type 0 where
-  patch : PatchRow
-  is : o ≡ Some patch
-  commit_is : patch.commit ≡ commit
+pub record HasPatch (o : Option PatchRow) (commit : List ℕ) : Type 0 where
+  pub patch : PatchRow
+  pub is : o ≡ Some patch
+  pub commit_is : patch.commit ≡ commit
 
-patch_of : (o : Option PatchRow) (commit : List ℕ) → has_commit o commit ≡ true → HasPatch o commit
+pub patch_of : (o : Option PatchRow) (commit : List ℕ) → has_commit o commit ≡ true → HasPatch o commit
 patch_of None commit h = absurd (let f : false ≡ true = h in cc)
 patch_of (Some patch) commit h = record { patch = patch; is = refl; commit_is = (bytes_eq-Decides patch.commit commit).0 h }
 
@@ -67,7 +67,7 @@ module _ (kept : List (ℕ × ChangeTables)) (base : Base) (n p : ℕ) where
       row_in sent_cmp sent (record { commit = base.commit; change = n; patch = p }) ≡ Some tt
   listed_is sent all h = listed_by sent all (row_in nat_cmp kept n) refl h
 
-header_is : (t : ChangeTables) (h : Header) → Some (APart (AHeader t.header)) ≡ Some (APart (AHeader h)) → t.header ≡ h
+pub header_is : (t : ChangeTables) (h : Header) → Some (APart (AHeader t.header)) ≡ Some (APart (AHeader h)) → t.header ≡ h
 header_is t h e = cc
 
 patch_is : (o : Option PatchRow) (x : PatchRow) (commit : List ℕ) → x.commit ≡ commit → option_map APart (option_map APatch o) ≡ Some (APart (APatch x)) → has_commit o commit ≡ true

@@ -1,11 +1,11 @@
 //! The rows of all changes in memory, with an index by commit and one by place.
-ghost use Rattle.std.specs.Prelude.{◌≡◌, ◌↔◌, Some, ◌++◌, [], ℕ, IfErr, IfOk, IsTrue, MatchBool, OnOk, OnErr, option_map};
+ghost use Rattle.std.specs.Prelude.{◌≡◌, Some, ◌++◌, [], ℕ, IfErr, IfOk, MatchBool, OnOk, OnErr, option_map};
 ghost use Rattle.std.specs.Ordering.{nat_cmp};
 ghost use Rattle.review_table.specs.Rows.{changed, row_in, rows_of};
 ghost use Rattle.review_rows.specs.Known.{HasChange, IsLast, IsMergedWith, IsSentBy, header_key};
 ghost use Rattle.review_changes.specs.Seen.{seen};
 ghost use Rattle.review_kept_changes.specs.Loads.{IsUnread};
-ghost use Rattle.review_kept_changes.specs.Kept.{is_sent, row_of, sent_by, sent_in, with_sent, AreNumbered, ArePrepared, HasRoomFor, IsFoundSent, IsFull, IsFullBut, IsLastOf, IsMergedAt, IsReady, IsSentAs, PutsEdited, PutAllEdited};
+ghost use Rattle.review_kept_changes.specs.Kept.{is_sent, row_of, sent_by, sent_in, with_sent, AreNumbered, ArePrepared, HasRoomFor, IsFoundSent, IsFull, IsFullBut, IsLastOf, IsReady, IsSentAs, PutsEdited, PutAllEdited};
 
 use crate::edits::{ChangeTables, begun, edited};
 use crate::loading::{ChangeFault, change_rows};
@@ -100,7 +100,8 @@ impl KeptChanges {
     pub fn sender(&self, alloc: Global, base: &Base) -> Result<Option<ChangeNo>, AllocError>
         ensures { IfOk result (IsSentBy (row_of (rows_of self.now.kept)) base.now) }
     {
-        self.find_sent(alloc, base, false)
+        let sender = self.find_sent(alloc, base, false)?;
+        Ok(sender)
     }
 
     /// Whether a commit is the current one of a merged change for its branch.
@@ -130,14 +131,12 @@ impl KeptChanges {
         Ok(None)
     }
 
-    // Whether the change of a key is for the branch, and its patch set has the commit; where it is to be merged, as its current one.
+    // Whether the change of a key has sent the commit so, by the key's patch set.
     fn has_sent(&self, base: &Base, merged: bool, key: &SentKey) -> bool
-        ensures { IsTrue result ↔ IsSentAs merged (row_in nat_cmp (rows_of self.now.kept) key.now.change) base.now key.now.patch }
+        ensures { MatchBool result (IsSentAs merged (row_in nat_cmp (rows_of self.now.kept) key.now.change) base.now key.now.patch) (IsSentAs merged (row_in nat_cmp (rows_of self.now.kept) key.now.change) base.now key.now.patch → ⊥) }
     {
         match self.kept.get(&key.change) {
-            Some(tables) => {
-                is_sent(tables, base, key.patch) && (!merged || is_merged_at(tables, key.patch))
-            }
+            Some(tables) => is_sent_as(tables, base, merged, key.patch),
             None => false,
         }
     }
@@ -319,24 +318,33 @@ fn is_sent(tables: &ChangeTables, base: &Base, patch: PatchNo) -> bool
     }
 }
 
-// Whether a change is merged, and its patch set of a number is its current one.
-fn is_merged_at(tables: &ChangeTables, patch: PatchNo) -> bool
-    ensures { IsTrue result ↔ IsMergedAt tables.now patch }
+// Whether a change is for the branch, and its patch set has the commit; where it is to be merged, as its current one.
+fn is_sent_as(tables: &ChangeTables, base: &Base, merged: bool, patch: PatchNo) -> bool
+    ensures { MatchBool result (IsSentAs merged (Some tables.now) base.now patch) (IsSentAs merged (Some tables.now) base.now patch → ⊥) }
 {
+    if !is_sent(tables, base, patch) {
+        return false;
+    }
+    if !merged {
+        return true;
+    }
     match tables.header.state {
-        State::Merged => is_current(tables, patch),
+        State::Merged => is_last(tables, patch),
         State::New | State::Abandoned => false,
     }
 }
 
 // Whether no patch set of a change has a greater number.
-fn is_current(tables: &ChangeTables, patch: PatchNo) -> bool
-    ensures { IsTrue result ↔ IsLastOf (rows_of tables.now.patches) patch }
+fn is_last(tables: &ChangeTables, patch: PatchNo) -> bool
+    ensures { MatchBool result (IsLastOf (rows_of tables.now.patches) patch) (IsLastOf (rows_of tables.now.patches) patch → ⊥) }
 {
-    match tables.patches.last_key() {
-        Some(last) => last.get() <= patch.get(),
-        None => true,
+    let Some(last) = tables.patches.last_key() else {
+        return true;
+    };
+    if last.get() > patch.get() {
+        return false;
     }
+    true
 }
 
 #[tactic(auto, unfolding(review_names::specs::Forms::is_within))]
