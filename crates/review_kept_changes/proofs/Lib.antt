@@ -11,3 +11,4 @@ pub mod Shown
 pub mod Puts
 pub mod Placed
 pub mod Merged
+pub mod Joined

@@ -1,5 +1,5 @@
 //! Which changes joined a branch, and what the parent of a change is.
-ghost use Rattle.std.specs.Prelude.{◌≡◌, IfOk, MatchOption, option_copied};
+ghost use Rattle.std.specs.Prelude.{◌≡◌, IfOk, MatchOption, max, option_copied, if◌then◌else◌};
 ghost use Rattle.std.specs.Ordering.{nat_cmp};
 
 ghost use Rattle.review_table.specs.Rows.{row_in, rows_of};
@@ -40,11 +40,19 @@ impl KeptChanges {
         let to = greatest_place(alloc, branch)?;
         let mut last = 0;
         for (key, _) in self.placed.select(alloc, from, to)? {
-            if self.has_place(branch, key) {
-                last = key.place.max(last);
-            }
+            last = self.later_place(branch, key, last);
         }
         Ok(last)
+    }
+
+    // The greater of a place and that of a key, where the key's change is at it.
+    fn later_place(&self, branch: &BranchKey, key: &PlaceKey, last: u32) -> u32
+        ensures { result ≡ (if is_placed (row_in nat_cmp (rows_of self.now.kept) key.now.change) branch.now key.now.place then max key.now.place last else last) }
+    {
+        if !self.has_place(branch, key) {
+            return last;
+        }
+        key.place.max(last)
     }
 
     // Whether the change of a key is for the branch, at the key's place in it.
