@@ -1,5 +1,5 @@
 -- Rows of changes in memory.
-use Rattle.std.specs.Prelude.{ℕ, Bool, true, false, ◌&&◌, ◌==◌, ◌<◌, ◌≤◌, ◌≡◌, ◌++◌, List, [], ◌∷◌, Option, Some, None, option_map, flat_map, if◌then◌else◌}
+use Rattle.std.specs.Prelude.{ℕ, Bool, true, false, ◌&&◌, ◌==◌, ◌<◌, ◌≤◌, ◌≡◌, ◌++◌, List, [], ◌∷◌, Option, Some, None, option_map, option_to_list, flat_map, if◌then◌else◌}
 use Rattle.std.specs.declared.cmp.Ordering.{Ordering}
 use Rattle.std.specs.Ordering.{nat_cmp, ordering_then}
 use Rattle.std.specs.List.{All}
@@ -165,6 +165,10 @@ is_placed (Some t) key place = bytes_eq t.header.project key.project && (bytes_e
 abbrev pub IsJoinedOrNot : (Key → Option Row) → Branch → PlaceKey → Option JoinedChange → Type 0
 IsJoinedOrNot row key k (Some joined) = (joined.change ≡ k.change) × (0 < k.place → IsJoinedAt row key k.place joined)
 IsJoinedOrNot row key k None = (joined : JoinedChange) → joined.change ≡ k.change → IsJoinedAt row key k.place joined → ⊥
+
+-- the change of a listed key is added to a list, where it joined the branch so
+abbrev pub AddsJoined : (Key → Option Row) → Branch → PlaceKey → List JoinedChange → List JoinedChange → Type 0
+AddsJoined row key k old new = (joined : Option JoinedChange) × IsJoinedOrNot row key k joined × (new ≡ old ++ option_to_list joined)
 
 -- ---- both indexes
 

@@ -1,10 +1,9 @@
 //! Which changes joined a branch, and what the parent of a change is.
-ghost use Rattle.std.specs.Prelude.{◌≡◌, IfOk, MatchOption, max, option_copied, if◌then◌else◌};
+ghost use Rattle.std.specs.Prelude.{◌≡◌, IfOk, OnOk, MatchOption, max, option_copied, if◌then◌else◌};
 ghost use Rattle.std.specs.Ordering.{nat_cmp};
-
 ghost use Rattle.review_table.specs.Rows.{row_in, rows_of};
 ghost use Rattle.review_rows.specs.Known.{HaveJoined, IsLastJoined, IsOnParent};
-ghost use Rattle.review_kept_changes.specs.Kept.{is_placed, row_of, IsCurrentOf, IsJoinedOrNot};
+ghost use Rattle.review_kept_changes.specs.Kept.{is_placed, row_of, AddsJoined, IsCurrentOf, IsJoinedOrNot};
 
 use crate::edits::ChangeTables;
 use crate::kept::KeptChanges;
@@ -76,12 +75,31 @@ impl KeptChanges {
         let from = least_place(alloc, branch)?;
         let to = greatest_place(alloc, branch)?;
         let mut joined = Vec::new(alloc);
+        self.placed.once();
         for (key, _) in self.placed.select(alloc, from, to)? {
-            if let Some(change) = self.joined_at(alloc, branch, key)? {
-                joined.push(change)?;
-            }
+            self.add_joined(alloc, branch, key, &mut joined)?;
         }
         Ok(Listed::from_vec(joined))
+    }
+
+    // Adds the change of a key, where it is for the branch, at the key's place in it.
+    fn add_joined(
+        &self,
+        alloc: Global,
+        branch: &BranchKey,
+        key: &PlaceKey,
+        joined: &mut Vec<JoinedChange>,
+    ) -> Result<(), AllocError>
+        ensures { OnOk result (AddsJoined (row_of (rows_of self.now.kept)) branch.now key.now joined.old.items joined.new.items) }
+    {
+        let found = self.joined_at(alloc, branch, key)?;
+        match found {
+            Some(change) => {
+                joined.push(change)?;
+                Ok(())
+            }
+            None => Ok(()),
+        }
     }
 
     // The change of a key with its current commit, where it is for the branch, at the key's place in it.

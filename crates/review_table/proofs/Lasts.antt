@@ -25,7 +25,8 @@ keys_here : {K X : Type 0} (b : Bool) (e : K × X) (rows : List (K × X)) → ke
 keys_here true e rows = refl
 keys_here false e rows = refl
 
-keys_filtered : {K X : Type 0} (p : K → Bool) (rows : List (K × X)) → keys_of (filter (λ e. p e.0) rows) ≡ filter p (keys_of rows)
+-- the keys of the rows whose keys pass a test
+pub keys_filtered : {K X : Type 0} (p : K → Bool) (rows : List (K × X)) → keys_of (filter (λ e. p e.0) rows) ≡ filter p (keys_of rows)
 keys_filtered p [] = refl
 keys_filtered p (e ∷ rows) = keys_here (p e.0) e (filter (λ x. p x.0) rows) ∙ ap (λ ks. cond (p e.0) (e.0 ∷ ks) ks) (keys_filtered p rows)
 
