@@ -563,6 +563,13 @@ def status(applicable_if, override_if, submittable_if, facts):
     return "SATISFIED" if holds(submittable_if, is_met) else "UNSATISFIED"
 
 
+# Which members of a line say what its request is about; `change` alone, where none stand here. The others are ignored.
+ROUTES = {
+    "CreateAccount": (), "PutGroup": ("group",), "PutProject": ("project",), "RecordBase": ("project", "branch"), "CreateChange": (), "Review": ("change", "patch_set"),
+    "RemoveReviewer": ("change", "account"), "RemoveAttention": ("change", "account"),
+}
+
+
 def content_of(line):
     """What a line asks, however it is written."""
     body = {} if line["do"] in ("RemoveReviewer", "SetWip", "SetReady", "Abandon", "Restore", "Submit") else dict(line["body"])
@@ -577,5 +584,5 @@ def content_of(line):
             body[key] = int(body[key])
     if line["do"] == "AddReviewer":
         body.setdefault("state", "REVIEWER")
-    where = {key: line[key] for key in ("do", "group", "project", "branch", "change", "patch_set", "account") if key in line}
+    where = {key: line[key] for key in ("do", *ROUTES.get(line["do"], ("change",)))}
     return json.dumps([where, body], sort_keys=True)
