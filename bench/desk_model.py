@@ -40,7 +40,7 @@ REQUIREMENTS = {
         "Sent": (None, "label:Code-Review>0,user=owner", "uploaderin:Core OR file:ü OR label:Verified=ANY,user=3"),
     },
     "narrow": {"Two": ('branch:"^(main|release/.*)"', None, "label:Code-Review+1,count=2")},
-    "easy": {"Read": ("-path:tower", None, "label:Code-Review>0 AND -label:Code-Review=MIN"), "Talked": (None, None, "-has:unresolved")},
+    "easy": {"Read": ("-path:tower", "label:Notes=1", "label:Code-Review>0 AND -label:Code-Review=MIN"), "Talked": (None, None, "-has:unresolved")},
 }
 
 
