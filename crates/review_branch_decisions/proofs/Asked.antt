@@ -6,7 +6,7 @@ use Rattle.review_words.specs.declared.command.Query.TheVariants as asked
 use Rattle.review_words.specs.declared.reply.Refusal.{Refusal}
 use Rattle.review_words.specs.declared.reply.Refusal.TheVariants.{UnknownCaller, NoProject, NoBranch}
 use Rattle.review_words.specs.declared.command.Command.{Command}
-use Rattle.review_words.specs.declared.command.Command.TheVariants.{CreateAccount, PutGroup, PutProject, RecordBase, CreateChange, OnChange}
+use Rattle.review_words.specs.declared.command.Command.TheVariants.{CreateAccount, PutGroup, PutProject, RecordBase, CreateChange, OnChange, Submit}
 use Rattle.review_words.specs.History.{Entry, accepted, is_account, is_project, is_branch, bases, base_count, with_base, base_counted}
 use Rattle.std.specs.Str.{bytes_eq}
 use Rattle.review_rows.specs.declared.rows.Rows.{Rows}
@@ -68,4 +68,5 @@ branch_within (e ∷ h) project branch = step (accepted e) (bases h project bran
     step (Some (PutProject p file)) bs n le = le
     step (Some (CreateChange new)) bs n le = le
     step (Some (OnChange change command)) bs n le = le
+    step (Some (Submit change)) bs n le = le
     step None bs n le = le

@@ -8,7 +8,7 @@ use Rattle.toml.specs.Data.{Data, table}
 use Rattle.review_names.specs.Forms.{is_label, most_changes}
 use Rattle.review_words.specs.declared.changes.NewPatch.{NewPatch}
 use Rattle.review_words.specs.declared.command.Command.{Command}
-use Rattle.review_words.specs.declared.command.Command.TheVariants.{CreateAccount, PutGroup, PutProject, RecordBase, CreateChange, OnChange}
+use Rattle.review_words.specs.declared.command.Command.TheVariants.{CreateAccount, PutGroup, PutProject, RecordBase, CreateChange, OnChange, Submit}
 use Rattle.review_words.specs.declared.reply.Answer.{Answer}
 use Rattle.review_words.specs.declared.reply.Refusal.TheVariants.{UnknownCaller}
 use Rattle.review_words.specs.declared.reply.Reply.{Reply}
@@ -45,6 +45,7 @@ made reading h caller (CreateChange new) a answer before =
     let below : change_count h < most_changes = ltb-true (change_count h) most_changes all.1.1.1.1.1.0 in
     omega arith
 made reading h caller (OnChange n command) a answer before = before
+made reading h caller (Submit n) a answer before = before
 
 made_by : (reading : Reading) (h : List Entry) (caller : ℕ) (command : Command) (reply : Reply) → IsAnswerBy reading h caller command reply → change_count h ≤ most_changes →
     change_counted (if_done reply command) (change_count h) ≤ most_changes
@@ -185,6 +186,7 @@ account_made reading h caller (PutProject project text) a answer before = before
 account_made reading h caller (RecordBase project branch commit) a answer before = before
 account_made reading h caller (CreateChange new) a answer before = before
 account_made reading h caller (OnChange n command) a answer before = before
+account_made reading h caller (Submit n) a answer before = before
 
 account_by : (reading : Reading) (h : List Entry) (caller : ℕ) (command : Command) (reply : Reply) → IsAnswerBy reading h caller command reply → account_count h ≤ 1000000 →
     counted (if_done reply command) (account_count h) ≤ 1000000

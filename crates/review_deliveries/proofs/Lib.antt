@@ -1,5 +1,6 @@
 pub mod Asking
 pub mod Votes
+pub mod Submits
 pub mod Voted
 pub mod Bounds
 pub mod Stored

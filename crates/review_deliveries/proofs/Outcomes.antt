@@ -4,7 +4,7 @@ use Rattle.std.specs.Prelude.{nat_lt, option_map, MatchOption}
 use Rattle.std.specs.Option.{option_map_or}
 use Rattle.review_words.specs.declared.changes.NewPatch.{NewPatch}
 use Rattle.review_words.specs.declared.command.Command.{Command}
-use Rattle.review_words.specs.declared.command.Command.TheVariants.{CreateAccount, PutGroup, PutProject, RecordBase, CreateChange, OnChange}
+use Rattle.review_words.specs.declared.command.Command.TheVariants.{CreateAccount, PutGroup, PutProject, RecordBase, CreateChange, OnChange, Submit}
 use Rattle.review_words.specs.declared.command.ChangeCommand.{ChangeCommand}
 use Rattle.review_words.specs.declared.reply.Reply.{Reply}
 use Rattle.review_words.specs.declared.reply.Reply.TheVariants.{Done, Refused}
@@ -23,6 +23,7 @@ use Rattle.review_rows.specs.Answer.{IsAnswerBy, IsOf, IsOutcome, IsRequestOutco
 use Rattle.review_rows.proofs.Readings.{reading_of}
 use Rattle.review_rows.proofs.Requested.{IsToldDone, sent_or_done}
 use Rattle.review_deliveries.specs.Restart.{IsFree, RefusesBadValue, OneAnswer}
+use Rattle.review_deliveries.proofs.Submits.{one_submit}
 use Rattle.review_deliveries.proofs.Votes.{one_count}
 
 -- what the old file covers, whichever of those is put that the text spells
@@ -73,6 +74,7 @@ one_outcome reading h caller (RecordBase project branch commit) r s a b = inl (a
 one_outcome reading h caller (PutProject project text) r s a b = one_put reading h caller project text r s a b
 one_outcome reading h caller (CreateChange new) r s a b = inl (a ∙ sym b)
 one_outcome reading h caller (OnChange n command) r s a b = inl (one_request reading h caller n command r s a b)
+one_outcome reading h caller (Submit n) r s a b = inl (one_submit reading h n (change reading h n) r s a b)
 
 -- one answer, by one reading
 pub one_answer_by : (reading : Reading) (h : List Entry) (caller : ℕ) (command : Command) (r s : Reply) → IsAnswerBy reading h caller command r → IsAnswerBy reading h caller command s →

@@ -1,12 +1,12 @@
 -- What was asked is known, and asking ends.
-use Rattle.std.proofs.Common.{◌≡◌, ℕ, ◌<◌, ◌≤◌, List, [], ◌∷◌, Option, Some, None, true, false, cond, not, refl, sym, ap, ◌∙◌, subst, ⊎_elim, arith}
+use Rattle.std.proofs.Common.{◌≡◌, ℕ, ◌+◌, ◌<◌, ◌≤◌, List, [], ◌∷◌, length, Option, Some, None, true, false, cond, not, refl, sym, ap, ◌∙◌, subst, ⊎_elim, arith}
 use Rattle.std.specs.Prelude.{is_some}
 use Rattle.std.specs.Option.{option_or}
 use Rattle.std.specs.List.{All, AllByRecursion}
 use Rattle.std.proofs.lemmas.Bool.{cases_Bool}
 use Rattle.std.proofs.lemmas.List.Elements.{All-head, All-tail}
 use Rattle.review_words.specs.declared.command.Command.{Command}
-use Rattle.review_words.specs.declared.command.Command.TheVariants.{CreateAccount, PutGroup, PutProject, RecordBase, CreateChange, OnChange}
+use Rattle.review_words.specs.declared.command.Command.TheVariants.{CreateAccount, PutGroup, PutProject, RecordBase, CreateChange, OnChange, Submit}
 use Rattle.review_words.specs.declared.command.Query.TheVariants as asked
 use Rattle.review_rows.specs.declared.rows.Want.{Want}
 use Rattle.review_rows.specs.declared.rows.Want.TheVariants as want
@@ -14,7 +14,7 @@ use Rattle.review_rows.specs.declared.rows.Rows.{Rows}
 use Rattle.review_rows.specs.Rows.{Tables}
 use Rattle.review_rows.specs.Known.{Found, IsFound, known, number_of, change_in, Agrees, IsKnown, AreAdded}
 use Rattle.review_rows.specs.Files.{File}
-use Rattle.review_rows.specs.Steps.{Topic, OfCommand, OfQuery, first_wants, change_wants, file_wants, question_wants, request_wants, wants_by, unknown, or_next, next, left_where, AskingLowers}
+use Rattle.review_rows.specs.Steps.{Topic, OfCommand, OfQuery, first_wants, change_wants, file_wants, question_wants, request_wants, wants_by, steps, unknown, or_next, next, next_of, left_of, left_where, AskingLowers}
 
 -- what a look-up that was made found in tables that agree
 pub found_of : (t : Tables) (rows : Rows) (w : Want) → Agrees t rows → IsKnown rows w → (f : Found) × (known rows w ≡ Some f) × IsFound t w f
@@ -67,24 +67,21 @@ none_in [] b none = (refl, none)
 none_in (w ∷ ws) b none = absurd (cc)
 
 -- where nothing is left to ask, nothing is left of each step
-none_of_steps : (file : Option File) (rows : Rows) (caller : ℕ) (topic : Topic) → next file rows caller topic ≡ [] →
-    (unknown rows (first_wants caller topic) ≡ []) × (unknown rows (change_wants rows topic) ≡ []) × (unknown rows (file_wants file caller topic) ≡ [])
-none_of_steps file rows caller topic none =
-    let first = none_in (unknown rows (first_wants caller topic)) (or_next (unknown rows (change_wants rows topic)) (or_next (unknown rows (file_wants file caller topic)) [])) none in
-    let second = none_in (unknown rows (change_wants rows topic)) (or_next (unknown rows (file_wants file caller topic)) []) first.1 in
-    (first.0, second.0, (none_in (unknown rows (file_wants file caller topic)) [] second.1).0)
+none_of_steps : (rows : Rows) (xs : List (List Want)) → next_of rows xs ≡ [] → AllByRecursion (λ x. unknown rows x ≡ []) xs
+none_of_steps rows [] none = tt
+none_of_steps rows (x ∷ xs) none = let p = none_in (unknown rows x) (next_of rows xs) none in (p.0, none_of_steps rows xs p.1)
 
 -- where nothing is left to ask, all was asked that is asked first
 pub all_asked : (file : Option File) (rows : Rows) (caller : ℕ) (topic : Topic) → next file rows caller topic ≡ [] → AllByRecursion (IsKnown rows) (first_wants caller topic)
-all_asked file rows caller topic none = each_known rows (first_wants caller topic) (none_of_steps file rows caller topic none).0
+all_asked file rows caller topic none = each_known rows (first_wants caller topic) (none_of_steps rows (steps file rows caller topic) none).0
 
 -- and all that is asked by the change
 pub change_asked : (file : Option File) (rows : Rows) (caller : ℕ) (topic : Topic) → next file rows caller topic ≡ [] → AllByRecursion (IsKnown rows) (change_wants rows topic)
-change_asked file rows caller topic none = each_known rows (change_wants rows topic) (none_of_steps file rows caller topic none).1
+change_asked file rows caller topic none = each_known rows (change_wants rows topic) (none_of_steps rows (steps file rows caller topic) none).1.0
 
 -- and all that is asked by the file
 pub file_asked : (file : Option File) (rows : Rows) (caller : ℕ) (topic : Topic) → next file rows caller topic ≡ [] → AllByRecursion (IsKnown rows) (file_wants file caller topic)
-file_asked file rows caller topic none = each_known rows (file_wants file caller topic) (none_of_steps file rows caller topic none).2
+file_asked file rows caller topic none = each_known rows (file_wants file caller topic) (none_of_steps rows (steps file rows caller topic) none).1.1.0
 
 stays : (a b : Option Found) → is_some a ≡ true → option_or a b ≡ a
 stays None b e = absurd (cc)
@@ -104,62 +101,54 @@ same_wants rows more both caller (OfCommand (PutGroup group members)) added none
 same_wants rows more both caller (OfCommand (PutProject project text)) added none = refl
 same_wants rows more both caller (OfCommand (RecordBase project branch commit)) added none = refl
 same_wants rows more both caller (OfCommand (CreateChange new)) added none = refl
+same_wants rows more both caller (OfCommand (Submit change)) added none = refl
 same_wants rows more both caller (OfCommand (OnChange change command)) added none =
     ap (λ k. wants_by (request_wants command) (change_in k)) (known_stays rows more both (want.Change change) added (each_known rows (first_wants caller (OfCommand (OnChange change command))) none).1.1.1.0)
 
-at_most_one : (c : List Want) → left_where c 0 1 ≤ 1
-at_most_one [] = omega arith
-at_most_one (w ∷ ws) = omega arith
+-- steps of which each is the same in both where those before it were made
+abbrev pub AreSteps : Rows → List (List Want) → List (List Want) → Type 0
+AreSteps rows [] [] = Unit {0}
+AreSteps rows [] (y ∷ ys) = ⊥
+AreSteps rows (x ∷ xs) [] = ⊥
+AreSteps rows (x ∷ xs) (y ∷ ys) = (x ≡ y) × (length xs ≡ length ys) × (unknown rows x ≡ [] → AreSteps rows xs ys)
 
-at_most_two : (b c : List Want) → left_where b (left_where c 0 1) 2 ≤ 2
-at_most_two [] c = let one = at_most_one c in omega arith
-at_most_two (w ∷ ws) c = omega arith
+bounded : (u : List Want) (later most : ℕ) → later ≤ most → left_where u later (most + 1) ≤ most + 1
+bounded [] later most below = omega arith
+bounded (w ∷ ws) later most below = omega arith
+
+left_bounded : (rows : Rows) (xs : List (List Want)) → left_of rows xs ≤ length xs
+left_bounded rows [] = omega arith
+left_bounded rows (x ∷ xs) = let most = bounded (unknown rows x) (left_of rows xs) (length xs) (left_bounded rows xs) in omega arith
 
 -- the step that is asked leaves nothing of itself, and those before it have nothing left
-record AreLowered (a b c a2 b2 c2 : List Want) (asked : List Want) : Type 0 where
-  first : a ≡ asked → a2 ≡ []
-  first_none : a ≡ [] → a2 ≡ []
-  second : a ≡ [] → b ≡ asked → b2 ≡ []
-  second_none : a ≡ [] → b ≡ [] → b2 ≡ []
-  third : a ≡ [] → b ≡ [] → c ≡ asked → c2 ≡ []
+steps_lower : (rows more both : Rows) (w : Want) (ws : List Want) → AllByRecursion (IsKnown more) (w ∷ ws) → AreAdded rows more both →
+    (xs ys : List (List Want)) → AreSteps rows xs ys → next_of rows xs ≡ w ∷ ws → left_of both ys < left_of rows xs
+steps_lower rows more both w ws all added [] ys are is = absurd (cc)
+steps_lower rows more both w ws all added (x ∷ xs) [] are is = absurd are
+steps_lower rows more both w ws all added (x ∷ xs) (y ∷ ys) are is = at (unknown rows x) refl
+  where
+    now : unknown both x ≡ [] → left_of both (y ∷ ys) ≡ left_of both ys
+    now none = ap (λ s. left_where (unknown both s) (left_of both ys) (length ys + 1)) (sym are.0) ∙ ap (λ l. left_where l (left_of both ys) (length ys + 1)) none
 
-lower : (a b c a2 b2 c2 : List Want) (w : Want) (ws : List Want) → or_next a (or_next b (or_next c [])) ≡ w ∷ ws → AreLowered a b c a2 b2 c2 (w ∷ ws) →
-    left_where a2 (left_where b2 (left_where c2 0 1) 2) 3 < left_where a (left_where b (left_where c 0 1) 2) 3
-lower (x ∷ xs) b c a2 b2 c2 w ws is h =
-    let e = h.first is in let now : left_where a2 (left_where b2 (left_where c2 0 1) 2) 3 ≡ left_where b2 (left_where c2 0 1) 2 = ap (λ l. left_where l (left_where b2 (left_where c2 0 1) 2) 3) e in
-    let two = at_most_two b2 c2 in omega arith
-lower [] (x ∷ xs) c a2 b2 c2 w ws is h =
-    let now : left_where a2 (left_where b2 (left_where c2 0 1) 2) 3 ≡ left_where c2 0 1 =
-    ap (λ l. left_where l (left_where b2 (left_where c2 0 1) 2) 3) (h.first_none refl) ∙ ap (λ l. left_where l (left_where c2 0 1) 2) (h.second refl is) in
-    let one = at_most_one c2 in omega arith
-lower [] [] (x ∷ xs) a2 b2 c2 w ws is h =
-    let now : left_where a2 (left_where b2 (left_where c2 0 1) 2) 3 ≡ 0 =
-    ap (λ l. left_where l (left_where b2 (left_where c2 0 1) 2) 3) (h.first_none refl) ∙ ap (λ l. left_where l (left_where c2 0 1) 2) (h.second_none refl refl)
-    ∙ ap (λ l. left_where l 0 1) (h.third refl refl is) in
-    omega arith
-lower [] [] [] a2 b2 c2 w ws is h = absurd (cc)
+    at : (u : List Want) → unknown rows x ≡ u → left_of both (y ∷ ys) < left_of rows (x ∷ xs)
+    at [] none =
+        let later = steps_lower rows more both w ws all added xs ys (are.2 none) (sym (ap (λ l. or_next l (next_of rows xs)) none) ∙ is) in
+        let here = now (none_left rows more both x added (subst (AllByRecursion (IsKnown more)) (sym none) tt)) in
+        let there : left_of rows (x ∷ xs) ≡ left_of rows xs = ap (λ l. left_where l (left_of rows xs) (length xs + 1)) none in
+        omega arith
+    at (v ∷ vs) some =
+        let asked : unknown rows x ≡ w ∷ ws = some ∙ (sym (ap (λ l. or_next l (next_of rows xs)) some) ∙ is) in
+        let here = now (none_left rows more both x added (subst (AllByRecursion (IsKnown more)) (sym asked) all)) in
+        let there : left_of rows (x ∷ xs) ≡ length xs + 1 = ap (λ l. left_where l (left_of rows xs) (length xs + 1)) some in
+        let below = left_bounded both ys in
+        let same : length xs ≡ length ys = are.1 in
+        omega arith
 
 -- each step asks for what was not known, and lowers what is left
 pub asking_lowers : AskingLowers
 asking_lowers file rows more both caller topic w ws is all added =
-    lower (unknown rows (first_wants caller topic)) (unknown rows (change_wants rows topic)) (unknown rows (file_wants file caller topic))
-    (unknown both (first_wants caller topic)) (unknown both (change_wants both topic)) (unknown both (file_wants file caller topic)) w ws is
-    (record {
-      first = asked (first_wants caller topic);
-      first_none = kept (first_wants caller topic);
-      second = λ none e. changed none ∙ asked (change_wants rows topic) e;
-      second_none = λ none e. changed none ∙ kept (change_wants rows topic) e;
-      third = λ none after e. asked (file_wants file caller topic) e;
-    })
-  where
-    asked : (step : List Want) → unknown rows step ≡ w ∷ ws → unknown both step ≡ []
-    asked step e = none_left rows more both step added (subst (AllByRecursion (IsKnown more)) (sym e) (by_recursion (IsKnown more) (w ∷ ws) all))
-
-    kept : (step : List Want) → unknown rows step ≡ [] → unknown both step ≡ []
-    kept step e = none_left rows more both step added (subst (AllByRecursion (IsKnown more)) (sym e) tt)
-
-    changed : unknown rows (first_wants caller topic) ≡ [] → unknown both (change_wants both topic) ≡ unknown both (change_wants rows topic)
-    changed none = ap (unknown both) (same_wants rows more both caller topic added none)
+    steps_lower rows more both w ws (by_recursion (IsKnown more) (w ∷ ws) all) added (steps file rows caller topic) (steps file both caller topic)
+    (refl, refl, λ none. (sym (same_wants rows more both caller topic added none), refl, λ made. (refl, refl, λ asked. tt))) is
 
 unasked : (rows : Rows) (w : Want) → known rows w ≡ None → IsKnown rows w → ⊥
 unasked rows w none there = let e : false ≡ true = sym (ap is_some none) ∙ there in absurd (cc)

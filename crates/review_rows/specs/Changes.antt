@@ -1,5 +1,5 @@
--- The changes that a history makes.
-use Rattle.std.specs.Prelude.{ℕ, zero, suc, ◌+◌, ◌==◌, ◌&&◌, ◌||◌, Bool, false, List, [], ◌∷◌, Option, Some, None, if◌then◌else◌, unwrap_or, option_map, length}
+-- The changes that a history makes, and those that join its branches.
+use Rattle.std.specs.Prelude.{ℕ, zero, suc, ◌+◌, ◌==◌, ◌&&◌, ◌||◌, Bool, false, List, [], ◌∷◌, ◌++◌, Option, Some, None, if◌then◌else◌, unwrap_or, option_map, length}
 use Rattle.std.specs.BTreeMap.{insert_entry}
 use Rattle.std.specs.Cmp.Lexicographic.{slice_cmp}
 use Rattle.std.specs.List.{list_any}
@@ -15,7 +15,11 @@ use Rattle.review_expr.specs.declared.expr.Expr.{Expr}
 use Rattle.review_project.specs.Reading.{IsRead}
 use Rattle.review_project.specs.View.{FileView}
 use Rattle.review_words.specs.declared.command.ChangeCommand.{ChangeCommand}
-use Rattle.review_changes.specs.Change.{Change, Setting, after, begun}
+use Rattle.review_words.specs.declared.changes.NewChange.{NewChange}
+use Rattle.review_words.specs.declared.reply.Reply.{Reply}
+use Rattle.review_words.specs.declared.reply.Reply.TheVariants.{Done}
+use Rattle.review_words.specs.declared.reply.Answer.TheVariants.{Submitted}
+use Rattle.review_changes.specs.Change.{Change, Setting, after, begun, commit, joined_at}
 
 -- what is read of each text that spells a project file
 abbrev pub Reading : Type 0
@@ -59,6 +63,54 @@ abbrev pub change_count : List Entry → ℕ
 change_count [] = 0
 change_count (e ∷ h) = change_counted (accepted e) (change_count h)
 
+-- the new change of a number, once this command is done
+abbrev pub made_by : Option Command → ℕ → ℕ → Option NewChange → Option NewChange
+made_by (Some (asked.CreateChange new)) next n before = if next == n then Some new else before
+made_by _ next n before = before
+
+-- the new change of a number: what the accepted CreateChange of that number asked for
+abbrev pub made : List Entry → ℕ → Option NewChange
+made [] n = None
+made (e ∷ h) n = made_by (accepted e) (change_count h + 1) n (made h n)
+
+-- whether the change of a number was made for the branch
+abbrev pub is_made_for : List Entry → List ℕ → List ℕ → ℕ → Bool
+is_made_for h project branch n = option_map_or (λ new. bytes_eq new.project project && bytes_eq new.branch branch) (made h n) false
+
+-- the changes that an answer says have joined
+abbrev pub joined_in : Reply → List ℕ
+joined_in (Done (Submitted changes)) = changes
+joined_in _ = []
+
+-- the changes that joined by this command, where it is a submit that was answered so
+abbrev pub submitted : Option Command → Reply → List ℕ
+submitted (Some (asked.Submit n)) reply = joined_in reply
+submitted _ reply = []
+
+-- the changes that joined a branch by this command
+abbrev pub joined_by : List Entry → Option Command → Reply → List ℕ → List ℕ → List ℕ
+joined_by h (Some (asked.Submit n)) reply project branch = if is_made_for h project branch n then joined_in reply else []
+joined_by h _ reply project branch = []
+
+-- The changes that joined a branch, in the order of their places, which count from 1: what the accepted submits of changes for it answered.
+abbrev pub joined : List Entry → List ℕ → List ℕ → List ℕ
+joined [] project branch = []
+joined (e ∷ h) project branch = joined h project branch ++ joined_by h (accepted e) e.reply project branch
+
+-- the place of a change in a list, counted from 1
+abbrev pub place_in : List ℕ → ℕ → Option ℕ
+place_in [] n = None
+place_in (c ∷ cs) n = if c == n then Some 1 else option_map (λ k. k + 1) (place_in cs n)
+
+-- a change, where it is this one of those that join their branch: they get the places after those that joined before
+abbrev pub joining_at : List Entry → Option ℕ → Option Change → Option Change
+joining_at h None before = before
+joining_at h (Some place) before = option_map (λ c. joined_at (length (joined h c.project c.branch) + place) (length h + 1) c) before
+
+-- a change, where these changes join their branch
+abbrev pub joining : List Entry → List ℕ → ℕ → Option Change → Option Change
+joining h changes n before = joining_at h (place_in changes n) before
+
 -- what a command asks of a change, and of which
 abbrev pub asked_of : Command → Option (ℕ × ChangeCommand)
 asked_of (asked.OnChange change command) = Some (change, command)
@@ -76,10 +128,10 @@ change_by reading h caller None n before = before
 change_by reading h caller (Some (asked.CreateChange new)) n before = if change_count h + 1 == n then Some (begun new caller (length h + 1)) else before
 change_by reading h caller (Some command) n before = change_after reading h caller (asked_of command) n before
 
--- The change of a number: made by the accepted CreateChange of that number, and as each accepted request that names it leaves it.
+-- The change of a number: made by the accepted CreateChange of that number, and as each accepted request that names it, or makes it join its branch, leaves it.
 abbrev pub change : Reading → List Entry → ℕ → Option Change
 change reading [] n = None
-change reading (e ∷ h) n = change_by reading h e.identity.caller (accepted e) n (change reading h n)
+change reading (e ∷ h) n = joining h (submitted (accepted e) e.reply) n (change_by reading h e.identity.caller (accepted e) n (change reading h n))
 
 -- a change is for the branch
 abbrev pub is_for : List ℕ → List ℕ → Change → Bool

@@ -4,6 +4,7 @@ pub mod Rows
 pub mod Known
 pub mod Steps
 pub mod Changes
+pub mod Submits
 pub mod Answer
 pub mod Questions
 pub mod View

@@ -3,7 +3,7 @@ use Rattle.std.specs.Prelude.{ℕ, ◌+◌, ◌<◌, ◌≡◌, Option, Some, No
 use Rattle.std.specs.List.{All, filter}
 use Rattle.review_names.specs.Names.{administrators}
 use Rattle.review_words.specs.declared.command.Command.{Command}
-use Rattle.review_words.specs.declared.command.Command.TheVariants.{CreateAccount, PutGroup, PutProject, RecordBase, CreateChange, OnChange}
+use Rattle.review_words.specs.declared.command.Command.TheVariants.{CreateAccount, PutGroup, PutProject, RecordBase, CreateChange, OnChange, Submit}
 use Rattle.review_words.specs.declared.changes.Given.{Given}
 use Rattle.review_words.specs.declared.command.ChangeCommand.{ChangeCommand}
 use Rattle.review_words.specs.declared.command.ChangeCommand.TheVariants.{Upload, Review, AddReviewer, RemoveReviewer, Abandon, Restore, AddAttention, RemoveAttention}
@@ -66,6 +66,7 @@ command_wants (RecordBase project branch commit) =
 command_wants (CreateChange new) =
     want.LastPlace (record { project = new.project; branch = new.branch }) ∷ want.LastChange ∷ patch_wants new.project new.branch new.commit new.parent
 command_wants (OnChange change command) = want.Change change ∷ map want.Account (named_in command)
+command_wants (Submit change) = want.Change change ∷ []
 
 -- what a question asks
 abbrev pub query_wants : ℕ → Query → List Want
@@ -144,6 +145,7 @@ abbrev pub project_of : Rows → Topic → Option (List ℕ)
 project_of rows (OfCommand (PutProject project text)) = Some project
 project_of rows (OfCommand (CreateChange new)) = Some new.project
 project_of rows (OfCommand (OnChange change command)) = option_map (λ c. c.project) (change_in (known rows (want.Change change)))
+project_of rows (OfCommand (Submit change)) = option_map (λ c. c.project) (change_in (known rows (want.Change change)))
 project_of rows (OfQuery (asked.OnChange change query)) = option_map (λ c. c.project) (change_in (known rows (want.Change change)))
 project_of rows topic = None
 

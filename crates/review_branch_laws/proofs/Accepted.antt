@@ -1,0 +1,65 @@
+-- What an accepted submit joins.
+use Rattle.std.proofs.Common.{◌≡◌, ◌⊎◌, ℕ, List, [], ◌∷◌, Option, Some, None, Bool, true, false, not, refl, subst, inl, inr}
+use Rattle.std.specs.Prelude.{MatchOption}
+use Rattle.std.specs.List.{AllByRecursion}
+use Rattle.review_words.specs.History.{Entry, is_account}
+use Rattle.review_words.specs.declared.command.Command.TheVariants.{Submit}
+use Rattle.review_words.specs.declared.reply.Answer.{Answer}
+use Rattle.review_words.specs.declared.reply.Answer.TheVariants.{Submitted}
+use Rattle.review_words.specs.declared.reply.Refusal.{Refusal}
+use Rattle.review_words.specs.declared.reply.Refusal.TheVariants.{UnknownCaller}
+use Rattle.review_words.specs.declared.reply.Reply.TheVariants.{Done, Refused}
+use Rattle.review_chain.specs.Walks.{IsChain}
+use Rattle.review_changes.specs.Change.{Change, is_open}
+use Rattle.review_changes.specs.Facts.{IsFirstUnsatisfied}
+use Rattle.review_rows.specs.Answer.{IsAnswerBy, IsOutcome, checks, of_change, refused_by, submit_checks}
+use Rattle.review_rows.specs.Changes.{Reading, change}
+use Rattle.review_rows.specs.Submits.{IsOf, IsSubmitAnswer, branch_after, checked_reply, judged_after}
+use Rattle.review_change_laws.proofs.Sound.{Passes, all_pass, done_passes}
+
+-- A submit was accepted: its change was open and not in work in progress, its chain joined, and no requirement of a change of it was unsatisfied.
+pub record IsAccepted (reading : Reading) (h : List Entry) (m : ℕ) (a : Answer) : Type 0 where
+  pub of : Change
+  pub there : change reading h m ≡ Some of
+  pub was_open : is_open of.state ≡ true
+  pub was_ready : of.wip ≡ false
+  pub chain : List ℕ
+  pub is_chain : IsChain (branch_after reading h of.project of.branch) chain m
+  pub satisfied : IsFirstUnsatisfied (judged_after reading h) chain None
+  pub told : a ≡ Submitted chain
+
+not_true : (b : Bool) → not b ≡ true → b ≡ false
+not_true true e = absurd (cc)
+not_true false e = refl
+
+none_found : (chain : List ℕ) (found : Option (ℕ × List ℕ)) (a : Answer) → Done a ≡ checked_reply chain found → (found ≡ None) × (a ≡ Submitted chain)
+none_found chain None a is = let same : a ≡ Submitted chain = cc in (refl, same)
+none_found chain (Some found) a is = absurd (cc)
+
+accepted_of : (reading : Reading) (h : List Entry) (caller m : ℕ) (o : Option Change) (a : Answer) → change reading h m ≡ o → AllByRecursion Passes (of_change (submit_checks reading h caller) o) →
+    IsOf (λ c. IsSubmitAnswer reading h m c (Done a)) o → IsAccepted reading h m a
+accepted_of reading h caller m None a there pass told = absurd told
+accepted_of reading h caller m (Some c) a there pass (inl bad) = let e : Done a ≡ Refused bad.refusal = bad.reply_is in absurd (cc)
+accepted_of reading h caller m (Some c) a there pass (inr good) =
+    let none = none_found good.chain good.found a good.reply_is in
+    record {
+      of = c;
+      there = there;
+      was_open = pass.1.0;
+      was_ready = not_true c.wip pass.1.1.0;
+      chain = good.chain;
+      is_chain = good.is_chain;
+      satisfied = subst (IsFirstUnsatisfied (judged_after reading h) good.chain) none.0 good.checked;
+      told = none.1;
+    }
+
+-- an answer that is no refusal is given where no check refuses
+not_refused : {A : Type 0} (o : Option Refusal) (a : Answer) → MatchOption o A (λ r. Done a ≡ Refused r) → A
+not_refused None a outcome = outcome
+not_refused (Some r) a refused = absurd (cc)
+
+pub submit_accepted : (reading : Reading) (h : List Entry) (caller m : ℕ) (a : Answer) → IsAnswerBy reading h caller (Submit m) (Done a) → IsAccepted reading h m a
+submit_accepted reading h caller m a answer =
+    let none = done_passes reading h caller (Submit m) a answer in
+    let pass = (all_pass ((is_account h caller, UnknownCaller) ∷ checks reading h caller (Submit m)) none).1 in
+    accepted_of reading h caller m (change reading h m) a refl pass (not_refused {A = IsOutcome reading h caller (Submit m) (Done a)} (refused_by reading h caller (Submit m)) a answer)

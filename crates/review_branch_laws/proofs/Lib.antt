@@ -1,0 +1,4 @@
+pub mod Made
+pub mod Accepted
+pub mod Places
+pub mod Placed

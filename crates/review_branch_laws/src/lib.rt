@@ -1,0 +1,6 @@
+//! Laws of the changes that joined a branch, as contracts of calls that do nothing.
+#![tactic(auto)]
+
+pub mod laws;
+
+pub use laws::places_are_kept;
