@@ -8,3 +8,9 @@ pub mod Sending
 pub mod Left
 pub mod Ordered
 pub mod Shown
+pub mod Puts
+pub mod Placed
+pub mod Merged
+pub mod Joined
+pub mod Parents
+pub mod Listed

@@ -13,6 +13,6 @@ pub mod shelf;
 pub use matter::Matter;
 pub use rows::{
     Base, BaseRow, BranchKey, ChangeEdit, Counted, Delta, Kept, MemberKey, Need, ProjectRow, Rows,
-    Want,
+    Standing, Want,
 };
 pub use shelf::{Shelf, ShelfFault};

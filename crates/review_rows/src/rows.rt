@@ -5,7 +5,7 @@ use review_changes::{Called, ChangeRows, CommentRow, Header, PatchRow, Vote, Vot
 use review_table::{Change, Key, Table};
 use review_words::{
     AccountName, AccountNo, Bases, BranchName, ChangeNo, CommentNo, CommitName, FileText,
-    GroupName, PatchNo, ProjectName, RequestId, Role,
+    GroupName, JoinedChange, Listed, PatchNo, ProjectName, RequestId, Role,
 };
 use std::alloc::{AllocError, Global};
 
@@ -99,6 +99,17 @@ pub enum Counted {
     BasesOf(ProjectName),
 }
 
+/// What a commit is in a branch.
+#[derive(Clone, Copy, Debug, PartialEq, Eq, Drop)]
+pub enum Standing {
+    /// It is in the branch: a base, or the current commit of a merged change for the branch.
+    InBranch,
+    /// It isn't in the branch, but that of a patch set of this change for the branch.
+    SentFor(ChangeNo),
+    /// It is neither.
+    Unknown,
+}
+
 /// One look-up. Each is by a full key or by the front of one, but for the greatest numbers and for whether a count has reached its limit, of
 /// which a shelf may know more than its rows: none needs a walk over a table.
 #[derive(Debug, Drop)]
@@ -133,6 +144,12 @@ pub enum Want {
     ChangeOf(Base),
     /// The greatest number of a change.
     LastChange,
+    /// The last place that a change joined a branch at.
+    LastJoined(BranchKey),
+    /// What the parent of a change's current patch set is in the branch of the change.
+    Standing(ChangeNo),
+    /// The changes that joined a branch.
+    Joined(BranchKey),
 }
 
 /// What a load asks for.
@@ -163,6 +180,12 @@ pub struct Rows {
     pub senders: Table<Base, Option<ChangeNo>>,
     /// The greatest number of a change; 0 where there is none.
     pub last_change: Option<u32>,
+    /// The last place that a change joined a branch at; 0 where none did.
+    pub last_joined: Table<BranchKey, u32>,
+    /// What the parent of a change's current patch set is in the branch of the change; none where there is no such change.
+    pub standings: Table<ChangeNo, Option<Standing>>,
+    /// The changes that joined a branch, in the order of their places.
+    pub joined: Table<BranchKey, Listed<JoinedChange>>,
 }
 
 /// What a request changes: for each key that it names a new row, or none; the file of a project, a base of a branch, and the rows of
