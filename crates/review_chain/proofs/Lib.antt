@@ -2,6 +2,5 @@ pub mod Before
 pub mod Walking
 pub mod Parting
 pub mod LookingUp
-pub mod Learning
 pub mod Fronts
 pub mod Placing

@@ -23,7 +23,7 @@ IsFault b c fault = (walk : List ℕ) × IsBadLink b walk c fault
 -- what the code says is wanted
 abbrev pub want_of : LookUp → Want
 want_of (LookUpChange d) = TheChange d
-want_of (LookUpCommit x) = TheCommit x.now
+want_of (LookUpCommit x) = TheCommit x
 
 -- what stands before the first change of a walk: the branch, a change, a bad link, or something that isn't known
 pub data Before : Type 0 where

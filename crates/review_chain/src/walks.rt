@@ -1,6 +1,5 @@
 //! The chain of a change, and what has to be looked up to find it.
 ghost use Rattle.std.specs.Prelude.{◌≡◌, ◌≤◌, ◌==◌, ℕ, List, Option, None, IfOk, IfErr, IfSome, IfNone};
-ghost use Rattle.review_chain.specs.Branches.{known};
 ghost use Rattle.review_chain.specs.Walks.{IsChain, patch_set_fault};
 ghost use Rattle.review_chain.specs.Parts.{IsDecided, IsWanted};
 ghost use Rattle.review_chain.specs.Steps.{IsFault, before, before_change, before_of, before_parent, want_of};
@@ -51,28 +50,28 @@ impl<T: Drop> From<AllocFailed<T>> for ChainFault {
 }
 
 /// What has to be looked up.
-#[derive(Clone, Copy)]
-pub enum LookUp<'a> {
+#[derive(Debug, PartialEq, Eq, Drop)]
+pub enum LookUp {
     /// The link of a change.
     Change(ChangeNo),
     /// What a commit is to the branch.
-    Commit(&'a CommitName),
+    Commit(CommitName),
 }
 
 /// What stands before the first change of a walk.
-#[derive(Clone, Copy)]
-enum Step<'a> {
+#[derive(Drop)]
+enum Step {
     AtBase,
     At(ChangeNo),
     AtFault(ChainFault),
-    AtUnknown(LookUp<'a>),
+    AtUnknown(LookUp),
 }
 
 // What is wrong with a patch set of a change as a link.
 fn patch_set_fault(patch: PatchNo, link: &Link) -> Option<ChainFault>
     ensures { result ≡ patch_set_fault patch link.now }
 {
-    if patch != link.patch {
+    if patch.get() as usize != link.patch {
         return Some(ChainFault::Outdated);
     }
     match link.state {
@@ -84,12 +83,12 @@ fn patch_set_fault(patch: PatchNo, link: &Link) -> Option<ChainFault>
 }
 
 // What stands before, where it is a patch set of a change.
-fn before_change<'a>(links: &'a Links, change: ChangeNo, patch: PatchNo) -> Step<'a>
-    ensures { before_of result ≡ before_change change patch ((known links.now).link change) }
+fn before_change<L: Links>(links: &L, change: ChangeNo, patch: PatchNo) -> Step
+    ensures { before_of result ≡ before_change change patch ((L.known links.now).link change) }
 {
-    match links.changes.get(&change) {
+    match links.link(change) {
         None => Step::AtUnknown(LookUp::Change(change)),
-        Some(link) => match patch_set_fault(patch, link) {
+        Some(link) => match patch_set_fault(patch, &link) {
             None => Step::At(change),
             Some(fault) => Step::AtFault(fault),
         },
@@ -97,10 +96,10 @@ fn before_change<'a>(links: &'a Links, change: ChangeNo, patch: PatchNo) -> Step
 }
 
 // What stands before a walk of so many changes whose first has this parent.
-fn before_parent<'a>(links: &'a Links, count: usize, parent: &'a CommitName) -> Step<'a>
-    ensures { before_of result ≡ before_parent (known links.now) count parent.now ((known links.now).standing parent.now) }
+fn before_parent<L: Links>(links: &L, count: usize, parent: CommitName) -> Step
+    ensures { before_of result ≡ before_parent (L.known links.now) count parent ((L.known links.now).standing parent) }
 {
-    match links.commits.get(parent) {
+    match links.standing(&parent) {
         None => Step::AtUnknown(LookUp::Commit(parent)),
         Some(Standing::InBranch) => Step::AtBase,
         Some(Standing::Nowhere) => Step::AtFault(ChainFault::Broken),
@@ -108,27 +107,27 @@ fn before_parent<'a>(links: &'a Links, count: usize, parent: &'a CommitName) -> 
             if count == 100 {
                 Step::AtFault(ChainFault::TooLong)
             } else {
-                before_change(links, *change, *patch)
+                before_change(links, change, patch)
             }
         }
     }
 }
 
 // What stands before a walk of so many changes that begins at a change.
-fn before<'a>(links: &'a Links, count: usize, first: ChangeNo) -> Step<'a>
-    ensures { before_of result ≡ before (known links.now) count first }
+fn before<L: Links>(links: &L, count: usize, first: ChangeNo) -> Step
+    ensures { before_of result ≡ before (L.known links.now) count first }
 {
-    match links.changes.get(&first) {
+    match links.link(first) {
         None => Step::AtUnknown(LookUp::Change(first)),
-        Some(link) => before_parent(links, count, &link.parent),
+        Some(link) => before_parent(links, count, link.parent),
     }
 }
 
 /// The chain of a change, ancestors first and the change last, or its fault: the name of its bad link, that something isn't known, or want of
 /// memory. A change has at most one chain or bad link (`only_one_chain`), and where all is known one of the two (`each_has_one`).
-pub fn chain(alloc: Global, links: &Links, change: ChangeNo) -> Result<Vec<ChangeNo>, ChainFault>
-    ensures chain { IfOk result (λ walk. IsChain (known links.now) walk.items change) }
-    ensures fault { IfErr result (IsFault (known links.now) change) }
+pub fn chain<L: Links>(alloc: Global, links: &L, change: ChangeNo) -> Result<Vec<ChangeNo>, ChainFault>
+    ensures chain { IfOk result (λ walk. IsChain (L.known links.now) walk.items change) }
+    ensures fault { IfErr result (IsFault (L.known links.now) change) }
 {
     let mut walk = Vec::new(alloc);
     walk.push(change)?;
@@ -148,9 +147,9 @@ pub fn chain(alloc: Global, links: &Links, change: ChangeNo) -> Result<Vec<Chang
 
 /// What has to be looked up next to find the chain of a change, or none where the links decide its chain or its bad link. After at most 200
 /// look-ups nothing is wanted (`look_ups_end`). It takes no memory.
-pub fn wanted<'a>(links: &'a Links, change: ChangeNo) -> Option<LookUp<'a>>
-    ensures some { IfSome result (λ w. (walk : List ℕ) × IsWanted (known links.now) walk change (want_of w)) }
-    ensures none { IfNone result (IsDecided (known links.now) change) }
+pub fn wanted<L: Links>(links: &L, change: ChangeNo) -> Option<LookUp>
+    ensures some { IfSome result (λ w. (walk : List ℕ) × IsWanted (L.known links.now) walk change (want_of w)) }
+    ensures none { IfNone result (IsDecided (L.known links.now) change) }
 {
     let mut first = change;
     'back: for count in 1..101 {

@@ -1,12 +1,11 @@
 use Rattle.std.proofs.Common.{◌≡◌, ◌≤◌, List, ℕ, length}
-use Rattle.review_chain.specs.Branches.{known}
 use Rattle.review_chain.specs.Walks.{IsWalk, first_of}
 use Rattle.review_chain.proofs.walks.wanted.Given as goal
 
 abbrev pub invariant-back : goal.invariant-back
-invariant-back l = record {
+invariant-back g l = record {
   walk : List ℕ;
-  walks : IsWalk (known l.links) walk l.fn.change;
+  walks : IsWalk (g.L.Links.known l.links) walk l.fn.change;
   counted : length walk ≡ l.count;
   short : l.count ≤ 100;
   begins : first_of walk ≡ l.first;
