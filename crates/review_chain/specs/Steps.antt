@@ -62,6 +62,22 @@ before_link b n c (Some l) = before_parent b n l.parent (b.standing l.parent)
 abbrev pub before : Branch → ℕ → ℕ → Before
 before b n c = before_link b n c (b.link c)
 
+-- what is wanted, by what stands before
+abbrev pub wanted_by : Before → (ℕ → Option Want) → Option Want
+wanted_by TheBase further = None
+wanted_by (Change d) further = further d
+wanted_by (Bad fault) further = None
+wanted_by (Wants want) further = Some want
+
+-- what is wanted from a change on, before which so many may stand
+unfoldable pub wanted_from : Branch → ℕ → ℕ → Option Want
+wanted_from b zero c = wanted_by (before b most_changes c) (λ d. None)
+wanted_from b (suc more) c = wanted_by (before b (most_changes - suc more) c) (λ d. wanted_from b more d)
+
+-- What is wanted for the chain of a change: what the walk from it needs to go on, and isn't known.
+abbrev pub wanted : Branch → ℕ → Option Want
+wanted b c = wanted_from b 99 c
+
 -- how many look-ups may be made where twice as many as this come with the changes further back, by what stands before
 abbrev pub left_by : ℕ → Before → (ℕ → ℕ) → ℕ
 left_by twice TheBase further = 0

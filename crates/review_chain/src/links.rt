@@ -1,7 +1,8 @@
 //! What is known of the changes for a branch.
-ghost use Rattle.std.specs.Prelude.{◌≡◌};
+ghost use Rattle.std.specs.Prelude.{◌≡◌, IfOk};
 
 use review_words::{ChangeNo, CommitName, PatchNo, State};
+use std::alloc::{AllocError, Global};
 
 /// A change as a chain sees it.
 #[derive(Drop)]
@@ -33,11 +34,11 @@ pub trait Links {
     /// What is known of the branch.
     ghost known: { Self → Branch };
 
-    /// The link of a change, where it is known.
-    fn link(&self, change: ChangeNo) -> Option<Link>
-        ensures { result ≡ (known self.now).link change };
+    /// The link of a change, where it is known. An error is want of memory.
+    fn link(&self, alloc: Global, change: ChangeNo) -> Result<Option<Link>, AllocError>
+        ensures { IfOk result (λ link. link ≡ (known self.now).link change) };
 
-    /// What a commit is to the branch, where that is known.
-    fn standing(&self, commit: &CommitName) -> Option<Standing>
-        ensures { result ≡ (known self.now).standing commit.now };
+    /// What a commit is to the branch, where that is known. An error is want of memory.
+    fn standing(&self, alloc: Global, commit: &CommitName) -> Result<Option<Standing>, AllocError>
+        ensures { IfOk result (λ standing. standing ≡ (known self.now).standing commit.now) };
 }

@@ -21,7 +21,7 @@ use Rattle.review_rows.specs.declared.rows.MemberKey.{MemberKey as Member}
 use Rattle.review_rows.specs.declared.rows.BranchKey.{BranchKey as Branch}
 use Rattle.review_rows.specs.declared.rows.Base.{Base}
 use Rattle.review_rows.specs.declared.rows.Counted.TheVariants as counted
-use Rattle.review_rows.specs.declared.rows.Standing.{Standing}
+use Rattle.review_chain.specs.declared.links.Standing.{Standing}
 use Rattle.review_rows.specs.declared.rows.Want.{Want}
 use Rattle.review_rows.specs.declared.rows.Want.TheVariants as want
 use Rattle.review_rows.specs.declared.rows.Rows.{Rows}
@@ -237,11 +237,11 @@ learns_last_joined old t key row with = record { here = learned_here branch_tota
     others (want.Room (counted.BasesOf q)) = inl refl
     others w = inl refl
 
-pub learns_standing : (old : Rows) (t : List (ℕ × Option (Option Standing))) (key : ℕ) (row : Option Standing) → WithRow nat_cmp old.standings key row t → Learns (want.Standing key) (Stands row) old (record old { standings = t })
-learns_standing old t key row with = record { here = learned_here nat_cmp_total Stands old.standings t key row with; others = others }
+pub learns_standing : (old : Rows) (t : List (Base × Option Standing)) (key : Base) (row : Standing) → WithRow base_cmp old.standings key row t → Learns (want.Standing key) (Stands row) old (record old { standings = t })
+learns_standing old t key row with = record { here = learned_here base_total Stands old.standings t key row with; others = others }
   where
     others : (w : Want) → (known (record old { standings = t }) w ≡ known old w) ⊎ ((w ≡ (want.Standing key)) × (known (record old { standings = t }) w ≡ Some (Stands row)))
-    others (want.Standing q) = learned_there exact_unsigned Stands (λ x. (want.Standing x)) old.standings t key row with q
+    others (want.Standing q) = learned_there exact_base Stands (λ x. (want.Standing x)) old.standings t key row with q
     others (want.Room counted.Projects) = inl refl
     others (want.Room (counted.BasesOf q)) = inl refl
     others w = inl refl

@@ -6,6 +6,8 @@ use Rattle.std.specs.Ordering.{nat_cmp}
 use Rattle.std.specs.Cmp.Lexicographic.{slice_cmp}
 use Rattle.review_words.specs.declared.shown.JoinedChange.{JoinedChange}
 use Rattle.review_words.specs.declared.shown.State.TheVariants.{Merged}
+use Rattle.review_chain.specs.declared.links.Standing.{Standing}
+use Rattle.review_chain.specs.declared.links.Standing.TheVariants.{InBranch, PatchSet, Nowhere}
 use Rattle.review_table.specs.Rows.{row_in, rows_of}
 use Rattle.review_changes.specs.Change.{Change}
 use Rattle.review_changes.specs.Parts.{Part, TheHeader, PatchOf, PartRow, AHeader, APatch, part_row}
@@ -16,15 +18,13 @@ use Rattle.review_rows.specs.declared.rows.BranchKey.{BranchKey as Branch}
 use Rattle.review_rows.specs.declared.rows.Base.{Base}
 use Rattle.review_rows.specs.declared.rows.Counted.{Counted}
 use Rattle.review_rows.specs.declared.rows.Counted.TheVariants as counted
-use Rattle.review_rows.specs.declared.rows.Standing.{Standing}
-use Rattle.review_rows.specs.declared.rows.Standing.TheVariants.{InBranch, SentFor, Unknown}
 use Rattle.review_rows.specs.declared.rows.Want.{Want}
 use Rattle.review_rows.specs.declared.rows.Want.TheVariants as want
 use Rattle.review_rows.specs.declared.rows.Rows.{Rows}
 use Rattle.review_rows.specs.Limits.{most_projects, most_bases}
 use Rattle.review_rows.specs.Rows.{Key, AccountKey, MemberKey, FileKey, BaseKey, PartKey, APart, Row, AccountRow, MemberRow, FileRow, BaseRow, Count, Projects, BasesOf, Tables, member_cmp, branch_cmp, base_cmp, member_row}
 
--- what a look-up finds, by its kind: a number, an account's name, the account or the change that was looked for, whether something is so, the members of a group, a project's text, the bases of a branch, a change, what a commit is in a branch, the changes that joined a branch
+-- what a look-up finds, by its kind: a number, an account's name, the account or the change that was looked for, whether something is so, the members of a group, a project's text, the bases of a branch, a change, what a commit is to a branch, the changes that joined a branch
 pub data Found : Type 0 where
   Number : ℕ → Found
   Name : Option (List ℕ) → Found
@@ -34,7 +34,7 @@ pub data Found : Type 0 where
   Text : Option (List ℕ) → Found
   Commits : List (List ℕ) → Found
   AChange : Option Change → Found
-  Stands : Option Standing → Found
+  Stands : Standing → Found
   Joins : List JoinedChange → Found
 
 -- the account of a number has the name
@@ -134,24 +134,11 @@ pub record IsMergedWith (row : Key → Option Row) (base : Base) (n : ℕ) : Typ
 abbrev pub IsInBranch : (Key → Option Row) → Base → Type 0
 IsInBranch row base = IsBaseOrNot row base true ⊎ ((n : ℕ) × IsMergedWith row base n)
 
--- what the commit is in the branch: in it, or else that of a patch set of a change for the branch, or else unknown
+-- what the commit is to the branch: in it, or else that of a patch set of a change for it, or else neither
 abbrev pub StandsAs : (Key → Option Row) → Base → Standing → Type 0
 StandsAs row base InBranch = IsInBranch row base
-StandsAs row base (SentFor n) = (IsInBranch row base → ⊥) × IsSender row base n
-StandsAs row base Unknown = (IsInBranch row base → ⊥) × IsSentBy row base None
-
--- the change of a number has a header and a current patch set, and the parent of that patch set is this commit in the branch of the change
-pub record IsOnParent (row : Key → Option Row) (n : ℕ) (parent : Base) : Type 0 where
-  pub header : Header
-  pub stands : row (header_key n) ≡ Some (APart (AHeader header))
-  pub patch : PatchRow
-  pub current : IsCurrent row n patch
-  pub is : parent ≡ record { project = header.project; branch = header.branch; commit = patch.parent }
-
--- what the parent of the current patch set of a change is in the branch of the change, or none where there is no such change
-abbrev pub IsStanding : (Key → Option Row) → ℕ → Option Standing → Type 0
-IsStanding row n (Some standing) = (parent : Base) × IsOnParent row n parent × StandsAs row parent standing
-IsStanding row n None = (parent : Base) → IsOnParent row n parent → ⊥
+StandsAs row base (PatchSet n k) = (IsInBranch row base → ⊥) × (sent : IsSender row base n) × (sent.number ≡ k)
+StandsAs row base Nowhere = (IsInBranch row base → ⊥) × IsSentBy row base None
 
 -- the change joined the branch at the place, from 1, and the commit is its current one
 pub record IsJoinedAt (row : Key → Option Row) (key : Branch) (place : ℕ) (joined : JoinedChange) : Type 0 where
@@ -203,7 +190,7 @@ IsFound t (want.Change n) = Finds AChange (HasChange t.row n)
 IsFound t (want.ChangeOf base) = Finds Holder (IsSentBy t.row base)
 IsFound t want.LastChange = Finds Number (IsLast header_key t.row)
 IsFound t (want.LastJoined key) = Finds Number (IsLastJoined t.row key)
-IsFound t (want.Standing n) = Finds Stands (IsStanding t.row n)
+IsFound t (want.Standing base) = Finds Stands (StandsAs t.row base)
 IsFound t (want.Joined key) = Finds Joins (HaveJoined t.row key)
 
 -- What rows know of a look-up: nothing where it wasn't made, and otherwise what it found.
@@ -225,7 +212,7 @@ known rows (want.Change n) = option_map (λ c. AChange (option_map (λ r. seen r
 known rows (want.ChangeOf base) = option_map Holder (row_in base_cmp (rows_of rows.senders) base)
 known rows want.LastChange = option_map Number rows.last_change
 known rows (want.LastJoined key) = option_map Number (row_in branch_cmp (rows_of rows.last_joined) key)
-known rows (want.Standing n) = option_map Stands (row_in nat_cmp (rows_of rows.standings) n)
+known rows (want.Standing base) = option_map Stands (row_in base_cmp (rows_of rows.standings) base)
 known rows (want.Joined key) = option_map Joins (row_in branch_cmp (rows_of rows.joined) key)
 
 -- what rows know is so in these tables
@@ -285,9 +272,9 @@ abbrev pub change_in : Option Found → Option Change
 change_in (Some (AChange c)) = c
 change_in found = None
 
--- what a commit is found to be in a branch
+-- what a commit is found to be to a branch
 abbrev pub standing_of : Option Found → Option Standing
-standing_of (Some (Stands standing)) = standing
+standing_of (Some (Stands standing)) = Some standing
 standing_of found = None
 
 -- the changes that are found to have joined a branch

@@ -8,7 +8,8 @@ ghost use Rattle.review_rows.specs.declared.rows.Counted.TheVariants as counted;
 ghost use Rattle.review_rows.specs.Known.{known, AreAdded, is_so, is_there, number_of, holder_of, members_of, text_of, commits_of, change_in, standing_of, joined_of};
 ghost use Rattle.review_changes.specs.Seen.{seen};
 
-use crate::rows::{Base, BranchKey, Counted, MemberKey, Rows, Standing, Want};
+use crate::rows::{Base, BranchKey, Counted, MemberKey, Rows, Want};
+use review_chain::Standing;
 use review_changes::ChangeRows;
 use review_table::{Key, Table};
 use review_words::{
@@ -66,7 +67,7 @@ impl Rows {
             Want::ChangeOf(commit) => self.senders.get(commit).is_some(),
             Want::LastChange => self.last_change.is_some(),
             Want::LastJoined(branch) => self.last_joined.get(branch).is_some(),
-            Want::Standing(number) => self.standings.get(number).is_some(),
+            Want::Standing(commit) => self.standings.get(commit).is_some(),
             Want::Joined(branch) => self.joined.get(branch).is_some(),
         }
     }
@@ -234,14 +235,11 @@ impl Rows {
         }
     }
 
-    /// What the parent of a change's current patch set is known to be in the branch of the change.
-    pub fn standing(&self, number: ChangeNo) -> Option<Standing>
-        ensures { result ≡ standing_of (known self.now (want.Standing number)) }
+    /// What a commit is known to be to a branch.
+    pub fn standing(&self, commit: &Base) -> Option<Standing>
+        ensures { result ≡ standing_of (known self.now (want.Standing commit.now)) }
     {
-        match self.standings.get(&number) {
-            Some(standing) => *standing,
-            None => None,
-        }
+        self.standings.get(commit).copied()
     }
 
     /// The changes that joined a branch, where they are known.

@@ -6,7 +6,8 @@ ghost use Rattle.review_rows.specs.declared.rows.Counted.TheVariants as counted;
 ghost use Rattle.review_rows.specs.Known.{Number, Name, Holder, IsSo, Members, Text, Commits, AChange, Stands, Joins, Learns};
 ghost use Rattle.review_changes.specs.Seen.{seen};
 
-use crate::rows::{Base, BranchKey, MemberKey, Rows, Standing};
+use crate::rows::{Base, BranchKey, MemberKey, Rows};
+use review_chain::Standing;
 use review_changes::ChangeRows;
 use review_table::Table;
 use review_words::{
@@ -171,15 +172,11 @@ impl Rows {
         Ok(())
     }
 
-    /// What the parent of a change's current patch set is in the branch of the change, or that there is no such change.
-    pub fn learn_standing(
-        &mut self,
-        number: ChangeNo,
-        standing: Option<Standing>,
-    ) -> Result<(), AllocError>
-        ensures { OnOk result (Learns (want.Standing number) (Stands standing) self.old self.new) }
+    /// What a commit is to a branch.
+    pub fn learn_standing(&mut self, commit: Base, standing: Standing) -> Result<(), AllocError>
+        ensures { OnOk result (Learns (want.Standing commit) (Stands standing) self.old self.new) }
     {
-        self.standings.put(number, standing)?;
+        self.standings.put(commit, standing)?;
         Ok(())
     }
 

@@ -1,6 +1,7 @@
 //! Typed rows, what may be asked of tables, and what is known of them.
 ghost use Rattle.std.specs.Prelude.{◌≡◌, IfOk};
 
+use review_chain::Standing;
 use review_changes::{Called, ChangeRows, CommentRow, Header, PatchRow, Vote, VoteKey};
 use review_table::{Change, Key, Table};
 use review_words::{
@@ -99,17 +100,6 @@ pub enum Counted {
     BasesOf(ProjectName),
 }
 
-/// What a commit is in a branch.
-#[derive(Clone, Copy, Debug, PartialEq, Eq, Drop)]
-pub enum Standing {
-    /// It is in the branch: a base, or the current commit of a merged change for the branch.
-    InBranch,
-    /// It isn't in the branch, but that of a patch set of this change for the branch.
-    SentFor(ChangeNo),
-    /// It is neither.
-    Unknown,
-}
-
 /// One look-up. Each is by a full key or by the front of one, but for the greatest numbers and for whether a count has reached its limit, of
 /// which a shelf may know more than its rows: none needs a walk over a table.
 #[derive(Debug, Drop)]
@@ -146,8 +136,8 @@ pub enum Want {
     LastChange,
     /// The last place that a change joined a branch at.
     LastJoined(BranchKey),
-    /// What the parent of a change's current patch set is in the branch of the change.
-    Standing(ChangeNo),
+    /// What a commit is to a branch.
+    Standing(Base),
     /// The changes that joined a branch.
     Joined(BranchKey),
 }
@@ -182,8 +172,7 @@ pub struct Rows {
     pub last_change: Option<u32>,
     /// The last place that a change joined a branch at; 0 where none did.
     pub last_joined: Table<BranchKey, u32>,
-    /// What the parent of a change's current patch set is in the branch of the change; none where there is no such change.
-    pub standings: Table<ChangeNo, Option<Standing>>,
+    pub standings: Table<Base, Standing>,
     /// The changes that joined a branch, in the order of their places.
     pub joined: Table<BranchKey, Listed<JoinedChange>>,
 }
