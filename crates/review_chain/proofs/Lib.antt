@@ -1,7 +1,7 @@
 pub mod Before
 pub mod Walking
-pub mod Wanting
 pub mod Parting
+pub mod Wanting
 pub mod LookingUp
 pub mod Fronts
 pub mod Placing

@@ -1,14 +1,16 @@
 -- What is wanted for the chain of a change, as a value.
-use Rattle.std.proofs.Common.{◌≡◌, ℕ, zero, suc, ◌+◌, ◌-◌, ◌<◌, ◌≤◌, true, false, List, [], ◌∷◌, length, Option, Some, None, refl, sym, ap, ◌∙◌, subst, arith}
+use Rattle.std.proofs.Common.{◌≡◌, ℕ, zero, suc, ◌+◌, ◌-◌, ◌<◌, ◌≤◌, true, false, List, [], ◌∷◌, length, Option, Some, None, ◌⊎◌, inl, inr, refl, sym, ap, ◌∙◌, subst, arith}
 use Rattle.std.specs.Prelude.{◌==◌}
 use Rattle.std.proofs.lemmas.Bool.{false≢true}
 use Rattle.std.proofs.lemmas.Bool.Decides.{nat_tests}
 use Rattle.review_chain.specs.Branches.{Branch}
-use Rattle.review_chain.specs.Walks.{IsWalk, first_of, most_changes}
-use Rattle.review_chain.specs.Parts.{Want, IsWanted, IsDecided}
+use Rattle.review_chain.specs.declared.walks.ChainFault.{ChainFault}
+use Rattle.review_chain.specs.Walks.{IsWalk, IsChain, IsBadLink, first_of, most_changes}
+use Rattle.review_chain.specs.Parts.{Want, TheChange, IsPart, IsWanted, IsDecided}
 use Rattle.review_chain.specs.Steps.{Before, TheBase, Change, Bad, Wants, before, wanted, wanted_by, wanted_from}
 use Rattle.review_chain.proofs.Before.{meaning}
-use Rattle.review_chain.proofs.Walking.{Meets, IsEnd, decided, goes_on, meets_wanted}
+use Rattle.review_chain.proofs.Walking.{Meets, IsEnd, decided, goes_on, meets_wanted, wanted_meets, chain_meets, bad_meets, one_end}
+use Rattle.review_chain.proofs.Parting.{wanted_stays, one_is_there, chain_kept, bad_kept}
 
 -- what is said to be wanted is, and where nothing is said the change is decided
 abbrev pub Says : Branch → ℕ → Option Want → Type 0
@@ -72,3 +74,29 @@ wanted_step b n c from most = by_more (100 - n) refl
 -- what is wanted, by what a walk of so many changes finds
 pub wanted_here : (b : Branch) (change n c : ℕ) (v : Before) → 1 ≤ n → n ≤ 100 → v ≡ before b n c → wanted_from b (100 - n) c ≡ wanted b change → wanted_by v (λ d. wanted_from b (100 - (n + 1)) d) ≡ wanted b change
 wanted_here b change n c v from most e same = ap (λ u. wanted_by u (λ d. wanted_from b (100 - (n + 1)) d)) e ∙ (sym (wanted_step b n c from most) ∙ same)
+
+-- a change that is wanted, and of which no more is known afterwards, is still wanted
+pub still_wanted : (b after : Branch) (c d : ℕ) → IsPart b after → wanted b c ≡ Some (TheChange d) → after.link d ≡ None → wanted after c ≡ Some (TheChange d)
+still_wanted b after c d is w none =
+    let said = subst (Says b c) w (wanted_says b c) in
+    by_said (wanted after c) (wanted_says after c) (wanted_stays b after is said.0 c d (wanted_meets b said.0 c (TheChange d) said.1) none)
+  where
+    by_said : (o : Option Want) → Says after c o → {walk : List ℕ} → Meets after walk c (Wants (TheChange d)) → o ≡ Some (TheChange d)
+    by_said None decided {walk} h = absurd (decided walk (TheChange d) (meets_wanted after walk c (TheChange d) h))
+    by_said (Some other) said {walk} h =
+        let same : Wants other ≡ Wants (TheChange d) = one_end after said.0 walk c (Wants other) (Wants (TheChange d)) (wanted_meets after said.0 c other said.1) tt h tt in
+        let e : other ≡ TheChange d = cc in
+        ap Some e
+
+-- what is decided stays so
+pub stays_decided : (b after : Branch) (c : ℕ) → IsPart b after → wanted b c ≡ None → wanted after c ≡ None
+stays_decided b after c is w =
+    let some = one_is_there b c (subst (Says b c) w (wanted_says b c)) in
+    by_said (wanted after c) (wanted_says after c) some.0 some.1
+  where
+    by_said : (o : Option Want) → Says after c o → (walk : List ℕ) → IsChain b walk c ⊎ ((fault : ChainFault) × IsBadLink b walk c fault) → o ≡ None
+    by_said None said walk one = refl
+    by_said (Some want) said walk (inl chain) =
+        absurd (decided after walk c TheBase (chain_meets after walk c (chain_kept b after walk c is chain)) tt said.0 want said.1)
+    by_said (Some want) said walk (inr (fault, bad)) =
+        absurd (decided after walk c (Bad fault) (bad_meets after walk c fault (bad_kept b after walk c fault is bad)) tt said.0 want said.1)

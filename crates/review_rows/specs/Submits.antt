@@ -10,17 +10,17 @@ use Rattle.review_words.specs.declared.reply.Refusal.{Refusal}
 use Rattle.review_words.specs.declared.reply.Refusal.TheVariants.{ChainOutdated, ChainAbandoned, ChainWip, ChainTooLong, RequirementUnsatisfied}
 use Rattle.review_words.specs.declared.shown.State.{State}
 use Rattle.review_words.specs.declared.shown.State.TheVariants.{Merged}
-use Rattle.review_chain.specs.declared.links.Link.{Link}
 use Rattle.review_chain.specs.declared.links.Standing.{Standing}
 use Rattle.review_chain.specs.declared.links.Standing.TheVariants.{InBranch, PatchSet, Nowhere}
 use Rattle.review_chain.specs.declared.walks.ChainFault.{ChainFault}
 use Rattle.review_chain.specs.declared.walks.ChainFault.TheVariants.{Outdated, Abandoned, Wip, TooLong}
 use Rattle.review_chain.specs.Branches.{Branch}
 use Rattle.review_chain.specs.Walks.{IsBadLink, IsChain}
-use Rattle.review_changes.specs.Change.{Change, Setting, commit, current, parent}
+use Rattle.review_changes.specs.Change.{Change, Setting, commit}
 use Rattle.review_changes.specs.Facts.{IsFirstUnsatisfied}
 use Rattle.review_changes.specs.declared.rows.PatchRow.{PatchRow}
 use Rattle.review_rows.specs.Changes.{Reading, change, change_count, is_for, setting_of, some_change}
+use Rattle.review_rows.specs.Links.{link_for}
 
 -- it holds of a change that is there
 abbrev pub IsOf : (Change → Type 0) → Option Change → Type 0
@@ -63,15 +63,6 @@ sent_up_to reading h project branch x (suc n) = sent_or (suc n) (patch_for proje
 -- What a commit is to a branch: it is in it, or that of a patch set of a change for it, or neither.
 abbrev pub standing_of : Reading → List Entry → List ℕ → List ℕ → List ℕ → Standing
 standing_of reading h project branch x = if is_in_branch reading h project branch x then InBranch else sent_up_to reading h project branch x (change_count h)
-
--- a change as a link
-abbrev pub link_of : Change → Link
-link_of c = record { patch = current c; parent = parent c; state = c.state; wip = c.wip }
-
--- a change for the branch as a link
-abbrev pub link_for : List ℕ → List ℕ → Option Change → Option Link
-link_for project branch None = None
-link_for project branch (Some c) = if is_for project branch c then Some (link_of c) else None
 
 -- A branch as a submit sees it.
 abbrev pub branch_after : Reading → List Entry → List ℕ → List ℕ → Branch

@@ -6,13 +6,15 @@
 
 mod known;
 mod learned;
+pub mod links;
 pub mod matter;
 pub mod rows;
 pub mod shelf;
 
+pub use links::RowLinks;
 pub use matter::Matter;
 pub use rows::{
     Base, BaseRow, BranchKey, ChangeEdit, Counted, Delta, Kept, MemberKey, Need, ProjectRow, Rows,
-    Standing, Want,
+    Want,
 };
 pub use shelf::{Shelf, ShelfFault};
