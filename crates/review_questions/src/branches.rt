@@ -1,19 +1,20 @@
 //! The answer to a question about a branch.
-ghost use Rattle.std.specs.Prelude.{◌≡◌, List, [], Option, IfOk, IfErr};
+ghost use Rattle.std.specs.Prelude.{◌≡◌, ◌++◌, List, [], Option, IfOk, IfErr, OnOk};
 ghost use Rattle.review_words.specs.History.{Entry};
 ghost use Rattle.review_words.specs.declared.command.Query.TheVariants.{Branch};
 ghost use Rattle.review_words.specs.declared.reply.NotTaken.TheVariants.{Memory};
 ghost use Rattle.review_rows.specs.Questions.{IsQueryAnswerBy};
 ghost use Rattle.review_rows.specs.declared.rows.Want.TheVariants as want;
-ghost use Rattle.review_rows.specs.Known.{known, commits_of};
+ghost use Rattle.review_rows.specs.Known.{known, commits_of, joined_of};
 ghost use Rattle.review_rows.specs.Steps.{OfQuery};
+ghost use Rattle.review_rows.specs.Answer.{IsHistory};
 ghost use Rattle.review_rows.specs.Changes.{Reading};
 ghost use Rattle.review_rows.specs.Files.{File};
 ghost use Rattle.review_rows.specs.View.{AreEnough};
 ghost use Rattle.review_rows.specs.Decisions.{IsDoneOrRefused};
 
-use crate::keys::branch_of;
 use review_account_decisions::is_asker;
+use review_branch_decisions::branch_of;
 use review_rows::{BranchKey, Rows};
 use review_words::{
     AccountNo, Answer, Bases, BranchName, JoinedChange, Listed, NotTaken, ProjectName, Refusal,
@@ -21,8 +22,8 @@ use review_words::{
 };
 use std::alloc::{AllocError, Global};
 
-/// The bases of a branch, which nothing has joined. Refused for an unknown caller, a project that isn't there, or a branch without bases, in this order; an error
-/// is want of memory.
+/// The bases of a branch and the changes that joined it. Refused for an unknown caller, a project that isn't there, or a branch without bases, in
+/// this order; an error is want of memory.
 pub fn show_branch(
     alloc: Global,
     rows: &Rows,
@@ -30,7 +31,7 @@ pub fn show_branch(
     project: &ProjectName,
     branch: &BranchName,
 ) -> Result<Reply, NotTaken>
-    ensures shown { IfOk result (λ r. (reading : Reading) (had : Option File) (h : List Entry) → AreEnough reading h caller (OfQuery (Branch project.now branch.now)) had rows.now → IsQueryAnswerBy reading h caller (Branch project.now branch.now) r) }
+    ensures shown { IfOk result (λ r. (reading : Reading) (had : Option File) (h : List Entry) → IsHistory h → AreEnough reading h caller (OfQuery (Branch project.now branch.now)) had rows.now → IsQueryAnswerBy reading h caller (Branch project.now branch.now) r) }
     ensures answered { IfOk result IsDoneOrRefused }
     ensures cause { IfErr result (λ e. e ≡ Memory) }
 {
@@ -48,15 +49,39 @@ pub fn show_branch(
     }
     Ok(Reply::Done(Answer::Branch {
         bases,
-        joined: nothing_joined(alloc),
+        joined: known_joined(alloc, rows, &key)?,
     }))
 }
 
-// No changes, since no command makes one join its branch.
-fn nothing_joined(alloc: Global) -> Listed<JoinedChange>
-    ensures { result ≡ [] }
+// The changes that joined a branch, as they are known.
+fn known_joined(
+    alloc: Global,
+    rows: &Rows,
+    branch: &BranchKey,
+) -> Result<Listed<JoinedChange>, AllocError>
+    ensures { IfOk result (λ js. js ≡ joined_of (known rows.now (want.Joined branch.now))) }
 {
-    Listed::from_vec(Vec::new(alloc))
+    let mut joined = Vec::new(alloc);
+    if let Some(known) = rows.joined(branch) {
+        push_joined(alloc, &mut joined, known.as_slice())?;
+    }
+    Ok(Listed::from_vec(joined))
+}
+
+fn push_joined(
+    alloc: Global,
+    joined: &mut Vec<JoinedChange>,
+    more: &[JoinedChange],
+) -> Result<(), AllocError>
+    ensures { OnOk result (joined.new.items ≡ joined.old.items ++ more.now) }
+{
+    for one in more {
+        joined.push(JoinedChange {
+            change: one.change,
+            commit: one.commit.copy(alloc)?,
+        })?;
+    }
+    Ok(())
 }
 
 // The bases of a branch, as they are known.
