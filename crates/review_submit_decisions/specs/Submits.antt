@@ -12,7 +12,8 @@ use Rattle.review_chain.specs.Places.{places_from}
 use Rattle.review_chain.specs.Parts.{Want as ChainWant}
 use Rattle.review_chain.specs.Parts.{IsWanted}
 use Rattle.review_chain.specs.Walks.{IsBadLink, IsChain}
-use Rattle.review_chain.specs.declared.walks.ChainFault.TheVariants.{Broken}
+use Rattle.review_chain.specs.declared.walks.ChainFault.{ChainFault}
+use Rattle.review_chain.specs.declared.walks.ChainFault.TheVariants.{Broken, Unknown, Memory as FaultMemory}
 use Rattle.review_changes.specs.Change.{Change, Setting, is_open, joined_at}
 use Rattle.review_changes.specs.Facts.{IsFirstUnsatisfied}
 use Rattle.review_changes.specs.Parts.{Part, part_row}
@@ -105,6 +106,13 @@ HasUnsound rows = (n : ℕ) × (c : Change) × (change_at rows n ≡ Some c) × 
 abbrev pub IsUnlinked : Rows → ℕ → Change → Type 0
 IsUnlinked rows n c =
     ((walk : List ℕ) × IsBadLink (links_in rows c.project c.branch) walk n Broken) ⊎ ((walk : List ℕ) × (want : ChainWant) × IsWanted (links_in rows c.project c.branch) walk n want)
+
+-- a fault that is no bad link of a branch: want of memory, something that isn't known, or a link that no branch has
+abbrev pub IsNoRefusal : ChainFault → Cause → Type 0
+IsNoRefusal FaultMemory cause = cause ≡ Memory
+IsNoRefusal Unknown cause = cause ≡ Damaged
+IsNoRefusal Broken cause = cause ≡ Damaged
+IsNoRefusal fault cause = ⊥
 
 -- Why a chain isn't decided: want of memory, or rows that don't fit together.
 abbrev pub IsUnchained : Rows → ℕ → Change → Cause → Type 0

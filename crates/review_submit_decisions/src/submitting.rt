@@ -1,6 +1,7 @@
 //! Submits.
-ghost use Rattle.std.specs.Prelude.{◌≡◌, ◌<◌, List, ℕ, IfErr, IfOk, length, option_copied, true};
-ghost use Rattle.review_words.specs.Texts.{IsStored};
+ghost use Rattle.std.specs.Prelude.{◌≡◌, ◌<◌, List, ℕ, Some, IfErr, IfOk, length, option_copied, true};
+ghost use Rattle.std.specs.List.{AllByRecursion};
+ghost use Rattle.review_words.specs.Texts.{IsChangeNumber, IsStored};
 ghost use Rattle.review_words.specs.History.{Entry, is_account};
 ghost use Rattle.review_words.specs.declared.command.Command.TheVariants.{Submit};
 ghost use Rattle.review_chain.specs.Steps.{IsFault};
@@ -13,7 +14,8 @@ ghost use Rattle.review_rows.specs.Links.{links_in};
 ghost use Rattle.review_rows.specs.Rows.{HasNoEffect};
 ghost use Rattle.review_rows.specs.Steps.{OfCommand};
 ghost use Rattle.review_rows.specs.View.{AreEnough, IsDecided};
-ghost use Rattle.review_submit_decisions.specs.Submits.{IsChecked, IsSubmitted, IsUnchained, change_at};
+ghost use Rattle.review_rows.specs.Submits.{refusal_of};
+ghost use Rattle.review_submit_decisions.specs.Submits.{IsChecked, IsNoRefusal, IsSubmitted, IsUnchained, change_at};
 
 use crate::checking::{first_unsatisfied, submit_refusal};
 use crate::joining::join_chain;
@@ -127,9 +129,19 @@ fn check_chain(
         };
         return Ok(refused(alloc, refusal));
     }
+    are_numbers(&chain);
     let delta = join_chain(alloc, rows, found, &chain)?;
     Ok((
         delta,
         Reply::Done(Answer::Submitted(Listed::from_vec(chain))),
     ))
+}
+
+// The numbers of changes are of their form.
+fn are_numbers(changes: &[ChangeNo])
+    ensures { AllByRecursion IsChangeNumber changes.now }
+{
+    for change in changes {
+        let _ = change.get();
+    }
 }
