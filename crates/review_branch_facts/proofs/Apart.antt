@@ -96,6 +96,10 @@ based_known : (a b : Bool) → (a || b) ≡ false → a ≡ true → ⊥
 based_known true b none is = absurd (cc)
 based_known false b none is = absurd (cc)
 
+not_both : (o : Option (ℕ × ℕ)) (x : ℕ × ℕ) → o ≡ None → o ≡ Some x → ⊥
+not_both None x none some = absurd (cc)
+not_both (Some y) x none some = absurd (cc)
+
 -- a base isn't the commit of a patch set
 pub base_not_sent : (reading : Reading) (h : List Entry) (project branch : List ℕ) (n k : ℕ) (p : PatchRow) → IsHistory h → Reads reading h → HasPatch project branch k p (change reading h n) →
     is_base h project branch p.commit ≡ true → ⊥
@@ -109,7 +113,7 @@ base_not_sent reading (e ∷ h) project branch n k p history reads has is =
     by before (inl was) (inl based) = before was based
     by before (inl was) (inr recorded) = let bad : true ≡ false = sym (patch_known reading h project branch n k p was) ∙ recorded.1 in absurd (cc)
     by before (inr now) (inl based) = based_known (is_base h project branch p.commit) (is_sent reading h project branch p.commit) now.unknown based
-    by before (inr now) (inr recorded) = let bad : None ≡ Some (n, k) = sym recorded.0 ∙ now.put in absurd (cc)
+    by before (inr now) (inr recorded) = not_both (place_sent reading h (accepted e)) (n, k) recorded.0 now.put
 
 -- the commit of a patch set is no base
 pub sent_no_base : (reading : Reading) (h : List Entry) (project branch : List ℕ) (n k : ℕ) (p : PatchRow) → IsHistory h → Reads reading h → HasPatch project branch k p (change reading h n) →

@@ -4,3 +4,6 @@ pub mod Sending
 pub mod Patches
 pub mod Parents
 pub mod Apart
+pub mod Current
+pub mod Found
+pub mod Standing

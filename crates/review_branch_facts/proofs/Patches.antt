@@ -65,7 +65,7 @@ sent_patch reading h project branch commit e =
 
 -- ---- a patch set stays
 
-patches_kept : (command : ChangeCommand) (caller : ℕ) (xs : List PatchRow) (k : ℕ) (p : PatchRow) → of_number xs k ≡ Some p → of_number (patches_by command caller xs) k ≡ Some p
+pub patches_kept : (command : ChangeCommand) (caller : ℕ) (xs : List PatchRow) (k : ℕ) (p : PatchRow) → of_number xs k ≡ Some p → of_number (patches_by command caller xs) k ≡ Some p
 patches_kept (on.Upload patch) caller xs k p is = kept xs (record { commit = patch.commit; parent = patch.parent; kind = patch.kind; uploader = caller; paths = patch.paths } ∷ []) p k is
 patches_kept (on.Review review) caller xs k p is = is
 patches_kept (on.AddReviewer account role) caller xs k p is = is

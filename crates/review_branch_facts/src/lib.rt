@@ -3,4 +3,4 @@
 
 pub mod laws;
 
-pub use laws::{commits_are_apart, parents_are_known};
+pub use laws::{commits_are_apart, parents_are_known, standings_are_shown};
