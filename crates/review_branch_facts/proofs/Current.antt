@@ -12,7 +12,7 @@ use Rattle.review_branch_facts.proofs.Numbers.{last_of, number_within}
 use Rattle.review_branch_facts.proofs.Patches.{patches_kept}
 
 -- it has a first patch set
-HasFirst : Change → Type 0
+abbrev pub HasFirst : Change → Type 0
 HasFirst c = (p : PatchRow) × (of_number c.patches 1 ≡ Some p)
 
 made_first : (b : Bool) (new c : Change) (o : Option Change) → HasFirst new → ((x : Change) → o ≡ Some x → HasFirst x) → cond b (Some new) o ≡ Some c → HasFirst c

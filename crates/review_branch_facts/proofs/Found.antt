@@ -20,11 +20,14 @@ FoundIn n ps x (Some k) = (j : ℕ) × (p : PatchRow) × (k ≡ n + suc j) × (s
 
 found_later : (n : ℕ) (p : PatchRow) (ps : List PatchRow) (x : List ℕ) (o : Option ℕ) → bytes_eq p.commit x ≡ false → FoundIn (n + 1) ps x o → FoundIn n (p ∷ ps) x o
 found_later n p ps x (Some k) other found = let place : k ≡ n + suc (suc found.0) = let e = found.2 in omega arith in (suc found.0, found.1, place, found.3, found.4)
-found_later n p ps x None other found zero q is same =
-    let first : p ≡ q = cc in
-    let bad : true ≡ false = sym ((bytes_eq-Decides p.commit x).1 (ap (λ (r : PatchRow). r.commit) first ∙ same)) ∙ other in
-    absurd (cc)
-found_later n p ps x None other found (suc j) q is same = found j q is same
+found_later n p ps x None other none = by
+  where
+    by : FoundIn n (p ∷ ps) x None
+    by zero q is same =
+        let first : p ≡ q = cc in
+        let bad : true ≡ false = sym ((bytes_eq-Decides p.commit x).1 (ap (λ (r : PatchRow). r.commit) first ∙ same)) ∙ other in
+        absurd (cc)
+    by (suc j) q is same = none j q is same
 
 found_in : (n : ℕ) (ps : List PatchRow) (x : List ℕ) → FoundIn n ps x (patch_of n ps x)
 found_in n [] x = λ j p is same. absurd (cc)
@@ -47,10 +50,14 @@ same_change c d e = cc
 
 found_of : (project branch x : List ℕ) (c : Change) (o : Option ℕ) → is_for project branch c ≡ true → FoundIn 0 c.patches x o → FoundFor project branch x (Some c) o
 found_of project branch x c (Some k) for found =
-    (found.1, record { of = c; is = refl; is_for_it = for; sent = ap (of_number c.patches) found.2 ∙ found.3 }, found.4)
-found_of project branch x c None for none zero p has same = let bad : None ≡ Some p = has.sent in absurd (cc)
-found_of project branch x c None for none (suc j) p has same =
-    none j p (ap (λ (d : Change). slice_get d.patches j) (same_change c has.of has.is) ∙ has.sent) same
+    let place : k ≡ suc found.0 = let e = found.2 in omega arith in
+    let there : of_number c.patches (suc found.0) ≡ Some found.1 = found.3 in
+    (found.1, record { of = c; is = refl; is_for_it = for; sent = ap (of_number c.patches) place ∙ there }, found.4)
+found_of project branch x c None for none = by
+  where
+    by : FoundFor project branch x (Some c) None
+    by zero p has same = let bad : None ≡ Some p = has.sent in absurd (cc)
+    by (suc j) p has same = none j p (ap (λ (d : Change). slice_get d.patches j) (same_change c has.of has.is) ∙ has.sent) same
 
 found_for : (project branch x : List ℕ) (o : Option Change) → FoundFor project branch x o (patch_for project branch x o)
 found_for project branch x None = λ k p has same. let bad : None ≡ Some has.of = has.is in absurd (cc)
@@ -78,7 +85,8 @@ found_next : (reading : Reading) (h : List Entry) (project branch x : List ℕ) 
 found_next reading h project branch x last (Some k) s here before = here
 found_next reading h project branch x last None InBranch here before = before
 found_next reading h project branch x last None (PatchSet n k) here before = before
-found_next reading h project branch x last None Nowhere here before n k p from to has same =
+found_next reading h project branch x last None Nowhere here before =
+    λ n k p from to has same.
     ⊎_elim
     (λ (lt : n < suc last). before n k p from (omega arith) has same)
     (λ (ge : suc last ≤ n). let is : n ≡ suc last = omega arith in here k p (subst (λ m. HasPatch project branch k p (change reading h m)) is has) same)
