@@ -3,4 +3,4 @@
 
 pub mod laws;
 
-pub use laws::{commits_are_apart, parents_are_known, standings_are_shown};
+pub use laws::{branches_are_whole, commits_are_apart, parents_are_known, rows_are_parts, standings_are_shown, wants_are_unknown};
