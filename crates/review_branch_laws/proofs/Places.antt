@@ -1,5 +1,5 @@
 -- Places in lists.
-use Rattle.std.proofs.Common.{◌≡◌, ℕ, suc, ◌+◌, ◌==◌, List, [], ◌∷◌, ◌++◌, length, Option, Some, None, Bool, true, false, cond, refl, sym, ap, subst, ◌∙◌, ⊎_elim, arith, eqb-true}
+use Rattle.std.proofs.Common.{◌≡◌, ℕ, suc, ◌+◌, ◌==◌, List, [], ◌∷◌, ◌++◌, length, Option, Some, None, Bool, true, false, cond, refl, ap, subst, ◌∙◌, arith, eqb-true}
 use Rattle.std.specs.Prelude.{option_map}
 use Rattle.std.specs.Option.{option_or}
 use Rattle.std.specs.List.{All}
@@ -29,8 +29,8 @@ unmapped (Some j) k e = (j, refl)
 -- what holds of all in a list holds of one that has a place there
 pub at_place : (P : ℕ → Type 0) (xs : List ℕ) (n k : ℕ) → All P xs → place_in xs n ≡ Some k → P n
 at_place P [] n k all is = absurd (cc)
-at_place P (x ∷ xs) n k all is = by (x == n) refl is
+at_place P (x ∷ xs) n k all is = by (λ j at. at_place P xs n j (All-tail P x xs all) at) (x == n) refl is
   where
-    by : (b : Bool) → (x == n) ≡ b → cond b (Some 1) (option_map (λ k. k + 1) (place_in xs n)) ≡ Some k → P n
-    by true same is = subst P (eqb-true x n same) (All-head P x xs all)
-    by false other is = let j = unmapped (place_in xs n) k is in at_place P xs n j.0 (All-tail P x xs all) j.1
+    by : ((j : ℕ) → place_in xs n ≡ Some j → P n) → (b : Bool) → (x == n) ≡ b → cond b (Some 1) (option_map (λ k. k + 1) (place_in xs n)) ≡ Some k → P n
+    by later true same is = subst P (eqb-true x n same) (All-head P x xs all)
+    by later false other is = let j = unmapped (place_in xs n) k is in later j.0 j.1
