@@ -39,7 +39,7 @@ and_false true = refl
 and_false false = refl
 
 -- a change that isn't merged has none
-not_placed : (project branch : List ℕ) (c : Change) → is_merged c.state ≡ false → place_of project branch (Some c) ≡ None
+pub not_placed : (project branch : List ℕ) (c : Change) → is_merged c.state ≡ false → place_of project branch (Some c) ≡ None
 not_placed project branch c free =
     ap (λ b. cond (is_for project branch c && b) (Some c.place) None) free ∙ ap (λ b. cond b (Some c.place) None) (and_false (is_for project branch c))
 
