@@ -1,9 +1,9 @@
 -- Which changes joined a branch: those for it that are merged, each once.
-use Rattle.std.proofs.Common.{◌≡◌, ◌⊎◌, inl, inr, ℕ, ◌+◌, ◌<◌, ◌≤◌, ◌==◌, zero, suc, List, [], ◌∷◌, ◌++◌, length, Option, Some, None, Bool, true, false, cond, ◌&&◌, refl, sym, ap, subst, ◌∙◌, ⊎_elim, arith, eqb-true, eq-eqb}
+use Rattle.std.proofs.Common.{◌≡◌, ◌⊎◌, inl, inr, ℕ, ◌+◌, ◌<◌, ◌≤◌, ◌==◌, List, [], ◌∷◌, ◌++◌, length, Option, Some, None, Bool, true, false, cond, ◌&&◌, refl, sym, ap, subst, ◌∙◌, arith}
 use Rattle.std.specs.Prelude.{is_some, nat_le}
-use Rattle.std.specs.List.{All, AllByRecursion, Contains, IsDistinct, list_any}
+use Rattle.std.specs.List.{All, AllByRecursion, Contains, IsDistinct}
 use Rattle.std.specs.Str.{bytes_eq}
-use Rattle.std.proofs.lemmas.Bool.{and_parts, and_from, cases_Bool, leb-true}
+use Rattle.std.proofs.lemmas.Bool.{and_parts, and_from, leb-true}
 use Rattle.std.proofs.lemmas.Bool.Decides.{nat_tests}
 use Rattle.std.proofs.lemmas.List.{append-nil}
 use Rattle.std.proofs.lemmas.List.Elements.{All-from_recursion}
@@ -174,8 +174,8 @@ up_to count n is = let p = and_parts (nat_le 1 n) (nat_le n count) is in (leb-tr
 pub few : (xs : List ℕ) (count : ℕ) → IsDistinct ◌==◌ xs → AllByRecursion (λ n. is_up_to count n ≡ true) xs → length xs ≤ count
 few xs count distinct each =
     let most : length (0 ∷ xs) ≤ count + 1 = length-le_from_distinct_below (0 ∷ xs) (count + 1)
-        (IsDistinct-cons ◌==◌ 0 xs (each_weaker (λ n. is_up_to count n ≡ true) (λ n. (0 == n) ≡ false) (λ n up. not_zero count n up) xs each) distinct)
-        (λ q found. any_of (λ n. n < count + 1) (0 ∷ xs) q (omega arith, each_weaker (λ n. is_up_to count n ≡ true) (λ n. n < count + 1) (λ n up. let e : n ≤ count = (up_to count n up).1 in omega arith) xs each) found) in
+    (IsDistinct-cons ◌==◌ 0 xs (each_weaker (λ n. is_up_to count n ≡ true) (λ n. (0 == n) ≡ false) (λ n up. not_zero count n up) xs each) distinct)
+    (λ q found. any_of (λ n. n < count + 1) (0 ∷ xs) q (omega arith, each_weaker (λ n. is_up_to count n ≡ true) (λ n. n < count + 1) (λ n up. let e : n ≤ count = (up_to count n up).1 in omega arith) xs each) found) in
     omega arith
   where
     not_zero : (most n : ℕ) → is_up_to most n ≡ true → (0 == n) ≡ false

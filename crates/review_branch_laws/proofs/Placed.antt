@@ -54,7 +54,7 @@ from_not : (b : Bool) → not b ≡ true → b ≡ false
 from_not true e = absurd (cc)
 from_not false e = refl
 
-merged_stays : (reading : Reading) (h : List Entry) (caller : ℕ) (command : ChangeCommand) (c : Change) → AllByRecursion Passes (request_checks reading h caller command c) →
+pub merged_stays : (reading : Reading) (h : List Entry) (caller : ℕ) (command : ChangeCommand) (c : Change) → AllByRecursion Passes (request_checks reading h caller command c) →
     is_merged (state_by command c.state) ≡ is_merged c.state
 merged_stays reading h caller (on.Upload patch) c pass = refl
 merged_stays reading h caller (on.Review review) c pass = refl

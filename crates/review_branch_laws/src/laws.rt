@@ -1,9 +1,13 @@
 //! Laws of the changes that joined a branch.
-ghost use Rattle.std.specs.Prelude.{◌≡◌, ◌==◌, ◌≤◌, ℕ, List, length};
+ghost use Rattle.std.specs.Prelude.{◌≡◌, ◌==◌, ◌≤◌, ℕ, List, length, map};
 ghost use Rattle.std.specs.List.{All, Contains, IsDistinct};
 ghost use Rattle.review_words.specs.History.{Entry};
+ghost use Rattle.review_words.specs.declared.shown.JoinedChange.{JoinedChange};
 ghost use Rattle.review_rows.specs.Answer.{IsHistory};
 ghost use Rattle.review_rows.specs.Changes.{Reading, Reads, change, change_count, joined, place_in};
+ghost use Rattle.review_rows.specs.Known.{HaveJoined, IsLastJoined};
+ghost use Rattle.review_rows.specs.Questions.{joined_change};
+ghost use Rattle.review_rows.specs.View.{fact};
 ghost use Rattle.review_branch_laws.specs.Joined.{HasJoined};
 ghost use Rattle.review_branch_laws.specs.Places.{place_of};
 
@@ -23,4 +27,14 @@ pub fn joined_once()
 /// No more changes join a branch than there are.
 pub fn joined_few()
     ensures { (reading : Reading) (h : List Entry) (project branch : List ℕ) → IsHistory h → Reads reading h → length (joined h project branch) ≤ change_count h }
+{}
+
+/// The last place that rows tell of a branch is how many changes joined it.
+pub fn last_is_length()
+    ensures { (reading : Reading) (h : List Entry) (project branch : List ℕ) (last : ℕ) → IsHistory h → Reads reading h → IsLastJoined (fact reading h) (record { project = project; branch = branch }) last → last ≡ length (joined h project branch) }
+{}
+
+/// The changes that rows tell to have joined a branch are those that joined it, in their order, each with its current commit: the answer to the question.
+pub fn joined_is_listed()
+    ensures { (reading : Reading) (h : List Entry) (project branch : List ℕ) (listed : List JoinedChange) → IsHistory h → Reads reading h → HaveJoined (fact reading h) (record { project = project; branch = branch }) listed → listed ≡ map (joined_change reading h) (joined h project branch) }
 {}
