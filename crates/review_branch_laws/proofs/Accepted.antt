@@ -1,5 +1,5 @@
 -- What an accepted submit joins.
-use Rattle.std.proofs.Common.{◌≡◌, ◌⊎◌, ℕ, List, [], ◌∷◌, Option, Some, None, Bool, true, false, not, refl, subst, inl, inr}
+use Rattle.std.proofs.Common.{◌≡◌, ℕ, List, ◌∷◌, Option, Some, None, Bool, true, false, not, refl, subst, inl, inr}
 use Rattle.std.specs.Prelude.{MatchOption}
 use Rattle.std.specs.List.{AllByRecursion}
 use Rattle.review_words.specs.History.{Entry, is_account}
@@ -9,24 +9,13 @@ use Rattle.review_words.specs.declared.reply.Answer.TheVariants.{Submitted}
 use Rattle.review_words.specs.declared.reply.Refusal.{Refusal}
 use Rattle.review_words.specs.declared.reply.Refusal.TheVariants.{UnknownCaller}
 use Rattle.review_words.specs.declared.reply.Reply.TheVariants.{Done, Refused}
-use Rattle.review_chain.specs.Walks.{IsChain}
-use Rattle.review_changes.specs.Change.{Change, is_open}
+use Rattle.review_changes.specs.Change.{Change}
 use Rattle.review_changes.specs.Facts.{IsFirstUnsatisfied}
 use Rattle.review_rows.specs.Answer.{IsAnswerBy, IsOutcome, checks, of_change, refused_by, submit_checks}
 use Rattle.review_rows.specs.Changes.{Reading, change}
-use Rattle.review_rows.specs.Submits.{IsOf, IsSubmitAnswer, branch_after, checked_reply, judged_after}
+use Rattle.review_rows.specs.Submits.{IsOf, IsSubmitAnswer, checked_reply, judged_after}
+use Rattle.review_branch_laws.specs.Accepted.{IsAccepted}
 use Rattle.review_change_laws.proofs.Sound.{Passes, all_pass, done_passes}
-
--- A submit was accepted: its change was open and not in work in progress, its chain joined, and no requirement of a change of it was unsatisfied.
-pub record IsAccepted (reading : Reading) (h : List Entry) (m : ℕ) (a : Answer) : Type 0 where
-  pub of : Change
-  pub there : change reading h m ≡ Some of
-  pub was_open : is_open of.state ≡ true
-  pub was_ready : of.wip ≡ false
-  pub chain : List ℕ
-  pub is_chain : IsChain (branch_after reading h of.project of.branch) chain m
-  pub satisfied : IsFirstUnsatisfied (judged_after reading h) chain None
-  pub told : a ≡ Submitted chain
 
 not_true : (b : Bool) → not b ≡ true → b ≡ false
 not_true true e = absurd (cc)

@@ -2,3 +2,8 @@ pub mod Made
 pub mod Accepted
 pub mod Places
 pub mod Placed
+pub mod Joined
+pub mod Each
+pub mod Order
+pub mod Numbered
+pub mod Rows

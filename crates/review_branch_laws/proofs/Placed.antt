@@ -1,20 +1,18 @@
 -- The place of a change in the list of those that joined its branch is its place.
-use Rattle.std.proofs.Common.{◌≡◌, ◌⊎◌, ℕ, ◌+◌, ◌<◌, ◌==◌, List, [], ◌∷◌, ◌++◌, length, Option, Some, None, Bool, true, false, cond, not, ◌&&◌, refl, sym, ap, subst, ◌∙◌, ⊎_elim, arith, eqb-true, eq-eqb}
-use Rattle.std.specs.Prelude.{is_some, option_map, nat_le}
+use Rattle.std.proofs.Common.{◌≡◌, ◌⊎◌, ℕ, ◌+◌, ◌==◌, List, [], ◌∷◌, ◌++◌, length, Option, Some, None, Bool, true, false, cond, not, ◌&&◌, refl, sym, ap, ◌∙◌, ⊎_elim, arith, eqb-true}
+use Rattle.std.specs.Prelude.{is_some, option_map}
 use Rattle.std.specs.Option.{option_or}
-use Rattle.std.specs.List.{All, AllByRecursion}
+use Rattle.std.specs.List.{AllByRecursion}
 use Rattle.std.specs.Str.{bytes_eq}
-use Rattle.std.proofs.lemmas.Bool.{and_parts, and_from, cases_Bool}
+use Rattle.std.proofs.lemmas.Bool.{and_parts, and_from}
 use Rattle.std.proofs.lemmas.Bool.Decides.{nat_tests}
 use Rattle.std.proofs.lemmas.Slice.Eq.{bytes_eq-Decides}
-use Rattle.review_words.specs.History.{Entry, accepted, if_done}
-use Rattle.review_words.specs.declared.changes.NewChange.{NewChange}
+use Rattle.review_words.specs.History.{Entry, if_done}
 use Rattle.review_words.specs.declared.command.ChangeCommand.{ChangeCommand}
 use Rattle.review_words.specs.declared.command.ChangeCommand.TheVariants as on
 use Rattle.review_words.specs.declared.command.Command.{Command}
 use Rattle.review_words.specs.declared.command.Command.TheVariants.{CreateAccount, PutGroup, PutProject, RecordBase, CreateChange, OnChange, Submit}
 use Rattle.review_words.specs.declared.reply.Answer.{Answer}
-use Rattle.review_words.specs.declared.reply.Answer.TheVariants.{Submitted}
 use Rattle.review_words.specs.declared.reply.Reply.{Reply}
 use Rattle.review_words.specs.declared.reply.Reply.TheVariants.{Done, Refused, IdentityReused, NotTaken}
 use Rattle.review_words.specs.declared.shown.State.{State}
@@ -22,27 +20,26 @@ use Rattle.review_words.specs.declared.shown.State.TheVariants.{New, Merged, Aba
 use Rattle.review_chain.specs.declared.links.Link.{Link}
 use Rattle.review_chain.specs.Walks.{IsReady}
 use Rattle.review_chain.proofs.Fronts.{chain_ready}
-use Rattle.review_changes.specs.Change.{Change, after, begun, is_open, joined_at, state_by}
+use Rattle.review_changes.specs.Change.{Change, after, begun, current, current_patch, is_open, state_by}
+use Rattle.review_changes.specs.declared.rows.PatchRow.{PatchRow}
 use Rattle.review_rows.specs.Answer.{IsAnswerBy, IsHistory, request_checks}
 use Rattle.review_rows.specs.Changes.{Reading, Reads, change, change_by, change_count, is_for, is_made_for, joined, joined_by, joined_in, joining, joining_at, place_in, setting_of, submitted}
-use Rattle.review_rows.specs.Submits.{branch_after, is_merged, link_for, link_of}
+use Rattle.review_rows.specs.Links.{link_for, link_of}
+use Rattle.review_rows.specs.Submits.{branch_after, is_merged}
 use Rattle.review_change_laws.proofs.Sound.{Passes, checks_pass, done_passes}
 use Rattle.review_change_laws.proofs.There.{change_there, is_up_to}
-use Rattle.review_branch_laws.proofs.Accepted.{IsAccepted, submit_accepted}
+use Rattle.review_branch_laws.specs.Accepted.{IsAccepted}
+use Rattle.review_branch_laws.specs.Places.{place_of}
+use Rattle.review_branch_laws.proofs.Accepted.{submit_accepted}
 use Rattle.review_branch_laws.proofs.Made.{made_for}
 use Rattle.review_branch_laws.proofs.Places.{at_place, place_behind}
-
--- the place that a change has in a branch, where it joined it
-abbrev pub place_of : List ℕ → List ℕ → Option Change → Option ℕ
-place_of project branch None = None
-place_of project branch (Some c) = cond (is_for project branch c && is_merged c.state) (Some c.place) None
 
 and_false : (b : Bool) → (b && false) ≡ false
 and_false true = refl
 and_false false = refl
 
 -- a change that isn't merged has none
-not_placed : (project branch : List ℕ) (c : Change) → is_merged c.state ≡ false → place_of project branch (Some c) ≡ None
+pub not_placed : (project branch : List ℕ) (c : Change) → is_merged c.state ≡ false → place_of project branch (Some c) ≡ None
 not_placed project branch c free =
     ap (λ b. cond (is_for project branch c && b) (Some c.place) None) free ∙ ap (λ b. cond b (Some c.place) None) (and_false (is_for project branch c))
 
@@ -57,7 +54,7 @@ from_not : (b : Bool) → not b ≡ true → b ≡ false
 from_not true e = absurd (cc)
 from_not false e = refl
 
-merged_stays : (reading : Reading) (h : List Entry) (caller : ℕ) (command : ChangeCommand) (c : Change) → AllByRecursion Passes (request_checks reading h caller command c) →
+pub merged_stays : (reading : Reading) (h : List Entry) (caller : ℕ) (command : ChangeCommand) (c : Change) → AllByRecursion Passes (request_checks reading h caller command c) →
     is_merged (state_by command c.state) ≡ is_merged c.state
 merged_stays reading h caller (on.Upload patch) c pass = refl
 merged_stays reading h caller (on.Review review) c pass = refl
@@ -110,22 +107,25 @@ place_stays reading h caller (Submit m) a project branch n answer = refl
 -- ---- a submit gives the next places
 
 -- a change for the branch that isn't merged
-record IsUnmerged (reading : Reading) (h : List Entry) (project branch : List ℕ) (n : ℕ) : Type 0 where
-  of : Change
-  there : change reading h n ≡ Some of
-  is_for_it : is_for project branch of ≡ true
-  unmerged : is_merged of.state ≡ false
+pub record IsUnmerged (reading : Reading) (h : List Entry) (project branch : List ℕ) (n : ℕ) : Type 0 where
+  pub of : Change
+  pub there : change reading h n ≡ Some of
+  pub is_for_it : is_for project branch of ≡ true
+  pub unmerged : is_merged of.state ≡ false
+
+-- a link has the state of its change
+linked_state : (c : Change) (o : Option PatchRow) (link : Link) → option_map (λ p. record { patch = current c; parent = p.parent; state = c.state; wip = c.wip }) o ≡ Some link → c.state ≡ link.state
+linked_state c None link is = absurd (cc)
+linked_state c (Some p) link is = let one : record { patch = current c; parent = p.parent; state = c.state; wip = c.wip } ≡ link = cc in ap (λ (l : Link). l.state) one
 
 linked : (reading : Reading) (h : List Entry) (project branch : List ℕ) (n : ℕ) (o : Option Change) (link : Link) → change reading h n ≡ o → link_for project branch o ≡ Some link → link.state ≡ New →
     IsUnmerged reading h project branch n
 linked reading h project branch n None link there is new = absurd (cc)
 linked reading h project branch n (Some c) link there is new = by (is_for project branch c) refl is
   where
-    by : (b : Bool) → is_for project branch c ≡ b → cond b (Some (link_of c)) None ≡ Some link → IsUnmerged reading h project branch n
+    by : (b : Bool) → is_for project branch c ≡ b → cond b (link_of c) None ≡ Some link → IsUnmerged reading h project branch n
     by false other is = absurd (cc)
-    by true same is =
-        let one : link_of c ≡ link = cc in
-        record { of = c; there = there; is_for_it = same; unmerged = ap is_merged (ap (λ (l : Link). l.state) one ∙ new) }
+    by true same is = record { of = c; there = there; is_for_it = same; unmerged = ap is_merged (linked_state c (current_patch c) link is ∙ new) }
 
 -- each change of an accepted chain is for its branch, and wasn't merged
 pub unmerged : (reading : Reading) (h : List Entry) (m : ℕ) (a : Answer) (s : IsAccepted reading h m a) (n k : ℕ) → place_in s.chain n ≡ Some k → IsUnmerged reading h s.of.project s.of.branch n

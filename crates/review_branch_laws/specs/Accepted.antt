@@ -1,0 +1,21 @@
+-- What an accepted submit joins.
+use Rattle.std.specs.Prelude.{◌≡◌, ℕ, List, Some, None, true, false}
+use Rattle.review_words.specs.History.{Entry}
+use Rattle.review_words.specs.declared.reply.Answer.{Answer}
+use Rattle.review_words.specs.declared.reply.Answer.TheVariants.{Submitted}
+use Rattle.review_chain.specs.Walks.{IsChain}
+use Rattle.review_changes.specs.Change.{Change, is_open}
+use Rattle.review_changes.specs.Facts.{IsFirstUnsatisfied}
+use Rattle.review_rows.specs.Changes.{Reading, change}
+use Rattle.review_rows.specs.Submits.{branch_after, judged_after}
+
+-- A submit was accepted: its change was open and not in work in progress, its chain joined, and no requirement of a change of it was unsatisfied.
+pub record IsAccepted (reading : Reading) (h : List Entry) (m : ℕ) (a : Answer) : Type 0 where
+  pub of : Change
+  pub there : change reading h m ≡ Some of
+  pub was_open : is_open of.state ≡ true
+  pub was_ready : of.wip ≡ false
+  pub chain : List ℕ
+  pub is_chain : IsChain (branch_after reading h of.project of.branch) chain m
+  pub satisfied : IsFirstUnsatisfied (judged_after reading h) chain None
+  pub told : a ≡ Submitted chain
