@@ -17,7 +17,7 @@ use Rattle.review_rows.specs.Files.{File}
 use Rattle.review_rows.specs.View.{AreEnough, view}
 use Rattle.review_rows.proofs.Asked.{all_asked, found_of}
 use Rattle.review_account_decisions.proofs.Told.{project_told, bases_told}
-use Rattle.review_branch_laws.proofs.Listed.{joined_is_listed}
+use Rattle.review_branch_laws.proofs.Rows.{joined_rows}
 
 -- whether the project is there
 pub project_asked : {reading : Reading} {file : Option File} (h : List Entry) (caller : ℕ) (project branch : List ℕ) (rows : Rows) → AreEnough reading h caller (OfQuery (asked.Branch project branch)) file rows →
@@ -35,7 +35,7 @@ pub joined_asked : {reading : Reading} {file : Option File} (h : List Entry) (ca
     joined_of (known rows (want.Joined (record { project = project; branch = branch }))) ≡ map (joined_change reading h) (joined h project branch)
 joined_asked {reading = reading} h caller project branch rows history l =
     let r = found_of (view reading h) rows (want.Joined (record { project = project; branch = branch })) l.agree (all_asked _ rows caller (OfQuery (asked.Branch project branch)) l.nothing_left).1.1.1.0 in
-    ap joined_of (r.1 ∙ ap Some r.2.1) ∙ joined_is_listed reading h project branch r.2.0 history l.reads r.2.2
+    ap joined_of (r.1 ∙ ap Some r.2.1) ∙ joined_rows reading h (record { project = project; branch = branch }) r.2.0 history l.reads r.2.2
 
 -- whether a branch has bases
 pub none_there : (bs : List (List ℕ)) → bs ≡ [] → nat_le 1 (length bs) ≡ false
