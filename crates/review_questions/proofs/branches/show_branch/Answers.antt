@@ -7,7 +7,7 @@ use Rattle.review_words.specs.History.{bases, is_branch}
 use Rattle.review_rows.specs.declared.rows.Want.TheVariants as want
 use Rattle.review_rows.specs.Known.{known, commits_of, joined_of}
 use Rattle.review_account_decisions.proofs.Questioned.{refused_question, told_question}
-use Rattle.review_questions.proofs.Branches.{joined_asked, project_asked, bases_asked, none_there, some_there, branch_refused}
+use Rattle.review_questions.proofs.Listed.{joined_asked, project_asked, bases_asked, none_there, some_there, branch_refused}
 use Rattle.review_questions.proofs.branches.show_branch.Goals as goal
 
 pub returns-then-not-known-clause-shown : goal.returns-then-not-known-clause-shown
