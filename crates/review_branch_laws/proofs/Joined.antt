@@ -153,7 +153,7 @@ contained_joined reading h project branch n history reads in' =
     let at = contained_get (joined h project branch) n in' in
     (joined_placed reading h project branch n (at.0 + 1) history reads (get_placed (joined h project branch) at.0 n (joined_distinct reading h project branch history reads) at.1)).has_joined
 
-same_change : (reading : Reading) (h : List Entry) (n : ℕ) (c d : Change) → change reading h n ≡ Some c → change reading h n ≡ Some d → c ≡ d
+pub same_change : (reading : Reading) (h : List Entry) (n : ℕ) (c d : Change) → change reading h n ≡ Some c → change reading h n ≡ Some d → c ≡ d
 same_change reading h n c d one two = let e : Some c ≡ Some d = sym one ∙ two in cc
 
 -- a change joins only one branch

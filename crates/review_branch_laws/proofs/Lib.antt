@@ -7,3 +7,4 @@ pub mod Each
 pub mod Order
 pub mod Numbered
 pub mod Rows
+pub mod Ready

@@ -3,4 +3,4 @@
 
 pub mod laws;
 
-pub use laws::{joined_few, joined_is_listed, joined_once, last_is_length, places_are_kept};
+pub use laws::{accepted_submit, joined_few, joined_is_listed, joined_once, last_is_length, places_are_kept};
