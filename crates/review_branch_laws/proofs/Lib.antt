@@ -8,3 +8,5 @@ pub mod Order
 pub mod Numbered
 pub mod Rows
 pub mod Ready
+pub mod Standing
+pub mod Parents

@@ -6,7 +6,6 @@ use Rattle.std.proofs.lemmas.List.Elements.{All-from_recursion, recursion_from_A
 use Rattle.review_words.specs.History.{Entry}
 use Rattle.review_words.specs.declared.command.Command.TheVariants.{Submit}
 use Rattle.review_words.specs.declared.reply.Answer.{Answer}
-use Rattle.review_words.specs.declared.reply.Answer.TheVariants.{Submitted}
 use Rattle.review_words.specs.declared.reply.Reply.TheVariants.{Done}
 use Rattle.review_words.specs.declared.shown.ShownRequirement.{ShownRequirement}
 use Rattle.review_words.specs.declared.shown.State.{State}

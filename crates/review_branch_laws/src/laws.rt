@@ -1,9 +1,10 @@
 //! Laws of the changes that joined a branch.
-ghost use Rattle.std.specs.Prelude.{◌≡◌, ◌==◌, ◌≤◌, ◌∷◌, ℕ, List, Some, length, map};
+ghost use Rattle.std.specs.Prelude.{◌≡◌, ◌==◌, ◌≤◌, ◌∷◌, ◌++◌, ℕ, List, Some, length, map};
 ghost use Rattle.std.specs.List.{All, Contains, IsDistinct};
 ghost use Rattle.review_words.specs.History.{Entry};
 ghost use Rattle.review_words.specs.declared.command.Command.TheVariants.{Submit};
 ghost use Rattle.review_words.specs.declared.reply.Answer.{Answer};
+ghost use Rattle.review_words.specs.declared.reply.Answer.TheVariants.{Submitted};
 ghost use Rattle.review_words.specs.declared.reply.Reply.TheVariants.{Done};
 ghost use Rattle.review_words.specs.declared.shown.JoinedChange.{JoinedChange};
 ghost use Rattle.review_changes.specs.Change.{Change};
@@ -14,6 +15,7 @@ ghost use Rattle.review_rows.specs.Questions.{joined_change};
 ghost use Rattle.review_rows.specs.View.{fact};
 ghost use Rattle.review_branch_laws.specs.Accepted.{IsAccepted, MayJoin};
 ghost use Rattle.review_branch_laws.specs.Joined.{HasJoined};
+ghost use Rattle.review_branch_laws.specs.Parents.{StandsOn};
 ghost use Rattle.review_branch_laws.specs.Places.{place_of};
 
 /// The place of a change among those that joined a branch is the place that it has, and a change that is not merged has none.
@@ -49,4 +51,10 @@ pub fn joined_is_listed()
 pub fn accepted_submit()
     ensures accepted { (reading : Reading) (e : Entry) (h : List Entry) (m : ℕ) (a : Answer) → IsHistory (e ∷ h) → Reads reading h → e.command ≡ Submit m → e.reply ≡ Done a → IsAccepted reading h m a }
     ensures each { (reading : Reading) (e : Entry) (h : List Entry) (m : ℕ) (a : Answer) (c : Change) → IsHistory (e ∷ h) → Reads reading h → e.command ≡ Submit m → e.reply ≡ Done a → change reading h m ≡ Some c → All (MayJoin reading h c.project c.branch) (joined_in (Done a)) }
+{}
+
+/// Parents join before their children: of each change that an accepted submit joins, the current parent is a base of the branch, or the current
+/// commit of a change that joined the branch before, in an earlier submit or earlier in this one.
+pub fn parents_join_first()
+    ensures { (reading : Reading) (e : Entry) (h : List Entry) (m : ℕ) (c : Change) (front : List ℕ) (n : ℕ) (back : List ℕ) → IsHistory (e ∷ h) → Reads reading h → e.command ≡ Submit m → e.reply ≡ Done (Submitted (front ++ n ∷ back)) → change reading h m ≡ Some c → StandsOn reading h c.project c.branch (joined h c.project c.branch ++ front) n }
 {}
