@@ -2,14 +2,12 @@
 use Rattle.std.proofs.Common.{◌≡◌, ◌⊎◌, inl, inr, ℕ, ◌+◌, ◌<◌, ◌≤◌, ◌==◌, List, [], ◌∷◌, ◌++◌, length, Option, Some, None, Bool, true, false, cond, ◌&&◌, refl, sym, ap, subst, ◌∙◌, arith}
 use Rattle.std.specs.Prelude.{is_some, nat_le}
 use Rattle.std.specs.List.{All, AllByRecursion, Contains, IsDistinct}
-use Rattle.std.specs.Str.{bytes_eq}
 use Rattle.std.proofs.lemmas.Bool.{and_parts, and_from, leb-true}
 use Rattle.std.proofs.lemmas.Bool.Decides.{nat_tests}
 use Rattle.std.proofs.lemmas.List.{append-nil}
 use Rattle.std.proofs.lemmas.List.Elements.{All-from_recursion}
 use Rattle.std.proofs.lemmas.Map.Keys.{IsDistinct-cons}
 use Rattle.std.proofs.lemmas.Map.Steps.{length-le_from_distinct_below}
-use Rattle.std.proofs.lemmas.Slice.Eq.{bytes_eq-Decides}
 use Rattle.review_words.specs.History.{Entry, accepted, if_done}
 use Rattle.review_words.specs.declared.command.Command.{Command}
 use Rattle.review_words.specs.declared.command.Command.TheVariants.{CreateAccount, PutGroup, PutProject, RecordBase, CreateChange, OnChange, Submit}
@@ -28,17 +26,10 @@ use Rattle.review_branch_laws.specs.Accepted.{IsAccepted}
 use Rattle.review_branch_laws.specs.Joined.{HasJoined}
 use Rattle.review_branch_laws.specs.Places.{place_of}
 use Rattle.review_branch_laws.proofs.Accepted.{submit_accepted}
+use Rattle.review_branch_laws.proofs.Linked.{for_branch, is_for_branch}
 use Rattle.review_branch_laws.proofs.Made.{made_for}
 use Rattle.review_branch_laws.proofs.Placed.{not_placed, placed, unmerged}
 use Rattle.review_branch_laws.proofs.Places.{all_placed, any_of, contained_get, contains_placed, distinct_append, each_weaker, get_placed}
-
--- a change is for the branch that its project and branch name
-pub for_branch : (project branch : List ℕ) (c : Change) → is_for project branch c ≡ true → (c.project ≡ project) × (c.branch ≡ branch)
-for_branch project branch c is =
-    let p = and_parts (bytes_eq c.project project) (bytes_eq c.branch branch) is in ((bytes_eq-Decides c.project project).0 p.0, (bytes_eq-Decides c.branch branch).0 p.1)
-
-pub is_for_branch : (project branch : List ℕ) (c : Change) → c.project ≡ project → c.branch ≡ branch → is_for project branch c ≡ true
-is_for_branch project branch c one two = and_from (bytes_eq c.project project) (bytes_eq c.branch branch) ((bytes_eq-Decides c.project project).1 one) ((bytes_eq-Decides c.branch branch).1 two)
 
 pub state_merged : (s : State) → is_merged s ≡ true → s ≡ Merged
 state_merged New e = absurd (cc)

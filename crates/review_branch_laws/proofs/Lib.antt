@@ -1,3 +1,4 @@
+pub mod Linked
 pub mod Made
 pub mod Accepted
 pub mod Places

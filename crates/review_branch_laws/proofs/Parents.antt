@@ -21,7 +21,8 @@ use Rattle.review_rows.specs.Links.{link_for}
 use Rattle.review_rows.specs.Submits.{branch_after, standing_of}
 use Rattle.review_branch_laws.specs.Parents.{StandsOn}
 use Rattle.review_branch_laws.proofs.Joined.{same_change}
-use Rattle.review_branch_laws.proofs.Ready.{entry_accepted, linked}
+use Rattle.review_branch_laws.proofs.Linked.{linked}
+use Rattle.review_branch_laws.proofs.Ready.{entry_accepted}
 use Rattle.review_branch_laws.proofs.Standing.{in_branch, standing_in, standing_patch}
 
 -- what a commit is to a branch that the current parent of a change is

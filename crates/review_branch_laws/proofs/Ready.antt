@@ -13,16 +13,15 @@ use Rattle.review_words.specs.declared.shown.State.TheVariants.{New, Merged, Aba
 use Rattle.review_chain.specs.declared.links.Link.{Link}
 use Rattle.review_chain.specs.Walks.{IsReady}
 use Rattle.review_chain.proofs.Fronts.{chain_ready}
-use Rattle.review_changes.specs.Change.{Change, Setting, current, current_patch, is_open}
+use Rattle.review_changes.specs.Change.{Change, Setting, is_open}
 use Rattle.review_changes.specs.Facts.{AreStanding, IsFirstUnsatisfied, is_unsatisfied, unsatisfied_in}
-use Rattle.review_changes.specs.declared.rows.PatchRow.{PatchRow}
 use Rattle.review_rows.specs.Answer.{IsAnswerBy, IsHistory}
-use Rattle.review_rows.specs.Changes.{Reading, Reads, change, is_for, joined_in, setting_of}
-use Rattle.review_rows.specs.Links.{link_for, link_of}
+use Rattle.review_rows.specs.Changes.{Reading, Reads, change, joined_in, setting_of}
 use Rattle.review_rows.specs.Submits.{branch_after, judged_after}
 use Rattle.review_branch_laws.specs.Accepted.{IsAccepted, MayJoin}
 use Rattle.review_branch_laws.proofs.Accepted.{submit_accepted}
-use Rattle.review_branch_laws.proofs.Joined.{for_branch, same_change}
+use Rattle.review_branch_laws.proofs.Joined.{same_change}
+use Rattle.review_branch_laws.proofs.Linked.{linked}
 
 -- ---- requirements
 
@@ -85,32 +84,6 @@ state_open : (s : State) → is_open s ≡ true → s ≡ New
 state_open New e = refl
 state_open Merged e = absurd (cc)
 state_open Abandoned e = absurd (cc)
-
--- a change as a link is the change: for the branch, with its current patch set, and with its state
-pub record IsLinked (project branch : List ℕ) (o : Option Change) (link : Link) : Type 0 where
-  pub of : Change
-  pub there : o ≡ Some of
-  pub for_project : of.project ≡ project
-  pub for_branch : of.branch ≡ branch
-  pub patch : PatchRow
-  pub is_current : current_patch of ≡ Some patch
-  pub link_is : record { patch = current of; parent = patch.parent; state = of.state; wip = of.wip } ≡ link
-
-pub linked : (project branch : List ℕ) (o : Option Change) (link : Link) → link_for project branch o ≡ Some link → IsLinked project branch o link
-linked project branch None link is = absurd (cc)
-linked project branch (Some c) link is = by_branch (is_for project branch c) refl is
-  where
-    by_patch : is_for project branch c ≡ true → (p : Option PatchRow) → current_patch c ≡ p → option_map (λ p. record { patch = current c; parent = p.parent; state = c.state; wip = c.wip }) p ≡ Some link →
-        IsLinked project branch (Some c) link
-    by_patch same None none e = absurd (cc)
-    by_patch same (Some p) some e =
-        let to = for_branch project branch c same in
-        let one : record { patch = current c; parent = p.parent; state = c.state; wip = c.wip } ≡ link = cc in
-        record { of = c; there = refl; for_project = to.0; for_branch = to.1; patch = p; is_current = some; link_is = one }
-
-    by_branch : (b : Bool) → is_for project branch c ≡ b → cond b (link_of c) None ≡ Some link → IsLinked project branch (Some c) link
-    by_branch false other e = absurd (cc)
-    by_branch true same e = by_patch same (current_patch c) refl e
 
 ready_open : (reading : Reading) (h : List Entry) (project branch : List ℕ) (n : ℕ) → IsReady (branch_after reading h project branch) n → IsOpen reading h project branch n
 ready_open reading h project branch n r =
