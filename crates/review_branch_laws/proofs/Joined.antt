@@ -39,8 +39,9 @@ state_merged Abandoned e = absurd (cc)
 -- ---- what an entry joins
 
 -- A branch gains changes: the chain of an accepted submit of a change for it.
-pub record Gains (reading : Reading) (h : List Entry) (project branch : List ℕ) (changes : List ℕ) : Type 0 where
+pub record Gains (reading : Reading) (h : List Entry) (o : Option Command) (project branch : List ℕ) (changes : List ℕ) : Type 0 where
   pub submit : ℕ
+  pub asked : o ≡ Some (Submit submit)
   pub answer : Answer
   pub accepted : IsAccepted reading h submit answer
   pub joins : changes ≡ accepted.chain
@@ -49,7 +50,7 @@ pub record Gains (reading : Reading) (h : List Entry) (project branch : List ℕ
 
 -- a command joins no changes to a branch, or the chain of an accepted submit
 pub gains : (reading : Reading) (h : List Entry) (caller : ℕ) (command : Command) (reply : Reply) (project branch : List ℕ) → IsAnswerBy reading h caller command reply →
-    (joined_by h (if_done reply command) reply project branch ≡ []) ⊎ Gains reading h project branch (joined_by h (if_done reply command) reply project branch)
+    (joined_by h (if_done reply command) reply project branch ≡ []) ⊎ Gains reading h (if_done reply command) project branch (joined_by h (if_done reply command) reply project branch)
 gains reading h caller command (Refused r) project branch answer = inl refl
 gains reading h caller command IdentityReused project branch answer = inl refl
 gains reading h caller command (NotTaken cause) project branch answer = inl refl
@@ -61,12 +62,12 @@ gains reading h caller (CreateChange new) (Done a) project branch answer = inl r
 gains reading h caller (OnChange m command) (Done a) project branch answer = inl refl
 gains reading h caller (Submit m) (Done a) project branch answer = by (is_made_for h project branch m) refl
   where
-    by : (b : Bool) → is_made_for h project branch m ≡ b → (cond b (joined_in (Done a)) [] ≡ []) ⊎ Gains reading h project branch (cond b (joined_in (Done a)) [])
+    by : (b : Bool) → is_made_for h project branch m ≡ b → (cond b (joined_in (Done a)) [] ≡ []) ⊎ Gains reading h (Some (Submit m)) project branch (cond b (joined_in (Done a)) [])
     by false other = inl refl
     by true same =
         let s = submit_accepted reading h caller m a answer in
         let to = for_branch project branch s.of (sym (made_for reading h m s.of project branch s.there) ∙ same) in
-        inr (record { submit = m; answer = a; accepted = s; joins = ap (λ x. joined_in (Done x)) s.told; for_project = to.0; for_branch = to.1 })
+        inr (record { submit = m; asked = refl; answer = a; accepted = s; joins = ap (λ x. joined_in (Done x)) s.told; for_project = to.0; for_branch = to.1 })
 
 -- ---- each once
 
@@ -78,11 +79,11 @@ newly reading h m a s history reads =
     let u = unmerged reading h m a s n k is in
     placed reading h s.of.project s.of.branch n history reads ∙ (ap (place_of s.of.project s.of.branch) u.there ∙ not_placed s.of.project s.of.branch u.of u.unmerged))
 
-more_distinct : (reading : Reading) (h : List Entry) (project branch : List ℕ) (changes : List ℕ) → IsHistory h → Reads reading h → IsDistinct ◌==◌ (joined h project branch) →
-    (changes ≡ []) ⊎ Gains reading h project branch changes → IsDistinct ◌==◌ (joined h project branch ++ changes)
-more_distinct reading h project branch changes history reads before (inl none) =
+more_distinct : (reading : Reading) (h : List Entry) (o : Option Command) (project branch : List ℕ) (changes : List ℕ) → IsHistory h → Reads reading h → IsDistinct ◌==◌ (joined h project branch) →
+    (changes ≡ []) ⊎ Gains reading h o project branch changes → IsDistinct ◌==◌ (joined h project branch ++ changes)
+more_distinct reading h o project branch changes history reads before (inl none) =
     subst (λ l. IsDistinct ◌==◌ (joined h project branch ++ l)) (sym none) (subst (λ l. IsDistinct ◌==◌ l) (sym (append-nil (joined h project branch))) before)
-more_distinct reading h project branch changes history reads before (inr g) =
+more_distinct reading h o project branch changes history reads before (inr g) =
     let s = g.accepted in
     let here : joined h s.of.project s.of.branch ≡ joined h project branch = λ i. joined h (g.for_project i) (g.for_branch i) in
     let apart = subst (λ l. AllByRecursion (λ n. place_in l n ≡ None) s.chain) here (newly reading h g.submit g.answer s history reads) in
@@ -97,7 +98,7 @@ none_distinct = tt
 pub joined_distinct : (reading : Reading) (h : List Entry) (project branch : List ℕ) → IsHistory h → Reads reading h → IsDistinct ◌==◌ (joined h project branch)
 joined_distinct reading [] project branch history reads = none_distinct
 joined_distinct reading (e ∷ h) project branch history reads =
-    more_distinct reading h project branch (joined_by h (accepted e) e.reply project branch) history.3 reads.1 (joined_distinct reading h project branch history.3 reads.1)
+    more_distinct reading h (accepted e) project branch (joined_by h (accepted e) e.reply project branch) history.3 reads.1 (joined_distinct reading h project branch history.3 reads.1)
     (gains reading h e.identity.caller e.command e.reply project branch (history.1 reading reads.1))
 
 -- ---- those that are merged

@@ -10,4 +10,5 @@ pub mod Numbered
 pub mod Rows
 pub mod Ready
 pub mod Standing
+pub mod Kept
 pub mod Parents

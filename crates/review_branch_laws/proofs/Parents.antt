@@ -1,10 +1,10 @@
 -- Parents join before their children.
-use Rattle.std.proofs.Common.{◌≡◌, ◌⊎◌, inl, inr, ℕ, suc, ◌<◌, List, [], ◌∷◌, ◌++◌, length, Option, Some, None, refl, sym, ap, subst, ◌∙◌, ⊎_elim, arith}
+use Rattle.std.proofs.Common.{◌≡◌, ◌⊎◌, inl, inr, ℕ, suc, ◌<◌, List, [], ◌∷◌, ◌++◌, length, Option, Some, None, true, refl, sym, ap, subst, ◌∙◌, ⊎_elim, arith}
 use Rattle.std.specs.Prelude.{option_and_then, option_map, slice_get}
 use Rattle.std.specs.List.{Contains}
 use Rattle.std.specs.Option.{option_map_or}
 use Rattle.std.proofs.lemmas.List.Elements.{Contains-append_left, Contains-append_right}
-use Rattle.review_words.specs.History.{Entry}
+use Rattle.review_words.specs.History.{Entry, accepted, is_base}
 use Rattle.review_words.specs.declared.command.Command.TheVariants.{Submit}
 use Rattle.review_words.specs.declared.reply.Answer.TheVariants.{Submitted}
 use Rattle.review_words.specs.declared.reply.Reply.TheVariants.{Done}
@@ -16,11 +16,12 @@ use Rattle.review_chain.specs.Walks.{Follows, IsChain, IsWalk, first_of}
 use Rattle.review_changes.specs.Change.{Change, commit, current, of_number, parent}
 use Rattle.review_changes.specs.declared.rows.PatchRow.{PatchRow}
 use Rattle.review_rows.specs.Answer.{IsHistory}
-use Rattle.review_rows.specs.Changes.{Reading, Reads, change, joined, joined_in}
+use Rattle.review_rows.specs.Changes.{Reading, Reads, change, joined, joined_by, joined_in}
 use Rattle.review_rows.specs.Links.{link_for}
 use Rattle.review_rows.specs.Submits.{branch_after, standing_of}
 use Rattle.review_branch_laws.specs.Parents.{StandsOn}
-use Rattle.review_branch_laws.proofs.Joined.{same_change}
+use Rattle.review_branch_laws.proofs.Joined.{Gains, contained_joined, gains, same_change}
+use Rattle.review_branch_laws.proofs.Kept.{KeepsPatches, base_kept, commit_kept, merged_keeps, parent_kept, submit_keeps}
 use Rattle.review_branch_laws.proofs.Linked.{linked}
 use Rattle.review_branch_laws.proofs.Ready.{entry_accepted}
 use Rattle.review_branch_laws.proofs.Standing.{in_branch, standing_in, standing_patch}
@@ -98,3 +99,87 @@ entry_stands reading e h m c front n back history reads command reply there =
     let chain : s.chain ≡ front ++ n ∷ back = sym (ap (λ x. joined_in (Done x)) s.told) in
     subst (λ (x : Change). StandsOn reading h x.project x.branch (joined h x.project x.branch ++ front) n) same
     (chain_stands reading h s.of.project s.of.branch front n back m history.3 reads (subst (λ l. IsChain (branch_after reading h s.of.project s.of.branch) l m) chain s.is_chain))
+
+-- ---- in every history
+
+-- two lists in a row are cut at an item of the first
+record IsCutFirst (xs front : List ℕ) (n : ℕ) : Type 0 where
+  rest : List ℕ
+  cut_is : xs ≡ front ++ n ∷ rest
+
+-- or of the second
+record IsCutSecond (xs ys front : List ℕ) (n : ℕ) (back : List ℕ) : Type 0 where
+  more : List ℕ
+  front_is : front ≡ xs ++ more
+  cut_is : ys ≡ more ++ n ∷ back
+
+cut : (xs ys front : List ℕ) (n : ℕ) (back : List ℕ) → xs ++ ys ≡ front ++ n ∷ back → IsCutFirst xs front n ⊎ IsCutSecond xs ys front n back
+cut [] ys front n back e = inr (record { more = front; front_is = refl; cut_is = e })
+cut (x ∷ xs) ys [] n back e = let same : x ≡ n = cc in inl (record { rest = xs; cut_is = λ i. same i ∷ xs })
+cut (x ∷ xs) ys (y ∷ front) n back e =
+    let same : x ≡ y = cc in
+    let rest : xs ++ ys ≡ front ++ n ∷ back = cc in
+    ⊎_elim
+    (λ (c : IsCutFirst xs front n). inl (record { rest = c.rest; cut_is = λ i. same i ∷ c.cut_is i }))
+    (λ (c : IsCutSecond xs ys front n back). inr (record { more = c.more; front_is = λ i. sym same i ∷ c.front_is i; cut_is = c.cut_is }))
+    (cut xs ys front n back rest)
+
+-- what a change stands on it stands on after an entry too, which keeps its patch sets and those of what it stands on
+stands_kept : (reading : Reading) (e : Entry) (h : List Entry) (project branch changes : List ℕ) (n : ℕ) → (s : StandsOn reading h project branch changes n) → KeepsPatches s.of (change reading (e ∷ h) n) →
+    ((d : ℕ) (c : Change) → Contains changes d → change reading h d ≡ Some c → KeepsPatches c (change reading (e ∷ h) d)) → StandsOn reading (e ∷ h) project branch changes n
+stands_kept reading e h project branch changes n s itself others = record { of = itself.of; there = itself.there; parent_is = by s.parent_is }
+  where
+    same : parent itself.of ≡ parent s.of
+    same = parent_kept itself.of s.of itself.patches
+
+    commit_of : (d : ℕ) → Contains changes d → (o : Option Change) → change reading h d ≡ o → option_map commit o ≡ Some (parent s.of) → option_map commit (change reading (e ∷ h) d) ≡ Some (parent s.of)
+    commit_of d in' None there f = absurd (cc)
+    commit_of d in' (Some c) there f =
+        let k = others d c in' there in
+        ap (option_map commit) k.there ∙ (ap Some (commit_kept k.of c k.patches) ∙ f)
+
+    by : (is_base h project branch (parent s.of) ≡ true) ⊎ ((d : ℕ) × Contains changes d × (option_map commit (change reading h d) ≡ Some (parent s.of))) →
+        (is_base (e ∷ h) project branch (parent itself.of) ≡ true) ⊎ ((d : ℕ) × Contains changes d × (option_map commit (change reading (e ∷ h) d) ≡ Some (parent itself.of)))
+    by (inl base) = inl (ap (is_base (e ∷ h) project branch) same ∙ base_kept e h project branch (parent s.of) base)
+    by (inr d) = inr (d.0, d.1, commit_of d.0 d.1 (change reading h d.0) refl d.2 ∙ ap Some (sym same))
+
+-- a change that joined keeps its patch sets
+joined_keeps : (reading : Reading) (e : Entry) (h : List Entry) (project branch : List ℕ) (n : ℕ) (c : Change) → IsHistory (e ∷ h) → Reads reading h → Contains (joined h project branch) n → change reading h n ≡ Some c →
+    KeepsPatches c (change reading (e ∷ h) n)
+joined_keeps reading e h project branch n c history reads in' there =
+    let j = contained_joined reading h project branch n history.3 reads in' in
+    merged_keeps reading e h n c history reads there (ap (λ (x : Change). x.state) (same_change reading h n c j.of there j.there) ∙ j.merged)
+
+Contains-at : (front : List ℕ) (n : ℕ) (back : List ℕ) → Contains (front ++ n ∷ back) n
+Contains-at front n back = Contains-append_right front (n ∷ back) n (0, omega arith, refl)
+
+earlier_stands : (reading : Reading) (e : Entry) (h : List Entry) (project branch front : List ℕ) (n : ℕ) (back : List ℕ) → IsHistory (e ∷ h) → Reads reading h → joined h project branch ≡ front ++ n ∷ back →
+    StandsOn reading h project branch front n → StandsOn reading (e ∷ h) project branch front n
+earlier_stands reading e h project branch front n back history reads is s =
+    stands_kept reading e h project branch front n s
+    (joined_keeps reading e h project branch n s.of history reads (subst (λ l. Contains l n) (sym is) (Contains-at front n back)) s.there)
+    (λ d c in' there. joined_keeps reading e h project branch d c history reads (subst (λ l. Contains l d) (sym is) (Contains-append_left front (n ∷ back) d in')) there)
+
+newest_stands : (reading : Reading) (e : Entry) (h : List Entry) (project branch changes : List ℕ) (front : List ℕ) (n : ℕ) (back more : List ℕ) → IsHistory (e ∷ h) → Reads reading h →
+    (changes ≡ []) ⊎ Gains reading h (accepted e) project branch changes → changes ≡ more ++ n ∷ back → front ≡ joined h project branch ++ more → StandsOn reading (e ∷ h) project branch front n
+newest_stands reading e h project branch changes front n back more history reads (inl none) is front_is = let in' : Contains [] n = subst (λ l. Contains l n) (sym is ∙ none) (Contains-at more n back) in absurd (let bad : in'.0 < 0 = in'.1 in omega arith)
+newest_stands reading e h project branch changes front n back more history reads (inr g) is front_is =
+    let s = g.accepted in
+    let chain : s.chain ≡ more ++ n ∷ back = sym g.joins ∙ is in
+    let branches : branch_after reading h s.of.project s.of.branch ≡ branch_after reading h project branch = λ i. branch_after reading h (g.for_project i) (g.for_branch i) in
+    let is_chain = subst (λ b. IsChain b (more ++ n ∷ back) g.submit) branches (subst (λ l. IsChain (branch_after reading h s.of.project s.of.branch) l g.submit) chain s.is_chain) in
+    let stands = chain_stands reading h project branch more n back g.submit history.3 reads is_chain in
+    subst (λ l. StandsOn reading (e ∷ h) project branch l n) (sym front_is)
+    (stands_kept reading e h project branch (joined h project branch ++ more) n stands (submit_keeps reading e h g.submit n stands.of g.asked stands.there) (λ d c in' there. submit_keeps reading e h g.submit d c g.asked there))
+
+-- Each change that joined a branch stands on it, or on one that joined it before.
+pub joined_stands : (reading : Reading) (h : List Entry) (project branch front : List ℕ) (n : ℕ) (back : List ℕ) → IsHistory h → Reads reading h → joined h project branch ≡ front ++ n ∷ back → StandsOn reading h project branch front n
+joined_stands reading [] project branch front n back history reads is = let in' : Contains [] n = subst (λ l. Contains l n) (sym is) (Contains-at front n back) in absurd (let bad : in'.0 < 0 = in'.1 in omega arith)
+joined_stands reading (e ∷ h) project branch front n back history reads is =
+    ⊎_elim
+    (λ (c : IsCutFirst (joined h project branch) front n).
+    earlier_stands reading e h project branch front n c.rest history reads.1 c.cut_is (joined_stands reading h project branch front n c.rest history.3 reads.1 c.cut_is))
+    (λ (c : IsCutSecond (joined h project branch) (joined_by h (accepted e) e.reply project branch) front n back).
+    newest_stands reading e h project branch (joined_by h (accepted e) e.reply project branch) front n back c.more history reads.1
+    (gains reading h e.identity.caller e.command e.reply project branch (history.1 reading reads.1)) c.cut_is c.front_is)
+    (cut (joined h project branch) (joined_by h (accepted e) e.reply project branch) front n back is)

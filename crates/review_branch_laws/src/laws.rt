@@ -53,8 +53,10 @@ pub fn accepted_submit()
     ensures each { (reading : Reading) (e : Entry) (h : List Entry) (m : ℕ) (a : Answer) (c : Change) → IsHistory (e ∷ h) → Reads reading h → e.command ≡ Submit m → e.reply ≡ Done a → change reading h m ≡ Some c → All (MayJoin reading h c.project c.branch) (joined_in (Done a)) }
 {}
 
-/// Parents join before their children: of each change that an accepted submit joins, the current parent is a base of the branch, or the current
-/// commit of a change that joined the branch before, in an earlier submit or earlier in this one.
+/// Parents join before their children: of each change that joins a branch, the current parent is a base of the branch, or the current commit of
+/// a change that joined it before. So it is when the submit is accepted, where such a change joined by an earlier submit or stands earlier in
+/// this one's chain, and so it stays.
 pub fn parents_join_first()
-    ensures { (reading : Reading) (e : Entry) (h : List Entry) (m : ℕ) (c : Change) (front : List ℕ) (n : ℕ) (back : List ℕ) → IsHistory (e ∷ h) → Reads reading h → e.command ≡ Submit m → e.reply ≡ Done (Submitted (front ++ n ∷ back)) → change reading h m ≡ Some c → StandsOn reading h c.project c.branch (joined h c.project c.branch ++ front) n }
+    ensures newest { (reading : Reading) (e : Entry) (h : List Entry) (m : ℕ) (c : Change) (front : List ℕ) (n : ℕ) (back : List ℕ) → IsHistory (e ∷ h) → Reads reading h → e.command ≡ Submit m → e.reply ≡ Done (Submitted (front ++ n ∷ back)) → change reading h m ≡ Some c → StandsOn reading h c.project c.branch (joined h c.project c.branch ++ front) n }
+    ensures all { (reading : Reading) (h : List Entry) (project branch front : List ℕ) (n : ℕ) (back : List ℕ) → IsHistory h → Reads reading h → joined h project branch ≡ front ++ n ∷ back → StandsOn reading h project branch front n }
 {}
