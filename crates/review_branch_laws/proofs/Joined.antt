@@ -2,14 +2,12 @@
 use Rattle.std.proofs.Common.{◌≡◌, ◌⊎◌, inl, inr, ℕ, ◌+◌, ◌<◌, ◌≤◌, ◌==◌, List, [], ◌∷◌, ◌++◌, length, Option, Some, None, Bool, true, false, cond, ◌&&◌, refl, sym, ap, subst, ◌∙◌, arith}
 use Rattle.std.specs.Prelude.{is_some, nat_le}
 use Rattle.std.specs.List.{All, AllByRecursion, Contains, IsDistinct}
-use Rattle.std.specs.Str.{bytes_eq}
 use Rattle.std.proofs.lemmas.Bool.{and_parts, and_from, leb-true}
 use Rattle.std.proofs.lemmas.Bool.Decides.{nat_tests}
 use Rattle.std.proofs.lemmas.List.{append-nil}
 use Rattle.std.proofs.lemmas.List.Elements.{All-from_recursion}
 use Rattle.std.proofs.lemmas.Map.Keys.{IsDistinct-cons}
 use Rattle.std.proofs.lemmas.Map.Steps.{length-le_from_distinct_below}
-use Rattle.std.proofs.lemmas.Slice.Eq.{bytes_eq-Decides}
 use Rattle.review_words.specs.History.{Entry, accepted, if_done}
 use Rattle.review_words.specs.declared.command.Command.{Command}
 use Rattle.review_words.specs.declared.command.Command.TheVariants.{CreateAccount, PutGroup, PutProject, RecordBase, CreateChange, OnChange, Submit}
@@ -28,17 +26,10 @@ use Rattle.review_branch_laws.specs.Accepted.{IsAccepted}
 use Rattle.review_branch_laws.specs.Joined.{HasJoined}
 use Rattle.review_branch_laws.specs.Places.{place_of}
 use Rattle.review_branch_laws.proofs.Accepted.{submit_accepted}
+use Rattle.review_branch_laws.proofs.Linked.{for_branch, is_for_branch}
 use Rattle.review_branch_laws.proofs.Made.{made_for}
 use Rattle.review_branch_laws.proofs.Placed.{not_placed, placed, unmerged}
 use Rattle.review_branch_laws.proofs.Places.{all_placed, any_of, contained_get, contains_placed, distinct_append, each_weaker, get_placed}
-
--- a change is for the branch that its project and branch name
-pub for_branch : (project branch : List ℕ) (c : Change) → is_for project branch c ≡ true → (c.project ≡ project) × (c.branch ≡ branch)
-for_branch project branch c is =
-    let p = and_parts (bytes_eq c.project project) (bytes_eq c.branch branch) is in ((bytes_eq-Decides c.project project).0 p.0, (bytes_eq-Decides c.branch branch).0 p.1)
-
-pub is_for_branch : (project branch : List ℕ) (c : Change) → c.project ≡ project → c.branch ≡ branch → is_for project branch c ≡ true
-is_for_branch project branch c one two = and_from (bytes_eq c.project project) (bytes_eq c.branch branch) ((bytes_eq-Decides c.project project).1 one) ((bytes_eq-Decides c.branch branch).1 two)
 
 pub state_merged : (s : State) → is_merged s ≡ true → s ≡ Merged
 state_merged New e = absurd (cc)
@@ -48,8 +39,9 @@ state_merged Abandoned e = absurd (cc)
 -- ---- what an entry joins
 
 -- A branch gains changes: the chain of an accepted submit of a change for it.
-pub record Gains (reading : Reading) (h : List Entry) (project branch : List ℕ) (changes : List ℕ) : Type 0 where
+pub record Gains (reading : Reading) (h : List Entry) (o : Option Command) (project branch : List ℕ) (changes : List ℕ) : Type 0 where
   pub submit : ℕ
+  pub asked : o ≡ Some (Submit submit)
   pub answer : Answer
   pub accepted : IsAccepted reading h submit answer
   pub joins : changes ≡ accepted.chain
@@ -58,7 +50,7 @@ pub record Gains (reading : Reading) (h : List Entry) (project branch : List ℕ
 
 -- a command joins no changes to a branch, or the chain of an accepted submit
 pub gains : (reading : Reading) (h : List Entry) (caller : ℕ) (command : Command) (reply : Reply) (project branch : List ℕ) → IsAnswerBy reading h caller command reply →
-    (joined_by h (if_done reply command) reply project branch ≡ []) ⊎ Gains reading h project branch (joined_by h (if_done reply command) reply project branch)
+    (joined_by h (if_done reply command) reply project branch ≡ []) ⊎ Gains reading h (if_done reply command) project branch (joined_by h (if_done reply command) reply project branch)
 gains reading h caller command (Refused r) project branch answer = inl refl
 gains reading h caller command IdentityReused project branch answer = inl refl
 gains reading h caller command (NotTaken cause) project branch answer = inl refl
@@ -70,12 +62,12 @@ gains reading h caller (CreateChange new) (Done a) project branch answer = inl r
 gains reading h caller (OnChange m command) (Done a) project branch answer = inl refl
 gains reading h caller (Submit m) (Done a) project branch answer = by (is_made_for h project branch m) refl
   where
-    by : (b : Bool) → is_made_for h project branch m ≡ b → (cond b (joined_in (Done a)) [] ≡ []) ⊎ Gains reading h project branch (cond b (joined_in (Done a)) [])
+    by : (b : Bool) → is_made_for h project branch m ≡ b → (cond b (joined_in (Done a)) [] ≡ []) ⊎ Gains reading h (Some (Submit m)) project branch (cond b (joined_in (Done a)) [])
     by false other = inl refl
     by true same =
         let s = submit_accepted reading h caller m a answer in
         let to = for_branch project branch s.of (sym (made_for reading h m s.of project branch s.there) ∙ same) in
-        inr (record { submit = m; answer = a; accepted = s; joins = ap (λ x. joined_in (Done x)) s.told; for_project = to.0; for_branch = to.1 })
+        inr (record { submit = m; asked = refl; answer = a; accepted = s; joins = ap (λ x. joined_in (Done x)) s.told; for_project = to.0; for_branch = to.1 })
 
 -- ---- each once
 
@@ -87,11 +79,11 @@ newly reading h m a s history reads =
     let u = unmerged reading h m a s n k is in
     placed reading h s.of.project s.of.branch n history reads ∙ (ap (place_of s.of.project s.of.branch) u.there ∙ not_placed s.of.project s.of.branch u.of u.unmerged))
 
-more_distinct : (reading : Reading) (h : List Entry) (project branch : List ℕ) (changes : List ℕ) → IsHistory h → Reads reading h → IsDistinct ◌==◌ (joined h project branch) →
-    (changes ≡ []) ⊎ Gains reading h project branch changes → IsDistinct ◌==◌ (joined h project branch ++ changes)
-more_distinct reading h project branch changes history reads before (inl none) =
+more_distinct : (reading : Reading) (h : List Entry) (o : Option Command) (project branch : List ℕ) (changes : List ℕ) → IsHistory h → Reads reading h → IsDistinct ◌==◌ (joined h project branch) →
+    (changes ≡ []) ⊎ Gains reading h o project branch changes → IsDistinct ◌==◌ (joined h project branch ++ changes)
+more_distinct reading h o project branch changes history reads before (inl none) =
     subst (λ l. IsDistinct ◌==◌ (joined h project branch ++ l)) (sym none) (subst (λ l. IsDistinct ◌==◌ l) (sym (append-nil (joined h project branch))) before)
-more_distinct reading h project branch changes history reads before (inr g) =
+more_distinct reading h o project branch changes history reads before (inr g) =
     let s = g.accepted in
     let here : joined h s.of.project s.of.branch ≡ joined h project branch = λ i. joined h (g.for_project i) (g.for_branch i) in
     let apart = subst (λ l. AllByRecursion (λ n. place_in l n ≡ None) s.chain) here (newly reading h g.submit g.answer s history reads) in
@@ -106,7 +98,7 @@ none_distinct = tt
 pub joined_distinct : (reading : Reading) (h : List Entry) (project branch : List ℕ) → IsHistory h → Reads reading h → IsDistinct ◌==◌ (joined h project branch)
 joined_distinct reading [] project branch history reads = none_distinct
 joined_distinct reading (e ∷ h) project branch history reads =
-    more_distinct reading h project branch (joined_by h (accepted e) e.reply project branch) history.3 reads.1 (joined_distinct reading h project branch history.3 reads.1)
+    more_distinct reading h (accepted e) project branch (joined_by h (accepted e) e.reply project branch) history.3 reads.1 (joined_distinct reading h project branch history.3 reads.1)
     (gains reading h e.identity.caller e.command e.reply project branch (history.1 reading reads.1))
 
 -- ---- those that are merged
@@ -153,7 +145,7 @@ contained_joined reading h project branch n history reads in' =
     let at = contained_get (joined h project branch) n in' in
     (joined_placed reading h project branch n (at.0 + 1) history reads (get_placed (joined h project branch) at.0 n (joined_distinct reading h project branch history reads) at.1)).has_joined
 
-same_change : (reading : Reading) (h : List Entry) (n : ℕ) (c d : Change) → change reading h n ≡ Some c → change reading h n ≡ Some d → c ≡ d
+pub same_change : (reading : Reading) (h : List Entry) (n : ℕ) (c d : Change) → change reading h n ≡ Some c → change reading h n ≡ Some d → c ≡ d
 same_change reading h n c d one two = let e : Some c ≡ Some d = sym one ∙ two in cc
 
 -- a change joins only one branch

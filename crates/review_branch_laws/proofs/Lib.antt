@@ -1,3 +1,4 @@
+pub mod Linked
 pub mod Made
 pub mod Accepted
 pub mod Places
@@ -8,3 +9,7 @@ pub mod Order
 pub mod Numbered
 pub mod Rows
 pub mod Counted
+pub mod Ready
+pub mod Standing
+pub mod Kept
+pub mod Parents

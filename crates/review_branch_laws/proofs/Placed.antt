@@ -1,12 +1,12 @@
 -- The place of a change in the list of those that joined its branch is its place.
-use Rattle.std.proofs.Common.{◌≡◌, ◌⊎◌, ℕ, ◌+◌, ◌==◌, List, [], ◌∷◌, ◌++◌, length, Option, Some, None, Bool, true, false, cond, not, ◌&&◌, refl, sym, ap, ◌∙◌, ⊎_elim, arith, eqb-true}
+use Rattle.std.proofs.Common.{◌≡◌, ◌⊎◌, ℕ, ◌+◌, ◌==◌, List, [], ◌∷◌, ◌++◌, length, Option, Some, None, Bool, true, false, cond, ◌&&◌, refl, sym, ap, ◌∙◌, ⊎_elim, arith, eqb-true}
 use Rattle.std.specs.Prelude.{is_some, option_map}
 use Rattle.std.specs.Option.{option_or}
 use Rattle.std.specs.List.{AllByRecursion}
 use Rattle.std.specs.Str.{bytes_eq}
-use Rattle.std.proofs.lemmas.Bool.{and_parts, and_from}
+use Rattle.std.proofs.lemmas.Bool.{and_right, not-true}
+use Rattle.std.proofs.lemmas.List.{append-nil}
 use Rattle.std.proofs.lemmas.Bool.Decides.{nat_tests}
-use Rattle.std.proofs.lemmas.Slice.Eq.{bytes_eq-Decides}
 use Rattle.review_words.specs.History.{Entry, if_done}
 use Rattle.review_words.specs.declared.command.ChangeCommand.{ChangeCommand}
 use Rattle.review_words.specs.declared.command.ChangeCommand.TheVariants as on
@@ -20,28 +20,23 @@ use Rattle.review_words.specs.declared.shown.State.TheVariants.{New, Merged, Aba
 use Rattle.review_chain.specs.declared.links.Link.{Link}
 use Rattle.review_chain.specs.Walks.{IsReady}
 use Rattle.review_chain.proofs.Fronts.{chain_ready}
-use Rattle.review_changes.specs.Change.{Change, after, begun, current, current_patch, is_open, state_by}
-use Rattle.review_changes.specs.declared.rows.PatchRow.{PatchRow}
+use Rattle.review_changes.specs.Change.{Change, after, begun, is_open, state_by}
 use Rattle.review_rows.specs.Answer.{IsAnswerBy, IsHistory, request_checks}
 use Rattle.review_rows.specs.Changes.{Reading, Reads, change, change_by, change_count, is_for, is_made_for, joined, joined_by, joined_in, joining, joining_at, place_in, setting_of, submitted}
-use Rattle.review_rows.specs.Links.{link_for, link_of}
 use Rattle.review_rows.specs.Submits.{branch_after, is_merged}
 use Rattle.review_change_laws.proofs.Sound.{Passes, checks_pass, done_passes}
 use Rattle.review_change_laws.proofs.There.{change_there, is_up_to}
 use Rattle.review_branch_laws.specs.Accepted.{IsAccepted}
 use Rattle.review_branch_laws.specs.Places.{place_of}
 use Rattle.review_branch_laws.proofs.Accepted.{submit_accepted}
+use Rattle.review_branch_laws.proofs.Linked.{for_branch, is_for_branch, linked}
 use Rattle.review_branch_laws.proofs.Made.{made_for}
 use Rattle.review_branch_laws.proofs.Places.{at_place, place_behind}
-
-and_false : (b : Bool) → (b && false) ≡ false
-and_false true = refl
-and_false false = refl
 
 -- a change that isn't merged has none
 pub not_placed : (project branch : List ℕ) (c : Change) → is_merged c.state ≡ false → place_of project branch (Some c) ≡ None
 not_placed project branch c free =
-    ap (λ b. cond (is_for project branch c && b) (Some c.place) None) free ∙ ap (λ b. cond b (Some c.place) None) (and_false (is_for project branch c))
+    ap (λ b. cond b (Some c.place) None) (and_right (is_for project branch c) (is_merged c.state) free)
 
 -- ---- requests on a change keep its place
 
@@ -49,10 +44,6 @@ open_unmerged : (s : State) → is_open s ≡ true → is_merged s ≡ false
 open_unmerged New e = refl
 open_unmerged Merged e = absurd (cc)
 open_unmerged Abandoned e = absurd (cc)
-
-from_not : (b : Bool) → not b ≡ true → b ≡ false
-from_not true e = absurd (cc)
-from_not false e = refl
 
 pub merged_stays : (reading : Reading) (h : List Entry) (caller : ℕ) (command : ChangeCommand) (c : Change) → AllByRecursion Passes (request_checks reading h caller command c) →
     is_merged (state_by command c.state) ≡ is_merged c.state
@@ -63,7 +54,7 @@ merged_stays reading h caller (on.RemoveReviewer account) c pass = refl
 merged_stays reading h caller on.SetWip c pass = refl
 merged_stays reading h caller on.SetReady c pass = refl
 merged_stays reading h caller on.Abandon c pass = sym (open_unmerged c.state pass.1.0)
-merged_stays reading h caller on.Restore c pass = sym (from_not (is_merged c.state) pass.1.0)
+merged_stays reading h caller on.Restore c pass = sym (not-true (is_merged c.state) pass.1.0)
 merged_stays reading h caller (on.AddAttention account reason) c pass = refl
 merged_stays reading h caller (on.RemoveAttention account reason) c pass = refl
 
@@ -113,19 +104,10 @@ pub record IsUnmerged (reading : Reading) (h : List Entry) (project branch : Lis
   pub is_for_it : is_for project branch of ≡ true
   pub unmerged : is_merged of.state ≡ false
 
--- a link has the state of its change
-linked_state : (c : Change) (o : Option PatchRow) (link : Link) → option_map (λ p. record { patch = current c; parent = p.parent; state = c.state; wip = c.wip }) o ≡ Some link → c.state ≡ link.state
-linked_state c None link is = absurd (cc)
-linked_state c (Some p) link is = let one : record { patch = current c; parent = p.parent; state = c.state; wip = c.wip } ≡ link = cc in ap (λ (l : Link). l.state) one
-
-linked : (reading : Reading) (h : List Entry) (project branch : List ℕ) (n : ℕ) (o : Option Change) (link : Link) → change reading h n ≡ o → link_for project branch o ≡ Some link → link.state ≡ New →
-    IsUnmerged reading h project branch n
-linked reading h project branch n None link there is new = absurd (cc)
-linked reading h project branch n (Some c) link there is new = by (is_for project branch c) refl is
-  where
-    by : (b : Bool) → is_for project branch c ≡ b → cond b (link_of c) None ≡ Some link → IsUnmerged reading h project branch n
-    by false other is = absurd (cc)
-    by true same is = record { of = c; there = there; is_for_it = same; unmerged = ap is_merged (linked_state c (current_patch c) link is ∙ new) }
+linked_unmerged : (reading : Reading) (h : List Entry) (project branch : List ℕ) (n : ℕ) → IsReady (branch_after reading h project branch) n → IsUnmerged reading h project branch n
+linked_unmerged reading h project branch n r =
+    let l = linked project branch (change reading h n) r.link r.there in
+    record { of = l.of; there = l.there; is_for_it = is_for_branch project branch l.of l.for_project l.for_branch; unmerged = ap is_merged (ap (λ (x : Link). x.state) l.link_is ∙ r.is_open) }
 
 -- each change of an accepted chain is for its branch, and wasn't merged
 pub unmerged : (reading : Reading) (h : List Entry) (m : ℕ) (a : Answer) (s : IsAccepted reading h m a) (n k : ℕ) → place_in s.chain n ≡ Some k → IsUnmerged reading h s.of.project s.of.branch n
@@ -134,19 +116,17 @@ unmerged reading h m a s n k is =
     (λ (last : n ≡ m). record {
       of = s.of;
       there = ap (change reading h) last ∙ s.there;
-      is_for_it = and_from (bytes_eq s.of.project s.of.project) (bytes_eq s.of.branch s.of.branch) ((bytes_eq-Decides s.of.project s.of.project).1 refl) ((bytes_eq-Decides s.of.branch s.of.branch).1 refl);
+      is_for_it = is_for_branch s.of.project s.of.branch s.of refl refl;
       unmerged = open_unmerged s.of.state s.was_open;
     })
-    (λ (before : IsReady (branch_after reading h s.of.project s.of.branch) n). linked reading h s.of.project s.of.branch n (change reading h n) before.link refl before.there before.is_open)
+    (linked_unmerged reading h s.of.project s.of.branch n)
     (at_place (λ d. (d ≡ m) ⊎ IsReady (branch_after reading h s.of.project s.of.branch) d) s.chain n k (chain_ready (branch_after reading h s.of.project s.of.branch) s.chain m s.is_chain) is)
 
 -- two changes for one branch are for the same branches
 same_branches : (project branch : List ℕ) (c x : Change) → is_for c.project c.branch x ≡ true → is_for project branch c ≡ is_for project branch x
 same_branches project branch c x e =
-    let p = and_parts (bytes_eq x.project c.project) (bytes_eq x.branch c.branch) e in
-    let same_project : x.project ≡ c.project = (bytes_eq-Decides x.project c.project).0 p.0 in
-    let same_branch : x.branch ≡ c.branch = (bytes_eq-Decides x.branch c.branch).0 p.1 in
-    λ i. bytes_eq (sym same_project i) project && bytes_eq (sym same_branch i) branch
+    let to = for_branch c.project c.branch x e in
+    λ i. bytes_eq (sym to.0 i) project && bytes_eq (sym to.1 i) branch
 
 or_none : (o : Option ℕ) → option_or o None ≡ o
 or_none None = refl
@@ -155,10 +135,8 @@ or_none (Some k) = refl
 placed_at : (h : List Entry) (project branch : List ℕ) (x : Change) (chain : List ℕ) (n k : ℕ) (b : Bool) → is_for project branch x ≡ b → place_in chain n ≡ Some k →
     option_map (λ j. length (joined h project branch) + j) (place_in (cond b chain []) n) ≡ cond (b && true) (Some (length (joined h x.project x.branch) + k)) None
 placed_at h project branch x chain n k true same is =
-    let p = and_parts (bytes_eq x.project project) (bytes_eq x.branch branch) same in
-    let one : x.project ≡ project = (bytes_eq-Decides x.project project).0 p.0 in
-    let two : x.branch ≡ branch = (bytes_eq-Decides x.branch branch).0 p.1 in
-    ap (option_map (λ j. length (joined h project branch) + j)) is ∙ (λ i. Some (length (joined h (sym one i) (sym two i)) + k))
+    let to = for_branch project branch x same in
+    ap (option_map (λ j. length (joined h project branch) + j)) is ∙ (λ i. Some (length (joined h (sym to.0 i) (sym to.1 i)) + k))
 placed_at h project branch x chain n k false other is = refl
 
 submit_places : (reading : Reading) (h : List Entry) (m : ℕ) (a : Answer) (s : IsAccepted reading h m a) (project branch : List ℕ) (n : ℕ) →
@@ -192,30 +170,26 @@ submit_places reading h m a s project branch n before = by (place_in s.chain n) 
 
 -- ---- one entry more
 
-append_none : (xs : List ℕ) → xs ++ [] ≡ xs
-append_none [] = refl
-append_none (x ∷ xs) = ap (λ l. x ∷ l) (append_none xs)
-
 step : (reading : Reading) (h : List Entry) (caller : ℕ) (command : Command) (reply : Reply) (project branch : List ℕ) (n : ℕ) → IsAnswerBy reading h caller command reply →
     place_in (joined h project branch) n ≡ place_of project branch (change reading h n) →
     place_in (joined h project branch ++ joined_by h (if_done reply command) reply project branch) n
     ≡ place_of project branch (joining h (submitted (if_done reply command) reply) n (change_by reading h caller (if_done reply command) n (change reading h n)))
-step reading h caller command (Refused r) project branch n answer before = ap (λ l. place_in l n) (append_none (joined h project branch)) ∙ before
-step reading h caller command IdentityReused project branch n answer before = ap (λ l. place_in l n) (append_none (joined h project branch)) ∙ before
-step reading h caller command (NotTaken cause) project branch n answer before = ap (λ l. place_in l n) (append_none (joined h project branch)) ∙ before
+step reading h caller command (Refused r) project branch n answer before = ap (λ l. place_in l n) (append-nil (joined h project branch)) ∙ before
+step reading h caller command IdentityReused project branch n answer before = ap (λ l. place_in l n) (append-nil (joined h project branch)) ∙ before
+step reading h caller command (NotTaken cause) project branch n answer before = ap (λ l. place_in l n) (append-nil (joined h project branch)) ∙ before
 step reading h caller (Submit m) (Done a) project branch n answer before =
     let s = submit_accepted reading h caller m a answer in
     let chain : joined_in (Done a) ≡ s.chain = ap (λ x. joined_in (Done x)) s.told in
     ap (λ l. place_in (joined h project branch ++ cond (is_made_for h project branch m) l []) n) chain
     ∙ (submit_places reading h m a s project branch n before ∙ ap (λ l. place_of project branch (joining h l n (change reading h n))) (sym chain))
-step reading h caller (CreateAccount name) (Done a) project branch n answer before = ap (λ l. place_in l n) (append_none (joined h project branch)) ∙ before
-step reading h caller (PutGroup group members) (Done a) project branch n answer before = ap (λ l. place_in l n) (append_none (joined h project branch)) ∙ before
-step reading h caller (PutProject named text) (Done a) project branch n answer before = ap (λ l. place_in l n) (append_none (joined h project branch)) ∙ before
-step reading h caller (RecordBase named on commit) (Done a) project branch n answer before = ap (λ l. place_in l n) (append_none (joined h project branch)) ∙ before
+step reading h caller (CreateAccount name) (Done a) project branch n answer before = ap (λ l. place_in l n) (append-nil (joined h project branch)) ∙ before
+step reading h caller (PutGroup group members) (Done a) project branch n answer before = ap (λ l. place_in l n) (append-nil (joined h project branch)) ∙ before
+step reading h caller (PutProject named text) (Done a) project branch n answer before = ap (λ l. place_in l n) (append-nil (joined h project branch)) ∙ before
+step reading h caller (RecordBase named on commit) (Done a) project branch n answer before = ap (λ l. place_in l n) (append-nil (joined h project branch)) ∙ before
 step reading h caller (CreateChange new) (Done a) project branch n answer before =
-    ap (λ l. place_in l n) (append_none (joined h project branch)) ∙ (before ∙ sym (place_stays reading h caller (CreateChange new) a project branch n answer))
+    ap (λ l. place_in l n) (append-nil (joined h project branch)) ∙ (before ∙ sym (place_stays reading h caller (CreateChange new) a project branch n answer))
 step reading h caller (OnChange m command) (Done a) project branch n answer before =
-    ap (λ l. place_in l n) (append_none (joined h project branch)) ∙ (before ∙ sym (place_stays reading h caller (OnChange m command) a project branch n answer))
+    ap (λ l. place_in l n) (append-nil (joined h project branch)) ∙ (before ∙ sym (place_stays reading h caller (OnChange m command) a project branch n answer))
 
 -- the place of a change among those that joined a branch is the place that it has
 pub placed : (reading : Reading) (h : List Entry) (project branch : List ℕ) (n : ℕ) → IsHistory h → Reads reading h → place_in (joined h project branch) n ≡ place_of project branch (change reading h n)

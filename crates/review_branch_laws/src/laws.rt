@@ -1,14 +1,21 @@
 //! Laws of the changes that joined a branch.
-ghost use Rattle.std.specs.Prelude.{◌≡◌, ◌==◌, ◌≤◌, ℕ, List, length, map};
+ghost use Rattle.std.specs.Prelude.{◌≡◌, ◌==◌, ◌≤◌, ◌∷◌, ◌++◌, ℕ, List, Some, length, map};
 ghost use Rattle.std.specs.List.{All, Contains, IsDistinct};
 ghost use Rattle.review_words.specs.History.{Entry};
+ghost use Rattle.review_words.specs.declared.command.Command.TheVariants.{Submit};
+ghost use Rattle.review_words.specs.declared.reply.Answer.{Answer};
+ghost use Rattle.review_words.specs.declared.reply.Answer.TheVariants.{Submitted};
+ghost use Rattle.review_words.specs.declared.reply.Reply.TheVariants.{Done};
 ghost use Rattle.review_words.specs.declared.shown.JoinedChange.{JoinedChange};
+ghost use Rattle.review_changes.specs.Change.{Change};
 ghost use Rattle.review_rows.specs.Answer.{IsHistory};
-ghost use Rattle.review_rows.specs.Changes.{Reading, Reads, change, change_count, joined, place_in};
+ghost use Rattle.review_rows.specs.Changes.{Reading, Reads, change, change_count, joined, joined_in, place_in};
 ghost use Rattle.review_rows.specs.Known.{HaveJoined, IsLastJoined};
 ghost use Rattle.review_rows.specs.Questions.{joined_change};
 ghost use Rattle.review_rows.specs.View.{fact};
+ghost use Rattle.review_branch_laws.specs.Accepted.{IsAccepted, MayJoin};
 ghost use Rattle.review_branch_laws.specs.Joined.{HasJoined};
+ghost use Rattle.review_branch_laws.specs.Parents.{StandsOn};
 ghost use Rattle.review_branch_laws.specs.Places.{place_of};
 
 /// The place of a change among those that joined a branch is the place that it has, and a change that is not merged has none.
@@ -37,4 +44,19 @@ pub fn last_is_length()
 /// The changes that rows tell to have joined a branch are those that joined it, in their order, each with its current commit: the answer to the question.
 pub fn joined_is_listed()
     ensures { (reading : Reading) (h : List Entry) (project branch : List ℕ) (listed : List JoinedChange) → IsHistory h → Reads reading h → HaveJoined (fact reading h) (record { project = project; branch = branch }) listed → listed ≡ map (joined_change reading h) (joined h project branch) }
+{}
+
+/// A submit is accepted only of a change that is open and not in work in progress, and its chain joins. Each change that joins by it was, just
+/// before, open and not in work in progress, for the same branch, and none of its requirements was unsatisfied.
+pub fn accepted_submit()
+    ensures accepted { (reading : Reading) (e : Entry) (h : List Entry) (m : ℕ) (a : Answer) → IsHistory (e ∷ h) → Reads reading h → e.command ≡ Submit m → e.reply ≡ Done a → IsAccepted reading h m a }
+    ensures each { (reading : Reading) (e : Entry) (h : List Entry) (m : ℕ) (a : Answer) (c : Change) → IsHistory (e ∷ h) → Reads reading h → e.command ≡ Submit m → e.reply ≡ Done a → change reading h m ≡ Some c → All (MayJoin reading h c.project c.branch) (joined_in (Done a)) }
+{}
+
+/// Parents join before their children: of each change that joins a branch, the current parent is a base of the branch, or the current commit of
+/// a change that joined it before. So it is when the submit is accepted, where such a change joined by an earlier submit or stands earlier in
+/// this one's chain, and so it stays.
+pub fn parents_join_first()
+    ensures newest { (reading : Reading) (e : Entry) (h : List Entry) (m : ℕ) (c : Change) (front : List ℕ) (n : ℕ) (back : List ℕ) → IsHistory (e ∷ h) → Reads reading h → e.command ≡ Submit m → e.reply ≡ Done (Submitted (front ++ n ∷ back)) → change reading h m ≡ Some c → StandsOn reading h c.project c.branch (joined h c.project c.branch ++ front) n }
+    ensures all { (reading : Reading) (h : List Entry) (project branch front : List ℕ) (n : ℕ) (back : List ℕ) → IsHistory h → Reads reading h → joined h project branch ≡ front ++ n ∷ back → StandsOn reading h project branch front n }
 {}
