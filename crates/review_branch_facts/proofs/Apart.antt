@@ -1,6 +1,6 @@
 -- Patch sets in one branch have commits of their own, which are no bases of it.
-use Rattle.std.proofs.Common.{◌≡◌, ℕ, List, [], ◌∷◌, ◌++◌, Option, Some, None, Bool, true, false, not, ◌&&◌, ◌||◌, refl, sym, ap, ◌∙◌, ⊎_elim, ◌⊎◌, inl, inr, subst}
-use Rattle.std.specs.List.{AllByRecursion, list_any}
+use Rattle.std.proofs.Common.{◌≡◌, ℕ, List, [], ◌∷◌, Option, Some, None, Bool, true, false, ◌&&◌, ◌||◌, refl, sym, ap, ◌∙◌, ⊎_elim, ◌⊎◌, inl, inr}
+use Rattle.std.specs.List.{list_any}
 use Rattle.std.specs.Str.{bytes_eq}
 use Rattle.std.proofs.lemmas.Bool.{cases_Bool, and_parts}
 use Rattle.std.proofs.lemmas.Slice.Eq.{bytes_eq-Decides}
@@ -18,7 +18,7 @@ use Rattle.review_change_laws.proofs.Sound.{all_pass, done_passes}
 use Rattle.review_branch_facts.specs.Patches.{HasPatch}
 use Rattle.review_branch_facts.proofs.Passing.{or_true}
 use Rattle.review_branch_facts.proofs.Patches.{known_parts, one_more_base, patch_sent}
-use Rattle.review_branch_facts.proofs.Sending.{Came, IsSentNow, came, place_sent}
+use Rattle.review_branch_facts.proofs.Sending.{Came, IsSentNow, came, from_not, place_sent}
 
 -- what is sent is known
 patch_known : (reading : Reading) (h : List Entry) (project branch : List ℕ) (n k : ℕ) (p : PatchRow) → HasPatch project branch k p (change reading h n) → is_known reading h project branch p.commit ≡ true
@@ -57,10 +57,6 @@ commits_apart reading (e ∷ h) project branch n k m j p q history reads one oth
 -- a base after a command was one before, or the command records it: it sends no patch set, and the commit wasn't known
 abbrev pub BaseCame : Reading → List Entry → Option Command → List ℕ → List ℕ → List ℕ → Type 0
 BaseCame reading h o project branch x = (is_base h project branch x ≡ true) ⊎ ((place_sent reading h o ≡ None) × (is_known reading h project branch x ≡ false))
-
-from_not : (b : Bool) → not b ≡ true → b ≡ false
-from_not true e = absurd (cc)
-from_not false e = refl
 
 base_done : (reading : Reading) (h : List Entry) (caller : ℕ) (project branch x : List ℕ) (command : Command) (a : Answer) → IsAnswerBy reading h caller command (Done a) →
     list_any (λ base. bytes_eq base x) (with_base (Some command) project branch (bases h project branch)) ≡ true → BaseCame reading h (Some command) project branch x

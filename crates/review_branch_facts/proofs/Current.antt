@@ -1,5 +1,5 @@
 -- Each change has a current patch set.
-use Rattle.std.proofs.Common.{◌≡◌, ℕ, ◌+◌, ◌≤◌, ◌==◌, List, [], ◌∷◌, length, Option, Some, None, Bool, true, false, cond, refl, ap, subst}
+use Rattle.std.proofs.Common.{◌≡◌, ℕ, ◌+◌, ◌==◌, List, [], ◌∷◌, length, Option, Some, None, Bool, true, false, cond, refl, subst}
 use Rattle.std.specs.Prelude.{option_map}
 use Rattle.review_words.specs.History.{Entry, accepted}
 use Rattle.review_words.specs.declared.command.Command.{Command}

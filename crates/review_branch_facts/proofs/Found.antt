@@ -1,5 +1,5 @@
 -- The patch set that has a commit, where one has.
-use Rattle.std.proofs.Common.{◌≡◌, ℕ, zero, suc, ◌+◌, ◌<◌, ◌≤◌, List, [], ◌∷◌, Option, Some, None, Bool, true, false, cond, refl, sym, ap, subst, ◌∙◌, ⊎_elim, arith}
+use Rattle.std.proofs.Common.{◌≡◌, ℕ, zero, suc, ◌+◌, ◌<◌, ◌≤◌, List, [], ◌∷◌, Option, Some, None, true, false, cond, refl, sym, ap, subst, ◌∙◌, ⊎_elim, arith}
 use Rattle.std.specs.Prelude.{slice_get}
 use Rattle.std.specs.Str.{bytes_eq}
 use Rattle.std.proofs.lemmas.Bool.{cases_Bool, cases_lt}
@@ -45,7 +45,7 @@ abbrev pub FoundFor : List ℕ → List ℕ → List ℕ → Option Change → O
 FoundFor project branch x o None = (k : ℕ) (p : PatchRow) → HasPatch project branch k p o → p.commit ≡ x → ⊥
 FoundFor project branch x o (Some k) = (p : PatchRow) × HasPatch project branch k p o × (p.commit ≡ x)
 
-same_change : (c d : Change) → Some c ≡ Some d → c ≡ d
+pub same_change : (c d : Change) → Some c ≡ Some d → c ≡ d
 same_change c d e = cc
 
 found_of : (project branch x : List ℕ) (c : Change) (o : Option ℕ) → is_for project branch c ≡ true → FoundIn 0 c.patches x o → FoundFor project branch x (Some c) o

@@ -1,12 +1,11 @@
 -- What an entry adds to the patch sets and the bases of a branch.
-use Rattle.std.proofs.Common.{◌≡◌, ℕ, zero, suc, ◌+◌, ◌≤◌, ◌==◌, List, [], ◌∷◌, ◌++◌, length, Option, Some, None, Bool, true, false, cond, not, ◌&&◌, ◌⊎◌, inl, inr, refl, sym, ap, ◌∙◌, ⊎_elim, eqb-true, arith}
+use Rattle.std.proofs.Common.{◌≡◌, ℕ, ◌+◌, ◌==◌, List, ◌∷◌, length, Option, Some, None, Bool, true, false, cond, not, ◌⊎◌, inl, inr, refl, sym, ap, ◌∙◌, eqb-true}
 use Rattle.std.specs.Prelude.{option_map}
 use Rattle.std.specs.List.{AllByRecursion}
 use Rattle.std.specs.Str.{bytes_eq}
 use Rattle.std.proofs.lemmas.Bool.{and_parts}
 use Rattle.std.proofs.lemmas.Slice.Eq.{bytes_eq-Decides}
 use Rattle.review_words.specs.History.{Entry, accepted, if_done, is_account}
-use Rattle.review_words.specs.declared.changes.NewChange.{NewChange}
 use Rattle.review_words.specs.declared.command.ChangeCommand.{ChangeCommand}
 use Rattle.review_words.specs.declared.command.ChangeCommand.TheVariants as on
 use Rattle.review_words.specs.declared.command.Command.{Command}
@@ -41,7 +40,7 @@ pub record IsSentNow (reading : Reading) (h : List Entry) (o : Option Command) (
 abbrev pub Came : Reading → List Entry → Option Command → List ℕ → List ℕ → ℕ → ℕ → PatchRow → Type 0
 Came reading h o project branch n k p = HasPatch project branch k p (change reading h n) ⊎ IsSentNow reading h o project branch n k p
 
-from_not : (b : Bool) → not b ≡ true → b ≡ false
+pub from_not : (b : Bool) → not b ≡ true → b ≡ false
 from_not true e = absurd (cc)
 from_not false e = refl
 

@@ -1,6 +1,6 @@
 -- What rows that agree with a history know of a branch.
-use Rattle.std.proofs.Common.{◌≡◌, ℕ, List, [], ◌∷◌, length, Option, Some, None, Bool, true, false, cond, ◌&&◌, refl, sym, ap, subst, ◌∙◌, ◌⊎◌, inl, inr}
-use Rattle.std.specs.Prelude.{IsSome, is_some, option_and_then, option_map}
+use Rattle.std.proofs.Common.{◌≡◌, ℕ, List, [], ◌∷◌, length, Option, Some, None, true, refl, sym, ap, subst, ◌∙◌, ◌⊎◌, inl, inr}
+use Rattle.std.specs.Prelude.{IsSome, option_and_then}
 use Rattle.std.specs.Str.{bytes_eq}
 use Rattle.std.proofs.lemmas.Bool.{and_from}
 use Rattle.std.proofs.lemmas.Slice.Eq.{bytes_eq-Decides}
@@ -8,7 +8,7 @@ use Rattle.review_words.specs.History.{Entry}
 use Rattle.review_chain.specs.declared.links.Link.{Link}
 use Rattle.review_chain.specs.declared.links.Standing.{Standing}
 use Rattle.review_chain.specs.declared.links.Standing.TheVariants.{InBranch, PatchSet}
-use Rattle.review_chain.specs.Branches.{Branch, parent_standing}
+use Rattle.review_chain.specs.Branches.{Branch}
 use Rattle.review_chain.specs.Parts.{IsPart, IsWanted, NeedsChange, Want as ChainWant, TheChange, TheCommit}
 use Rattle.review_chain.specs.Steps.{wanted}
 use Rattle.review_chain.specs.Walks.{IsWalk, first_of}
@@ -16,11 +16,11 @@ use Rattle.review_chain.proofs.Wanting.{Says, wanted_says}
 use Rattle.review_changes.specs.Change.{Change}
 use Rattle.review_rows.specs.Answer.{IsHistory}
 use Rattle.review_rows.specs.Changes.{Reading, Reads, change, is_for}
-use Rattle.review_rows.specs.Known.{Agrees, Found, IsFound, IsKnown, change_in, known, standing_of as standing_in}
+use Rattle.review_rows.specs.Known.{Agrees, Found, IsKnown, change_in, known, standing_of as standing_in}
 use Rattle.review_rows.specs.Links.{link_for, links_in}
 use Rattle.review_rows.specs.Steps.{look_up}
 use Rattle.review_rows.specs.Submits.{branch_after, standing_of}
-use Rattle.review_rows.specs.View.{fact, view}
+use Rattle.review_rows.specs.View.{view}
 use Rattle.review_rows.specs.declared.rows.Rows.{Rows}
 use Rattle.review_rows.specs.declared.rows.Want.TheVariants as want
 use Rattle.review_rows.proofs.Asked.{commit_known, found_of}

@@ -1,6 +1,6 @@
 -- What a commit is to a branch, as rows show it.
-use Rattle.std.proofs.Common.{◌≡◌, ℕ, zero, suc, ◌+◌, ◌<◌, ◌≤◌, List, [], ◌∷◌, length, Option, Some, None, Bool, true, false, cond, ◌&&◌, ◌||◌, refl, sym, ap, subst, ◌∙◌, ⊎_elim, ◌⊎◌, inl, inr, arith}
-use Rattle.std.specs.Prelude.{is_some, option_map}
+use Rattle.std.proofs.Common.{◌≡◌, ℕ, zero, suc, ◌<◌, ◌≤◌, List, [], ◌∷◌, length, Option, Some, None, true, false, cond, ◌&&◌, ◌||◌, refl, sym, ap, ◌∙◌, ⊎_elim, ◌⊎◌, inl, inr, arith}
+use Rattle.std.specs.Prelude.{option_map}
 use Rattle.std.specs.Option.{option_map_or}
 use Rattle.std.specs.List.{list_any}
 use Rattle.std.specs.Str.{bytes_eq}
@@ -11,13 +11,13 @@ use Rattle.review_words.specs.declared.shown.State.{State}
 use Rattle.review_words.specs.declared.shown.State.TheVariants.{New, Merged, Abandoned}
 use Rattle.review_chain.specs.declared.links.Standing.{Standing}
 use Rattle.review_chain.specs.declared.links.Standing.TheVariants.{InBranch, PatchSet, Nowhere}
-use Rattle.review_changes.specs.Change.{Change, commit, current, current_patch, of_number}
+use Rattle.review_changes.specs.Change.{Change, commit, current_patch, of_number}
 use Rattle.review_changes.specs.Parts.{TheHeader, PatchOf, AHeader, APatch, header_of}
 use Rattle.review_changes.specs.declared.rows.Header.{Header}
 use Rattle.review_changes.specs.declared.rows.PatchRow.{PatchRow}
 use Rattle.review_rows.specs.Answer.{IsHistory}
 use Rattle.review_rows.specs.Changes.{Reading, Reads, change, change_count, is_for, some_change}
-use Rattle.review_rows.specs.Known.{IsBaseOrNot, IsCurrent, IsInBranch, IsMergedWith, IsSender, IsSentBy, StandsAs, at_place, part_of}
+use Rattle.review_rows.specs.Known.{IsCurrent, IsInBranch, IsMergedWith, IsSender, IsSentBy, StandsAs, at_place, part_of}
 use Rattle.review_rows.specs.Rows.{APart, BaseRow, PartKey}
 use Rattle.review_rows.specs.Submits.{is_in_branch, is_merged, is_merged_commit, sent_up_to, standing_of}
 use Rattle.review_rows.specs.View.{fact}
@@ -139,11 +139,13 @@ merged_with : (reading : Reading) (h : List Entry) (project branch x : List ℕ)
     (c : Change) × (change reading h n ≡ Some c) × (is_merged_commit project branch x c ≡ true)
 merged_with reading h project branch x n m =
     let head = header_from (change reading h n) m.header m.stands in
-    let last = current_is reading h n head.0 m.patch head.1 m.current in
-    (head.0, head.1,
-    and_from (is_for project branch head.0) (is_merged head.0.state && bytes_eq (commit head.0) x) (for_it project branch head.0 m.header head.2 m.project m.branch)
-    (and_from (is_merged head.0.state) (bytes_eq (commit head.0) x) (ap is_merged (ap (λ (y : Header). y.state) head.2 ∙ m.merged))
-    ((bytes_eq-Decides (commit head.0) x).1 (ap (λ o. option_map_or (λ (p : PatchRow). p.commit) o []) last ∙ m.commit))))
+    let last = current_is reading h n head.0 m.patch head.1 m.current in (
+      head.0,
+      head.1,
+      and_from (is_for project branch head.0) (is_merged head.0.state && bytes_eq (commit head.0) x) (for_it project branch head.0 m.header head.2 m.project m.branch)
+          (and_from (is_merged head.0.state) (bytes_eq (commit head.0) x) (ap is_merged (ap (λ (y : Header). y.state) head.2 ∙ m.merged))
+          ((bytes_eq-Decides (commit head.0) x).1 (ap (λ o. option_map_or (λ (p : PatchRow). p.commit) o []) last ∙ m.commit))),
+    )
 
 -- what rows show in a branch is in it
 pub in_branch_is : (reading : Reading) (h : List Entry) (project branch x : List ℕ) → IsInBranch (fact reading h) (base_of project branch x) → is_in_branch reading h project branch x ≡ true

@@ -1,5 +1,5 @@
 -- The branch that a history leaves is whole.
-use Rattle.std.proofs.Common.{◌≡◌, ◌≢◌, ℕ, List, [], length, Option, Some, None, Bool, true, false, cond, ◌&&◌, ◌||◌, refl, sym, ap, subst, ◌∙◌, ⊎_elim}
+use Rattle.std.proofs.Common.{◌≡◌, ◌≢◌, ℕ, List, [], Option, Some, None, Bool, true, false, cond, ◌&&◌, ◌||◌, refl, sym, ap, subst, ◌∙◌, ⊎_elim}
 use Rattle.std.specs.Prelude.{IsSome, is_some, option_map}
 use Rattle.std.specs.Option.{option_map_or}
 use Rattle.std.specs.Str.{bytes_eq}
@@ -9,7 +9,7 @@ use Rattle.review_words.specs.History.{Entry, is_base}
 use Rattle.review_words.specs.declared.shown.State.TheVariants.{Merged}
 use Rattle.review_chain.specs.declared.links.Link.{Link}
 use Rattle.review_chain.specs.declared.links.Standing.{Standing}
-use Rattle.review_chain.specs.declared.links.Standing.TheVariants.{InBranch, PatchSet, Nowhere}
+use Rattle.review_chain.specs.declared.links.Standing.TheVariants.{InBranch, PatchSet}
 use Rattle.review_chain.specs.Branches.{IsWhole}
 use Rattle.review_changes.specs.Change.{Change, commit, current, current_patch, of_number}
 use Rattle.review_changes.specs.declared.rows.PatchRow.{PatchRow}
@@ -17,9 +17,8 @@ use Rattle.review_rows.specs.Answer.{IsHistory}
 use Rattle.review_rows.specs.Changes.{Reading, Reads, change, change_count, is_for, is_known, is_sent, some_change}
 use Rattle.review_rows.specs.Links.{link_for, link_of}
 use Rattle.review_rows.specs.Submits.{branch_after, is_in_branch, is_merged, is_merged_commit, standing_of}
-use Rattle.review_branch_facts.specs.Patches.{HasPatch}
 use Rattle.review_branch_facts.proofs.Current.{current_there}
-use Rattle.review_branch_facts.proofs.Found.{FoundUpTo, found_up_to}
+use Rattle.review_branch_facts.proofs.Found.{FoundUpTo, found_up_to, same_change}
 use Rattle.review_branch_facts.proofs.Parents.{parents_known}
 use Rattle.review_branch_facts.proofs.Passing.{or_true, some_passes}
 use Rattle.review_branch_facts.proofs.Patches.{IsSent, sent_patch}
@@ -77,23 +76,28 @@ stands reading h project branch x s is other =
     (λ (f : is_in_branch reading h project branch x ≡ false). (f, sym (not_in_stands reading h project branch x f) ∙ is))
     (cases_Bool (is_in_branch reading h project branch x))
 
-based : (reading : Reading) (h : List Entry) (project branch : List ℕ) (n : ℕ) (l : Link) → IsHistory h → Reads reading h → (branch_after reading h project branch).link n ≡ Some l →
-    (branch_after reading h project branch).standing l.parent ≢ Some InBranch → (d k : ℕ) × ((branch_after reading h project branch).standing l.parent ≡ Some (PatchSet d k)) × IsSome ((branch_after reading h project branch).link d)
-based reading h project branch n l history reads is other =
-    let o = linked project branch (change reading h n) l is in
-    let has : HasPatch project branch (current o.of) o.patch (change reading h n) = record { of = o.of; is = o.is; is_for_it = o.is_for_it; sent = o.last } in
-    let parent_is : o.patch.parent ≡ l.parent = ap (λ (x : Link). x.parent) (sym o.link_is) in
-    let known : is_known reading h project branch l.parent ≡ true =
-        ap (is_known reading h project branch) (sym parent_is) ∙ parents_known reading h project branch n (current o.of) o.patch history reads has in
-    let s = stands reading h project branch l.parent (standing_of reading h project branch l.parent) refl (λ e. other (ap Some e)) in
-    let sent = sent_patch reading h project branch l.parent
-        (not_based (is_base h project branch l.parent) (some_change reading h (is_merged_commit project branch l.parent) (change_count h)) (is_sent reading h project branch l.parent) s.0 known) in
-    (sent.number, sent.place,
-    ap Some (sym s.1 ∙ sym (found_one reading h project branch l.parent sent.number sent.place sent.patch history reads sent.has sent.commit_is)),
-    has_link reading h project branch sent.number sent.has.of sent.has.is sent.has.is_for_it)
+-- a known commit that isn't in the branch is that of a patch set of a change that has a link
+known_stands : (reading : Reading) (h : List Entry) (project branch x : List ℕ) → IsHistory h → Reads reading h → is_known reading h project branch x ≡ true → (standing_of reading h project branch x ≡ InBranch → ⊥) →
+    (d k : ℕ) × (Some (standing_of reading h project branch x) ≡ Some (PatchSet d k)) × IsSome (link_for project branch (change reading h d))
+known_stands reading h project branch x history reads known other =
+    by (sent_patch reading h project branch x (not_based (is_base h project branch x) (some_change reading h (is_merged_commit project branch x) (change_count h)) (is_sent reading h project branch x) free.0 known))
+  where
+    free : (is_in_branch reading h project branch x ≡ false) × (sent_as reading h project branch x ≡ standing_of reading h project branch x)
+    free = stands reading h project branch x (standing_of reading h project branch x) refl other
 
-same_change : (c d : Change) → Some c ≡ Some d → c ≡ d
-same_change c d e = cc
+    by : IsSent reading h project branch x → (d k : ℕ) × (Some (standing_of reading h project branch x) ≡ Some (PatchSet d k)) × IsSome (link_for project branch (change reading h d))
+    by sent =
+        let found : PatchSet sent.number sent.place ≡ sent_as reading h project branch x =
+        found_one reading h project branch x sent.number sent.place sent.patch history reads sent.has sent.commit_is
+        in
+        (sent.number, sent.place, ap Some (sym (found ∙ free.1)), has_link reading h project branch sent.number sent.has.of sent.has.is sent.has.is_for_it)
+
+-- the parent of a link is known
+link_based : (reading : Reading) (h : List Entry) (project branch : List ℕ) (n : ℕ) (l : Link) → IsHistory h → Reads reading h → IsLinkOf project branch (change reading h n) l →
+    is_known reading h project branch l.parent ≡ true
+link_based reading h project branch n l history reads o =
+    ap (λ (x : Link). is_known reading h project branch x.parent) o.link_is
+    ∙ parents_known reading h project branch n (current o.of) o.patch history reads (record { of = o.of; is = o.is; is_for_it = o.is_for_it; sent = o.last })
 
 merged : (reading : Reading) (h : List Entry) (project branch x : List ℕ) (d k : ℕ) (l : Link) → (branch_after reading h project branch).standing x ≡ Some (PatchSet d k) →
     (branch_after reading h project branch).link d ≡ Some l → l.state ≡ Merged → k ≢ l.patch
@@ -108,14 +112,15 @@ merged reading h project branch x d k l is link_is state_is same =
     let commit_is : commit c ≡ x = ap (λ o. option_map_or (λ (p : PatchRow). p.commit) o []) sent ∙ found.2 in
     let merged_is : is_merged c.state ≡ true = ap is_merged (sym (ap (λ (y : Link). y.state) o.link_is) ∙ state_is) in
     let passes : is_merged_commit project branch x c ≡ true =
-        and_from (is_for project branch c) (is_merged c.state && bytes_eq (commit c) x) o.is_for_it (and_from (is_merged c.state) (bytes_eq (commit c) x) merged_is ((bytes_eq-Decides (commit c) x).1 commit_is)) in
+    and_from (is_for project branch c) (is_merged c.state && bytes_eq (commit c) x) o.is_for_it (and_from (is_merged c.state) (bytes_eq (commit c) x) merged_is ((bytes_eq-Decides (commit c) x).1 commit_is)) in
     let bad : true ≡ false =
-        sym (ap (λ b. is_base h project branch x || b) (some_passes reading h (is_merged_commit project branch x) d c o.is passes) ∙ or_true (is_base h project branch x)) ∙ s.0 in
+    sym (ap (λ b. is_base h project branch x || b) (some_passes reading h (is_merged_commit project branch x) d c o.is passes) ∙ or_true (is_base h project branch x)) ∙ s.0 in
     absurd (cc)
 
 -- The branch after a history is whole.
 pub whole : (reading : Reading) (h : List Entry) (project branch : List ℕ) → IsHistory h → Reads reading h → IsWhole (branch_after reading h project branch)
 whole reading h project branch history reads = record {
-  based = λ c l is other. based reading h project branch c l history reads is other;
+  based = λ c l is other.
+      known_stands reading h project branch l.parent history reads (link_based reading h project branch c l history reads (linked project branch (change reading h c) l is)) (λ e. other (ap Some e));
   merged = λ x d k l is link_is state_is. merged reading h project branch x d k l is link_is state_is;
 }
