@@ -58,6 +58,7 @@ commits_apart reading (e ∷ h) project branch n k m j p q history reads one oth
 abbrev pub BaseCame : Reading → List Entry → Option Command → List ℕ → List ℕ → List ℕ → Type 0
 BaseCame reading h o project branch x = (is_base h project branch x ≡ true) ⊎ ((place_sent reading h o ≡ None) × (is_known reading h project branch x ≡ false))
 
+-- of a command that was done
 base_done : (reading : Reading) (h : List Entry) (caller : ℕ) (project branch x : List ℕ) (command : Command) (a : Answer) → IsAnswerBy reading h caller command (Done a) →
     list_any (λ base. bytes_eq base x) (with_base (Some command) project branch (bases h project branch)) ≡ true → BaseCame reading h (Some command) project branch x
 base_done reading h caller project branch x (CreateAccount name) a answer is = inl is
@@ -81,6 +82,7 @@ base_done reading h caller project branch x (RecordBase named in_branch commit) 
         let pass = all_pass ((is_account h caller, UnknownCaller) ∷ checks reading h caller (RecordBase named in_branch commit)) (done_passes reading h caller (RecordBase named in_branch commit) a answer) in
         inr (refl, (λ i. is_known reading h (sym one i) (sym two i) (sym three i)) ∙ from_not (is_known reading h named in_branch commit) pass.1.1.1.0)
 
+-- of a command with its reply
 base_step : (reading : Reading) (h : List Entry) (caller : ℕ) (project branch x : List ℕ) (command : Command) (reply : Reply) → IsAnswerBy reading h caller command reply →
     list_any (λ base. bytes_eq base x) (with_base (if_done reply command) project branch (bases h project branch)) ≡ true → BaseCame reading h (if_done reply command) project branch x
 base_step reading h caller project branch x command (Done a) answer is = base_done reading h caller project branch x command a answer is

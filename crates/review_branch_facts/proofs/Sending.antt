@@ -121,6 +121,7 @@ done_came reading h caller project branch n k p c (OnChange m command) a answer 
         (checks_pass reading h caller (request_checks reading h caller command) (change reading h m) x (ap (change reading h) here ∙ there) (done_passes reading h caller (OnChange m command) a answer))
         (ap (λ (y : Change). is_for project branch y) left ∙ for) (ap (λ (y : Change). of_number y.patches k) left ∙ sent)
 
+-- of a command with its reply
 step_came : (reading : Reading) (h : List Entry) (caller : ℕ) (project branch : List ℕ) (n k : ℕ) (p : PatchRow) (c : Change) (command : Command) (reply : Reply) → IsAnswerBy reading h caller command reply →
     change_by reading h caller (if_done reply command) n (change reading h n) ≡ Some c → is_for project branch c ≡ true → of_number c.patches k ≡ Some p → Came reading h (if_done reply command) project branch n k p
 step_came reading h caller project branch n k p c command (Done a) answer is for sent = done_came reading h caller project branch n k p c command a answer is for sent
