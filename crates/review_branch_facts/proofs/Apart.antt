@@ -1,6 +1,6 @@
 -- Patch sets in one branch have commits of their own, which are no bases of it.
-use Rattle.std.proofs.Common.{◌≡◌, ℕ, List, [], ◌∷◌, ◌++◌, Option, Some, None, Bool, true, false, not, ◌&&◌, ◌||◌, refl, sym, ap, ◌∙◌, ⊎_elim, ◌⊎◌, inl, inr, subst}
-use Rattle.std.specs.List.{AllByRecursion, list_any}
+use Rattle.std.proofs.Common.{◌≡◌, ℕ, List, [], ◌∷◌, Option, Some, None, Bool, true, false, ◌&&◌, ◌||◌, refl, sym, ap, ◌∙◌, ⊎_elim, ◌⊎◌, inl, inr}
+use Rattle.std.specs.List.{list_any}
 use Rattle.std.specs.Str.{bytes_eq}
 use Rattle.std.proofs.lemmas.Bool.{cases_Bool, and_parts}
 use Rattle.std.proofs.lemmas.Slice.Eq.{bytes_eq-Decides}
@@ -18,7 +18,7 @@ use Rattle.review_change_laws.proofs.Sound.{all_pass, done_passes}
 use Rattle.review_branch_facts.specs.Patches.{HasPatch}
 use Rattle.review_branch_facts.proofs.Passing.{or_true}
 use Rattle.review_branch_facts.proofs.Patches.{known_parts, one_more_base, patch_sent}
-use Rattle.review_branch_facts.proofs.Sending.{Came, IsSentNow, came, place_sent}
+use Rattle.review_branch_facts.proofs.Sending.{Came, IsSentNow, came, from_not, place_sent}
 
 -- what is sent is known
 patch_known : (reading : Reading) (h : List Entry) (project branch : List ℕ) (n k : ℕ) (p : PatchRow) → HasPatch project branch k p (change reading h n) → is_known reading h project branch p.commit ≡ true
@@ -58,10 +58,7 @@ commits_apart reading (e ∷ h) project branch n k m j p q history reads one oth
 abbrev pub BaseCame : Reading → List Entry → Option Command → List ℕ → List ℕ → List ℕ → Type 0
 BaseCame reading h o project branch x = (is_base h project branch x ≡ true) ⊎ ((place_sent reading h o ≡ None) × (is_known reading h project branch x ≡ false))
 
-from_not : (b : Bool) → not b ≡ true → b ≡ false
-from_not true e = absurd (cc)
-from_not false e = refl
-
+-- of a command that was done
 base_done : (reading : Reading) (h : List Entry) (caller : ℕ) (project branch x : List ℕ) (command : Command) (a : Answer) → IsAnswerBy reading h caller command (Done a) →
     list_any (λ base. bytes_eq base x) (with_base (Some command) project branch (bases h project branch)) ≡ true → BaseCame reading h (Some command) project branch x
 base_done reading h caller project branch x (CreateAccount name) a answer is = inl is
@@ -85,6 +82,7 @@ base_done reading h caller project branch x (RecordBase named in_branch commit) 
         let pass = all_pass ((is_account h caller, UnknownCaller) ∷ checks reading h caller (RecordBase named in_branch commit)) (done_passes reading h caller (RecordBase named in_branch commit) a answer) in
         inr (refl, (λ i. is_known reading h (sym one i) (sym two i) (sym three i)) ∙ from_not (is_known reading h named in_branch commit) pass.1.1.1.0)
 
+-- of a command with its reply
 base_step : (reading : Reading) (h : List Entry) (caller : ℕ) (project branch x : List ℕ) (command : Command) (reply : Reply) → IsAnswerBy reading h caller command reply →
     list_any (λ base. bytes_eq base x) (with_base (if_done reply command) project branch (bases h project branch)) ≡ true → BaseCame reading h (if_done reply command) project branch x
 base_step reading h caller project branch x command (Done a) answer is = base_done reading h caller project branch x command a answer is
