@@ -38,9 +38,9 @@ returns-clause-shown c = λ reading had h history l.
     let there_is = sym (c.is_asker-known.ensures.told reading had h (Branch a.project.now a.branch.now) l) ∙ c.if-not-known.false in
     let there = sym (project_asked h a.caller a.project.now a.branch.now a.rows.now l) ∙ (sym c.has_project.ensures ∙ c.if-not-has_project.false) in
     let all = c.in_ok-bases.ensures ∙ (ap (λ k. commits_of (known a.rows.now (want.Bases k))) c.in_ok-key.ensures ∙ bases_asked h a.caller a.project.now a.branch.now a.rows.now l) in
-    let joined = c.in_ok-known_joined.ensures ∙ (ap (λ k. joined_of (known a.rows.now (want.Joined k))) c.in_ok-key.ensures ∙ joined_asked h a.caller a.project.now a.branch.now a.rows.now history l) in
+    let joined = c.in_ok-joined.ensures ∙ (ap (λ k. joined_of (known a.rows.now (want.Joined k))) c.in_ok-key.ensures ∙ joined_asked h a.caller a.project.now a.branch.now a.rows.now history l) in
     let empty = c.if-is_empty.false in
-    told_question reading h a.caller (Branch a.project.now a.branch.now) (made.Branch c.in_ok-bases.bases c.in_ok-known_joined.ok)
+    told_question reading h a.caller (Branch a.project.now a.branch.now) (made.Branch c.in_ok-bases.bases c.in_ok-joined.joined)
     (branch_refused reading h a.caller a.project.now a.branch.now true true true there_is there
     (some_there (bases h a.project.now a.branch.now) (λ e. let t = c.is_empty.ensures.1 (all ∙ e) in absurd (cc))))
     (λ i. made.Branch (all i) (joined i))

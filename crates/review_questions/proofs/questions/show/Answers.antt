@@ -2,6 +2,7 @@ use Rattle.std.proofs.Common.{List, IfOk, rules, subst}
 use Rattle.std.specs.Option.{option_copied}
 use Rattle.std.proofs.lemmas.Result.{IfOk-weaker}
 use Rattle.review_words.specs.History.{Entry}
+use Rattle.review_rows.specs.Answer.{IsHistory}
 use Rattle.review_rows.specs.Changes.{Reading}
 use Rattle.review_rows.specs.Questions.{IsQueryAnswerBy}
 use Rattle.review_rows.specs.Steps.{OfQuery}
