@@ -1,6 +1,6 @@
 //! Changes that join their branch.
 ghost use Rattle.std.specs.Prelude.{◌≡◌, ◌⊎◌, ◌==◌, IfErr, IfOk, List, ℕ};
-ghost use Rattle.std.specs.List.{All, IsDistinct};
+ghost use Rattle.std.specs.List.{AllByRecursion, IsDistinct};
 ghost use Rattle.review_changes.specs.Change.{joined_at};
 ghost use Rattle.review_changes.specs.Parts.{Part, part_row};
 ghost use Rattle.review_changes.specs.Seen.{seen};
@@ -66,9 +66,9 @@ fn join_edits(
     joined: &[(ChangeNo, u32)],
     request: u64,
 ) -> Result<Vec<ChangeEdit>, NotTaken>
-    requires { All (λ j. IsThere rows.now j.0) joined.now }
+    requires { AllByRecursion (λ j. IsThere rows.now j.0) joined.now }
     ensures edits { IfOk result (λ es. AreJoinEdits rows.now request joined.now es.items) }
-    ensures once { IfOk result (λ es. All NamesRowsOnce es.items) }
+    ensures once { IfOk result (λ es. AllByRecursion NamesRowsOnce es.items) }
     ensures cause { IfErr result (λ e. (e ≡ Memory) ⊎ ((e ≡ Damaged) × HasUnsound rows.now)) }
 {
     let mut edits = Vec::new(alloc);
@@ -85,7 +85,7 @@ pub fn join_chain(
     found: &ChangeRows,
     chain: &[ChangeNo],
 ) -> Result<Delta, NotTaken>
-    requires there { All (IsThere rows.now) chain.now }
+    requires there { AllByRecursion (IsThere rows.now) chain.now }
     requires distinct { IsDistinct ◌==◌ chain.now }
     ensures joins { IfOk result (JoinsChain rows.now (seen found.now) chain.now) }
     ensures once { IfOk result NamesEachOnce }

@@ -20,6 +20,8 @@ ghost use Rattle.review_submit_decisions.specs.Submits.{IsChecked, IsNoRefusal, 
 use crate::checking::{first_unsatisfied, submit_refusal};
 use crate::joining::join_chain;
 use review_account_decisions::refused;
+use review_branch_facts::{branches_are_whole, rows_are_parts, wants_are_unknown};
+use review_branch_laws::{joined_few, last_is_length};
 use review_chain::{ChainFault, chain, each_front_is_a_chain};
 use review_change_laws::changes_are_sound;
 use review_changes::ChangeRows;
@@ -49,6 +51,11 @@ pub fn submit(
     one_file();
     groups_suffice();
     changes_are_sound();
+    branches_are_whole();
+    rows_are_parts();
+    wants_are_unknown();
+    last_is_length();
+    joined_few();
     let Some(found) = rows.change(change) else {
         return Ok(refused(alloc, Refusal::NoChange));
     };
@@ -130,6 +137,7 @@ fn check_chain(
         return Ok(refused(alloc, refusal));
     }
     are_numbers(&chain);
+    each_front_is_a_chain();
     let delta = join_chain(alloc, rows, found, &chain)?;
     Ok((
         delta,
