@@ -18,7 +18,7 @@ use Rattle.review_rows.specs.Known.{IsCurrent, IsMergedWith, IsSentBy}
 use Rattle.review_rows.specs.declared.rows.Base.{Base}
 use Rattle.review_kept_changes.specs.declared.edits.ChangeTables.{ChangeTables}
 use Rattle.review_kept_changes.specs.Kept.{has_commit, is_sent, part_where, row_of, IsCurrentOf, IsFoundSent, IsLastOf, IsSentAs, IsSentIn}
-use Rattle.review_kept_changes.proofs.Sending.{sender_found, sender_is, sender_with, patch_of, header_is}
+use Rattle.review_kept_changes.proofs.Sending.{sender_found, sender_with, patch_of, header_is}
 
 pub sent_of : (merged : Bool) (o : Option ChangeTables) (base : Base) (p : ℕ) → IsSentAs merged o base p → is_sent o base p ≡ true
 sent_of merged None base p is = absurd is
@@ -28,14 +28,11 @@ sent_any : (o : Option ChangeTables) (base : Base) (p : ℕ) → is_sent o base 
 sent_any None base p is = absurd (let f : false ≡ true = is in cc)
 sent_any (Some t) base p is = (is, λ no. absurd (cc))
 
--- a change that has sent the commit is a sender
-pub sender_by : (kept : List (ℕ × ChangeTables)) (base : Base) (n p : ℕ) → IsFoundSent false kept base (Some (n, p)) → IsSentBy (row_of kept) base (Some n)
-sender_by kept base n p found = sender_is kept base n p (sent_of false (row_in nat_cmp kept n) base p found)
-
+-- where none is found no change has sent the commit
 pub no_sender : (kept : List (ℕ × ChangeTables)) (base : Base) → IsFoundSent false kept base None → IsSentBy (row_of kept) base None
 no_sender kept base none = λ n s. none n s.number (sent_any (row_in nat_cmp kept n) base s.number (sender_found kept base n s))
 
--- and its patch set is of that number
+-- a change that is found has it as that patch set
 sent_patch : (kept : List (ℕ × ChangeTables)) (base : Base) (o : Option (ℕ × ℕ)) → IsFoundSent false kept base o → IsSentIn (row_of kept) base o
 sent_patch kept base (Some at) found = sender_with kept base at.0 at.1 (sent_of false (row_in nat_cmp kept at.0) base at.1 found)
 sent_patch kept base None none = no_sender kept base none
@@ -43,11 +40,6 @@ sent_patch kept base None none = no_sender kept base none
 pub sent_patch_by : (kept : List (ℕ × ChangeTables)) (base : Base) (r : Result (Option (ℕ × ℕ)) AllocError) → IfOk r (IsFoundSent false kept base) → IfOk r (IsSentIn (row_of kept) base)
 sent_patch_by kept base (Ok found) is = sent_patch kept base found is
 sent_patch_by kept base (Err error) none = none
-
--- the rows of patch sets, as those of a change
-abbrev patch_row : Option ChangeTables → ℕ → Option PatchRow
-patch_row None m = None
-patch_row (Some t) m = row_in nat_cmp (rows_of t.patches) m
 
 none_patch : (o : Option PatchRow) → option_map APart (option_map APatch o) ≡ None → o ≡ None
 none_patch None is = refl

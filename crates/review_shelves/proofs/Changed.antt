@@ -76,9 +76,6 @@ merged_as f g base n same s = record {
   commit = s.commit;
 }
 
-pub merged_here : (d : Desk) (base : Base) → (n : ℕ) × IsMergedWith (kept_row d.changes) base n → IsInBranch (row_of d) base
-merged_here d base some = inr (some.0, merged_as (kept_row d.changes) (row_of d) base some.0 (λ m part. refl) some.1)
-
 base_from : (o : Option (List ℕ)) (commit : List ℕ) → option_map BaseRow o ≡ Some (BaseRow commit) → o ≡ Some commit
 base_from None commit is = absurd (let f : None ≡ Some (BaseRow commit) = is in cc)
 base_from (Some c) commit is = let same : c ≡ commit = cc in ap Some same
