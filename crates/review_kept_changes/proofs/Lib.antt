@@ -12,5 +12,4 @@ pub mod Puts
 pub mod Placed
 pub mod Merged
 pub mod Joined
-pub mod Parents
 pub mod Listed

@@ -1,6 +1,6 @@
 -- The list of the changes that joined a branch.
-use Rattle.std.proofs.Common.{◌≡◌, ℕ, zero, suc, ◌<◌, ◌≤◌, ◌⊎◌, inl, inr, ⊎_elim, Bool, true, false, cond, ◌&&◌, not, List, [], ◌∷◌, ◌++◌, length, get_or, Option, Some, None, refl, sym, ap, ◌∙◌, subst, arith}
-use Rattle.std.specs.Prelude.{AllPairs, MatchOption, option_to_list}
+use Rattle.std.proofs.Common.{◌≡◌, ℕ, zero, suc, ◌<◌, ◌⊎◌, inl, inr, ⊎_elim, Bool, true, false, cond, ◌&&◌, not, List, [], ◌∷◌, ◌++◌, get_or, Option, Some, None, refl, sym, ap, ◌∙◌, subst, arith}
+use Rattle.std.specs.Prelude.{AllPairs, option_to_list}
 use Rattle.std.specs.Option.{option_map}
 use Rattle.std.specs.List.{All, AllByRecursion, Contains, filter}
 use Rattle.std.specs.List.Sorted.{IsStrictlySortedBy}
@@ -12,7 +12,6 @@ use Rattle.std.specs.BTreeMap.Range.{range_contains}
 use Rattle.std.specs.Ordering.{is_le, is_lt, nat_cmp, ordering_then}
 use Rattle.std.proofs.lemmas.Bool.{cases_lt}
 use Rattle.std.proofs.lemmas.Cmp.{ranked, tied_itself}
-use Rattle.std.specs.Cmp.{nat_cmp_is}
 use Rattle.std.proofs.lemmas.List.Elements.{All-push, Contains-append_left, Contains-push}
 use Rattle.std.proofs.lemmas.List.Quantifiers.{all_pairs_push}
 use Rattle.std.proofs.lemmas.List.Kept.{IsStrictlySortedBy-filter}
@@ -24,17 +23,15 @@ use Rattle.review_table.proofs.Places.{row_between}
 use Rattle.review_changes.specs.Parts.{TheHeader, PatchOf, AHeader, APatch}
 use Rattle.review_changes.specs.declared.rows.Header.{Header}
 use Rattle.review_changes.specs.declared.rows.PatchRow.{PatchRow}
-use Rattle.review_rows.specs.Rows.{Key, Row, APart, branch_cmp}
-use Rattle.review_rows.specs.Known.{HaveJoined, IsAtPlace, IsBefore, IsCurrent, IsJoinedAt, IsOnParent}
-use Rattle.review_rows.specs.declared.rows.Base.{Base}
+use Rattle.review_rows.specs.Rows.{Key, PartKey, Row, APart, branch_cmp}
+use Rattle.review_rows.specs.Known.{HaveJoined, IsAtPlace, IsBefore, IsCurrent, IsJoinedAt}
 use Rattle.review_rows.specs.declared.rows.BranchKey.{BranchKey as Branch}
 use Rattle.review_rows.proofs.Learning.{branch_total}
 use Rattle.review_kept_changes.specs.declared.edits.ChangeTables.{ChangeTables}
 use Rattle.review_kept_changes.specs.declared.places.PlaceKey.{PlaceKey}
 use Rattle.review_kept_changes.specs.Kept.{is_placed, part_where, place_cmp, row_of, AddsJoined, ArePlaced, IsCurrentOf, IsJoinedOrNot}
 use Rattle.review_kept_changes.proofs.Placed.{exact_place, place_total}
-use Rattle.review_kept_changes.proofs.Merged.{current_is}
-use Rattle.review_kept_changes.proofs.Parents.{no_patch}
+use Rattle.review_kept_changes.proofs.Merged.{current_is, no_patch}
 use Rattle.review_kept_changes.proofs.Joined.{first_or_rest, from_place, to_place, key_at, own_branch, place_between, place_listed, placed_found, placed_is}
 
 -- ---- one change, one place, one current patch set

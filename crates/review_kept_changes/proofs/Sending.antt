@@ -52,6 +52,15 @@ module _ (kept : List (ℕ × ChangeTables)) (base : Base) (n p : ℕ) where
   pub sender_is : is_sent (row_in nat_cmp kept n) base p ≡ true → IsSender (row_of kept) base n
   sender_is h = sender_by (row_in nat_cmp kept n) refl h
 
+  -- with the number of its patch set
+  with_by : (o : Option ChangeTables) → row_in nat_cmp kept n ≡ o → is_sent o base p ≡ true → (sent : IsSender (row_of kept) base n) × (sent.number ≡ p)
+  unfolding sender_by
+  with_by None is h = absurd (let f : false ≡ true = h in cc)
+  with_by (Some t) is h = (sender_by (Some t) is h, refl)
+
+  pub sender_with : is_sent (row_in nat_cmp kept n) base p ≡ true → (sent : IsSender (row_of kept) base n) × (sent.number ≡ p)
+  sender_with h = with_by (row_in nat_cmp kept n) refl h
+
   listed_by : (sent : List (SentKey × Unit {0})) → AreListed sent kept → (o : Option ChangeTables) → row_in nat_cmp kept n ≡ o → is_sent o base p ≡ true →
       row_in sent_cmp sent (record { commit = base.commit; change = n; patch = p }) ≡ Some tt
   listed_by sent all None is h = absurd (let f : false ≡ true = h in cc)

@@ -1,21 +1,17 @@
 -- The index of patch sets by commit, once changes are edited.
 use Rattle.std.proofs.Common.{◌≡◌, ℕ, ◌==◌, List, [], ◌∷◌, ◌++◌, Option, Some, None, Bool, true, false, cond, refl, sym, ap, ◌∙◌, subst, eqb-true}
-use Rattle.std.specs.Option.{is_some, option_map}
-use Rattle.std.specs.Prelude.{IsSome}
-use Rattle.std.specs.List.{All, AllByRecursion}
+use Rattle.std.specs.Option.{option_map}
 use Rattle.std.specs.declared.cmp.Ordering.{Ordering}
 use Rattle.std.specs.declared.cmp.Ordering.TheVariants.{Less, Equal, Greater}
-use Rattle.std.specs.Ordering.{is_eq, nat_cmp, ordering_then}
+use Rattle.std.specs.Ordering.{nat_cmp, ordering_then}
 use Rattle.std.specs.Cmp.{unsigned_tied, IsTotalOrder}
 use Rattle.std.specs.Cmp.Lexicographic.{slice_cmp}
 use Rattle.std.specs.BTreeMap.{is_at}
-use Rattle.std.proofs.lemmas.Cmp.{then_total, on_total, nat_cmp_total, nat_list_cmp_total, tied_itself}
-use Rattle.std.proofs.lemmas.List.Elements.{All-from_recursion, recursion_from_All}
+use Rattle.std.proofs.lemmas.Cmp.{then_total, on_total, nat_cmp_total, nat_list_cmp_total}
 use Rattle.std.proofs.lemmas.Map.Lookups.{CmpEqualImpliesEq, exact_unsigned, exact_bytes}
-use Rattle.std.proofs.lemmas.Map.Views.{tells_apart}
 use Rattle.std.proofs.lemmas.Option.{same_Some}
 use Rattle.review_table.specs.declared.table.Change.{Change}
-use Rattle.review_table.specs.Rows.{after_change, changed, change_of, is_named, row_in}
+use Rattle.review_table.specs.Rows.{after_change, change_of, is_named, row_in}
 use Rattle.review_changes.specs.Parts.{Part, PatchOf, PartRow, APatch}
 use Rattle.review_changes.specs.declared.rows.PatchRow.{PatchRow}
 use Rattle.review_rows.specs.Rows.{edited, part_change}

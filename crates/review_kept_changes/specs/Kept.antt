@@ -15,7 +15,7 @@ use Rattle.review_words.specs.declared.shown.State.TheVariants.{Merged}
 use Rattle.review_changes.specs.declared.rows.Header.{Header}
 use Rattle.review_changes.specs.declared.rows.PatchRow.{PatchRow}
 use Rattle.review_rows.specs.Rows.{Key, PartKey, Row, APart, branch_cmp, part_change, vote_row}
-use Rattle.review_rows.specs.Known.{IsJoinedAt}
+use Rattle.review_rows.specs.Known.{IsJoinedAt, IsSender, IsSentBy}
 use Rattle.review_rows.specs.declared.rows.Base.{Base}
 use Rattle.review_rows.specs.declared.rows.BranchKey.{BranchKey as Branch}
 use Rattle.review_rows.specs.declared.rows.ChangeEdit.{ChangeEdit}
@@ -124,10 +124,15 @@ abbrev pub IsSentAs : Bool → Option ChangeTables → Base → ℕ → Type 0
 IsSentAs merged None base p = ⊥
 IsSentAs merged (Some t) base p = (is_sent (Some t) base p ≡ true) × (merged ≡ true → IsMergedAt t p)
 
--- a change that has sent the commit so, or that none has
-abbrev pub IsFoundSent : Bool → List (ℕ × ChangeTables) → Base → Option ℕ → Type 0
-IsFoundSent merged kept base (Some n) = (p : ℕ) × IsSentAs merged (row_in nat_cmp kept n) base p
+-- a change that has sent the commit so, by its patch set of a number, or that none has
+abbrev pub IsFoundSent : Bool → List (ℕ × ChangeTables) → Base → Option (ℕ × ℕ) → Type 0
+IsFoundSent merged kept base (Some found) = IsSentAs merged (row_in nat_cmp kept found.0) base found.1
 IsFoundSent merged kept base None = (n p : ℕ) → IsSentAs merged (row_in nat_cmp kept n) base p → ⊥
+
+-- the change for the branch that has a patch set of the commit, by its number, or that none has
+abbrev pub IsSentIn : (Key → Option Row) → Base → Option (ℕ × ℕ) → Type 0
+IsSentIn row base (Some found) = (sent : IsSender row base found.0) × (sent.number ≡ found.1)
+IsSentIn row base None = IsSentBy row base None
 
 -- ---- places in branches
 

@@ -1,17 +1,17 @@
-//! Which changes joined a branch, and what the parent of a change is.
-ghost use Rattle.std.specs.Prelude.{◌≡◌, IfOk, OnOk, MatchOption, max, option_copied, if◌then◌else◌};
+//! Which changes joined a branch.
+ghost use Rattle.std.specs.Prelude.{◌≡◌, IfOk, OnOk, max, option_copied, if◌then◌else◌};
 ghost use Rattle.std.specs.Ordering.{nat_cmp};
 ghost use Rattle.review_table.specs.Rows.{row_in, rows_of};
-ghost use Rattle.review_rows.specs.Known.{HaveJoined, IsLastJoined, IsOnParent};
+ghost use Rattle.review_rows.specs.Known.{HaveJoined, IsLastJoined};
 ghost use Rattle.review_kept_changes.specs.Kept.{is_placed, row_of, AddsJoined, IsCurrentOf, IsJoinedOrNot};
 
 use crate::edits::ChangeTables;
 use crate::kept::KeptChanges;
 use crate::places::{PlaceKey, greatest_place, is_placed, least_place};
 use review_changes::PatchRow;
-use review_rows::{Base, BranchKey};
+use review_rows::BranchKey;
 use review_table::Key;
-use review_words::{ChangeNo, JoinedChange, Listed};
+use review_words::{JoinedChange, Listed};
 use std::alloc::{AllocError, Global};
 
 impl KeptChanges {
@@ -123,24 +123,6 @@ impl KeptChanges {
         Ok(Some(JoinedChange {
             change: key.change,
             commit: patch.commit.copy(alloc)?,
-        }))
-    }
-
-    /// The parent of the current patch set of a change, as a commit in the branch of the change; none where there is no such change. An
-    /// error is want of memory.
-    pub fn parent_of(&self, alloc: Global, number: ChangeNo) -> Result<Option<Base>, AllocError>
-        ensures { IfOk result (λ found. MatchOption found ((parent : Base) → IsOnParent (row_of (rows_of self.now.kept)) number parent → ⊥) (IsOnParent (row_of (rows_of self.now.kept)) number)) }
-    {
-        let Some(tables) = self.kept.get(&number) else {
-            return Ok(None);
-        };
-        let Some(patch) = current_patch(tables) else {
-            return Ok(None);
-        };
-        Ok(Some(Base {
-            project: tables.header.project.copy(alloc)?,
-            branch: tables.header.branch.copy(alloc)?,
-            commit: patch.parent.copy(alloc)?,
         }))
     }
 }

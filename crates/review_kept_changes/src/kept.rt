@@ -5,7 +5,7 @@ ghost use Rattle.review_table.specs.Rows.{changed, row_in, rows_of};
 ghost use Rattle.review_rows.specs.Known.{HasChange, IsLast, IsMergedWith, IsSentBy, header_key};
 ghost use Rattle.review_changes.specs.Seen.{seen};
 ghost use Rattle.review_kept_changes.specs.Loads.{IsUnread};
-ghost use Rattle.review_kept_changes.specs.Kept.{is_sent, row_of, sent_by, sent_in, with_sent, AreNumbered, ArePrepared, HasRoomFor, IsFoundSent, IsFull, IsFullBut, IsLastOf, IsReady, IsSentAs, PutsEdited, PutAllEdited};
+ghost use Rattle.review_kept_changes.specs.Kept.{is_sent, row_of, sent_by, sent_in, with_sent, AreNumbered, ArePrepared, HasRoomFor, IsFoundSent, IsFull, IsFullBut, IsLastOf, IsReady, IsSentAs, IsSentIn, PutsEdited, PutAllEdited};
 
 use crate::edits::{ChangeTables, begun, edited};
 use crate::loading::{ChangeFault, change_rows};
@@ -100,8 +100,21 @@ impl KeptChanges {
     pub fn sender(&self, alloc: Global, base: &Base) -> Result<Option<ChangeNo>, AllocError>
         ensures { IfOk result (IsSentBy (row_of (rows_of self.now.kept)) base.now) }
     {
-        let sender = self.find_sent(alloc, base, false)?;
-        Ok(sender)
+        match self.find_sent(alloc, base, false)? {
+            Some((change, _)) => Ok(Some(change)),
+            None => Ok(None),
+        }
+    }
+
+    /// The change for a branch that has a patch set of a commit, with the patch set's number, or that none has.
+    pub fn sent_patch(
+        &self,
+        alloc: Global,
+        base: &Base,
+    ) -> Result<Option<(ChangeNo, PatchNo)>, AllocError>
+        ensures { IfOk result (IsSentIn (row_of (rows_of self.now.kept)) base.now) }
+    {
+        self.find_sent(alloc, base, false)
     }
 
     /// Whether a commit is the current one of a merged change for its branch.
@@ -112,20 +125,20 @@ impl KeptChanges {
         Ok(merged.is_some())
     }
 
-    // A change for a branch that has a patch set of a commit; where it is to be merged, as its current one.
+    // A change for a branch with the number of a patch set that has a commit; where it is to be merged, as its current one.
     fn find_sent(
         &self,
         alloc: Global,
         base: &Base,
         merged: bool,
-    ) -> Result<Option<ChangeNo>, AllocError>
+    ) -> Result<Option<(ChangeNo, PatchNo)>, AllocError>
         ensures { IfOk result (IsFoundSent merged (rows_of self.now.kept) base.now) }
     {
         let from = least_key(alloc, base)?;
         let to = greatest_key(alloc, base)?;
         for (key, _) in self.sent.select(alloc, from, to)? {
             if self.has_sent(base, merged, key) {
-                return Ok(Some(key.change));
+                return Ok(Some((key.change, key.patch)));
             }
         }
         Ok(None)

@@ -6,14 +6,15 @@ ghost use Rattle.review_table.specs.Rows.{row_in, rows_of};
 ghost use Rattle.review_rows.specs.declared.rows.Want.TheVariants as want;
 ghost use Rattle.review_rows.specs.declared.rows.Counted.TheVariants as counted;
 ghost use Rattle.review_rows.specs.Rows.{AccountKey, member_cmp};
-ghost use Rattle.review_rows.specs.Known.{Agrees, AreAsked, IsLast, IsStanding, HasMembers, StandsAs};
+ghost use Rattle.review_rows.specs.Known.{Agrees, AreAsked, IsLast, HasMembers, StandsAs};
 ghost use Rattle.review_shelves.specs.Desk.{tables_of, desk_of, row_of, IsIndexed, IsNumbered};
 ghost use Rattle.review_shelves.specs.Loads.{Looks, IsUnread};
 
 use crate::branches::BasesFault;
 use crate::keys::NameKey;
 use crate::tables::MemoryTables;
-use review_rows::{Base, BranchKey, Counted, MemberKey, Need, Rows, ShelfFault, Standing, Want};
+use review_chain::Standing;
+use review_rows::{Base, BranchKey, Counted, MemberKey, Need, Rows, ShelfFault, Want};
 use review_table::{Key, Table};
 use review_words::{AccountName, AccountNo, ChangeNo, FileText, GroupName, ProjectName};
 use std::alloc::{AllocError, Global};
@@ -81,7 +82,7 @@ impl MemoryTables {
             Want::ChangeOf(base) => self.find_change_of(alloc, base, rows)?,
             Want::LastChange => self.find_last_change(rows),
             Want::LastJoined(branch) => self.find_last_joined(alloc, branch, rows)?,
-            Want::Standing(number) => self.find_standing(alloc, *number, rows)?,
+            Want::Standing(base) => self.find_standing(alloc, base, rows)?,
             Want::Joined(branch) => self.find_joined(alloc, branch, rows)?,
         }
         Ok(())
@@ -269,16 +270,11 @@ impl MemoryTables {
         rows.learn_last_joined(branch.copy(alloc)?, last)
     }
 
-    fn find_standing(
-        &self,
-        alloc: Global,
-        number: ChangeNo,
-        rows: &mut Rows,
-    ) -> Result<(), AllocError>
-        ensures { OnOk result (Looks (tables_of (desk_of self.now)) (want.Standing number) rows.old rows.new) }
+    fn find_standing(&self, alloc: Global, base: &Base, rows: &mut Rows) -> Result<(), AllocError>
+        ensures { OnOk result (Looks (tables_of (desk_of self.now)) (want.Standing base.now) rows.old rows.new) }
     {
-        let standing = self.parent_standing(alloc, number)?;
-        rows.learn_standing(number, standing)
+        let standing = self.standing_of(alloc, base)?;
+        rows.learn_standing(base.copy(alloc)?, standing)
     }
 
     fn find_joined(
@@ -293,34 +289,21 @@ impl MemoryTables {
         rows.learn_joined(branch.copy(alloc)?, joined)
     }
 
-    /// What the parent of a change's current patch set is in the branch of the change; none where there is no such change.
-    fn parent_standing(
-        &self,
-        alloc: Global,
-        number: ChangeNo,
-    ) -> Result<Option<Standing>, AllocError>
-        ensures { IfOk result (IsStanding (row_of (desk_of self.now)) number) }
+    /// What a commit is to a branch.
+    fn standing_of(&self, alloc: Global, base: &Base) -> Result<Standing, AllocError>
+        ensures { IfOk result (StandsAs (row_of (desk_of self.now)) base.now) }
     {
-        let Some(parent) = self.changes.parent_of(alloc, number)? else {
-            return Ok(None);
+        if self.branches.has(alloc, base)? {
+            return Ok(Standing::InBranch);
+        }
+        if self.changes.is_merged(alloc, base)? {
+            return Ok(Standing::InBranch);
+        }
+        let Some(sent) = self.changes.sent_patch(alloc, base)? else {
+            return Ok(Standing::Nowhere);
         };
-        Ok(Some(self.standing_of(alloc, &parent)?))
-    }
-
-    /// What a commit is in its branch.
-    fn standing_of(&self, alloc: Global, commit: &Base) -> Result<Standing, AllocError>
-        ensures { IfOk result (StandsAs (row_of (desk_of self.now)) commit.now) }
-    {
-        if self.branches.has(alloc, commit)? {
-            return Ok(Standing::InBranch);
-        }
-        if self.changes.is_merged(alloc, commit)? {
-            return Ok(Standing::InBranch);
-        }
-        match self.changes.sender(alloc, commit)? {
-            Some(change) => Ok(Standing::SentFor(change)),
-            None => Ok(Standing::Unknown),
-        }
+        let (change, patch) = sent;
+        Ok(Standing::PatchSet { change, patch })
     }
 
     /// All members of a group.

@@ -1,7 +1,5 @@
-use Rattle.std.proofs.Common.{ap, sym, refl}
 use Rattle.std.specs.Option.{option_copied}
-use Rattle.std.specs.Ordering.{nat_cmp}
-use Rattle.review_table.specs.Rows.{row_in, rows_of}
+use Rattle.review_table.specs.Rows.{rows_of}
 use Rattle.review_kept_changes.proofs.Merged.{current_of}
 use Rattle.review_kept_changes.proofs.branches.current_patch.Goals as goal
 

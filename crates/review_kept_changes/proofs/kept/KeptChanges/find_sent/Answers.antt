@@ -38,7 +38,7 @@ pub returns-then-has_sent : goal.returns-then-has_sent
 returns-then-has_sent c =
     let key = c.in-Some.key.now in
     let Holds = IsSentAs c.args.merged (row_in nat_cmp (rows_of c.args.self.now.kept) key.change) c.args.base.now key.patch in
-    (key.patch, subst (λ b. MatchBool b Holds (Holds → ⊥)) c.if-has_sent.true c.has_sent.ensures)
+    subst (λ b. MatchBool b Holds (Holds → ⊥)) c.if-has_sent.true c.has_sent.ensures
 
 nothing : (o : Option (Unit {0})) → o ≡ None → o ≡ Some tt → ⊥
 nothing None none there = absurd (cc)

@@ -1,8 +1,8 @@
-use Rattle.std.proofs.Common.{ap, subst, sym, ◌∙◌}
+use Rattle.std.proofs.Common.{ap, sym, ◌∙◌}
 use Rattle.std.specs.Ordering.{nat_cmp}
 use Rattle.review_table.specs.Rows.{row_in, rows_of}
-use Rattle.review_kept_changes.specs.Kept.{is_placed, KeptView}
-use Rattle.review_kept_changes.proofs.Listed.{joined_here, not_kept, not_placed, not_sent}
+use Rattle.review_kept_changes.specs.Kept.{KeptView}
+use Rattle.review_kept_changes.proofs.Listed.{not_kept}
 use Rattle.review_kept_changes.proofs.kept.KeptChanges.joined_at.Goals as goal
 
 pub returns-in_default : goal.returns-in_default

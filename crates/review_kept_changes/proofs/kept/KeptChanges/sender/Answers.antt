@@ -1,6 +1,10 @@
+use Rattle.std.proofs.Common.{false, subst}
 use Rattle.review_table.specs.Rows.{rows_of}
-use Rattle.review_kept_changes.proofs.Merged.{sender_by}
+use Rattle.review_kept_changes.specs.Kept.{IsFoundSent}
+use Rattle.review_kept_changes.proofs.Merged.{no_sender}
 use Rattle.review_kept_changes.proofs.kept.KeptChanges.sender.Goals as goal
 
-pub returns : goal.returns
-returns c = sender_by (rows_of c.args.self.now.kept) c.args.base.now c.in_ok-sender.sender c.in_ok-sender.ensures
+pub returns-in-None : goal.returns-in-None
+returns-in-None c =
+    let kept = rows_of c.args.self.now.kept in
+    no_sender kept c.args.base.now (subst (IsFoundSent false kept c.args.base.now) c.in-None.is c.in_ok-change.ensures)

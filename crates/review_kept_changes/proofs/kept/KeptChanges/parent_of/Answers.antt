@@ -1,9 +1,0 @@
-use Rattle.std.proofs.Common.{ap, sym, ◌∙◌}
-use Rattle.std.specs.Ordering.{nat_cmp}
-use Rattle.review_table.specs.Rows.{row_in, rows_of}
-use Rattle.review_kept_changes.specs.Kept.{KeptView}
-use Rattle.review_kept_changes.proofs.Parents.{no_change, no_patch, on_parent}
-use Rattle.review_kept_changes.proofs.kept.KeptChanges.parent_of.Goals as goal
-
-pub returns-in_default : goal.returns-in_default
-returns-in_default c = no_change (rows_of c.args.self.now.kept) c.args.number (ap (λ (v : KeptView). row_in nat_cmp (rows_of v.kept) c.args.number) (sym c.self.view_is) ∙ sym c.in_default.ensures)
