@@ -26,4 +26,4 @@ each_name (m ∷ ms) rs are = by (is_label m.0) refl rs are (each_name ms)
     by true is (q ∷ qs) are on = (ap is_label are.0.0 ∙ is, on qs are.1)
 
 pub names_of_form : (text : List ℕ) (f : FileView Expr) → IsRead text f → AllByRecursion HasName f.requirements
-names_of_form text f read = each_name _ f.requirements read.1.2.0.1.2.2
+names_of_form text f read = each_name _ f.requirements read.1.2.0.1.3

@@ -1,5 +1,5 @@
 -- Each answer of a history is stored with numbers of their forms.
-use Rattle.std.proofs.Common.{◌≡◌, ℕ, suc, ◌+◌, ◌<◌, ◌≤◌, List, [], ◌∷◌, ◌++◌, length, Option, Some, None, Bool, true, false, cond, refl, sym, ap, ◌∙◌, subst, ⊎_elim, inl, inr, arith}
+use Rattle.std.proofs.Common.{◌≡◌, ◌⊎◌, ℕ, suc, ◌+◌, ◌<◌, ◌≤◌, List, [], ◌∷◌, ◌++◌, length, Option, Some, None, Bool, true, false, cond, refl, sym, ap, ◌∙◌, subst, ⊎_elim, inl, inr, arith}
 use Rattle.std.specs.Prelude.{MatchOption, is_some, option_map, unwrap_or, map}
 use Rattle.std.specs.List.{All, AllByRecursion}
 use Rattle.std.proofs.lemmas.List.Elements.{All-head, All-tail}
@@ -200,7 +200,7 @@ found_stored reading h history reads (d ∷ ds) found all is = at (change readin
         subst (λ x. IsStored (Refused (RequirementUnsatisfied x.0 x.1))) (sym e) (all.0, unsatisfied_name f qs name names (sym (ap unsatisfied_in each) ∙ some))
 
     at : (o : Option Change) → change reading h d ≡ o →
-        MatchOption (option_map (λ (x : Change). (setting_of reading h x.project, x)) o) ⊥
+        MatchOption {T = Setting × Change} (option_map (λ (x : Change). (setting_of reading h x.project, x)) o) ⊥
         (λ j. (shown : List ShownRequirement) × AreStanding j.0 j.1 shown × MatchOption (unsatisfied_in shown) (IsFirstUnsatisfied (judged_after reading h) ds (Some found)) (λ requirement. Some found ≡ Some (d, requirement))) →
         (IsFirstUnsatisfied (judged_after reading h) ds (Some found) → IsStored (Refused (RequirementUnsatisfied found.0 found.1))) → IsStored (Refused (RequirementUnsatisfied found.0 found.1))
     at None there bad on = absurd bad

@@ -14,7 +14,10 @@ use Rattle.review_changes.specs.Change.{Change, Setting}
 use Rattle.review_changes.specs.Facts.{AreStanding, IsFirstUnsatisfied, unsatisfied_in}
 use Rattle.review_rows.specs.Changes.{Reading}
 use Rattle.review_rows.specs.Submits.{HasBadLink, HasChain, IsOf, IsSubmitAnswer, branch_after, checked_reply, judged_after, refusal_of}
-use Rattle.review_statuses.proofs.One.{one}
+
+-- Requirements stand in one way for a change, as the law of statuses has it.
+abbrev pub OneStanding : Type 0
+OneStanding = (s : Setting) (c : Change) (a b : List ShownRequirement) → AreStanding s c a → AreStanding s c b → a ≡ b
 
 one_named : (f g : ChainFault) (r s : Refusal) → f ≡ g → refusal_of f ≡ Some r → refusal_of g ≡ Some s → r ≡ s
 one_named f g r s same a b = let e : Some r ≡ Some s = sym a ∙ (ap refusal_of same ∙ b) in cc
@@ -34,25 +37,25 @@ abbrev IsFoundAt : (ℕ → Option (Setting × Change)) → ℕ → List ℕ →
 IsFoundAt at n ns found o = MatchOption o ⊥ (λ c. (shown : List ShownRequirement) × AreStanding c.0 c.1 shown × IsFound at n ns found (unsatisfied_in shown))
 
 -- one requirement that is found first
-one_found : (at : ℕ → Option (Setting × Change)) (chain : List ℕ) (a b : Option (ℕ × List ℕ)) → IsFirstUnsatisfied at chain a → IsFirstUnsatisfied at chain b → a ≡ b
-one_found at [] a b x y = x ∙ sym y
-one_found at (n ∷ ns) a b x y = of (at n) x y
+one_found : OneStanding → (at : ℕ → Option (Setting × Change)) (chain : List ℕ) (a b : Option (ℕ × List ℕ)) → IsFirstUnsatisfied at chain a → IsFirstUnsatisfied at chain b → a ≡ b
+one_found one at [] a b x y = x ∙ sym y
+one_found one at (n ∷ ns) a b x y = of (at n) x y (one_found one at ns a b)
   where
-    by : (o : Option (List ℕ)) → IsFound at n ns a o → IsFound at n ns b o → a ≡ b
-    by None x y = one_found at ns a b x y
-    by (Some requirement) x y = x ∙ sym y
+    by : (o : Option (List ℕ)) → IsFound at n ns a o → IsFound at n ns b o → (IsFirstUnsatisfied at ns a → IsFirstUnsatisfied at ns b → a ≡ b) → a ≡ b
+    by None x y later = later x y
+    by (Some requirement) x y later = x ∙ sym y
 
-    of : (o : Option (Setting × Change)) → IsFoundAt at n ns a o → IsFoundAt at n ns b o → a ≡ b
-    of None x y = absurd x
-    of (Some c) x y =
+    of : (o : Option (Setting × Change)) → IsFoundAt at n ns a o → IsFoundAt at n ns b o → (IsFirstUnsatisfied at ns a → IsFirstUnsatisfied at ns b → a ≡ b) → a ≡ b
+    of None x y later = absurd x
+    of (Some c) x y later =
         let shown = one c.0 c.1 y.0 x.0 y.1 x.1 in
-        by (unsatisfied_in x.0) x.2 (subst (λ l. IsFound at n ns b (unsatisfied_in l)) shown y.2)
+        by (unsatisfied_in x.0) x.2 (subst (λ l. IsFound at n ns b (unsatisfied_in l)) shown y.2) later
 
 -- one chain, and what is found of it
-one_checked : (reading : Reading) (h : List Entry) (b : Branch) (n : ℕ) (r s : Reply) → HasChain reading h b n r → HasChain reading h b n s → r ≡ s
-one_checked reading h b n r s x y =
+one_checked : OneStanding → (reading : Reading) (h : List Entry) (b : Branch) (n : ℕ) (r s : Reply) → HasChain reading h b n r → HasChain reading h b n s → r ≡ s
+one_checked one reading h b n r s x y =
     let chain = one_walk b x.chain y.chain n TheBase TheBase (chain_meets b x.chain n x.is_chain) tt (chain_meets b y.chain n y.is_chain) tt in
-    let found = one_found (judged_after reading h) y.chain x.found y.found (subst (λ l. IsFirstUnsatisfied (judged_after reading h) l x.found) chain x.checked) y.checked in
+    let found = one_found one (judged_after reading h) y.chain x.found y.found (subst (λ l. IsFirstUnsatisfied (judged_after reading h) l x.found) chain x.checked) y.checked in
     x.reply_is ∙ ((λ i. checked_reply (chain i) (found i)) ∙ sym y.reply_is)
 
 -- not both a bad link and a chain
@@ -61,9 +64,9 @@ never_both reading h b n r s x y =
     let e : Bad x.fault ≡ TheBase = one_end b x.walk y.chain n (Bad x.fault) TheBase (bad_meets b x.walk n x.fault x.bad) tt (chain_meets b y.chain n y.is_chain) tt in absurd (cc)
 
 -- a submit has one answer
-pub one_submit : (reading : Reading) (h : List Entry) (n : ℕ) (o : Option Change) (r s : Reply) → IsOf (λ c. IsSubmitAnswer reading h n c r) o → IsOf (λ c. IsSubmitAnswer reading h n c s) o → r ≡ s
-one_submit reading h n None r s a b = absurd a
-one_submit reading h n (Some c) r s (inl x) (inl y) = one_bad (branch_after reading h c.project c.branch) n r s x y
-one_submit reading h n (Some c) r s (inl x) (inr y) = absurd (never_both reading h (branch_after reading h c.project c.branch) n r s x y)
-one_submit reading h n (Some c) r s (inr x) (inl y) = absurd (never_both reading h (branch_after reading h c.project c.branch) n s r y x)
-one_submit reading h n (Some c) r s (inr x) (inr y) = one_checked reading h (branch_after reading h c.project c.branch) n r s x y
+pub one_submit : OneStanding → (reading : Reading) (h : List Entry) (n : ℕ) (o : Option Change) (r s : Reply) → IsOf (λ c. IsSubmitAnswer reading h n c r) o → IsOf (λ c. IsSubmitAnswer reading h n c s) o → r ≡ s
+one_submit one reading h n None r s a b = absurd a
+one_submit one reading h n (Some c) r s (inl x) (inl y) = one_bad (branch_after reading h c.project c.branch) n r s x y
+one_submit one reading h n (Some c) r s (inl x) (inr y) = absurd (never_both reading h (branch_after reading h c.project c.branch) n r s x y)
+one_submit one reading h n (Some c) r s (inr x) (inl y) = absurd (never_both reading h (branch_after reading h c.project c.branch) n s r y x)
+one_submit one reading h n (Some c) r s (inr x) (inr y) = one_checked one reading h (branch_after reading h c.project c.branch) n r s x y
