@@ -160,12 +160,13 @@ linked_number reading h project branch n (Some c) l history reads there is = cha
 chain_numbers : (reading : Reading) (h : List Entry) (c : Change) (n : ℕ) → IsHistory h → Reads reading h → change reading h n ≡ Some c → (ds : List ℕ) →
     All (λ d. (d ≡ n) ⊎ IsReady (branch_after reading h c.project c.branch) d) ds → AllByRecursion IsChangeNumber ds
 chain_numbers reading h c n history reads there [] all = tt
-chain_numbers reading h c n history reads there (d ∷ ds) all =
-    (⊎_elim
-    (λ (same : d ≡ n). change_bound reading h d c reads history (ap (change reading h) same ∙ there))
-    (λ (ready : IsReady (branch_after reading h c.project c.branch) d). linked_number reading h c.project c.branch d (change reading h d) ready.link history reads refl ready.there)
-    (All-head (λ d. (d ≡ n) ⊎ IsReady (branch_after reading h c.project c.branch) d) d ds all),
-    chain_numbers reading h c n history reads there ds (All-tail (λ d. (d ≡ n) ⊎ IsReady (branch_after reading h c.project c.branch) d) d ds all))
+chain_numbers reading h c n history reads there (d ∷ ds) all = (
+  ⊎_elim
+      (λ (same : d ≡ n). change_bound reading h d c reads history (ap (change reading h) same ∙ there))
+      (λ (ready : IsReady (branch_after reading h c.project c.branch) d). linked_number reading h c.project c.branch d (change reading h d) ready.link history reads refl ready.there)
+      (All-head (λ d. (d ≡ n) ⊎ IsReady (branch_after reading h c.project c.branch) d) d ds all),
+  chain_numbers reading h c n history reads there ds (All-tail (λ d. (d ≡ n) ⊎ IsReady (branch_after reading h c.project c.branch) d) d ds all),
+)
 
 -- the first requirement that isn't satisfied is one of the file
 unsatisfied_name : (f : ChangeFacts) (qs : List (RequirementView Expr)) (name : List ℕ) → AllByRecursion HasName qs → unsatisfied_in (map (stands f) qs) ≡ Some name → is_label name ≡ true
