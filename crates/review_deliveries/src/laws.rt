@@ -8,6 +8,7 @@ use review_statuses::one_standing;
 pub fn one_answer()
     ensures { OneAnswer }
 {
+    // By this law a submit has one answer: requirements stand in one way.
     one_standing();
 }
 
@@ -25,5 +26,6 @@ pub fn restart_completes()
     ensures whole { RestartIsRun }
     ensures stop { RestartAfterStop }
 {
+    // By this law a submit that comes again has the answer that it had.
     one_standing();
 }
