@@ -5,7 +5,7 @@ use Rattle.std.specs.Str.{bytes_eq}
 use Rattle.std.proofs.lemmas.Bool.{and_parts, and_from, cases_Bool, cases_lt, ltb-true, ltb-false, leb-true}
 use Rattle.std.proofs.lemmas.List.{length-map}
 use Rattle.toml.specs.Data.{Data, table}
-use Rattle.review_names.specs.Forms.{is_label, most_changes}
+use Rattle.review_names.specs.Forms.{is_label}
 use Rattle.review_words.specs.declared.changes.NewPatch.{NewPatch}
 use Rattle.review_words.specs.declared.command.Command.{Command}
 use Rattle.review_words.specs.declared.command.Command.TheVariants.{CreateAccount, PutGroup, PutProject, RecordBase, CreateChange, OnChange, Submit}
@@ -27,7 +27,7 @@ use Rattle.review_words.specs.declared.command.ChangeCommand.TheVariants as on
 use Rattle.review_changes.specs.declared.rows.VoteKey.{VoteKey}
 use Rattle.review_change_laws.proofs.Sound.{all_pass, done_passes}
 use Rattle.review_rows.specs.Answer.{IsAnswerBy, IsHistory, IsUploadAnswer, checks}
-use Rattle.review_rows.specs.Changes.{Reading, Reads, change, change_count, change_counted, file_of, setting_of}
+use Rattle.review_rows.specs.Changes.{Reading, Reads, change, file_of, setting_of}
 use Rattle.review_rows.specs.Files.{IsRead}
 use Rattle.review_rows.proofs.Readings.{read_of}
 use Rattle.review_deliveries.proofs.Voted.{have_voters}

@@ -14,7 +14,7 @@ use Rattle.review_rows.specs.declared.rows.Want.TheVariants as want
 use Rattle.review_rows.specs.Changes.{Reading, change}
 use Rattle.review_rows.specs.Decisions.{HasPatternIn, IsUnread, judging_project, topic_project}
 use Rattle.review_rows.specs.Files.{File, HasPattern}
-use Rattle.review_rows.specs.Known.{Found, Number, Name, Holder, IsSo, Members, Text, Commits, AChange, part_of, known, Agrees, change_in, text_of}
+use Rattle.review_rows.specs.Known.{Found, Number, Name, Holder, IsSo, Members, Text, Commits, AChange, Stands, Joins, part_of, known, Agrees, change_in, text_of}
 use Rattle.review_rows.specs.Rows.{APart, Tables}
 use Rattle.review_rows.specs.Shelf.{Shows, IsDamaged}
 use Rattle.review_rows.specs.Steps.{Topic, OfCommand, OfQuery, HasFile, project_of, text_in, text_for}
@@ -41,6 +41,8 @@ change_found (Some (IsSo n)) c is = absurd (cc)
 change_found (Some (Members n)) c is = absurd (cc)
 change_found (Some (Text n)) c is = absurd (cc)
 change_found (Some (Commits n)) c is = absurd (cc)
+change_found (Some (Stands s)) c is = absurd (cc)
+change_found (Some (Joins js)) c is = absurd (cc)
 
 -- the change that rows know is that of the history
 change_known : (reading : Reading) (h : List Entry) (rows : Rows) (n : ℕ) (c : Change) → Agrees (view reading h) rows → change_in (known rows (want.Change n)) ≡ Some c → change reading h n ≡ Some c

@@ -1,5 +1,5 @@
 -- Each answer of a history is stored with numbers of their forms.
-use Rattle.std.proofs.Common.{◌≡◌, ℕ, suc, ◌+◌, ◌<◌, ◌≤◌, List, [], ◌∷◌, ◌++◌, length, Option, Some, None, Bool, true, false, cond, refl, sym, ap, ◌∙◌, subst, ⊎_elim, inl, inr, arith}
+use Rattle.std.proofs.Common.{◌≡◌, ◌⊎◌, ℕ, suc, ◌+◌, ◌<◌, ◌≤◌, List, [], ◌∷◌, ◌++◌, length, Option, Some, None, Bool, true, false, cond, refl, sym, ap, ◌∙◌, subst, ⊎_elim, inl, inr, arith}
 use Rattle.std.specs.Prelude.{MatchOption, is_some, option_map, unwrap_or, map}
 use Rattle.std.specs.List.{All, AllByRecursion}
 use Rattle.std.proofs.lemmas.List.Elements.{All-head, All-tail}
@@ -160,12 +160,13 @@ linked_number reading h project branch n (Some c) l history reads there is = cha
 chain_numbers : (reading : Reading) (h : List Entry) (c : Change) (n : ℕ) → IsHistory h → Reads reading h → change reading h n ≡ Some c → (ds : List ℕ) →
     All (λ d. (d ≡ n) ⊎ IsReady (branch_after reading h c.project c.branch) d) ds → AllByRecursion IsChangeNumber ds
 chain_numbers reading h c n history reads there [] all = tt
-chain_numbers reading h c n history reads there (d ∷ ds) all =
-    (⊎_elim
-    (λ (same : d ≡ n). change_bound reading h d c reads history (ap (change reading h) same ∙ there))
-    (λ (ready : IsReady (branch_after reading h c.project c.branch) d). linked_number reading h c.project c.branch d (change reading h d) ready.link history reads refl ready.there)
-    (All-head (λ d. (d ≡ n) ⊎ IsReady (branch_after reading h c.project c.branch) d) d ds all),
-    chain_numbers reading h c n history reads there ds (All-tail (λ d. (d ≡ n) ⊎ IsReady (branch_after reading h c.project c.branch) d) d ds all))
+chain_numbers reading h c n history reads there (d ∷ ds) all = (
+  ⊎_elim
+      (λ (same : d ≡ n). change_bound reading h d c reads history (ap (change reading h) same ∙ there))
+      (λ (ready : IsReady (branch_after reading h c.project c.branch) d). linked_number reading h c.project c.branch d (change reading h d) ready.link history reads refl ready.there)
+      (All-head (λ d. (d ≡ n) ⊎ IsReady (branch_after reading h c.project c.branch) d) d ds all),
+  chain_numbers reading h c n history reads there ds (All-tail (λ d. (d ≡ n) ⊎ IsReady (branch_after reading h c.project c.branch) d) d ds all),
+)
 
 -- the first requirement that isn't satisfied is one of the file
 unsatisfied_name : (f : ChangeFacts) (qs : List (RequirementView Expr)) (name : List ℕ) → AllByRecursion HasName qs → unsatisfied_in (map (stands f) qs) ≡ Some name → is_label name ≡ true
@@ -200,7 +201,7 @@ found_stored reading h history reads (d ∷ ds) found all is = at (change readin
         subst (λ x. IsStored (Refused (RequirementUnsatisfied x.0 x.1))) (sym e) (all.0, unsatisfied_name f qs name names (sym (ap unsatisfied_in each) ∙ some))
 
     at : (o : Option Change) → change reading h d ≡ o →
-        MatchOption (option_map (λ (x : Change). (setting_of reading h x.project, x)) o) ⊥
+        MatchOption {T = Setting × Change} (option_map (λ (x : Change). (setting_of reading h x.project, x)) o) ⊥
         (λ j. (shown : List ShownRequirement) × AreStanding j.0 j.1 shown × MatchOption (unsatisfied_in shown) (IsFirstUnsatisfied (judged_after reading h) ds (Some found)) (λ requirement. Some found ≡ Some (d, requirement))) →
         (IsFirstUnsatisfied (judged_after reading h) ds (Some found) → IsStored (Refused (RequirementUnsatisfied found.0 found.1))) → IsStored (Refused (RequirementUnsatisfied found.0 found.1))
     at None there bad on = absurd bad
