@@ -289,10 +289,9 @@ none_stays rows more both added (x ∷ xs) [] are none = absurd are
 none_stays rows more both added (x ∷ xs) (y ∷ ys) are none =
     let p = none_in (unknown rows x) (next_of rows xs) none in
     let later = none_stays rows more both added xs ys (are.2 p.0) p.1 in
-    let here = none_left rows more both x added (subst (AllByRecursion (IsKnown more)) (sym p.0) tt) in (
-      ap (λ l. left_where l (left_of rows xs) (length xs + 1)) p.0 ∙ later.0,
-      ap (λ s. left_where (unknown both s) (left_of both ys) (length ys + 1)) (sym are.0) ∙ (ap (λ l. left_where l (left_of both ys) (length ys + 1)) here ∙ later.1),
-    )
+    let here = none_left rows more both x added (subst (AllByRecursion (IsKnown more)) (sym p.0) tt) in
+    (ap (λ l. left_where l (left_of rows xs) (length xs + 1)) p.0 ∙ later.0,
+    ap (λ s. left_where (unknown both s) (left_of both ys) (length ys + 1)) (sym are.0) ∙ (ap (λ l. left_where l (left_of both ys) (length ys + 1)) here ∙ later.1))
 
 last_bounded : (rows : Rows) (topic : Topic) → left_if (last_wants rows topic) (last_of rows topic) ≤ 201
 last_bounded rows topic = at (last_wants rows topic) (last_of rows topic) (by_topic topic)
