@@ -18,10 +18,15 @@ LABELS = {
     "narrow": {
         "Code-Review": (range(-1, 2), "is:1", {"Registered-Users": (-1, 1)}),
     },
+    "easy": {
+        "Code-Review": (range(-2, 3), "is:ANY", {"Registered-Users": (-2, 2)}),
+        "Verified": (range(-1, 2), None, {"Registered-Users": (-1, 1)}),
+        "Notes": (range(0, 2), None, {"Registered-Users": (0, 1)}),
+    },
 }
 ACCESS = {
-    "open": {"create": ["Registered-Users"], "upload": ["Core"], "abandon": ["Bots"]},
-    "closed": {"create": ["Core", "Bots"]},
+    "open": {"create": ["Registered-Users"], "upload": ["Core"], "submit": ["Core", "Bots"], "abandon": ["Bots"]},
+    "closed": {"create": ["Core", "Bots"], "submit": ["Bots"]},
 }
 # (of each submit requirement: when it applies, when it is overridden, when it is met)
 REQUIREMENTS = {
@@ -35,6 +40,7 @@ REQUIREMENTS = {
         "Sent": (None, "label:Code-Review>0,user=owner", "uploaderin:Core OR file:ü OR label:Verified=ANY,user=3"),
     },
     "narrow": {"Two": ('branch:"^(main|release/.*)"', None, "label:Code-Review+1,count=2")},
+    "easy": {"Read": ("-path:tower", "label:Notes=1", "label:Code-Review>0 AND -label:Code-Review=MIN"), "Talked": (None, None, "-has:unresolved")},
 }
 
 
@@ -61,6 +67,7 @@ def text_of(labels, access, requirements):
 
 
 FILES = {text_of(labels, access, REQUIREMENTS[name]): (labels, access, REQUIREMENTS[name]) for name, labels in LABELS.items() for access in ACCESS.values()}
+EASY_FILE = text_of(LABELS["easy"], ACCESS["open"], REQUIREMENTS["easy"])
 BAD_FILES = {
     "[access\n": {"reason": "TOML"},
     'color = "red"\n': {"reason": "UNKNOWN_KEY"},
@@ -174,8 +181,8 @@ def requirement_term(key, value, facts):
 
 NUMBERS = {
     "UNKNOWN_CALLER": 1, "NOT_ADMIN": 2, "NO_PROJECT": 3, "NO_BRANCH": 4, "NO_CHANGE": 5, "NO_PATCH_SET": 6, "NO_ACCOUNT": 7, "NO_COMMENT": 8,
-    "NOT_ALLOWED": 9, "CLOSED": 10, "SAME_STATE": 11, "STALE_PATCH_SET": 13, "NO_LABEL": 14, "VALUE_OUT": 15, "VOTE_RESTRICTED": 16, "COMMIT_KNOWN": 17, "UNKNOWN_PARENT": 18,
-    "NOT_ELIGIBLE": 24, "NAME_TAKEN": 25, "BAD_FILE": 26, "LABEL_NARROWED": 27,
+    "NOT_ALLOWED": 9, "CLOSED": 10, "SAME_STATE": 11, "WORK_IN_PROGRESS": 12, "STALE_PATCH_SET": 13, "NO_LABEL": 14, "VALUE_OUT": 15, "VOTE_RESTRICTED": 16, "COMMIT_KNOWN": 17, "UNKNOWN_PARENT": 18,
+    "CHAIN_OUTDATED": 19, "CHAIN_ABANDONED": 20, "CHAIN_WIP": 21, "CHAIN_TOO_LONG": 22, "REQUIREMENT_UNSATISFIED": 23, "NOT_ELIGIBLE": 24, "NAME_TAKEN": 25, "BAD_FILE": 26, "LABEL_NARROWED": 27,
 }
 
 
@@ -190,12 +197,15 @@ def unless(fails, name):
         raise Refused(name)
 
 
+MOST_IN_CHAIN = 100
 QUESTIONS = ("Branch", "Change", "Requirements", "Threads", "Attention")
 
 
 class Desk:
     def __init__(self):
         self.names, self.groups, self.projects, self.bases, self.changes, self.stored = ["admin"], {"Administrators": {1}}, {}, {}, [], {}
+        # Of each branch the numbers of the changes that joined it, in their order.
+        self.joined = {}
 
     def is_in(self, group, account):
         return group == "Registered-Users" or account in self.groups.get(group, ())
@@ -218,7 +228,7 @@ class Desk:
             return kept[1] if kept[0] == content else {"refused": "IDENTITY_REUSED"}
         try:
             unless(not 1 <= line["caller"] <= len(self.names), "UNKNOWN_CALLER")
-            answer = getattr(self, line["do"])(line, line["caller"], line["body"])
+            answer = getattr(self, line["do"])(line, line["caller"], line.get("body", {}))
         except Refused as refused:
             answer = refused.answer
         self.stored[identity] = (content, answer)
@@ -237,7 +247,8 @@ class Desk:
         unless(line["project"] not in self.projects, "NO_PROJECT")
         bases = self.bases.get((line["project"], line["branch"]), [])
         unless(not bases, "NO_BRANCH")
-        return {"bases": list(bases), "joined": []}
+        joined = self.joined.get((line["project"], line["branch"]), [])
+        return {"bases": list(bases), "joined": [{"change": number, "commit": self.current(number)["commit"]} for number in joined]}
 
     def show_change(self, number, change):
         last = change["patches"][-1]
@@ -302,7 +313,7 @@ class Desk:
         unless(not self.may(project, "create", caller), "NOT_ALLOWED")
         unless(self.is_known(project, branch, body["commit"]), "COMMIT_KNOWN")
         unless(not self.is_known(project, branch, body["parent"]), "UNKNOWN_PARENT")
-        patch = {"commit": body["commit"], "paths": set(body["paths"]), "votes": {}, "uploader": caller}
+        patch = {"commit": body["commit"], "parent": body["parent"], "paths": set(body["paths"]), "votes": {}, "uploader": caller}
         self.changes.append({
             "project": project, "branch": branch, "subject": body["subject"], "owner": caller, "patches": [patch], "comments": [], "state": "NEW",
             "wip": body.get("work_in_progress", False), "roles": {}, "attention": {}, "updated": self.request()})
@@ -341,7 +352,7 @@ class Desk:
                     "unchanged": last["paths"] == set(body["paths"]), "is_in": self.is_in}
             if holds(condition, lambda key, value, vote=vote: copy_term(key, value, vote)):
                 copied[label, account] = value
-        change["patches"].append({"commit": body["commit"], "paths": set(body["paths"]), "votes": copied, "uploader": caller})
+        change["patches"].append({"commit": body["commit"], "parent": body["parent"], "paths": set(body["paths"]), "votes": copied, "uploader": caller})
         change["updated"] = self.request()
         if last["uploader"] not in eligible(change):
             change["attention"].pop(last["uploader"], None)
@@ -456,6 +467,42 @@ class Desk:
         change["state"], change["updated"] = "NEW", self.request()
         return {}
 
+    def current(self, number):
+        """The current patch set of a change."""
+        return self.changes[number - 1]["patches"][-1]
+
+    def chain(self, number):
+        """The changes that a submit of this one joins, ancestors first, found backwards; the first bad link refuses."""
+        project, branch = (self.changes[number - 1][key] for key in ("project", "branch"))
+        beside = [it for it, change in enumerate(self.changes, 1) if (change["project"], change["branch"]) == (project, branch)]
+        in_branch = {*self.bases[project, branch], *(self.current(it)["commit"] for it in beside if self.changes[it - 1]["state"] == "MERGED")}
+        chain = [number]
+        while self.current(chain[0])["parent"] not in in_branch:
+            unless(len(chain) == MOST_IN_CHAIN, "CHAIN_TOO_LONG")
+            parent = self.current(chain[0])["parent"]
+            link = next(it for it in beside if any(patch["commit"] == parent for patch in self.changes[it - 1]["patches"]))
+            unless(self.current(link)["commit"] != parent, "CHAIN_OUTDATED")
+            unless(self.changes[link - 1]["state"] == "ABANDONED", "CHAIN_ABANDONED")
+            unless(self.changes[link - 1]["wip"], "CHAIN_WIP")
+            chain.insert(0, link)
+        return chain
+
+    def Submit(self, line, caller, body):
+        change = self.change(line["change"])
+        unless(not self.may(change["project"], "submit", caller), "NOT_ALLOWED")
+        unless(change["state"] != "NEW", "CLOSED")
+        unless(change["wip"], "WORK_IN_PROGRESS")
+        chain = self.chain(line["change"])
+        for number in chain:
+            for requirement in self.show_requirements(number, self.changes[number - 1]):
+                if requirement["status"] == "UNSATISFIED":
+                    raise Refused("REQUIREMENT_UNSATISFIED", change=number, requirement=requirement["name"])
+        for number in chain:
+            joining = self.changes[number - 1]
+            joining["state"], joining["updated"], joining["attention"] = "MERGED", self.request(), {}
+        self.joined.setdefault((change["project"], change["branch"]), []).extend(chain)
+        return {"joined": chain}
+
     def AddAttention(self, line, caller, body):
         change, account = self.change(line["change"]), int(body["user"])
         unless(account > len(self.names), "NO_ACCOUNT")
@@ -516,9 +563,16 @@ def status(applicable_if, override_if, submittable_if, facts):
     return "SATISFIED" if holds(submittable_if, is_met) else "UNSATISFIED"
 
 
+# Which members of a line say what its request is about; `change` alone, where none stand here. The others are ignored.
+ROUTES = {
+    "CreateAccount": (), "PutGroup": ("group",), "PutProject": ("project",), "RecordBase": ("project", "branch"), "CreateChange": (), "Review": ("change", "patch_set"),
+    "RemoveReviewer": ("change", "account"), "RemoveAttention": ("change", "account"),
+}
+
+
 def content_of(line):
     """What a line asks, however it is written."""
-    body = {} if line["do"] in ("RemoveReviewer", "SetWip", "SetReady", "Abandon", "Restore") else dict(line["body"])
+    body = {} if line["do"] in ("RemoveReviewer", "SetWip", "SetReady", "Abandon", "Restore", "Submit") else dict(line["body"])
     for key in ("members", "paths"):
         if key in body:
             body[key] = sorted(set(body[key]))
@@ -530,5 +584,5 @@ def content_of(line):
             body[key] = int(body[key])
     if line["do"] == "AddReviewer":
         body.setdefault("state", "REVIEWER")
-    where = {key: line[key] for key in ("do", "group", "project", "branch", "change", "patch_set", "account") if key in line}
+    where = {key: line[key] for key in ("do", *ROUTES.get(line["do"], ("change",)))}
     return json.dumps([where, body], sort_keys=True)

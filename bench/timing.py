@@ -50,7 +50,7 @@ class Desk:
         self.process.stdin.flush()
         for line in lines:
             answer = self.process.stdout.readline()
-            assert answer.startswith((b"{}", b'{"account"', b'{"change"', b'{"comments"', b"[")), (line, answer)
+            assert answer.startswith((b"{}", b'{"account"', b'{"change"', b'{"comments"', b'{"joined"', b"[")) and b'"refused"' not in answer, (line, answer)
         return (time.perf_counter() - begun) / len(lines) * 1e6
 
     def ended(self):

@@ -1,7 +1,7 @@
 pub mod Before
 pub mod Walking
 pub mod Parting
+pub mod Wanting
 pub mod LookingUp
-pub mod Learning
 pub mod Fronts
 pub mod Placing

@@ -12,7 +12,7 @@ use Rattle.review_chain.specs.declared.walks.ChainFault.TheVariants.{TooLong, Ou
 use Rattle.review_chain.specs.Branches.{Branch, IsWhole, parent_standing}
 use Rattle.review_chain.specs.Walks.{Follows, IsWalk, first_of, IsChain, IsBadLink, is_abandoned, is_merged, link_fault, most_changes, patch_set_fault}
 use Rattle.review_chain.specs.Parts.{Want, TheChange, TheCommit, IsDecided, IsPart, NeedsChange, Lacks}
-use Rattle.review_chain.specs.Steps.{Before, TheBase, Change, Bad, Wants, before, before_link, before_parent, before_known, before_change}
+use Rattle.review_chain.specs.Steps.{Before, TheBase, Change, Bad, Wants, before, before_link, before_parent, before_known, before_change, before_fault}
 use Rattle.review_chain.proofs.Walking.{Meets, IsEnd, IsTold, ending, one_walk, one_end, chain_meets, bad_meets, meets_chain, meets_bad, meets_wanted, told_end}
 
 -- ---- what a part has, the whole has
@@ -62,10 +62,43 @@ follows_kept part whole is d c f = record {
   is_ready = f.is_ready;
 }
 
-walk_kept : (part whole : Branch) → IsPart part whole → (walk : List ℕ) (c : ℕ) → IsWalk part walk c → IsWalk whole walk c
+pub walk_kept : (part whole : Branch) → IsPart part whole → (walk : List ℕ) (c : ℕ) → IsWalk part walk c → IsWalk whole walk c
 walk_kept part whole is [] c h = h
 walk_kept part whole is (d ∷ []) c h = h
 walk_kept part whole is (d ∷ e ∷ rest) c h = (follows_kept part whole is d e h.0, walk_kept part whole is (e ∷ rest) c h.1)
+
+-- a change that is wanted, and of which the whole knows no more, is wanted there too
+wanted_change : (whole : Branch) (d k e : ℕ) (o : Option Link) → before_change d k o ≡ Wants (TheChange e) → whole.link e ≡ None → before_change d k (whole.link d) ≡ Wants (TheChange e)
+wanted_change whole d k e None is none = let f : Wants (TheChange d) ≡ Wants (TheChange e) = is in let same : d ≡ e = cc in ap (before_change d k) (ap whole.link same ∙ none) ∙ is
+wanted_change whole d k e (Some l) is none = absurd (by_fault (patch_set_fault k l) is)
+  where
+    by_fault : (fault : Option ChainFault) → before_fault d fault ≡ Wants (TheChange e) → ⊥
+    by_fault None f = let g : Change d ≡ Wants (TheChange e) = f in cc
+    by_fault (Some fault) f = let g : Bad fault ≡ Wants (TheChange e) = f in cc
+
+wanted_known : (part whole : Branch) (n e : ℕ) (s : Standing) → before_known part n s ≡ Wants (TheChange e) → whole.link e ≡ None → before_known whole n s ≡ Wants (TheChange e)
+wanted_known part whole n e InBranch is none = absurd (let g : TheBase ≡ Wants (TheChange e) = is in cc)
+wanted_known part whole n e Nowhere is none = absurd (let g : Bad Broken ≡ Wants (TheChange e) = is in cc)
+wanted_known part whole n e (PatchSet d k) is none = by_full (n == most_changes) is
+  where
+    by_full : (full : Bool) → (if full then Bad TooLong else before_change d k (part.link d)) ≡ Wants (TheChange e) → (if full then Bad TooLong else before_change d k (whole.link d)) ≡ Wants (TheChange e)
+    by_full true f = absurd (let g : Bad TooLong ≡ Wants (TheChange e) = f in cc)
+    by_full false f = wanted_change whole d k e (part.link d) f none
+
+wanted_parent : (part whole : Branch) → IsPart part whole → (n e : ℕ) (x : List ℕ) (o : Option Standing) → part.standing x ≡ o → before_parent part n x o ≡ Wants (TheChange e) → whole.link e ≡ None → before_parent whole n x (whole.standing x) ≡ Wants (TheChange e)
+wanted_parent part whole is n e x None at f none = absurd (let g : Wants (TheCommit x) ≡ Wants (TheChange e) = f in cc)
+wanted_parent part whole is n e x (Some s) at f none = ap (before_parent whole n x) (is.standing x s at) ∙ wanted_known part whole n e s f none
+
+wanted_link : (part whole : Branch) → IsPart part whole → (n c e : ℕ) (o : Option Link) → part.link c ≡ o → before_link part n c o ≡ Wants (TheChange e) → whole.link e ≡ None → before_link whole n c (whole.link c) ≡ Wants (TheChange e)
+wanted_link part whole is n c e None at f none =
+    let g : Wants (TheChange c) ≡ Wants (TheChange e) = f in
+    let same : c ≡ e = cc in
+    ap (before_link whole n c) (ap whole.link same ∙ none) ∙ f
+wanted_link part whole is n c e (Some l) at f none = ap (before_link whole n c) (is.link c l at) ∙ wanted_parent part whole is n e l.parent (part.standing l.parent) refl f none
+
+pub wanted_stays : (part whole : Branch) → IsPart part whole → (walk : List ℕ) (c e : ℕ) → Meets part walk c (Wants (TheChange e)) → whole.link e ≡ None → Meets whole walk c (Wants (TheChange e))
+wanted_stays part whole is walk c e h none =
+    record { walks = walk_kept part whole is walk c h.walks; short = h.short; meets = wanted_link part whole is (length walk) (first_of walk) e (part.link (first_of walk)) refl h.meets none }
 
 told_met : (v : Before) → IsTold v → IsMet v
 told_met TheBase t = tt

@@ -1,11 +1,7 @@
 -- What is known of the changes for a branch.
 use Rattle.std.specs.Prelude.{◌≡◌, ◌≢◌, ℕ, List, Option, Some, IsSome, option_and_then}
-use Rattle.std.specs.Ordering.{nat_cmp}
-use Rattle.std.specs.Cmp.Lexicographic.{slice_cmp}
-use Rattle.review_table.specs.Rows.{row_in, rows_of}
 use Rattle.review_words.specs.declared.shown.State.TheVariants.{Merged}
 use Rattle.review_chain.specs.declared.links.Link.{Link}
-use Rattle.review_chain.specs.declared.links.Links.{Links}
 use Rattle.review_chain.specs.declared.links.Standing.{Standing}
 use Rattle.review_chain.specs.declared.links.Standing.TheVariants.{InBranch, PatchSet}
 
@@ -13,10 +9,6 @@ use Rattle.review_chain.specs.declared.links.Standing.TheVariants.{InBranch, Pat
 pub record Branch : Type 0 where
   pub link : ℕ → Option Link
   pub standing : List ℕ → Option Standing
-
--- What links know of their branch.
-abbrev pub known : Links → Branch
-known links = record { link = row_in nat_cmp (rows_of links.changes); standing = row_in (slice_cmp nat_cmp) (rows_of links.commits) }
 
 -- what is known of the current parent of a change
 abbrev pub parent_standing : Branch → ℕ → Option Standing

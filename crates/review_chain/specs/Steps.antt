@@ -23,7 +23,7 @@ IsFault b c fault = (walk : List ℕ) × IsBadLink b walk c fault
 -- what the code says is wanted
 abbrev pub want_of : LookUp → Want
 want_of (LookUpChange d) = TheChange d
-want_of (LookUpCommit x) = TheCommit x.now
+want_of (LookUpCommit x) = TheCommit x
 
 -- what stands before the first change of a walk: the branch, a change, a bad link, or something that isn't known
 pub data Before : Type 0 where
@@ -61,6 +61,22 @@ before_link b n c (Some l) = before_parent b n l.parent (b.standing l.parent)
 -- what stands before a walk of n changes that begins at c
 abbrev pub before : Branch → ℕ → ℕ → Before
 before b n c = before_link b n c (b.link c)
+
+-- what is wanted, by what stands before
+abbrev pub wanted_by : Before → (ℕ → Option Want) → Option Want
+wanted_by TheBase further = None
+wanted_by (Change d) further = further d
+wanted_by (Bad fault) further = None
+wanted_by (Wants want) further = Some want
+
+-- what is wanted from a change on, before which so many may stand
+unfoldable pub wanted_from : Branch → ℕ → ℕ → Option Want
+wanted_from b zero c = wanted_by (before b most_changes c) (λ d. None)
+wanted_from b (suc more) c = wanted_by (before b (most_changes - suc more) c) (λ d. wanted_from b more d)
+
+-- What is wanted for the chain of a change: what the walk from it needs to go on, and isn't known.
+abbrev pub wanted : Branch → ℕ → Option Want
+wanted b c = wanted_from b 99 c
 
 -- how many look-ups may be made where twice as many as this come with the changes further back, by what stands before
 abbrev pub left_by : ℕ → Before → (ℕ → ℕ) → ℕ

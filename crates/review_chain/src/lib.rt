@@ -4,7 +4,7 @@
 //! the parent must be the current commit of another change that is open and not in work in progress, which is then the next of the chain, up
 //! to 100 changes. The first link that isn't so is the change's bad link.
 //!
-//! [`Links`] hold what is known of a branch, which may be a part: [`chain`] answers the chain or the name of the bad link, or that something
+//! [`Links`] say what is known of a branch, which may be a part: [`chain`] answers the chain or the name of the bad link, or that something
 //! isn't known, and [`wanted`] what has to be looked up next. [`joins`] gives the changes of a chain their places. The laws say that there is
 //! one chain or one bad link, and that a part in which nothing is wanted decides for the whole branch.
 #![tactic(auto)]

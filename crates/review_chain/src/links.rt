@@ -1,18 +1,14 @@
 //! What is known of the changes for a branch.
-ghost use Rattle.std.specs.Prelude.{◌≡◌, ◌≢◌, ℕ, List, Some, None, OnOk, OnErr};
-ghost use Rattle.review_table.specs.Rows.{rows_of};
-ghost use Rattle.review_chain.specs.Branches.{Branch, known};
-ghost use Rattle.review_chain.specs.Parts.{IsPart};
+ghost use Rattle.std.specs.Prelude.{◌≡◌, IfOk};
 
-use review_table::Table;
 use review_words::{ChangeNo, CommitName, PatchNo, State};
 use std::alloc::{AllocError, Global};
 
 /// A change as a chain sees it.
 #[derive(Drop)]
 pub struct Link {
-    /// The number of its current patch set.
-    pub patch: PatchNo,
+    /// The number of its current patch set, from 1.
+    pub patch: usize,
     /// The parent of its current patch set.
     pub parent: CommitName,
     pub state: State,
@@ -31,46 +27,18 @@ pub enum Standing {
     Nowhere,
 }
 
-/// What is known of the changes for one branch, and of commits: what was looked up. Of others nothing is known.
-#[derive(Drop)]
-pub struct Links {
-    pub changes: Table<ChangeNo, Link>,
-    pub commits: Table<CommitName, Standing>,
-}
+/// What is known of the changes for one branch, and of commits. Of others nothing is known.
+pub trait Links {
+    ghost use Rattle.review_chain.specs.Branches.{Branch};
 
-impl Links {
-    /// Links that know nothing.
-    pub fn new(alloc: Global) -> Links
-        ensures links { (c : ℕ) → (known result).link c ≡ None }
-        ensures standings { (x : List ℕ) → (known result).standing x ≡ None }
-    {
-        Links {
-            changes: Table::new(alloc),
-            commits: Table::new(alloc),
-        }
-    }
+    /// What is known of the branch.
+    ghost known: { Self → Branch };
 
-    /// Learns the link of a change, in place of what was known of it. An error is want of memory, and leaves what was known.
-    pub fn learn_change(&mut self, change: ChangeNo, link: Link) -> Result<(), AllocError>
-        ensures learnt { OnOk result ((known self.new).link change ≡ Some link) }
-        ensures others { OnOk result ((c : ℕ) → c ≢ change → (known self.new).link c ≡ (known self.old).link c) }
-        ensures err { OnErr result ((c : ℕ) → (known self.new).link c ≡ (known self.old).link c) }
-        ensures part { (whole : Branch) → IsPart (known self.old) whole → whole.link change ≡ Some link → IsPart (known self.new) whole }
-        ensures commits { (x : List ℕ) → (known self.new).standing x ≡ (known self.old).standing x }
-    {
-        self.changes.put(change, link)?;
-        Ok(())
-    }
+    /// The link of a change, where it is known. An error is want of memory.
+    fn link(&self, alloc: Global, change: ChangeNo) -> Result<Option<Link>, AllocError>
+        ensures { IfOk result (λ link. link ≡ (known self.now).link change) };
 
-    /// Learns what a commit is to the branch, in place of what was known of it. An error is want of memory, and leaves what was known.
-    pub fn learn_commit(&mut self, commit: CommitName, standing: Standing) -> Result<(), AllocError>
-        ensures learnt { OnOk result ((known self.new).standing commit ≡ Some standing) }
-        ensures others { OnOk result ((x : List ℕ) → x ≢ commit → (known self.new).standing x ≡ (known self.old).standing x) }
-        ensures err { OnErr result ((x : List ℕ) → (known self.new).standing x ≡ (known self.old).standing x) }
-        ensures part { (whole : Branch) → IsPart (known self.old) whole → whole.standing commit ≡ Some standing → IsPart (known self.new) whole }
-        ensures changes { (c : ℕ) → (known self.new).link c ≡ (known self.old).link c }
-    {
-        self.commits.put(commit, standing)?;
-        Ok(())
-    }
+    /// What a commit is to the branch, where that is known. An error is want of memory.
+    fn standing(&self, alloc: Global, commit: &CommitName) -> Result<Option<Standing>, AllocError>
+        ensures { IfOk result (λ standing. standing ≡ (known self.now).standing commit.now) };
 }

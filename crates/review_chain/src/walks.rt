@@ -1,9 +1,8 @@
 //! The chain of a change, and what has to be looked up to find it.
-ghost use Rattle.std.specs.Prelude.{◌≡◌, ◌≤◌, ◌==◌, ℕ, List, Option, None, IfOk, IfErr, IfSome, IfNone};
-ghost use Rattle.review_chain.specs.Branches.{known};
+ghost use Rattle.std.specs.Prelude.{◌≡◌, ◌≤◌, ◌==◌, ℕ, List, Option, None, IfOk, IfErr, IfSome, IfNone, option_map};
 ghost use Rattle.review_chain.specs.Walks.{IsChain, patch_set_fault};
 ghost use Rattle.review_chain.specs.Parts.{IsDecided, IsWanted};
-ghost use Rattle.review_chain.specs.Steps.{IsFault, before, before_change, before_of, before_parent, want_of};
+ghost use Rattle.review_chain.specs.Steps.{IsFault, before, before_change, before_known, before_of, want_of, wanted};
 
 use crate::links::{Link, Links, Standing};
 use review_words::{ChangeNo, CommitName, PatchNo, State};
@@ -51,28 +50,28 @@ impl<T: Drop> From<AllocFailed<T>> for ChainFault {
 }
 
 /// What has to be looked up.
-#[derive(Clone, Copy)]
-pub enum LookUp<'a> {
+#[derive(Debug, PartialEq, Eq, Drop)]
+pub enum LookUp {
     /// The link of a change.
     Change(ChangeNo),
     /// What a commit is to the branch.
-    Commit(&'a CommitName),
+    Commit(CommitName),
 }
 
 /// What stands before the first change of a walk.
-#[derive(Clone, Copy)]
-enum Step<'a> {
+#[derive(Drop)]
+enum Step {
     AtBase,
     At(ChangeNo),
     AtFault(ChainFault),
-    AtUnknown(LookUp<'a>),
+    AtUnknown(LookUp),
 }
 
 // What is wrong with a patch set of a change as a link.
 fn patch_set_fault(patch: PatchNo, link: &Link) -> Option<ChainFault>
     ensures { result ≡ patch_set_fault patch link.now }
 {
-    if patch != link.patch {
+    if patch.get() as usize != link.patch {
         return Some(ChainFault::Outdated);
     }
     match link.state {
@@ -84,57 +83,77 @@ fn patch_set_fault(patch: PatchNo, link: &Link) -> Option<ChainFault>
 }
 
 // What stands before, where it is a patch set of a change.
-fn before_change<'a>(links: &'a Links, change: ChangeNo, patch: PatchNo) -> Step<'a>
-    ensures { before_of result ≡ before_change change patch ((known links.now).link change) }
+fn before_change<L: Links>(
+    alloc: Global,
+    links: &L,
+    change: ChangeNo,
+    patch: PatchNo,
+) -> Result<Step, AllocError>
+    ensures { IfOk result (λ step. before_of step ≡ before_change change patch ((L.known links.now).link change)) }
 {
-    match links.changes.get(&change) {
-        None => Step::AtUnknown(LookUp::Change(change)),
-        Some(link) => match patch_set_fault(patch, link) {
-            None => Step::At(change),
-            Some(fault) => Step::AtFault(fault),
-        },
+    let Some(link) = links.link(alloc, change)? else {
+        return Ok(Step::AtUnknown(LookUp::Change(change)));
+    };
+    match patch_set_fault(patch, &link) {
+        None => Ok(Step::At(change)),
+        Some(fault) => Ok(Step::AtFault(fault)),
     }
 }
 
-// What stands before a walk of so many changes whose first has this parent.
-fn before_parent<'a>(links: &'a Links, count: usize, parent: &'a CommitName) -> Step<'a>
-    ensures { before_of result ≡ before_parent (known links.now) count parent.now ((known links.now).standing parent.now) }
+// What stands before a walk of so many changes whose first has a parent that is this to the branch.
+fn before_known<L: Links>(
+    alloc: Global,
+    links: &L,
+    count: usize,
+    parent: Standing,
+) -> Result<Step, AllocError>
+    ensures { IfOk result (λ step. before_of step ≡ before_known (L.known links.now) count parent) }
 {
-    match links.commits.get(parent) {
-        None => Step::AtUnknown(LookUp::Commit(parent)),
-        Some(Standing::InBranch) => Step::AtBase,
-        Some(Standing::Nowhere) => Step::AtFault(ChainFault::Broken),
-        Some(Standing::PatchSet { change, patch }) => {
+    match parent {
+        Standing::InBranch => Ok(Step::AtBase),
+        Standing::Nowhere => Ok(Step::AtFault(ChainFault::Broken)),
+        Standing::PatchSet { change, patch } => {
             if count == 100 {
-                Step::AtFault(ChainFault::TooLong)
-            } else {
-                before_change(links, *change, *patch)
+                return Ok(Step::AtFault(ChainFault::TooLong));
             }
+            before_change(alloc, links, change, patch)
         }
     }
 }
 
 // What stands before a walk of so many changes that begins at a change.
-fn before<'a>(links: &'a Links, count: usize, first: ChangeNo) -> Step<'a>
-    ensures { before_of result ≡ before (known links.now) count first }
+fn before<L: Links>(
+    alloc: Global,
+    links: &L,
+    count: usize,
+    first: ChangeNo,
+) -> Result<Step, AllocError>
+    ensures { IfOk result (λ step. before_of step ≡ before (L.known links.now) count first) }
 {
-    match links.changes.get(&first) {
-        None => Step::AtUnknown(LookUp::Change(first)),
-        Some(link) => before_parent(links, count, &link.parent),
+    let Some(link) = links.link(alloc, first)? else {
+        return Ok(Step::AtUnknown(LookUp::Change(first)));
+    };
+    match links.standing(alloc, &link.parent)? {
+        None => Ok(Step::AtUnknown(LookUp::Commit(link.parent))),
+        Some(parent) => before_known(alloc, links, count, parent),
     }
 }
 
 /// The chain of a change, ancestors first and the change last, or its fault: the name of its bad link, that something isn't known, or want of
 /// memory. A change has at most one chain or bad link (`only_one_chain`), and where all is known one of the two (`each_has_one`).
-pub fn chain(alloc: Global, links: &Links, change: ChangeNo) -> Result<Vec<ChangeNo>, ChainFault>
-    ensures chain { IfOk result (λ walk. IsChain (known links.now) walk.items change) }
-    ensures fault { IfErr result (IsFault (known links.now) change) }
+pub fn chain<L: Links>(
+    alloc: Global,
+    links: &L,
+    change: ChangeNo,
+) -> Result<Vec<ChangeNo>, ChainFault>
+    ensures chain { IfOk result (λ walk. IsChain (L.known links.now) walk.items change) }
+    ensures fault { IfErr result (IsFault (L.known links.now) change) }
 {
     let mut walk = Vec::new(alloc);
     walk.push(change)?;
     let mut first = change;
     'back: loop {
-        match before(links, walk.len(), first) {
+        match before(alloc, links, walk.len(), first)? {
             Step::AtBase => return Ok(walk),
             Step::AtFault(fault) => return Err(fault),
             Step::AtUnknown(_) => return Err(ChainFault::Unknown),
@@ -147,19 +166,24 @@ pub fn chain(alloc: Global, links: &Links, change: ChangeNo) -> Result<Vec<Chang
 }
 
 /// What has to be looked up next to find the chain of a change, or none where the links decide its chain or its bad link. After at most 200
-/// look-ups nothing is wanted (`look_ups_end`). It takes no memory.
-pub fn wanted<'a>(links: &'a Links, change: ChangeNo) -> Option<LookUp<'a>>
-    ensures some { IfSome result (λ w. (walk : List ℕ) × IsWanted (known links.now) walk change (want_of w)) }
-    ensures none { IfNone result (IsDecided (known links.now) change) }
+/// look-ups nothing is wanted (`look_ups_end`). An error is want of memory.
+pub fn wanted<L: Links>(
+    alloc: Global,
+    links: &L,
+    change: ChangeNo,
+) -> Result<Option<LookUp>, AllocError>
+    ensures is { IfOk result (λ found. option_map want_of found ≡ wanted (L.known links.now) change) }
+    ensures some { IfOk result (λ found. IfSome found (λ w. (walk : List ℕ) × IsWanted (L.known links.now) walk change (want_of w))) }
+    ensures none { IfOk result (λ found. IfNone found (IsDecided (L.known links.now) change)) }
 {
     let mut first = change;
     'back: for count in 1..101 {
-        match before(links, count, first) {
-            Step::AtBase => return None,
-            Step::AtFault(_) => return None,
-            Step::AtUnknown(wanted) => return Some(wanted),
+        match before(alloc, links, count, first)? {
+            Step::AtBase => return Ok(None),
+            Step::AtFault(_) => return Ok(None),
+            Step::AtUnknown(wanted) => return Ok(Some(wanted)),
             Step::At(earlier) => first = earlier,
         }
     }
-    None
+    Ok(None)
 }

@@ -1,19 +1,18 @@
 -- The project of a change has a file.
-use Rattle.std.proofs.Common.{◌≡◌, ℕ, ◌+◌, ◌==◌, List, [], ◌∷◌, length, Option, Some, None, Bool, true, false, cond, refl, sym, ap, ◌∙◌, subst, ⊎_elim}
+use Rattle.std.proofs.Common.{◌≡◌, ℕ, ◌+◌, ◌==◌, List, [], ◌∷◌, length, Option, Some, None, Bool, true, false, cond, refl, sym, ap, ◌∙◌, subst}
 use Rattle.std.specs.Prelude.{is_some, option_map}
 use Rattle.std.specs.Str.{bytes_eq}
-use Rattle.std.proofs.lemmas.Bool.{cases_Bool}
 use Rattle.review_words.specs.History.{Entry, accepted, file_text, if_done, is_account, is_project, text_put}
-use Rattle.review_words.specs.declared.changes.NewChange.{NewChange}
 use Rattle.review_words.specs.declared.command.Command.{Command}
-use Rattle.review_words.specs.declared.command.Command.TheVariants.{CreateAccount, PutGroup, PutProject, RecordBase, CreateChange, OnChange}
+use Rattle.review_words.specs.declared.command.Command.TheVariants.{CreateAccount, PutGroup, PutProject, RecordBase, CreateChange, OnChange, Submit}
 use Rattle.review_words.specs.declared.reply.Answer.{Answer}
 use Rattle.review_words.specs.declared.reply.Refusal.TheVariants.{UnknownCaller}
 use Rattle.review_words.specs.declared.reply.Reply.{Reply}
 use Rattle.review_words.specs.declared.reply.Reply.TheVariants.{Done, Refused, IdentityReused, NotTaken}
 use Rattle.review_changes.specs.Change.{Change, after, begun}
 use Rattle.review_rows.specs.Answer.{IsAnswerBy, IsHistory, checks}
-use Rattle.review_rows.specs.Changes.{Reading, Reads, change, change_by, change_count, setting_of}
+use Rattle.review_rows.specs.Changes.{Reading, Reads, change, change_by, change_count, setting_of, submitted}
+use Rattle.review_change_laws.proofs.Joining.{joining_keeps}
 use Rattle.review_change_laws.proofs.Sound.{all_pass, done_passes}
 
 some_put : (b : Bool) (text : List ℕ) (before : Option (List ℕ)) → is_some before ≡ true → is_some (cond b (Some text) before) ≡ true
@@ -28,6 +27,7 @@ text_stays (Some (PutProject given text)) project before some = some_put (bytes_
 text_stays (Some (RecordBase in_project branch commit)) project before some = some
 text_stays (Some (CreateChange new)) project before some = some
 text_stays (Some (OnChange n command)) project before some = some
+text_stays (Some (Submit n)) project before some = some
 
 named : (P : List ℕ → Type 0) (b : Bool) (o : Option Change) (f : Change → Change) (c : Change) → ((x : Change) → o ≡ Some x → P x.project) → ((x : Change) → (f x).project ≡ x.project) →
     cond b (option_map f o) o ≡ Some c → P c.project
@@ -50,6 +50,7 @@ project_by reading h caller n c (CreateChange new) a answer before is =
     made (λ p. is_project h p ≡ true) (change_count h + 1 == n) (change reading h n) (begun new caller (length h + 1)) c before pass.1.0 is
 project_by reading h caller n c (OnChange m command) a answer before is =
     named (λ p. is_project h p ≡ true) (m == n) (change reading h n) (λ x. after (setting_of reading h x.project) command caller (length h + 1) x) c before (λ x. refl) is
+project_by reading h caller n c (Submit m) a answer before is = before c is
 
 step : (reading : Reading) (h : List Entry) (caller n : ℕ) (c : Change) (command : Command) (reply : Reply) → IsAnswerBy reading h caller command reply →
     ((x : Change) → change reading h n ≡ Some x → is_project h x.project ≡ true) → change_by reading h caller (if_done reply command) n (change reading h n) ≡ Some c → is_project h c.project ≡ true
@@ -62,4 +63,6 @@ pub has_project : (reading : Reading) (h : List Entry) (n : ℕ) (c : Change) �
 has_project reading [] n c history reads is = absurd (cc)
 has_project reading (e ∷ h) n c history reads is =
     text_stays (accepted e) c.project (file_text h c.project)
-    (step reading h e.identity.caller n c e.command e.reply (history.1 reading reads.1) (λ x there. has_project reading h n x history.3 reads.1 there) is)
+    (joining_keeps (λ x. is_project h x.project ≡ true) (λ place request x holds. holds) h (submitted (accepted e) e.reply) n
+    (change_by reading h e.identity.caller (accepted e) n (change reading h n)) c
+    (λ x there. step reading h e.identity.caller n x e.command e.reply (history.1 reading reads.1) (λ y was. has_project reading h n y history.3 reads.1 was) there) is)

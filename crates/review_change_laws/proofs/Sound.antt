@@ -4,22 +4,23 @@ use Rattle.std.specs.Prelude.{MatchOption, option_map, nat_le}
 use Rattle.std.specs.List.{AllByRecursion}
 use Rattle.std.proofs.lemmas.Bool.{cases_Bool}
 use Rattle.review_names.specs.Forms.{is_within, most_comments}
-use Rattle.review_words.specs.History.{Entry, if_done, is_account}
+use Rattle.review_words.specs.History.{Entry, accepted, if_done, is_account}
 use Rattle.review_words.specs.declared.changes.NewChange.{NewChange}
 use Rattle.review_words.specs.declared.changes.Review.{Review as ReviewOf}
 use Rattle.review_words.specs.declared.command.Command.{Command}
-use Rattle.review_words.specs.declared.command.Command.TheVariants.{CreateAccount, PutGroup, PutProject, RecordBase, CreateChange, OnChange}
+use Rattle.review_words.specs.declared.command.Command.TheVariants.{CreateAccount, PutGroup, PutProject, RecordBase, CreateChange, OnChange, Submit}
 use Rattle.review_words.specs.declared.reply.Answer.{Answer}
 use Rattle.review_words.specs.declared.reply.Refusal.{Refusal}
 use Rattle.review_words.specs.declared.reply.Refusal.TheVariants.{UnknownCaller, NoComment, Limit}
 use Rattle.review_words.specs.declared.reply.Reply.{Reply}
 use Rattle.review_words.specs.declared.reply.Reply.TheVariants.{Done, Refused, IdentityReused, NotTaken}
-use Rattle.review_changes.specs.Change.{Change, Copying, Setting, after, after_copying, begun, copying, current, reviewed, said}
+use Rattle.review_changes.specs.Change.{Change, Copying, Setting, after, after_copying, begun, copying, current, joined_at, reviewed, said}
 use Rattle.review_changes.specs.Sound.{IsSound, answer_stored, fits}
 use Rattle.review_words.specs.declared.command.ChangeCommand.{ChangeCommand}
 use Rattle.review_words.specs.declared.command.ChangeCommand.TheVariants as on
 use Rattle.review_rows.specs.Answer.{IsAnswerBy, IsHistory, IsOutcome, first_refusal, given_checks, of_change, refused_by, request_checks}
-use Rattle.review_rows.specs.Changes.{Reading, Reads, change, change_by, change_count, setting_of}
+use Rattle.review_rows.specs.Changes.{Reading, Reads, change, change_by, change_count, setting_of, submitted}
+use Rattle.review_change_laws.proofs.Joining.{joining_keeps}
 
 -- a new change is sound, and stays so
 abbrev pub BeginsSound : Type 0
@@ -106,6 +107,18 @@ done_sound begins stays reading h caller n c (OnChange m command) a answer befor
     let pass = checks_pass reading h caller (request_checks reading h caller command) (change reading h m) x (ap (change reading h) (eqb-true m n same) ∙ there) (done_passes reading h caller (OnChange m command) a answer) in
     stays (copying (setting_of reading h x.project) command caller x) command caller (length h + 1) x sound (request_fits reading h caller command x pass))
     is
+done_sound begins stays reading h caller n c (Submit m) a answer before is = before c is
+
+-- a change that joins its branch stays sound: nobody is in its attention set
+joined_sound : (place request : ℕ) (c : Change) → IsSound c → IsSound (joined_at place request c)
+joined_sound place request c s = record {
+  patches = s.patches;
+  comments = s.comments;
+  on_patches = s.on_patches;
+  in_order = s.in_order;
+  voters = s.voters;
+  attending = λ u called. absurd (cc);
+}
 
 step_sound : BeginsSound → StaysSound → (reading : Reading) (h : List Entry) (caller n : ℕ) (c : Change) (command : Command) (reply : Reply) → IsAnswerBy reading h caller command reply →
     ((x : Change) → change reading h n ≡ Some x → IsSound x) → change_by reading h caller (if_done reply command) n (change reading h n) ≡ Some c → IsSound c
@@ -117,4 +130,5 @@ step_sound begins stays reading h caller n c command (NotTaken cause) answer bef
 pub are_sound : BeginsSound → StaysSound → (reading : Reading) (h : List Entry) (n : ℕ) (c : Change) → IsHistory h → Reads reading h → change reading h n ≡ Some c → IsSound c
 are_sound begins stays reading [] n c history reads is = absurd (cc)
 are_sound begins stays reading (e ∷ h) n c history reads is =
-    step_sound begins stays reading h e.identity.caller n c e.command e.reply (history.1 reading reads.1) (λ x there. are_sound begins stays reading h n x history.3 reads.1 there) is
+    joining_keeps IsSound joined_sound h (submitted (accepted e) e.reply) n (change_by reading h e.identity.caller (accepted e) n (change reading h n)) c
+    (λ x there. step_sound begins stays reading h e.identity.caller n x e.command e.reply (history.1 reading reads.1) (λ y was. are_sound begins stays reading h n y history.3 reads.1 was) there) is

@@ -84,6 +84,18 @@ last_paths before (p ∷ ps) = last_paths p.paths ps
 abbrev pub paths : Change → List (List ℕ)
 paths c = last_paths [] c.patches
 
+-- the current patch set
+abbrev pub current_patch : Change → Option PatchRow
+current_patch c = of_number c.patches (current c)
+
+-- the commit of the current patch set
+abbrev pub commit : Change → List ℕ
+commit c = option_map_or (λ p. p.commit) (current_patch c) []
+
+-- the commit that the current patch set stands on
+abbrev pub parent : Change → List ℕ
+parent c = option_map_or (λ p. p.parent) (current_patch c) []
+
 -- the patch sets after a request
 abbrev pub patches_by : ChangeCommand → ℕ → List PatchRow → List PatchRow
 patches_by (Upload p) caller before = before ++ record { commit = p.commit; parent = p.parent; kind = p.kind; uploader = caller; paths = p.paths } ∷ []

@@ -1,7 +1,9 @@
 -- What submit requirements judge a change by, and how they stand for it.
-use Rattle.std.specs.Prelude.{ℕ, ℤ, ◌≡◌, List, Option, Some, None, map, option_map, if◌then◌else◌}
+use Rattle.std.specs.Prelude.{ℕ, ℤ, ◌≡◌, Bool, true, false, List, [], ◌∷◌, Option, Some, None, map, option_map, if◌then◌else◌, MatchOption}
 use Rattle.std.specs.Ordering.{nat_cmp}
 use Rattle.review_words.specs.declared.shown.ShownRequirement.{ShownRequirement}
+use Rattle.review_words.specs.declared.shown.Status.{Status}
+use Rattle.review_words.specs.declared.shown.Status.TheVariants.{Unsatisfied}
 use Rattle.review_judging.specs.declared.facts.ChangeFacts.{ChangeFacts}
 use Rattle.review_judging.specs.Holds as judging
 use Rattle.review_expr.specs.declared.expr.Expr.{Expr}
@@ -40,3 +42,20 @@ pub record AreStanding (s : Setting) (c : Change) (shown : List ShownRequirement
   pub facts : ChangeFacts
   pub are_facts : AreFacts s c facts
   pub each : shown ≡ map (stands facts) s.file.requirements
+
+-- whether a requirement isn't satisfied
+abbrev pub is_unsatisfied : Status → Bool
+is_unsatisfied Unsatisfied = true
+is_unsatisfied _ = false
+
+-- the first requirement that isn't satisfied, of some by name
+abbrev pub unsatisfied_in : List ShownRequirement → Option (List ℕ)
+unsatisfied_in [] = None
+unsatisfied_in (q ∷ qs) = if is_unsatisfied q.status then Some q.name else unsatisfied_in qs
+
+-- The first of some changes, in their order, with its first requirement that isn't satisfied, by name; each change is there and is judged in its setting.
+abbrev pub IsFirstUnsatisfied : (ℕ → Option (Setting × Change)) → List ℕ → Option (ℕ × List ℕ) → Type 0
+IsFirstUnsatisfied at [] found = found ≡ None
+IsFirstUnsatisfied at (n ∷ ns) found =
+    MatchOption (at n) ⊥
+    (λ c. (shown : List ShownRequirement) × AreStanding c.0 c.1 shown × MatchOption (unsatisfied_in shown) (IsFirstUnsatisfied at ns found) (λ requirement. found ≡ Some (n, requirement)))

@@ -3,7 +3,7 @@ ghost use Rattle.std.specs.Prelude.{◌≡◌, ◌<◌, List, IfOk, IfErr, lengt
 ghost use Rattle.review_file.specs.Texts.{file_read};
 ghost use Rattle.review_words.specs.Texts.{IsStored};
 ghost use Rattle.review_words.specs.History.{Entry, is_account};
-ghost use Rattle.review_rows.specs.Answer.{most_requests};
+ghost use Rattle.review_rows.specs.Answer.{IsHistory, most_requests};
 ghost use Rattle.review_rows.specs.Changes.{Reading};
 ghost use Rattle.review_rows.specs.Decisions.{IsDoneOrRefused, IsUndecided, IsUnshown, NamesEachOnce};
 ghost use Rattle.review_rows.specs.Questions.{IsQueryAnswerBy};
@@ -18,6 +18,7 @@ use review_file::{FileMemo, ProjectFile, ReadText};
 use review_file_decisions::{project_of, put_project};
 use review_request_decisions::on_change;
 use review_rows::{Delta, Matter, Rows};
+use review_submit_decisions::submit;
 use review_words::{AccountNo, Command, NotTaken, Query, Refusal, Reply};
 use std::alloc::Global;
 
@@ -33,7 +34,7 @@ pub fn decide(
     caller: AccountNo,
     command: &Command,
 ) -> Result<(Delta, Reply), NotTaken>
-    ensures decided { IfOk result (λ r. (reading : Reading) (h : List Entry) → length h < most_requests → AreEnough reading h caller (OfCommand command.now) (file_read read) rows.now → IsDecided reading h caller command.now r.0 r.1) }
+    ensures decided { IfOk result (λ r. (reading : Reading) (h : List Entry) → length h < most_requests → IsHistory h → AreEnough reading h caller (OfCommand command.now) (file_read read) rows.now → IsDecided reading h caller command.now r.0 r.1) }
     ensures cause { IfErr result (IsUndecided caller command.now (file_read read) rows.now) }
     ensures stored { IfOk result (λ r. IsStored r.1) }
     ensures refused { IfOk result (λ r. HasNoEffect r.1 r.0) }
@@ -54,7 +55,7 @@ pub fn show(
     caller: AccountNo,
     query: &Query,
 ) -> Result<Reply, NotTaken>
-    ensures shown { IfOk result (λ r. (reading : Reading) (h : List Entry) → AreEnough reading h caller (OfQuery query.now) (file_read read) rows.now → IsQueryAnswerBy reading h caller query.now r) }
+    ensures shown { IfOk result (λ r. (reading : Reading) (h : List Entry) → IsHistory h → AreEnough reading h caller (OfQuery query.now) (file_read read) rows.now → IsQueryAnswerBy reading h caller query.now r) }
     ensures answered { IfOk result IsDoneOrRefused }
     ensures cause { IfErr result (IsUnshown caller query.now (file_read read) rows.now) }
 {
@@ -99,7 +100,7 @@ fn decide_by(
     caller: AccountNo,
     command: &Command,
 ) -> Result<(Delta, Reply), NotTaken>
-    ensures decided { IfOk result (λ r. (reading : Reading) (h : List Entry) → length h < most_requests → AreEnough reading h caller (OfCommand command.now) (option_copied had.entry) rows.now → IsDecided reading h caller command.now r.0 r.1) }
+    ensures decided { IfOk result (λ r. (reading : Reading) (h : List Entry) → length h < most_requests → IsHistory h → AreEnough reading h caller (OfCommand command.now) (option_copied had.entry) rows.now → IsDecided reading h caller command.now r.0 r.1) }
     ensures cause { IfErr result (IsUndecided caller command.now (option_copied had.entry) rows.now) }
     ensures stored { IfOk result (λ r. IsStored r.1) }
     ensures refused { IfOk result (λ r. HasNoEffect r.1 r.0) }
@@ -120,7 +121,7 @@ fn decide_for(
     caller: AccountNo,
     command: &Command,
 ) -> Result<(Delta, Reply), NotTaken>
-    ensures decided { IfOk result (λ r. (reading : Reading) (h : List Entry) → length h < most_requests → is_account h caller ≡ true → AreEnough reading h caller (OfCommand command.now) (option_copied had.entry) rows.now → IsDecided reading h caller command.now r.0 r.1) }
+    ensures decided { IfOk result (λ r. (reading : Reading) (h : List Entry) → length h < most_requests → IsHistory h → is_account h caller ≡ true → AreEnough reading h caller (OfCommand command.now) (option_copied had.entry) rows.now → IsDecided reading h caller command.now r.0 r.1) }
     ensures cause { IfErr result (IsUndecided caller command.now (option_copied had.entry) rows.now) }
     ensures stored { IfOk result (λ r. IsStored r.1) }
     ensures refused { IfOk result (λ r. HasNoEffect r.1 r.0) }
@@ -141,5 +142,6 @@ fn decide_for(
         Command::OnChange { change, command } => {
             on_change(alloc, had, rows, caller, *change, command)
         }
+        Command::Submit { change } => submit(alloc, had, rows, caller, *change),
     }
 }

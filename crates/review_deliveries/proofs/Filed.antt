@@ -4,7 +4,7 @@ use Rattle.std.specs.Prelude.{is_some, option_map, IsSomeAnd, IfErr}
 use Rattle.std.specs.Result.{IsErr, IsErrAnd}
 use Rattle.review_words.specs.History.{Entry, file_text}
 use Rattle.review_words.specs.declared.command.Command.{Command}
-use Rattle.review_words.specs.declared.command.Command.TheVariants.{CreateAccount, PutGroup, PutProject, RecordBase, CreateChange, OnChange}
+use Rattle.review_words.specs.declared.command.Command.TheVariants.{CreateAccount, PutGroup, PutProject, RecordBase, CreateChange, OnChange, Submit}
 use Rattle.review_words.specs.declared.command.Query.TheVariants as asked
 use Rattle.review_words.specs.declared.reply.NotTaken.{NotTaken as Cause}
 use Rattle.review_words.specs.declared.reply.NotTaken.TheVariants.{Memory, Store, Damaged, Pattern, Full}
@@ -14,7 +14,7 @@ use Rattle.review_rows.specs.declared.rows.Want.TheVariants as want
 use Rattle.review_rows.specs.Changes.{Reading, change}
 use Rattle.review_rows.specs.Decisions.{HasPatternIn, IsUnread, judging_project, topic_project}
 use Rattle.review_rows.specs.Files.{File, HasPattern}
-use Rattle.review_rows.specs.Known.{Found, Number, Name, Holder, IsSo, Members, Text, Commits, AChange, part_of, known, Agrees, change_in, text_of}
+use Rattle.review_rows.specs.Known.{Found, Number, Name, Holder, IsSo, Members, Text, Commits, AChange, Stands, Joins, part_of, known, Agrees, change_in, text_of}
 use Rattle.review_rows.specs.Rows.{APart, Tables}
 use Rattle.review_rows.specs.Shelf.{Shows, IsDamaged}
 use Rattle.review_rows.specs.Steps.{Topic, OfCommand, OfQuery, HasFile, project_of, text_in, text_for}
@@ -41,6 +41,8 @@ change_found (Some (IsSo n)) c is = absurd (cc)
 change_found (Some (Members n)) c is = absurd (cc)
 change_found (Some (Text n)) c is = absurd (cc)
 change_found (Some (Commits n)) c is = absurd (cc)
+change_found (Some (Stands s)) c is = absurd (cc)
+change_found (Some (Joins js)) c is = absurd (cc)
 
 -- the change that rows know is that of the history
 change_known : (reading : Reading) (h : List Entry) (rows : Rows) (n : ℕ) (c : Change) → Agrees (view reading h) rows → change_in (known rows (want.Change n)) ≡ Some c → change reading h n ≡ Some c
@@ -69,6 +71,7 @@ judged_by reading h rows (PutProject given text) project agree is = is
 judged_by reading h rows (RecordBase given branch commit) project agree is = absurd (cc)
 judged_by reading h rows (CreateChange new) project agree is = is
 judged_by reading h rows (OnChange n command) project agree is = judged_by_change reading h rows n project agree is
+judged_by reading h rows (Submit n) project agree is = judged_by_change reading h rows n project agree is
 
 -- and that by whose file a question is answered
 topic_judged : (reading : Reading) (h : List Entry) (rows : Rows) (topic : Topic) (project : List ℕ) → Agrees (view reading h) rows → project_of rows topic ≡ Some project → topic_project reading h topic ≡ Some project
@@ -106,6 +109,7 @@ project_stays first rows (OfCommand (PutProject given text)) project stays is = 
 project_stays first rows (OfCommand (RecordBase given branch commit)) project stays is = absurd (cc)
 project_stays first rows (OfCommand (CreateChange new)) project stays is = is
 project_stays first rows (OfCommand (OnChange n command)) project stays is = change_stays first rows n project stays is
+project_stays first rows (OfCommand (Submit n)) project stays is = change_stays first rows n project stays is
 
 -- the text that is to be read stays
 text_stays : (first rows : Rows) (topic : Topic) (text : List ℕ) → StaysKnown first rows → text_for first topic ≡ Some text → text_for rows topic ≡ Some text

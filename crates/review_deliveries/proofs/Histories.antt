@@ -6,7 +6,7 @@ use Rattle.std.proofs.lemmas.Bool.{and_parts, and_from, cases_Bool}
 use Rattle.std.proofs.lemmas.Slice.Eq.{bytes_eq-Decides}
 use Rattle.review_words.specs.Texts.{content_text, reply_text, IsStored}
 use Rattle.review_words.specs.declared.command.Command.{Command}
-use Rattle.review_words.specs.declared.command.Command.TheVariants.{CreateAccount, PutGroup, PutProject, RecordBase, CreateChange, OnChange}
+use Rattle.review_words.specs.declared.command.Command.TheVariants.{CreateAccount, PutGroup, PutProject, RecordBase, CreateChange, OnChange, Submit}
 use Rattle.review_words.specs.declared.command.ChangeCommand.{ChangeCommand}
 use Rattle.review_words.specs.declared.command.ChangeCommand.TheVariants as on
 use Rattle.review_words.specs.declared.changes.NewPatch.{NewPatch}
@@ -26,6 +26,7 @@ use Rattle.review_rows.specs.Changes.{Reading, Reads, change}
 use Rattle.review_rows.specs.Decisions.{IsDoneOrRefused}
 use Rattle.review_rows.specs.Files.{File}
 use Rattle.review_rows.specs.Answer.{IsHistory, IsAnswer, IsAnswerBy, IsOf, IsOutcome, IsRequestOutcome, IsUploadAnswer, file_checks, first_refusal, refused_by, refused_or, most_requests}
+use Rattle.review_rows.specs.Submits.{IsSubmitAnswer, checked_reply}
 use Rattle.review_rows.specs.View.{AreEnough, IsView, IsViewBy, IsDecided, view, fact, stored_answer, answer_row}
 use Rattle.review_rows.specs.Shelf.{IsCommitted, Shows, Views}
 use Rattle.review_rows.proofs.Asked.{requests_are}
@@ -67,6 +68,15 @@ request_given reading h caller n command reply is =
     (λ (done : IsToldDone command). subst IsDoneOrRefused (sym (done reading h caller n reply is)) tt)
     (sent_or_done command)
 
+checked_given : (chain : List ℕ) (found : Option (ℕ × List ℕ)) → IsDoneOrRefused (checked_reply chain found)
+checked_given chain None = tt
+checked_given chain (Some found) = tt
+
+submit_given : (reading : Reading) (h : List Entry) (n : ℕ) (o : Option Change) (reply : Reply) → IsOf (λ c. IsSubmitAnswer reading h n c reply) o → IsDoneOrRefused reply
+submit_given reading h n None reply is = absurd is
+submit_given reading h n (Some c) reply (inl bad) = subst IsDoneOrRefused (sym bad.reply_is) tt
+submit_given reading h n (Some c) reply (inr good) = subst IsDoneOrRefused (sym good.reply_is) (checked_given good.chain good.found)
+
 outcome_given : (reading : Reading) (h : List Entry) (caller : ℕ) (command : Command) (reply : Reply) → IsOutcome reading h caller command reply → IsDoneOrRefused reply
 outcome_given reading h caller (CreateAccount name) reply is = subst IsDoneOrRefused (sym is) tt
 outcome_given reading h caller (PutGroup group members) reply is = subst IsDoneOrRefused (sym is) tt
@@ -76,6 +86,7 @@ outcome_given reading h caller (PutProject project text) reply (inr f) =
     subst IsDoneOrRefused (sym f.2) (file_given (first_refusal (file_checks h project (option_map reading (file_text h project)) f.0)))
 outcome_given reading h caller (CreateChange new) reply is = subst IsDoneOrRefused (sym is) tt
 outcome_given reading h caller (OnChange n command) reply is = request_given reading h caller n command reply is
+outcome_given reading h caller (Submit n) reply is = submit_given reading h n (change reading h n) reply is
 
 pub answer_given_by : (reading : Reading) (h : List Entry) (caller : ℕ) (command : Command) (reply : Reply) → IsAnswerBy reading h caller command reply → IsDoneOrRefused reply
 answer_given_by reading h caller command reply is = at (refused_by reading h caller command) is

@@ -1,5 +1,7 @@
 pub mod Asking
 pub mod Votes
+pub mod Submits
+pub mod Named
 pub mod Voted
 pub mod Bounds
 pub mod Stored

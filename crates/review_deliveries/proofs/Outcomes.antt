@@ -4,7 +4,7 @@ use Rattle.std.specs.Prelude.{nat_lt, option_map, MatchOption}
 use Rattle.std.specs.Option.{option_map_or}
 use Rattle.review_words.specs.declared.changes.NewPatch.{NewPatch}
 use Rattle.review_words.specs.declared.command.Command.{Command}
-use Rattle.review_words.specs.declared.command.Command.TheVariants.{CreateAccount, PutGroup, PutProject, RecordBase, CreateChange, OnChange}
+use Rattle.review_words.specs.declared.command.Command.TheVariants.{CreateAccount, PutGroup, PutProject, RecordBase, CreateChange, OnChange, Submit}
 use Rattle.review_words.specs.declared.command.ChangeCommand.{ChangeCommand}
 use Rattle.review_words.specs.declared.reply.Reply.{Reply}
 use Rattle.review_words.specs.declared.reply.Reply.TheVariants.{Done, Refused}
@@ -23,6 +23,7 @@ use Rattle.review_rows.specs.Answer.{IsAnswerBy, IsOf, IsOutcome, IsRequestOutco
 use Rattle.review_rows.proofs.Readings.{reading_of}
 use Rattle.review_rows.proofs.Requested.{IsToldDone, sent_or_done}
 use Rattle.review_deliveries.specs.Restart.{IsFree, RefusesBadValue, OneAnswer}
+use Rattle.review_deliveries.proofs.Submits.{OneStanding, one_submit}
 use Rattle.review_deliveries.proofs.Votes.{one_count}
 
 -- what the old file covers, whichever of those is put that the text spells
@@ -65,25 +66,26 @@ one_request reading h caller n command r s a b =
     (λ (done : IsToldDone command). done reading h caller n r a ∙ sym (done reading h caller n s b))
     (sent_or_done command)
 
-one_outcome : (reading : Reading) (h : List Entry) (caller : ℕ) (command : Command) (r s : Reply) → IsOutcome reading h caller command r → IsOutcome reading h caller command s →
+one_outcome : OneStanding → (reading : Reading) (h : List Entry) (caller : ℕ) (command : Command) (r s : Reply) → IsOutcome reading h caller command r → IsOutcome reading h caller command s →
     (r ≡ s) ⊎ (IsFree command × (RefusesBadValue r ⊎ RefusesBadValue s))
-one_outcome reading h caller (CreateAccount name) r s a b = inl (a ∙ sym b)
-one_outcome reading h caller (PutGroup group members) r s a b = inl (a ∙ sym b)
-one_outcome reading h caller (RecordBase project branch commit) r s a b = inl (a ∙ sym b)
-one_outcome reading h caller (PutProject project text) r s a b = one_put reading h caller project text r s a b
-one_outcome reading h caller (CreateChange new) r s a b = inl (a ∙ sym b)
-one_outcome reading h caller (OnChange n command) r s a b = inl (one_request reading h caller n command r s a b)
+one_outcome one reading h caller (CreateAccount name) r s a b = inl (a ∙ sym b)
+one_outcome one reading h caller (PutGroup group members) r s a b = inl (a ∙ sym b)
+one_outcome one reading h caller (RecordBase project branch commit) r s a b = inl (a ∙ sym b)
+one_outcome one reading h caller (PutProject project text) r s a b = one_put reading h caller project text r s a b
+one_outcome one reading h caller (CreateChange new) r s a b = inl (a ∙ sym b)
+one_outcome one reading h caller (OnChange n command) r s a b = inl (one_request reading h caller n command r s a b)
+one_outcome one reading h caller (Submit n) r s a b = inl (one_submit one reading h n (change reading h n) r s a b)
 
 -- one answer, by one reading
-pub one_answer_by : (reading : Reading) (h : List Entry) (caller : ℕ) (command : Command) (r s : Reply) → IsAnswerBy reading h caller command r → IsAnswerBy reading h caller command s →
+pub one_answer_by : OneStanding → (reading : Reading) (h : List Entry) (caller : ℕ) (command : Command) (r s : Reply) → IsAnswerBy reading h caller command r → IsAnswerBy reading h caller command s →
     (r ≡ s) ⊎ (IsFree command × (RefusesBadValue r ⊎ RefusesBadValue s))
-one_answer_by reading h caller command r s a b = at (refused_by reading h caller command) a b
+one_answer_by one reading h caller command r s a b = at (refused_by reading h caller command) a b
   where
     at : (o : Option Refusal) → MatchOption o (IsOutcome reading h caller command r) (λ x. r ≡ Refused x) → MatchOption o (IsOutcome reading h caller command s) (λ x. s ≡ Refused x) →
         (r ≡ s) ⊎ (IsFree command × (RefusesBadValue r ⊎ RefusesBadValue s))
-    at None a b = one_outcome reading h caller command r s a b
+    at None a b = one_outcome one reading h caller command r s a b
     at (Some x) a b = inl (a ∙ sym b)
 
-pub one_answer : OneAnswer
-one_answer h caller command r s history a b =
-    let reading = reading_of h history in one_answer_by reading.0 h caller command r s (a reading.0 reading.1) (b reading.0 reading.1)
+pub one_answer : OneStanding → OneAnswer
+one_answer one h caller command r s history a b =
+    let reading = reading_of h history in one_answer_by one reading.0 h caller command r s (a reading.0 reading.1) (b reading.0 reading.1)

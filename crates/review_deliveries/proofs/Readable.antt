@@ -6,7 +6,7 @@ use Rattle.std.proofs.lemmas.Bool.{cases_Bool}
 use Rattle.std.proofs.lemmas.Slice.Eq.{bytes_eq-Decides}
 use Rattle.review_words.specs.History.{Entry, accepted, stored}
 use Rattle.review_words.specs.declared.command.Command.{Command}
-use Rattle.review_words.specs.declared.command.Command.TheVariants.{CreateAccount, PutGroup, PutProject, RecordBase, CreateChange, OnChange}
+use Rattle.review_words.specs.declared.command.Command.TheVariants.{CreateAccount, PutGroup, PutProject, RecordBase, CreateChange, OnChange, Submit}
 use Rattle.review_words.specs.declared.command.Delivery.{Delivery}
 use Rattle.review_words.specs.declared.command.Delivery.TheVariants.{Write, Read}
 use Rattle.review_words.specs.declared.reply.Answer.{Answer}
@@ -47,6 +47,7 @@ right_there reading text file is (Some (PutProject project t)) right = read_ther
 right_there reading text file is (Some (RecordBase project branch commit)) right = tt
 right_there reading text file is (Some (CreateChange new)) right = tt
 right_there reading text file is (Some (OnChange n command)) right = tt
+right_there reading text file is (Some (Submit n)) right = tt
 
 reads_there : (reading : Reading) (text : List ℕ) (file : File) → IsRead text file → (h : List Entry) → Reads reading h → Reads (with_file reading text file) h
 reads_there reading text file is [] reads = tt
@@ -71,6 +72,7 @@ read_more h caller id (PutProject project text) (Done a) reading reads answer =
 read_more h caller id (RecordBase project branch commit) (Done a) reading reads answer = (reading, (tt, reads))
 read_more h caller id (CreateChange new) (Done a) reading reads answer = (reading, (tt, reads))
 read_more h caller id (OnChange n command) (Done a) reading reads answer = (reading, (tt, reads))
+read_more h caller id (Submit n) (Done a) reading reads answer = (reading, (tt, reads))
 
 -- the list after a delivery that was told what is right
 pub read_on : (h : List Entry) (d : Delivery) (reply : Reply) → HasReading h → IsTold h d reply → HasReading (history_after h (d ∷ []) (reply ∷ []))

@@ -15,6 +15,7 @@ use Rattle.review_rows.specs.Answer.{IsHistory, IsAnswer}
 use Rattle.review_rows.specs.Rows.{Tables}
 use Rattle.review_rows.specs.View.{IsView}
 use Rattle.review_rows.proofs.Readings.{reading_of}
+use Rattle.review_deliveries.proofs.Submits.{OneStanding}
 use Rattle.review_deliveries.proofs.Outcomes.{one_answer_by}
 use Rattle.review_deliveries.proofs.Readable.{HasReading, read_on}
 use Rattle.review_deliveries.specs.Replies.{IsTold, IsRight, AreRight, IsToldOfStored, history_after, with_entries as hist, has_identity, first_arrivals as first, arrivals_after as first_after, taken, with_taken, entry_of, HasEffect}
@@ -57,20 +58,20 @@ one_repeat e command r s a b =
     ⊎_elim (λ (c : command ≡ e.command). a.equal c ∙ sym (b.equal c)) (λ (n : command ≡ e.command → ⊥). a.other n ∙ sym (b.other n)) (same_command command e.command)
 
 -- one answer to each command that leaves no choice
-settled_answer : (h : List Entry) (caller : ℕ) (command : Command) (r s : Reply) → (IsFree command → ⊥) → HasReading h → IsAnswer h caller command r → IsAnswer h caller command s → r ≡ s
-settled_answer h caller command r s settled reading a b =
-    ⊎_elim (λ (same : r ≡ s). same) (λ (free : IsFree command × (RefusesBadValue r ⊎ RefusesBadValue s)). absurd (settled free.0)) (one_answer_by reading.0 h caller command r s (a reading.0 reading.1) (b reading.0 reading.1))
+settled_answer : OneStanding → (h : List Entry) (caller : ℕ) (command : Command) (r s : Reply) → (IsFree command → ⊥) → HasReading h → IsAnswer h caller command r → IsAnswer h caller command s → r ≡ s
+settled_answer standing h caller command r s settled reading a b =
+    ⊎_elim (λ (same : r ≡ s). same) (λ (free : IsFree command × (RefusesBadValue r ⊎ RefusesBadValue s)). absurd (settled free.0)) (one_answer_by standing reading.0 h caller command r s (a reading.0 reading.1) (b reading.0 reading.1))
 
 -- two right replies to a write are one, and with either reply to a delivery the history goes on alike
-one_told : (h : List Entry) (d : Delivery) (r s : Reply) → IsSettled d → HasReading h → IsTold h d r → IsTold h d s →
+one_told : OneStanding → (h : List Entry) (d : Delivery) (r s : Reply) → IsSettled d → HasReading h → IsTold h d r → IsTold h d s →
     AgreeFor d r s × (history_after h (d ∷ []) (s ∷ []) ≡ history_after h (d ∷ []) (r ∷ []))
-one_told h (Read caller query) r s settled reading a b = (tt, refl)
-one_told h (Write caller id command) r s settled reading a b =
+one_told standing h (Read caller query) r s settled reading a b = (tt, refl)
+one_told standing h (Write caller id command) r s settled reading a b =
     let same = at (stored h (record { caller = caller; id = id })) refl in
     (same, ap (λ x. history_after h (Write caller id command ∷ []) (x ∷ [])) (sym same))
   where
     at : (o : Option Entry) → stored h (record { caller = caller; id = id }) ≡ o → r ≡ s
-    at None is = settled_answer h caller command r s settled reading (told_at h caller id command r None is a) (told_at h caller id command s None is b)
+    at None is = settled_answer standing h caller command r s settled reading (told_at h caller id command r None is a) (told_at h caller id command s None is b)
     at (Some e) is = one_repeat e command r s (told_at h caller id command r (Some e) is a) (told_at h caller id command s (Some e) is b)
 
 agrees : (d : Delivery) (r s : Reply) → r ≡ s → AgreeFor d r s
@@ -78,15 +79,15 @@ agrees (Read caller query) r s e = tt
 agrees (Write caller id command) r s e = e
 
 -- from one history, everything is the same
-same_run : (h : List Entry) (ds : List Delivery) (rs ss : List Reply) → AreSettled ds → HasReading h → AreTold h ds rs → AreTold h ds ss → AgreeOnWrites ds rs ss × (history_after h ds ss ≡ history_after h ds rs)
-same_run h [] [] [] settled reading a b = (tt, refl)
-same_run h [] (r ∷ rs) ss settled reading a b = absurd a
-same_run h [] [] (s ∷ ss) settled reading a b = absurd b
-same_run h (d ∷ ds) [] ss settled reading a b = absurd a
-same_run h (d ∷ ds) (r ∷ rs) [] settled reading a b = absurd b
-same_run h (d ∷ ds) (r ∷ rs) (s ∷ ss) settled reading a b =
-    let one = one_told h d r s settled.0 reading a.1 b.1 in
-    let rest = same_run (history_after h (d ∷ []) (r ∷ [])) ds rs ss settled.1 (read_on h d r reading a.1) a.2 (subst (λ x. AreTold x ds ss) one.1 b.2) in (
+same_run : OneStanding → (h : List Entry) (ds : List Delivery) (rs ss : List Reply) → AreSettled ds → HasReading h → AreTold h ds rs → AreTold h ds ss → AgreeOnWrites ds rs ss × (history_after h ds ss ≡ history_after h ds rs)
+same_run standing h [] [] [] settled reading a b = (tt, refl)
+same_run standing h [] (r ∷ rs) ss settled reading a b = absurd a
+same_run standing h [] [] (s ∷ ss) settled reading a b = absurd b
+same_run standing h (d ∷ ds) [] ss settled reading a b = absurd a
+same_run standing h (d ∷ ds) (r ∷ rs) [] settled reading a b = absurd b
+same_run standing h (d ∷ ds) (r ∷ rs) (s ∷ ss) settled reading a b =
+    let one = one_told standing h d r s settled.0 reading a.1 b.1 in
+    let rest = same_run standing (history_after h (d ∷ []) (r ∷ [])) ds rs ss settled.1 (read_on h d r reading a.1) a.2 (subst (λ x. AreTold x ds ss) one.1 b.2) in (
       (one.0, rest.0),
       history_cons h d ds s ss ∙ ap (λ x. history_after x ds ss) one.1 ∙ rest.1 ∙ sym (history_cons h d ds r rs),
     )
@@ -118,25 +119,25 @@ again g h more (Write caller id command) r s hist is a b = at (stored g i) refl
         let some = there e (ap (λ x. stored x (record { caller = caller; id = id })) (same_history g caller id command r e old) ∙ old) in
         (one_repeat e command r s (told_at g caller id command r (Some e) old a) (told_at h caller id command s (Some e) some b), same_history h caller id command s e some)
 
-restart_told : (h0 h : List Entry) (ds1 ds2 : List Delivery) (rs1 rs2 ss : List Reply) →
+restart_told : OneStanding → (h0 h : List Entry) (ds1 ds2 : List Delivery) (rs1 rs2 ss : List Reply) →
     IsHistory h → h ≡ history_after h0 ds1 rs1 → length rs1 ≡ length ds1 → AreSettled ds2 → AreTold h0 (ds1 ++ ds2) (rs1 ++ rs2) → AreTold h (ds1 ++ ds2) ss →
     AgreeOnWrites (ds1 ++ ds2) (rs1 ++ rs2) ss × (history_after h (ds1 ++ ds2) ss ≡ history_after h0 (ds1 ++ ds2) (rs1 ++ rs2))
-restart_told g h [] ds2 [] rs2 ss hist is same settled a b = same_run' g h ds2 rs2 ss settled is (reading_of h hist) a b
+restart_told standing g h [] ds2 [] rs2 ss hist is same settled a b = same_run' g h ds2 rs2 ss settled is (reading_of h hist) a b
   where
     same_run' : (g h : List Entry) (ds : List Delivery) (rs ss : List Reply) → AreSettled ds → h ≡ g → HasReading h → AreTold g ds rs → AreTold h ds ss →
         AgreeOnWrites ds rs ss × (history_after h ds ss ≡ history_after g ds rs)
     same_run' g h ds rs ss settled is reading a b =
-        let s = same_run g ds rs ss settled (subst HasReading is reading) a (subst (λ x. AreTold x ds ss) is b) in
+        let s = same_run standing g ds rs ss settled (subst HasReading is reading) a (subst (λ x. AreTold x ds ss) is b) in
         (s.0, ap (λ x. history_after x ds ss) is ∙ s.1)
-restart_told g h [] ds2 (r ∷ rs1) rs2 ss hist is same settled a b = absurd (omega arith)
-restart_told g h (d ∷ ds1) ds2 [] rs2 ss hist is same settled a b = absurd (omega arith)
-restart_told g h (d ∷ ds1) ds2 (r ∷ rs1) rs2 [] hist is same settled a b = absurd b
-restart_told g h (d ∷ ds1) ds2 (r ∷ rs1) rs2 (s ∷ ss) hist is same settled a b =
+restart_told standing g h [] ds2 (r ∷ rs1) rs2 ss hist is same settled a b = absurd (omega arith)
+restart_told standing g h (d ∷ ds1) ds2 [] rs2 ss hist is same settled a b = absurd (omega arith)
+restart_told standing g h (d ∷ ds1) ds2 (r ∷ rs1) rs2 [] hist is same settled a b = absurd b
+restart_told standing g h (d ∷ ds1) ds2 (r ∷ rs1) rs2 (s ∷ ss) hist is same settled a b =
     let g1 = history_after g (d ∷ []) (r ∷ []) in
     let later : h ≡ history_after g1 ds1 rs1 = is ∙ history_cons g d ds1 r rs1 in
     let more = grown g1 (first g1 (taken ds1 rs1)) in
     let one = again g h more.0 d r s hist (later ∙ more.1) a.1 b.1 in
-    let rest = restart_told g1 h ds1 ds2 rs1 rs2 ss hist later (omega arith) settled a.2 (subst (λ x. AreTold x (ds1 ++ ds2) ss) one.1 b.2) in (
+    let rest = restart_told standing g1 h ds1 ds2 rs1 rs2 ss hist later (omega arith) settled a.2 (subst (λ x. AreTold x (ds1 ++ ds2) ss) one.1 b.2) in (
       (one.0, rest.0),
       history_cons h d (ds1 ++ ds2) s ss ∙ ap (λ x. history_after x (ds1 ++ ds2) ss) one.1 ∙ rest.1 ∙ sym (history_cons g d (ds1 ++ ds2) r (rs1 ++ rs2)),
     )
@@ -273,9 +274,9 @@ pub follow_history : RepliesFollowHistory
 follow_history h0 h last ds rs ss counts others hist right given right' given' one other =
     all_agree last ds rs ss (all_told_by h0 last ds rs hist one (told_right h0 ds rs counts right given)) (all_told_by h last ds ss hist other (told_right h ds ss others right' given'))
 
-pub restart : RestartCompletes
-restart h0 h ds1 ds2 rs1 rs2 ss counts others hist is same settled right given right' given' =
-    restart_told h0 h ds1 ds2 rs1 rs2 ss hist is same settled (told_right h0 (ds1 ++ ds2) (rs1 ++ rs2) counts right given) (told_right h (ds1 ++ ds2) ss others right' given')
+pub restart : OneStanding → RestartCompletes
+restart standing h0 h ds1 ds2 rs1 rs2 ss counts others hist is same settled right given right' given' =
+    restart_told standing h0 h ds1 ds2 rs1 rs2 ss hist is same settled (told_right h0 (ds1 ++ ds2) (rs1 ++ rs2) counts right given) (told_right h (ds1 ++ ds2) ss others right' given')
 
 -- a list up to one element, that element, and the rest
 split_at : {A : Type 0} (i : ℕ) (xs : List A) (x : A) → i < length xs → (take i xs ++ get_or xs i x ∷ []) ++ drop (suc i) xs ≡ xs

@@ -1,30 +1,48 @@
 -- Each answer of a history is stored with numbers of their forms.
-use Rattle.std.proofs.Common.{◌≡◌, ℕ, suc, ◌+◌, ◌<◌, ◌≤◌, List, [], ◌∷◌, ◌++◌, length, Option, Some, None, Bool, true, false, cond, refl, sym, ap, ◌∙◌, subst, ⊎_elim, inl, inr, arith}
-use Rattle.std.specs.Prelude.{MatchOption, option_map}
-use Rattle.std.specs.List.{AllByRecursion}
+use Rattle.std.proofs.Common.{◌≡◌, ◌⊎◌, ℕ, suc, ◌+◌, ◌<◌, ◌≤◌, List, [], ◌∷◌, ◌++◌, length, Option, Some, None, Bool, true, false, cond, refl, sym, ap, ◌∙◌, subst, ⊎_elim, inl, inr, arith}
+use Rattle.std.specs.Prelude.{MatchOption, is_some, option_map, unwrap_or, map}
+use Rattle.std.specs.List.{All, AllByRecursion}
+use Rattle.std.proofs.lemmas.List.Elements.{All-head, All-tail}
 use Rattle.std.proofs.lemmas.Bool.{cases_Bool, ltb-true, leb-true}
-use Rattle.review_names.specs.Forms.{most_changes, most_comments, most_patches}
-use Rattle.review_words.specs.Texts.{IsStored, IsCommentNumber}
+use Rattle.review_names.specs.Forms.{is_label, most_changes, most_comments, most_patches}
+use Rattle.review_words.specs.Texts.{IsStored, IsChangeNumber, IsCommentNumber}
 use Rattle.review_words.specs.declared.changes.Given.{Given}
 use Rattle.review_words.specs.declared.changes.NewPatch.{NewPatch}
 use Rattle.review_words.specs.declared.changes.Review.{Review as ReviewOf}
 use Rattle.review_words.specs.declared.command.Command.{Command}
-use Rattle.review_words.specs.declared.command.Command.TheVariants.{CreateAccount, PutGroup, PutProject, RecordBase, CreateChange, OnChange}
+use Rattle.review_words.specs.declared.command.Command.TheVariants.{CreateAccount, PutGroup, PutProject, RecordBase, CreateChange, OnChange, Submit}
 use Rattle.review_words.specs.declared.command.ChangeCommand.{ChangeCommand}
 use Rattle.review_words.specs.declared.command.ChangeCommand.TheVariants as on
 use Rattle.review_words.specs.declared.reply.Reply.{Reply}
 use Rattle.review_words.specs.declared.reply.Reply.TheVariants.{Done, Refused}
 use Rattle.review_words.specs.declared.reply.Answer.TheVariants.{Nothing, Reviewed}
 use Rattle.review_words.specs.declared.reply.Refusal.{Refusal}
-use Rattle.review_words.specs.declared.reply.Refusal.TheVariants.{UnknownCaller}
+use Rattle.review_words.specs.declared.reply.Refusal.TheVariants.{UnknownCaller, ChainOutdated, ChainAbandoned, ChainWip, ChainTooLong, RequirementUnsatisfied}
 use Rattle.review_words.specs.History.{Entry, is_account, account_count, file_text}
+use Rattle.review_words.specs.declared.shown.ShownRequirement.{ShownRequirement}
+use Rattle.review_judging.specs.declared.facts.ChangeFacts.{ChangeFacts}
+use Rattle.review_expr.specs.declared.expr.Expr.{Expr}
+use Rattle.review_expr.specs.declared.expr.Facts.TheVariants as facts
+use Rattle.review_project.specs.View.{RequirementView}
 use Rattle.review_project_laws.proofs.Placed.{placed}
+use Rattle.review_chain.specs.declared.links.Link.{Link}
+use Rattle.review_chain.specs.declared.walks.ChainFault.{ChainFault}
+use Rattle.review_chain.specs.declared.walks.ChainFault.TheVariants.{Outdated, Abandoned, Wip, TooLong, Broken, Unknown, Memory as FaultMemory}
+use Rattle.review_chain.specs.Walks.{IsReady}
+use Rattle.review_chain.proofs.Fronts.{chain_ready}
+use Rattle.review_changes.specs.Facts.{AreStanding, IsFirstUnsatisfied, is_unsatisfied, stands, unsatisfied_in}
+use Rattle.review_changes.specs.Status.{status_of}
 use Rattle.review_changes.specs.Change.{Change, Setting, current, said}
+use Rattle.review_change_laws.proofs.Projects.{has_project}
 use Rattle.review_change_laws.proofs.Sound.{Passes, all_pass, later_pass}
-use Rattle.review_rows.specs.Answer.{IsHistory, IsAnswer, IsAnswerBy, IsOutcome, IsOf, IsRequestOutcome, IsUploadAnswer, checks, comment_numbers, file_checks, first_refusal, given_checks, numbers_after, of_change, refused_by, refused_or, request_checks, review_checks, upload_checks}
-use Rattle.review_rows.specs.Changes.{Reading, Reads, change, change_count, setting_of}
-use Rattle.review_rows.proofs.Readings.{reading_of}
-use Rattle.review_deliveries.proofs.Bounds.{change_bound, votes_bound}
+use Rattle.review_rows.specs.Answer.{IsHistory, IsAnswer, IsAnswerBy, IsOutcome, IsOf, IsRequestOutcome, IsUploadAnswer, checks, comment_numbers, file_checks, first_refusal, given_checks, numbers_after, of_change, refused_by, refused_or, request_checks, review_checks, submit_checks, upload_checks}
+use Rattle.review_rows.specs.Changes.{Reading, Reads, change, change_count, file_of, setting_of}
+use Rattle.review_rows.specs.Links.{link_for}
+use Rattle.review_rows.specs.Submits.{IsSubmitAnswer, branch_after, checked_reply, judged_after, refusal_of}
+use Rattle.review_rows.proofs.Readings.{read_of, reading_of}
+use Rattle.review_deliveries.proofs.Bounds.{votes_bound}
+use Rattle.review_deliveries.proofs.Named.{HasName, names_of_form}
+use Rattle.review_branch_laws.proofs.Counted.{change_bound}
 
 -- the refusals of checks are stored
 abbrev AllStored : List (Bool × Refusal) → Type 0
@@ -74,6 +92,7 @@ checks_stored reading h caller (PutGroup group members) = (tt, (tt, (tt, tt)))
 checks_stored reading h caller (PutProject project text) = (tt, tt)
 checks_stored reading h caller (RecordBase project branch commit) = (tt, (tt, (tt, (tt, tt))))
 checks_stored reading h caller (CreateChange new) = (tt, (tt, (tt, (tt, (tt, (tt, tt))))))
+checks_stored reading h caller (Submit n) = on_stored (submit_checks reading h caller) (λ c. (tt, (tt, (tt, tt)))) (change reading h n)
 checks_stored reading h caller (OnChange n command) = on_stored (request_checks reading h caller command) (request_stored reading h caller command) (change reading h n)
 
 refused_or_stored : (o : Option Refusal) → ((r : Refusal) → o ≡ Some r → IsStored (Refused r)) → IsStored (refused_or o Nothing)
@@ -121,6 +140,86 @@ told_stored reading h caller n on.Restore reply history reads all is = subst IsS
 told_stored reading h caller n (on.AddAttention account reason) reply history reads all is = subst IsStored (sym is) tt
 told_stored reading h caller n (on.RemoveAttention account reason) reply history reads all is = subst IsStored (sym is) tt
 
+-- ---- what a submit is told
+
+bad_stored : (fault : ChainFault) (r : Refusal) → refusal_of fault ≡ Some r → IsStored (Refused r)
+bad_stored Outdated r is = let e : ChainOutdated ≡ r = cc in subst (λ x. IsStored (Refused x)) e tt
+bad_stored Abandoned r is = let e : ChainAbandoned ≡ r = cc in subst (λ x. IsStored (Refused x)) e tt
+bad_stored Wip r is = let e : ChainWip ≡ r = cc in subst (λ x. IsStored (Refused x)) e tt
+bad_stored TooLong r is = let e : ChainTooLong ≡ r = cc in subst (λ x. IsStored (Refused x)) e tt
+bad_stored Broken r is = absurd (let f : None ≡ Some r = is in cc)
+bad_stored Unknown r is = absurd (let f : None ≡ Some r = is in cc)
+bad_stored FaultMemory r is = absurd (let f : None ≡ Some r = is in cc)
+
+-- a link is that of a change that is there
+linked_number : (reading : Reading) (h : List Entry) (project branch : List ℕ) (n : ℕ) (o : Option Change) (l : Link) → IsHistory h → Reads reading h → change reading h n ≡ o → link_for project branch o ≡ Some l → IsChangeNumber n
+linked_number reading h project branch n None l history reads there is = absurd (let f : None ≡ Some l = is in cc)
+linked_number reading h project branch n (Some c) l history reads there is = change_bound reading h n c reads history there
+
+-- the changes of a chain have numbers of their form
+chain_numbers : (reading : Reading) (h : List Entry) (c : Change) (n : ℕ) → IsHistory h → Reads reading h → change reading h n ≡ Some c → (ds : List ℕ) →
+    All (λ d. (d ≡ n) ⊎ IsReady (branch_after reading h c.project c.branch) d) ds → AllByRecursion IsChangeNumber ds
+chain_numbers reading h c n history reads there [] all = tt
+chain_numbers reading h c n history reads there (d ∷ ds) all = (
+  ⊎_elim
+      (λ (same : d ≡ n). change_bound reading h d c reads history (ap (change reading h) same ∙ there))
+      (λ (ready : IsReady (branch_after reading h c.project c.branch) d). linked_number reading h c.project c.branch d (change reading h d) ready.link history reads refl ready.there)
+      (All-head (λ d. (d ≡ n) ⊎ IsReady (branch_after reading h c.project c.branch) d) d ds all),
+  chain_numbers reading h c n history reads there ds (All-tail (λ d. (d ≡ n) ⊎ IsReady (branch_after reading h c.project c.branch) d) d ds all),
+)
+
+-- the first requirement that isn't satisfied is one of the file
+unsatisfied_name : (f : ChangeFacts) (qs : List (RequirementView Expr)) (name : List ℕ) → AllByRecursion HasName qs → unsatisfied_in (map (stands f) qs) ≡ Some name → is_label name ≡ true
+unsatisfied_name f [] name all is = absurd (let e : None ≡ Some name = is in cc)
+unsatisfied_name f (q ∷ qs) name all is = by (is_unsatisfied (status_of q (facts.Change f))) is (unsatisfied_name f qs name all.1)
+  where
+    by : (b : Bool) → cond b (Some q.name) (unsatisfied_in (map (stands f) qs)) ≡ Some name → (unsatisfied_in (map (stands f) qs) ≡ Some name → is_label name ≡ true) → is_label name ≡ true
+    by true e on = let same : q.name ≡ name = cc in subst (λ x. is_label x ≡ true) same all.0
+    by false e on = on e
+
+-- the file of a change has requirements with names of their form
+file_names : (reading : Reading) (h : List Entry) (n : ℕ) (c : Change) → IsHistory h → Reads reading h → change reading h n ≡ Some c → AllByRecursion HasName (file_of reading h c.project).requirements
+file_names reading h n c history reads there = at (file_text h c.project) refl (has_project reading h n c history reads there)
+  where
+    at : (o : Option (List ℕ)) → file_text h c.project ≡ o → is_some o ≡ true → AllByRecursion HasName (file_of reading h c.project).requirements
+    at None is some = absurd (let e : false ≡ true = some in cc)
+    at (Some text) is some =
+        subst (λ o. AllByRecursion HasName (reading (unwrap_or o [])).requirements) (sym is) (names_of_form text (reading text) (read_of reading h c.project text reads is))
+
+-- what is found first is a change of the chain and a requirement with a name of its form
+found_stored : (reading : Reading) (h : List Entry) → IsHistory h → Reads reading h → (ds : List ℕ) (found : ℕ × List ℕ) → AllByRecursion IsChangeNumber ds → IsFirstUnsatisfied (judged_after reading h) ds (Some found) →
+    IsStored (Refused (RequirementUnsatisfied found.0 found.1))
+found_stored reading h history reads [] found all is = absurd (let e : Some found ≡ None = is in cc)
+found_stored reading h history reads (d ∷ ds) found all is = at (change reading h d) refl is (found_stored reading h history reads ds found all.1)
+  where
+    first : (f : ChangeFacts) (qs : List (RequirementView Expr)) (shown : List ShownRequirement) (o : Option (List ℕ)) → AllByRecursion HasName qs → shown ≡ map (stands f) qs → unsatisfied_in shown ≡ o →
+        MatchOption o (IsFirstUnsatisfied (judged_after reading h) ds (Some found)) (λ requirement. Some found ≡ Some (d, requirement)) →
+        (IsFirstUnsatisfied (judged_after reading h) ds (Some found) → IsStored (Refused (RequirementUnsatisfied found.0 found.1))) → IsStored (Refused (RequirementUnsatisfied found.0 found.1))
+    first f qs shown None names each none more on = on more
+    first f qs shown (Some name) names each some same on =
+        let e : found ≡ (d, name) = cc in
+        subst (λ x. IsStored (Refused (RequirementUnsatisfied x.0 x.1))) (sym e) (all.0, unsatisfied_name f qs name names (sym (ap unsatisfied_in each) ∙ some))
+
+    at : (o : Option Change) → change reading h d ≡ o →
+        MatchOption {T = Setting × Change} (option_map (λ (x : Change). (setting_of reading h x.project, x)) o) ⊥
+        (λ j. (shown : List ShownRequirement) × AreStanding j.0 j.1 shown × MatchOption (unsatisfied_in shown) (IsFirstUnsatisfied (judged_after reading h) ds (Some found)) (λ requirement. Some found ≡ Some (d, requirement))) →
+        (IsFirstUnsatisfied (judged_after reading h) ds (Some found) → IsStored (Refused (RequirementUnsatisfied found.0 found.1))) → IsStored (Refused (RequirementUnsatisfied found.0 found.1))
+    at None there bad on = absurd bad
+    at (Some x) there (shown, standing, found_in) on =
+        first standing.facts (file_of reading h x.project).requirements shown (unsatisfied_in shown) (file_names reading h d x history reads there) standing.each refl found_in on
+
+checked_stored : (reading : Reading) (h : List Entry) (chain : List ℕ) (found : Option (ℕ × List ℕ)) → IsHistory h → Reads reading h → length chain ≤ 100 → AllByRecursion IsChangeNumber chain →
+    IsFirstUnsatisfied (judged_after reading h) chain found → IsStored (checked_reply chain found)
+checked_stored reading h chain None history reads short all is = (short, all)
+checked_stored reading h chain (Some found) history reads short all is = found_stored reading h history reads chain found all is
+
+submit_stored : (reading : Reading) (h : List Entry) (n : ℕ) (o : Option Change) (reply : Reply) → IsHistory h → Reads reading h → change reading h n ≡ o → IsOf (λ c. IsSubmitAnswer reading h n c reply) o → IsStored reply
+submit_stored reading h n None reply history reads there is = absurd is
+submit_stored reading h n (Some c) reply history reads there (inl bad) = subst IsStored (sym bad.reply_is) (bad_stored bad.fault bad.refusal bad.named)
+submit_stored reading h n (Some c) reply history reads there (inr has) =
+    let numbers = chain_numbers reading h c n history reads there has.chain (chain_ready (branch_after reading h c.project c.branch) has.chain n has.is_chain) in
+    subst IsStored (sym has.reply_is) (checked_stored reading h has.chain has.found history reads has.is_chain.short numbers has.checked)
+
 outcome_stored : (reading : Reading) (h : List Entry) (caller : ℕ) (command : Command) (reply : Reply) → IsHistory h → Reads reading h → AllByRecursion Passes (checks reading h caller command) →
     IsOutcome reading h caller command reply → IsStored reply
 outcome_stored reading h caller (CreateAccount name) reply history reads all is =
@@ -134,6 +233,7 @@ outcome_stored reading h caller (PutProject project text) reply history reads al
 outcome_stored reading h caller (CreateChange new) reply history reads all is =
     let below : change_count h < most_changes = ltb-true (change_count h) most_changes all.1.1.1.1.1.0 in
     subst IsStored (sym is) (omega arith, omega arith, omega arith, omega arith)
+outcome_stored reading h caller (Submit n) reply history reads all is = submit_stored reading h n (change reading h n) reply history reads refl is
 outcome_stored reading h caller (OnChange n command) reply history reads all is = told_stored reading h caller n command reply history reads all is
 
 answer_stored_by : (reading : Reading) (h : List Entry) (caller : ℕ) (command : Command) (reply : Reply) → IsHistory h → Reads reading h → IsAnswerBy reading h caller command reply → IsStored reply

@@ -10,7 +10,7 @@ use Rattle.review_words.specs.declared.changes.Given.{Given}
 use Rattle.review_words.specs.declared.changes.NewPatch.{NewPatch}
 use Rattle.review_words.specs.declared.changes.Review.{Review as ReviewOf}
 use Rattle.review_words.specs.declared.command.Command.{Command}
-use Rattle.review_words.specs.declared.command.Command.TheVariants.{CreateAccount, PutGroup, PutProject, RecordBase, CreateChange, OnChange}
+use Rattle.review_words.specs.declared.command.Command.TheVariants.{CreateAccount, PutGroup, PutProject, RecordBase, CreateChange, OnChange, Submit}
 use Rattle.review_words.specs.declared.command.ChangeCommand.{ChangeCommand}
 use Rattle.review_words.specs.declared.reply.Answer.{Answer}
 use Rattle.review_words.specs.declared.reply.Answer.TheVariants.{Nothing}
@@ -26,9 +26,10 @@ use Rattle.review_project_laws.proofs.Together.{same_covers}
 use Rattle.review_changes.specs.Change.{Change, Copying, Setting, after, begun, carried, copying, current, given_or, label_in, reviewed}
 use Rattle.review_changes.specs.Votes.{voted}
 use Rattle.review_words.specs.declared.command.ChangeCommand.TheVariants as on
+use Rattle.review_change_laws.proofs.Joining.{joining_keeps}
 use Rattle.review_change_laws.proofs.Sound.{Passes, all_pass, checks_pass, done_passes}
 use Rattle.review_rows.specs.Answer.{IsAnswerBy, IsFaultAnswer, IsFileAnswer, IsHistory, checks, first_refusal, given_checks, refused_by, refused_or, request_checks}
-use Rattle.review_rows.specs.Changes.{Reading, Reads, IsReadRight, change, change_by, change_count, file_of, setting_of}
+use Rattle.review_rows.specs.Changes.{Reading, Reads, IsReadRight, change, change_by, change_count, file_of, setting_of, submitted}
 use Rattle.review_rows.specs.Files.{File, IsRead, covers}
 use Rattle.review_rows.specs.Limits.{most_projects}
 
@@ -132,6 +133,7 @@ stay_done reading h e (PutGroup group members) a is right answer = stay_alike re
 stay_done reading h e (RecordBase project branch commit) a is right answer = stay_alike reading h (e ∷ h) (ap (λ o. counted o (account_count h)) is) (λ p. ap (λ o. text_put o p (file_text h p)) is)
 stay_done reading h e (CreateChange new) a is right answer = stay_alike reading h (e ∷ h) (ap (λ o. counted o (account_count h)) is) (λ p. ap (λ o. text_put o p (file_text h p)) is)
 stay_done reading h e (OnChange n command) a is right answer = stay_alike reading h (e ∷ h) (ap (λ o. counted o (account_count h)) is) (λ p. ap (λ o. text_put o p (file_text h p)) is)
+stay_done reading h e (Submit n) a is right answer = stay_alike reading h (e ∷ h) (ap (λ o. counted o (account_count h)) is) (λ p. ap (λ o. text_put o p (file_text h p)) is)
 
 stay_undone : (reading : Reading) (h : List Entry) (e : Entry) → accepted e ≡ None → Stay reading h (e ∷ h)
 stay_undone reading h e is = stay_alike reading h (e ∷ h) (ap (λ o. counted o (account_count h)) is) (λ p. ap (λ o. text_put o p (file_text h p)) is)
@@ -255,6 +257,7 @@ voters_done reading h caller n c (OnChange m command) a answer before is =
     (λ same x there has.
     let pass = checks_pass reading h caller (request_checks reading h caller command) (change reading h m) x (ap (change reading h) (eqb-true m n same) ∙ there) none in
     voters_after reading h caller (length h + 1) command x account pass has) is
+voters_done reading h caller n c (Submit m) a answer before is = before c is
 
 -- one entry more
 voters_step : (reading : Reading) (h : List Entry) (e : Entry) (n : ℕ) (c : Change) (reply : Reply) → e.reply ≡ reply → IsReadRight reading (if_done reply e.command) → IsAnswerBy reading h e.identity.caller e.command reply →
@@ -269,4 +272,6 @@ voters_step reading h e n c (NotTaken cause) of right answer before is = voters_
 pub have_voters : (reading : Reading) (h : List Entry) (n : ℕ) (c : Change) → Reads reading h → IsHistory h → change reading h n ≡ Some c → HasVoters reading h c
 have_voters reading [] n c reads history is = absurd (cc)
 have_voters reading (e ∷ h) n c reads history is =
-    voters_step reading h e n c e.reply refl reads.0 (history.1 reading reads.1) (λ x there. have_voters reading h n x reads.1 history.3 there) is
+    joining_keeps (HasVoters reading (e ∷ h)) (λ place request x has. record { project = has.project; voters = has.voters; labels = has.labels }) h (submitted (accepted e) e.reply) n
+    (change_by reading h e.identity.caller (accepted e) n (change reading h n)) c
+    (λ x there. voters_step reading h e n x e.reply refl reads.0 (history.1 reading reads.1) (λ y was. have_voters reading h n y reads.1 history.3 was) there) is

@@ -1,11 +1,16 @@
 //! Laws over all runs, as contracts of calls that do nothing.
 ghost use Rattle.review_deliveries.specs.Restart.{OneAnswer, RunsCompose, RestartAfterStop, RestartCompletes, RestartIsRun, RestartKeepsHistory, RepliesFollowHistory};
 
+use review_statuses::one_standing;
+
 /// A command has one answer, unless a pattern in the file that it puts nests deeper than the engine reads: of two different
 /// answers one then refuses the file for a bad value in an expression.
 pub fn one_answer()
     ensures { OneAnswer }
-{}
+{
+    // By this law a submit has one answer: requirements stand in one way.
+    one_standing();
+}
 
 /// A run of one list followed by a run of another is the run of both.
 pub fn runs_compose()
@@ -20,4 +25,7 @@ pub fn restart_completes()
     ensures run { RestartCompletes }
     ensures whole { RestartIsRun }
     ensures stop { RestartAfterStop }
-{}
+{
+    // By this law a submit that comes again has the answer that it had.
+    one_standing();
+}

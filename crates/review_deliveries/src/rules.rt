@@ -11,7 +11,7 @@ pub trait Rules {
     ghost use Rattle.review_file.specs.Texts.{file_read};
     ghost use Rattle.review_words.specs.Texts.{IsStored};
     ghost use Rattle.review_words.specs.History.{Entry};
-    ghost use Rattle.review_rows.specs.Answer.{most_requests};
+    ghost use Rattle.review_rows.specs.Answer.{IsHistory, most_requests};
     ghost use Rattle.review_rows.specs.Questions.{IsQueryAnswerBy};
     ghost use Rattle.review_rows.specs.Changes.{Reading};
     ghost use Rattle.review_rows.specs.Rows.{HasNoEffect};
@@ -49,7 +49,7 @@ pub trait Rules {
         caller: AccountNo,
         command: &Command,
     ) -> Result<(Delta, Reply), NotTaken>
-        ensures decided { IfOk result (λ r. (reading : Reading) (h : List Entry) → length h < most_requests → AreEnough reading h caller (OfCommand command.now) (file_read read) rows.now → IsDecided reading h caller command.now r.0 r.1) }
+        ensures decided { IfOk result (λ r. (reading : Reading) (h : List Entry) → length h < most_requests → IsHistory h → AreEnough reading h caller (OfCommand command.now) (file_read read) rows.now → IsDecided reading h caller command.now r.0 r.1) }
         ensures cause { IfErr result (IsUndecided caller command.now (file_read read) rows.now) }
         ensures stored { IfOk result (λ r. IsStored r.1) }
         ensures refused { IfOk result (λ r. HasNoEffect r.1 r.0) }
@@ -64,7 +64,7 @@ pub trait Rules {
         caller: AccountNo,
         query: &Query,
     ) -> Result<Reply, NotTaken>
-        ensures shown { IfOk result (λ r. (reading : Reading) (h : List Entry) → AreEnough reading h caller (OfQuery query.now) (file_read read) rows.now → IsQueryAnswerBy reading h caller query.now r) }
+        ensures shown { IfOk result (λ r. (reading : Reading) (h : List Entry) → IsHistory h → AreEnough reading h caller (OfQuery query.now) (file_read read) rows.now → IsQueryAnswerBy reading h caller query.now r) }
         ensures answered { IfOk result IsDoneOrRefused }
         ensures cause { IfErr result (IsUnshown caller query.now (file_read read) rows.now) };
 }

@@ -5,7 +5,7 @@ use Rattle.serde_json.specs.Data.{Data}
 use Rattle.review_names.specs.Names.{is_word}
 use Rattle.review_names.specs.Forms.{is_slashed_name, is_commit}
 use Rattle.review_words.specs.declared.command.Command.{Command}
-use Rattle.review_words.specs.declared.command.Command.TheVariants.{CreateAccount, PutGroup, PutProject, RecordBase, CreateChange, OnChange}
+use Rattle.review_words.specs.declared.command.Command.TheVariants.{CreateAccount, PutGroup, PutProject, RecordBase, CreateChange, OnChange, Submit}
 use Rattle.review_bodies.specs.Parts.{text_at, name_at, members_at, change_at}
 use Rattle.review_bodies.specs.Changes.{new_change}
 use Rattle.review_json.specs.Asked.{asked_named}
@@ -38,6 +38,10 @@ unfoldable pub on_change : List ℕ → Data → Data → Option Command
 on_change name line body =
     option_and_then (λ change. option_map (λ asked. OnChange change asked) (asked_named name line body)) (change_at (codes "change") line)
 
+-- the line has the change that is to join its branch
+unfoldable pub submit : Data → Option Command
+submit line = option_map (λ change. Submit change) (change_at (codes "change") line)
+
 -- the command of a name
 unfoldable pub command_named : List ℕ → Data → Data → Option Command
 command_named name line body =
@@ -45,4 +49,5 @@ command_named name line body =
     else (if bytes_eq name (codes "PutGroup") then put_group line body
     else (if bytes_eq name (codes "PutProject") then put_project line body
     else (if bytes_eq name (codes "RecordBase") then record_base line body
-    else (if bytes_eq name (codes "CreateChange") then create_change body else on_change name line body))))
+    else (if bytes_eq name (codes "CreateChange") then create_change body
+    else (if bytes_eq name (codes "Submit") then submit line else on_change name line body)))))

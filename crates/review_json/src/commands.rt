@@ -1,7 +1,7 @@
 //! The commands, one function each: what is a part of its route stands in the line, the rest in the body.
 ghost use Rattle.serde_json.specs.View.{view};
 ghost use Rattle.review_bodies.specs.Parts.{Gives};
-ghost use Rattle.review_json.specs.Commands.{create_account, put_group, put_project, record_base, create_change, on_change, command_named};
+ghost use Rattle.review_json.specs.Commands.{create_account, put_group, put_project, record_base, create_change, on_change, submit, command_named};
 
 use crate::asked::asked_named;
 use review_bodies::{BadBody, change_at, file_at, members_at, name_at, new_change};
@@ -71,6 +71,15 @@ pub fn on_change(alloc: Global, name: &str, line: &Value, body: &Value) -> Resul
     Ok(Command::OnChange { change, command })
 }
 
+/// That a change joins its branch: `change` in the line.
+#[tactic(auto, unfolding(crate::specs::Commands::submit))]
+pub fn submit(line: &Value) -> Result<Command, BadBody>
+    ensures { Gives result (submit (view line.now)) }
+{
+    let change = change_at("change", line)?;
+    Ok(Command::Submit { change })
+}
+
 /// The command of a name.
 #[tactic(auto, unfolding(crate::specs::Commands::command_named))]
 pub fn command_named(
@@ -95,6 +104,9 @@ pub fn command_named(
     }
     if name == "CreateChange" {
         return create_change(alloc, body);
+    }
+    if name == "Submit" {
+        return submit(line);
     }
     on_change(alloc, name, line, body)
 }

@@ -20,7 +20,7 @@ use Rattle.review_bodies.specs.Reviews.{message_in, patch_in, has_refused, said}
 use Rattle.review_bodies.specs.Roles.{account_named_at, role_in}
 use Rattle.review_bodies.specs.Votes.{labels_in}
 use Rattle.review_json.specs.Asked.{upload, review, add_reviewer, remove_reviewer, add_attention, remove_attention, named_alone, asked_named}
-use Rattle.review_json.specs.Commands.{create_account, put_group, put_project, record_base, create_change, on_change, command_named}
+use Rattle.review_json.specs.Commands.{create_account, put_group, put_project, record_base, create_change, on_change, submit, command_named}
 use Rattle.review_json.specs.Queries.{is_query, query_named}
 use Rattle.review_json.specs.Line.{value_spelled, object_or_empty, body_in, command_in, write_in, read_in, delivery_in, delivery_spelled}
 use Rattle.review_json_laws.specs.Laws.{asked_comments, made_comments, delivered_comments, CommentsGoByPlace}
@@ -110,6 +110,10 @@ unfolding on_change
 in_on_change name line body h =
     then_any IsByPlace _ (λ change. map_some IsAskedByPlace IsByPlace _ (λ asked p. p) (asked_named name line body) (in_asked_named name line body h)) (change_at (codes "change") line)
 
+in_submit : (line : Data) → IfSome (submit line) IsByPlace
+unfolding submit
+in_submit line = map_any IsByPlace _ (λ change. tt) (change_at (codes "change") line)
+
 in_command_named : (name : List ℕ) (line body : Data) → IsInOrder body → IfSome (command_named name line body) IsByPlace
 unfolding command_named
 in_command_named name line body h =
@@ -117,7 +121,8 @@ in_command_named name line body h =
     (either_some IsByPlace (bytes_eq name (codes "PutGroup")) _ _ (in_put_group line body)
     (either_some IsByPlace (bytes_eq name (codes "PutProject")) _ _ (in_put_project line body)
     (either_some IsByPlace (bytes_eq name (codes "RecordBase")) _ _ (in_record_base line body)
-    (either_some IsByPlace (bytes_eq name (codes "CreateChange")) _ _ (in_create_change body) (in_on_change name line body h)))))
+    (either_some IsByPlace (bytes_eq name (codes "CreateChange")) _ _ (in_create_change body)
+    (either_some IsByPlace (bytes_eq name (codes "Submit")) _ _ (in_submit line) (in_on_change name line body h))))))
 
 in_object_or_empty : (o : Option Data) → IfSome o IsInOrder → IfSome (object_or_empty o) IsInOrder
 in_object_or_empty None h = tt

@@ -8,3 +8,8 @@ pub mod Sending
 pub mod Left
 pub mod Ordered
 pub mod Shown
+pub mod Puts
+pub mod Placed
+pub mod Merged
+pub mod Joined
+pub mod Listed

@@ -1,5 +1,6 @@
 -- Lists of edits and of keys, one more each.
 use Rattle.std.proofs.Common.{◌≡◌, ℕ, zero, suc, arith, ◌+◌, ◌<◌, List, [], ◌∷◌, ◌++◌, Option, Some, None, length, take, drop, get_or, refl, sym, ap, ◌∙◌, subst}
+use Rattle.std.specs.Prelude.{flat_map}
 use Rattle.std.proofs.lemmas.List.{take_more}
 use Rattle.review_table.specs.declared.table.Change.{Change}
 use Rattle.review_changes.specs.declared.rows.PatchRow.{PatchRow}
@@ -34,6 +35,15 @@ sent_more n cs i c old new all below is new_is whole =
     ap (λ l. l ++ sent_in n (drop (i + 1) cs)) new_is
     ∙ assoc old (with_sent n c.key c.row []) (sent_in n (drop (i + 1) cs))
     ∙ ap (λ l. old ++ l) (sym (with_apart n c.key c.row (sent_in n (drop (i + 1) cs))) ∙ ap (sent_in n) (sym (drop_one cs i c below ∙ ap (λ x. x ∷ drop (i + 1) cs) (sym is))))
+    ∙ whole
+
+-- one item more of a list that is gone through
+pub flat_more : {X Y : Type 0} (f : X → List Y) (xs : List X) (i : ℕ) (x : X) (old new all : List Y) → i < length xs → x ≡ get_or xs i x →
+    new ≡ old ++ f x → old ++ flat_map f (drop i xs) ≡ all → new ++ flat_map f (drop (i + 1) xs) ≡ all
+flat_more f xs i x old new all below is new_is whole =
+    ap (λ l. l ++ flat_map f (drop (i + 1) xs)) new_is
+    ∙ assoc old (f x) (flat_map f (drop (i + 1) xs))
+    ∙ ap (λ l. old ++ l) (ap (flat_map f) (sym (drop_one xs i x below ∙ ap (λ y. y ∷ drop (i + 1) xs) (sym is))))
     ∙ whole
 
 pub sent_by_more : (es : List ChangeEdit) (i : ℕ) (e : ChangeEdit) (old new all : List (Change SentKey (Unit {0}))) → i < length es → e ≡ get_or es i e →

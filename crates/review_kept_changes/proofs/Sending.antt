@@ -4,7 +4,7 @@ use Rattle.std.specs.Option.{option_map}
 use Rattle.std.specs.declared.cmp.Ordering.{Ordering}
 use Rattle.std.specs.declared.cmp.Ordering.TheVariants.{Less, Equal, Greater}
 use Rattle.std.specs.Ordering.{is_le, is_lt, nat_cmp, ordering_then}
-use Rattle.std.specs.Cmp.{unsigned_ties}
+use Rattle.std.specs.Cmp.{unsigned_ties, IsTotalOrder}
 use Rattle.std.specs.Str.{bytes_eq}
 use Rattle.std.proofs.lemmas.Bool.{and_parts}
 use Rattle.std.proofs.lemmas.Cmp.{nat_list_cmp_total, tied_itself}
@@ -21,12 +21,12 @@ use Rattle.review_kept_changes.specs.declared.kept.SentKey.{SentKey}
 use Rattle.review_kept_changes.specs.Kept.{has_commit, is_sent, part_where, row_of, sent_cmp, AreListed, IsNumbered}
 
 -- a patch set of the commit is there
-record HasPatch (o : Option PatchRow) (commit : List ℕ) : Type 0 where
-  patch : PatchRow
-  is : o ≡ Some patch
-  commit_is : patch.commit ≡ commit
+pub record HasPatch (o : Option PatchRow) (commit : List ℕ) : Type 0 where
+  pub patch : PatchRow
+  pub is : o ≡ Some patch
+  pub commit_is : patch.commit ≡ commit
 
-patch_of : (o : Option PatchRow) (commit : List ℕ) → has_commit o commit ≡ true → HasPatch o commit
+pub patch_of : (o : Option PatchRow) (commit : List ℕ) → has_commit o commit ≡ true → HasPatch o commit
 patch_of None commit h = absurd (let f : false ≡ true = h in cc)
 patch_of (Some patch) commit h = record { patch = patch; is = refl; commit_is = (bytes_eq-Decides patch.commit commit).0 h }
 
@@ -52,6 +52,15 @@ module _ (kept : List (ℕ × ChangeTables)) (base : Base) (n p : ℕ) where
   pub sender_is : is_sent (row_in nat_cmp kept n) base p ≡ true → IsSender (row_of kept) base n
   sender_is h = sender_by (row_in nat_cmp kept n) refl h
 
+  -- with the number of its patch set
+  with_by : (o : Option ChangeTables) → row_in nat_cmp kept n ≡ o → is_sent o base p ≡ true → (sent : IsSender (row_of kept) base n) × (sent.number ≡ p)
+  unfolding sender_by
+  with_by None is h = absurd (let f : false ≡ true = h in cc)
+  with_by (Some t) is h = (sender_by (Some t) is h, refl)
+
+  pub sender_with : is_sent (row_in nat_cmp kept n) base p ≡ true → (sent : IsSender (row_of kept) base n) × (sent.number ≡ p)
+  sender_with h = with_by (row_in nat_cmp kept n) refl h
+
   listed_by : (sent : List (SentKey × Unit {0})) → AreListed sent kept → (o : Option ChangeTables) → row_in nat_cmp kept n ≡ o → is_sent o base p ≡ true →
       row_in sent_cmp sent (record { commit = base.commit; change = n; patch = p }) ≡ Some tt
   listed_by sent all None is h = absurd (let f : false ≡ true = h in cc)
@@ -67,7 +76,7 @@ module _ (kept : List (ℕ × ChangeTables)) (base : Base) (n p : ℕ) where
       row_in sent_cmp sent (record { commit = base.commit; change = n; patch = p }) ≡ Some tt
   listed_is sent all h = listed_by sent all (row_in nat_cmp kept n) refl h
 
-header_is : (t : ChangeTables) (h : Header) → Some (APart (AHeader t.header)) ≡ Some (APart (AHeader h)) → t.header ≡ h
+pub header_is : (t : ChangeTables) (h : Header) → Some (APart (AHeader t.header)) ≡ Some (APart (AHeader h)) → t.header ≡ h
 header_is t h e = cc
 
 patch_is : (o : Option PatchRow) (x : PatchRow) (commit : List ℕ) → x.commit ≡ commit → option_map APart (option_map APatch o) ≡ Some (APart (APatch x)) → has_commit o commit ≡ true
@@ -98,17 +107,22 @@ not_lt_then Less r a b = absurd (let f : true ≡ false = a in cc)
 not_lt_then Equal r a b = b
 not_lt_then Greater r a b = refl
 
-least : (n : ℕ) → 1 ≤ n → is_le (nat_cmp 1 n) ≡ true
-least n h = grind (arith, unsigned_ties)
+least : (l n : ℕ) → l ≤ n → is_le (nat_cmp l n) ≡ true
+least l n h = grind (arith, unsigned_ties)
 
 greatest : (m n : ℕ) → n ≤ m → is_lt (nat_cmp m n) ≡ false
 greatest m n h = grind (arith, unsigned_ties)
+
+-- a key by three parts lies between two with the same first part, where its other parts lie between theirs
+pub between_parts : {A : Type 0} {R : A → A → Ordering} → IsTotalOrder R → (a : A) (x y l m g h : ℕ) → l ≤ x → x ≤ g → m ≤ y → y ≤ h →
+    (is_le (ordering_then (R a a) (ordering_then (nat_cmp l x) (nat_cmp m y))) && not (is_lt (ordering_then (R a a) (ordering_then (nat_cmp g x) (nat_cmp h y))))) ≡ true
+between_parts total a x y l m g h lx xg my yh =
+    let k = tied_itself total a in
+    (λ i. is_le (ordering_then (k i) (ordering_then (nat_cmp l x) (nat_cmp m y))) && not (is_lt (ordering_then (k i) (ordering_then (nat_cmp g x) (nat_cmp h y)))))
+    ∙ (λ i. le_then (nat_cmp l x) (nat_cmp m y) (least l x lx) (least m y my) i && not (not_lt_then (nat_cmp g x) (nat_cmp h y) (greatest g x xg) (greatest h y yh) i))
 
 -- a key of the index lies between the least and the greatest of its commit
 pub between : (c : List ℕ) (n p : ℕ) → IsNumbered (record { commit = c; change = n; patch = p }) →
     (is_le (sent_cmp (record { commit = c; change = 1; patch = 1 }) (record { commit = c; change = n; patch = p }))
     && not (is_lt (sent_cmp (record { commit = c; change = 1000000000; patch = 1000 }) (record { commit = c; change = n; patch = p })))) ≡ true
-between c n p h =
-    let k = tied_itself nat_list_cmp_total c in
-    (λ i. is_le (ordering_then (k i) (ordering_then (nat_cmp 1 n) (nat_cmp 1 p))) && not (is_lt (ordering_then (k i) (ordering_then (nat_cmp 1000000000 n) (nat_cmp 1000 p)))))
-    ∙ (λ i. le_then (nat_cmp 1 n) (nat_cmp 1 p) (least n h.0) (least p h.2) i && not (not_lt_then (nat_cmp 1000000000 n) (nat_cmp 1000 p) (greatest 1000000000 n h.1) (greatest 1000 p h.3) i))
+between c n p h = between_parts nat_list_cmp_total c n p 1 1 1000000000 1000 h.0 h.1 h.2 h.3

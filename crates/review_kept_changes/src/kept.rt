@@ -1,18 +1,19 @@
-//! The rows of all changes in memory, with an index by commit.
-ghost use Rattle.std.specs.Prelude.{◌≡◌, Some, ◌++◌, [], ℕ, IfErr, IfOk, OnOk, OnErr, option_map};
+//! The rows of all changes in memory, with an index by commit and one by place.
+ghost use Rattle.std.specs.Prelude.{◌≡◌, Some, ◌++◌, [], ℕ, IfErr, IfOk, MatchBool, OnOk, OnErr, option_map};
 ghost use Rattle.std.specs.Ordering.{nat_cmp};
-ghost use Rattle.review_table.specs.Rows.{changed, is_named, row_in, rows_of, HasEmptyOnly, HasNoEmptyPlace, HavePlaces};
-ghost use Rattle.review_rows.specs.Known.{HasChange, IsLast, IsSentBy, header_key};
+ghost use Rattle.review_table.specs.Rows.{changed, row_in, rows_of};
+ghost use Rattle.review_rows.specs.Known.{HasChange, IsLast, IsMergedWith, IsSentBy, header_key};
 ghost use Rattle.review_changes.specs.Seen.{seen};
 ghost use Rattle.review_kept_changes.specs.Loads.{IsUnread};
-ghost use Rattle.review_kept_changes.specs.Kept.{is_sent, row_of, sent_by, sent_cmp, sent_in, with_sent, AreNumbered, ArePrepared, HasRoomFor, IsFull, IsFullBut, IsReady, PutsEdited, PutAllEdited};
+ghost use Rattle.review_kept_changes.specs.Kept.{is_sent, row_of, sent_by, sent_in, with_sent, AreNumbered, ArePrepared, HasRoomFor, IsFoundSent, IsFull, IsFullBut, IsLastOf, IsReady, IsSentAs, IsSentIn, PutsEdited, PutAllEdited};
 
 use crate::edits::{ChangeTables, begun, edited};
 use crate::loading::{ChangeFault, change_rows};
+use crate::places::{PlaceKey, placed_by};
 use review_changes::{ChangeRows, PatchRow};
 use review_rows::{Base, ChangeEdit};
 use review_table::{Change, Key, Table};
-use review_words::{ChangeNo, CommitName, PatchNo};
+use review_words::{ChangeNo, CommitName, PatchNo, State};
 use std::alloc::{AllocError, Global};
 use std::marker::Model;
 
@@ -39,34 +40,38 @@ impl Key for SentKey {
 pub struct Prepared {
     tables: Vec<Change<ChangeNo, ChangeTables>>,
     keys: Vec<Change<SentKey, ()>>,
+    places: Vec<Change<PlaceKey, ()>>,
 }
 
-/// The rows of changes by their numbers, with an index of the patch sets by commit. Contracts see the tables of each change.
+/// The rows of changes by their numbers, with an index of the patch sets by commit, and one of the changes that joined a branch by
+/// branch and place. An index may have more than that: what it finds is looked up in the rows. Contracts see the tables of each change.
 #[derive(Drop)]
 pub struct KeptChanges {
-    kept: Table<ChangeNo, ChangeTables>,
-    sent: Table<SentKey, ()>,
+    pub(crate) kept: Table<ChangeNo, ChangeTables>,
+    pub(crate) sent: Table<SentKey, ()>,
+    pub(crate) placed: Table<PlaceKey, ()>,
 }
 
 impl Model for KeptChanges {
     ghost use Rattle.review_table.specs.Rows.{rows_of};
-    ghost use Rattle.review_kept_changes.specs.Kept.{AreListed, KeptView};
+    ghost use Rattle.review_kept_changes.specs.Kept.{AreIndexed, KeptView};
 
     ghost Value = { KeptView };
 
-    ghost view = { λ t. record { kept = t.kept; sent = t.sent } };
+    ghost view = { λ t. record { kept = t.kept; sent = t.sent; placed = t.placed } };
 
-    ghost invariant = { λ t. AreListed (rows_of t.sent) (rows_of t.kept) };
+    ghost invariant = { λ t. AreIndexed (rows_of t.sent) (rows_of t.placed) (rows_of t.kept) };
 }
 
 impl KeptChanges {
     /// No changes.
     pub fn new(alloc: Global) -> KeptChanges
-        ensures { result ≡ record { kept = []; sent = [] } }
+        ensures { result ≡ record { kept = []; sent = []; placed = [] } }
     {
         KeptChanges {
             kept: Table::new(alloc),
             sent: Table::new(alloc),
+            placed: Table::new(alloc),
         }
     }
 
@@ -95,22 +100,56 @@ impl KeptChanges {
     pub fn sender(&self, alloc: Global, base: &Base) -> Result<Option<ChangeNo>, AllocError>
         ensures { IfOk result (IsSentBy (row_of (rows_of self.now.kept)) base.now) }
     {
+        match self.find_sent(alloc, base, false)? {
+            Some((change, _)) => Ok(Some(change)),
+            None => Ok(None),
+        }
+    }
+
+    /// The change for a branch that has a patch set of a commit, with the patch set's number, or that none has.
+    pub fn sent_patch(
+        &self,
+        alloc: Global,
+        base: &Base,
+    ) -> Result<Option<(ChangeNo, PatchNo)>, AllocError>
+        ensures { IfOk result (IsSentIn (row_of (rows_of self.now.kept)) base.now) }
+    {
+        self.find_sent(alloc, base, false)
+    }
+
+    /// Whether a commit is the current one of a merged change for its branch.
+    pub fn is_merged(&self, alloc: Global, base: &Base) -> Result<bool, AllocError>
+        ensures { IfOk result (λ is. MatchBool is ((n : ℕ) × IsMergedWith (row_of (rows_of self.now.kept)) base.now n) ((n : ℕ) → IsMergedWith (row_of (rows_of self.now.kept)) base.now n → ⊥)) }
+    {
+        let merged = self.find_sent(alloc, base, true)?;
+        Ok(merged.is_some())
+    }
+
+    // A change for a branch with the number of a patch set that has a commit; where it is to be merged, as its current one.
+    fn find_sent(
+        &self,
+        alloc: Global,
+        base: &Base,
+        merged: bool,
+    ) -> Result<Option<(ChangeNo, PatchNo)>, AllocError>
+        ensures { IfOk result (IsFoundSent merged (rows_of self.now.kept) base.now) }
+    {
         let from = least_key(alloc, base)?;
         let to = greatest_key(alloc, base)?;
         for (key, _) in self.sent.select(alloc, from, to)? {
-            if self.has_sent(base, key) {
-                return Ok(Some(key.change));
+            if self.has_sent(base, merged, key) {
+                return Ok(Some((key.change, key.patch)));
             }
         }
         Ok(None)
     }
 
-    // Whether the change of a key is for the branch, and its patch set has the commit.
-    fn has_sent(&self, base: &Base, key: &SentKey) -> bool
-        ensures { result ≡ is_sent (row_in nat_cmp (rows_of self.now.kept) key.now.change) base.now key.now.patch }
+    // Whether the change of a key has sent the commit so, by the key's patch set.
+    fn has_sent(&self, base: &Base, merged: bool, key: &SentKey) -> bool
+        ensures { MatchBool result (IsSentAs merged (row_in nat_cmp (rows_of self.now.kept) key.now.change) base.now key.now.patch) (IsSentAs merged (row_in nat_cmp (rows_of self.now.kept) key.now.change) base.now key.now.patch → ⊥) }
     {
         match self.kept.get(&key.change) {
-            Some(tables) => is_sent(tables, base, key.patch),
+            Some(tables) => is_sent_as(tables, base, merged, key.patch),
             None => false,
         }
     }
@@ -122,6 +161,7 @@ impl KeptChanges {
         Ok(Prepared {
             tables: edited_all(alloc, &self.kept, edits)?,
             keys: sent_by(alloc, edits)?,
+            places: placed_by(alloc, edits)?,
         })
     }
 
@@ -136,8 +176,8 @@ impl KeptChanges {
             alloc,
             &mut self.kept,
             &mut self.sent,
-            &prepared.tables,
-            &prepared.keys,
+            &mut self.placed,
+            prepared,
         );
         match reserved {
             Ok(()) => Ok(()),
@@ -155,9 +195,14 @@ impl KeptChanges {
         ensures done { (n : ℕ) → row_in nat_cmp (rows_of self.new.kept) n ≡ changed nat_cmp prepared.tables.items n (row_in nat_cmp (rows_of self.old.kept) n) }
         ensures full { IsFullBut prepared self.old → IsFull self.new }
     {
-        let Prepared { tables, keys } = prepared;
+        let Prepared {
+            tables,
+            keys,
+            places,
+        } = prepared;
         self.kept.apply(tables);
         self.sent.apply(keys);
+        self.placed.apply(places);
     }
 
     /// Drops the places that hold no row, of those that edits name.
@@ -167,6 +212,7 @@ impl KeptChanges {
     {
         self.kept.release(&prepared.tables);
         self.sent.release(&prepared.keys);
+        self.placed.release(&prepared.places);
     }
 }
 
@@ -175,18 +221,18 @@ fn reserve(
     alloc: Global,
     kept: &mut Table<ChangeNo, ChangeTables>,
     sent: &mut Table<SentKey, ()>,
-    tables: &[Change<ChangeNo, ChangeTables>],
-    keys: &[Change<SentKey, ()>],
+    placed: &mut Table<PlaceKey, ()>,
+    prepared: &Prepared,
 ) -> Result<(), AllocError>
     ensures kept { rows_of kept.new ≡ rows_of kept.old }
     ensures sent { rows_of sent.new ≡ rows_of sent.old }
-    ensures tables { OnOk result (HavePlaces nat_cmp kept.new tables.now) }
-    ensures keys { OnOk result (HavePlaces sent_cmp sent.new keys.now) }
-    ensures kept_spare { HasNoEmptyPlace nat_cmp kept.old → HasEmptyOnly nat_cmp (is_named nat_cmp tables.now) kept.new }
-    ensures sent_spare { HasNoEmptyPlace sent_cmp sent.old → HasEmptyOnly sent_cmp (is_named sent_cmp keys.now) sent.new }
+    ensures placed { rows_of placed.new ≡ rows_of placed.old }
+    ensures room { OnOk result (HasRoomFor prepared.now (record { kept = kept.new; sent = sent.new; placed = placed.new })) }
+    ensures spare { IsFull (record { kept = kept.old; sent = sent.old; placed = placed.old }) → IsFullBut prepared.now (record { kept = kept.new; sent = sent.new; placed = placed.new }) }
 {
-    kept.reserve_all(alloc, tables)?;
-    sent.reserve_all(alloc, keys)?;
+    kept.reserve_all(alloc, &prepared.tables)?;
+    sent.reserve_all(alloc, &prepared.keys)?;
+    placed.reserve_all(alloc, &prepared.places)?;
     Ok(())
 }
 
@@ -283,6 +329,35 @@ fn is_sent(tables: &ChangeTables, base: &Base, patch: PatchNo) -> bool
         }
         None => false,
     }
+}
+
+// Whether a change is for the branch, and its patch set has the commit; where it is to be merged, as its current one.
+fn is_sent_as(tables: &ChangeTables, base: &Base, merged: bool, patch: PatchNo) -> bool
+    ensures { MatchBool result (IsSentAs merged (Some tables.now) base.now patch) (IsSentAs merged (Some tables.now) base.now patch → ⊥) }
+{
+    if !is_sent(tables, base, patch) {
+        return false;
+    }
+    if !merged {
+        return true;
+    }
+    match tables.header.state {
+        State::Merged => is_last(tables, patch),
+        State::New | State::Abandoned => false,
+    }
+}
+
+// Whether no patch set of a change has a greater number.
+fn is_last(tables: &ChangeTables, patch: PatchNo) -> bool
+    ensures { MatchBool result (IsLastOf (rows_of tables.now.patches) patch) (IsLastOf (rows_of tables.now.patches) patch → ⊥) }
+{
+    let Some(last) = tables.patches.last_key() else {
+        return true;
+    };
+    if last.get() > patch.get() {
+        return false;
+    }
+    true
 }
 
 #[tactic(auto, unfolding(review_names::specs::Forms::is_within))]

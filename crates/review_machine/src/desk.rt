@@ -4,6 +4,7 @@ ghost use Rattle.review_words.specs.History.{Entry};
 ghost use Rattle.review_rows.specs.Answer.{IsHistory};
 ghost use Rattle.review_rows.specs.Shelf.{Views};
 ghost use Rattle.review_deliveries.specs.Replies.{IsServed, IsRun, AreSteps, KeepsUntaken, StoresOnce, CountsReply, StopGoesOnFrom, StopHasEntry, history_after};
+ghost use Rattle.review_machine.specs.Branches.{AreSoundBranches};
 
 use crate::rules::DeskRules;
 use review_deliveries::Stopped;
@@ -47,6 +48,9 @@ pub fn deliver<S: Shelf>(alloc: Global, shelf: &mut S, delivery: &Delivery) -> R
 /// deleted. Where there is no memory for the list of replies it stops before the first
 /// delivery, and only there.
 ///
+/// Of the history that it leaves: each change joined its branch at most once and has its place there; it stands on a base of the branch or
+/// on a change that joined before it; and just before its submit it was open, not in work in progress, and no requirement was unsatisfied.
+///
 /// Premises: the store returned what was written to it; once a fault has shut it, nothing is said of tables. On any tables
 /// whatever each step leaves them, or stores its request beside the others.
 pub fn run<S: Shelf>(
@@ -61,6 +65,9 @@ pub fn run<S: Shelf>(
     ensures step_by_step { (S.state shelf.new).is_honest → MatchResult result
         (λ replies. AreSteps deliveries.now replies.items (S.state shelf.old).tables (S.state shelf.new).tables)
         (λ stopped. AreSteps (take (length stopped.replies.items) deliveries.now) stopped.replies.items (S.state shelf.old).tables (S.state shelf.new).tables) }
+    ensures branches { (S.state shelf.new).is_honest → (h : List Entry) → IsHistory h → Views h (S.state shelf.old).tables → MatchResult result
+        (λ replies. AreSoundBranches (history_after h deliveries.now replies.items))
+        (λ stopped. AreSoundBranches (history_after h (take (length stopped.replies.items) deliveries.now) stopped.replies.items)) }
     ensures stopped { IfErr result (λ stopped. (stopped.replies.items ≡ []) × (0 < length deliveries.now)) }
 {
     review_deliveries::run(alloc, shelf, &mut DeskRules::new(alloc), deliveries)

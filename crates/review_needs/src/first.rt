@@ -15,7 +15,7 @@ use std::alloc::{AllocError, Global};
 
 /// What a command or a question asks first. Of a command these are: how many requests are stored, the caller's account and those that it
 /// names, whether the caller is an administrator, and what it is to change or the change that it names; of a question the caller's
-/// account, and the change that it names, or whether the project is there and the bases of the branch.
+/// account, and the change that it names, or whether the project is there, the bases of the branch, and what joined it.
 pub fn first_wants(
     alloc: Global,
     caller: AccountNo,
@@ -74,6 +74,7 @@ fn command_wants(
             wants.push(Want::Change(*change))?;
             push_named(&mut wants, command)?;
         }
+        Command::Submit { change } => wants.push(Want::Change(*change))?,
     }
     Ok(wants)
 }
@@ -146,6 +147,7 @@ fn query_wants(alloc: Global, caller: AccountNo, query: &Query) -> Result<Vec<Wa
         Query::Branch { project, branch } => {
             wants.push(Want::Project(project.copy(alloc)?))?;
             wants.push(Want::Bases(branch_of(alloc, project, branch)?))?;
+            wants.push(Want::Joined(branch_of(alloc, project, branch)?))?;
         }
         Query::OnChange { change, query: _ } => wants.push(Want::Change(*change))?,
     }

@@ -7,6 +7,7 @@ ghost use Rattle.review_words.specs.declared.reply.NotTaken.TheVariants.{Damaged
 ghost use Rattle.review_changes.specs.Seen.{seen};
 ghost use Rattle.review_changes.specs.Shown.{IsToldOf};
 ghost use Rattle.review_changes.specs.Sound.{IsSound};
+ghost use Rattle.review_rows.specs.Answer.{IsHistory};
 ghost use Rattle.review_rows.specs.Changes.{Reading};
 ghost use Rattle.review_rows.specs.Decisions.{IsDoneOrRefused, IsUnshown};
 ghost use Rattle.review_rows.specs.Questions.{IsQueryAnswerBy};
@@ -14,9 +15,9 @@ ghost use Rattle.review_rows.specs.Steps.{OfQuery};
 ghost use Rattle.review_rows.specs.View.{AreEnough};
 ghost use Rattle.review_questions.specs.Told.{IsToldBy, LacksFile, setting_by};
 
+use crate::branches::show_branch;
 use crate::showing::{shown_attention, shown_change};
 use review_account_decisions::is_asker;
-use review_branch_decisions::show_branch;
 use review_change_laws::changes_are_sound;
 use review_change_rows::copied_change;
 use review_changes::ChangeRows;
@@ -41,7 +42,7 @@ pub fn show(
     caller: AccountNo,
     query: &Query,
 ) -> Result<Reply, NotTaken>
-    ensures shown { IfOk result (λ r. (reading : Reading) (h : List Entry) → AreEnough reading h caller (OfQuery query.now) (option_copied had.entry) rows.now → IsQueryAnswerBy reading h caller query.now r) }
+    ensures shown { IfOk result (λ r. (reading : Reading) (h : List Entry) → IsHistory h → AreEnough reading h caller (OfQuery query.now) (option_copied had.entry) rows.now → IsQueryAnswerBy reading h caller query.now r) }
     ensures answered { IfOk result IsDoneOrRefused }
     ensures cause { IfErr result (IsUnshown caller query.now (option_copied had.entry) rows.now) }
 {
@@ -73,7 +74,7 @@ fn show_on(
     change: ChangeNo,
     query: ChangeQuery,
 ) -> Result<Reply, NotTaken>
-    ensures shown { IfOk result (λ r. (reading : Reading) (h : List Entry) → AreEnough reading h caller (OfQuery (OnChange change query)) (option_copied had.entry) rows.now → IsQueryAnswerBy reading h caller (OnChange change query) r) }
+    ensures shown { IfOk result (λ r. (reading : Reading) (h : List Entry) → IsHistory h → AreEnough reading h caller (OfQuery (OnChange change query)) (option_copied had.entry) rows.now → IsQueryAnswerBy reading h caller (OnChange change query) r) }
     ensures answered { IfOk result IsDoneOrRefused }
     ensures cause { IfErr result (IsUnshown caller (OnChange change query) (option_copied had.entry) rows.now) }
 {

@@ -1,20 +1,31 @@
 -- What was asked is known, and asking ends.
-use Rattle.std.proofs.Common.{◌≡◌, ℕ, ◌<◌, ◌≤◌, List, [], ◌∷◌, Option, Some, None, true, false, cond, not, refl, sym, ap, ◌∙◌, subst, ⊎_elim, arith}
-use Rattle.std.specs.Prelude.{is_some}
+use Rattle.std.proofs.Common.{◌≡◌, ℕ, ◌+◌, ◌<◌, ◌≤◌, List, [], ◌∷◌, length, zero, suc, Option, Some, None, Bool, true, false, cond, not, IsSome, refl, sym, ap, ◌∙◌, subst, ⊎_elim, arith}
+use Rattle.std.specs.Prelude.{is_some, ◌&&◌, option_map, option_to_list}
 use Rattle.std.specs.Option.{option_or}
 use Rattle.std.specs.List.{All, AllByRecursion}
 use Rattle.std.proofs.lemmas.Bool.{cases_Bool}
 use Rattle.std.proofs.lemmas.List.Elements.{All-head, All-tail}
 use Rattle.review_words.specs.declared.command.Command.{Command}
-use Rattle.review_words.specs.declared.command.Command.TheVariants.{CreateAccount, PutGroup, PutProject, RecordBase, CreateChange, OnChange}
+use Rattle.review_words.specs.declared.command.Command.TheVariants.{CreateAccount, PutGroup, PutProject, RecordBase, CreateChange, OnChange, Submit}
 use Rattle.review_words.specs.declared.command.Query.TheVariants as asked
 use Rattle.review_rows.specs.declared.rows.Want.{Want}
 use Rattle.review_rows.specs.declared.rows.Want.TheVariants as want
 use Rattle.review_rows.specs.declared.rows.Rows.{Rows}
 use Rattle.review_rows.specs.Rows.{Tables}
-use Rattle.review_rows.specs.Known.{Found, IsFound, known, number_of, change_in, Agrees, IsKnown, AreAdded}
+use Rattle.review_rows.specs.Known.{Found, Stands, IsFound, known, number_of, change_in, standing_of, Agrees, IsKnown, AreAdded}
 use Rattle.review_rows.specs.Files.{File}
-use Rattle.review_rows.specs.Steps.{Topic, OfCommand, OfQuery, first_wants, change_wants, file_wants, question_wants, request_wants, wants_by, unknown, or_next, next, left_where, AskingLowers}
+use Rattle.review_rows.specs.Rows.{base_cmp}
+use Rattle.review_table.specs.Rows.{row_in, rows_of}
+use Rattle.review_changes.specs.Change.{Change, is_open}
+use Rattle.review_chain.specs.declared.links.Link.{Link}
+use Rattle.review_chain.specs.declared.links.Standing.{Standing}
+use Rattle.review_chain.specs.Branches.{Branch}
+use Rattle.review_chain.specs.Parts.{Want as ChainWant, TheChange, TheCommit, IsPart, Knows}
+use Rattle.review_chain.specs.Steps.{wanted, left as left_in_chain}
+use Rattle.review_chain.proofs.LookingUp.{fewer_left, most_left}
+use Rattle.review_chain.proofs.Wanting.{Says, still_wanted, wanted_says}
+use Rattle.review_rows.specs.Links.{link_for, links_in}
+use Rattle.review_rows.specs.Steps.{Topic, OfCommand, OfQuery, first_wants, change_wants, file_wants, question_wants, request_wants, submit_wants, wants_by, wanted_for, chain_wants, chain_left, last_of, last_wants, look_up, steps, unknown, or_next, next, next_of, left, left_before, left_if, left_of, left_where, AskingLowers}
 
 -- what a look-up that was made found in tables that agree
 pub found_of : (t : Tables) (rows : Rows) (w : Want) → Agrees t rows → IsKnown rows w → (f : Found) × (known rows w ≡ Some f) × IsFound t w f
@@ -66,25 +77,26 @@ none_in : (a b : List Want) → or_next a b ≡ [] → (a ≡ []) × (b ≡ [])
 none_in [] b none = (refl, none)
 none_in (w ∷ ws) b none = absurd (cc)
 
+-- where nothing is left to ask, nothing is left of the steps, and nothing that is asked last
+pub all_made : (file : Option File) (rows : Rows) (caller : ℕ) (topic : Topic) → next file rows caller topic ≡ [] → (next_of rows (steps file rows caller topic) ≡ []) × (last_wants rows topic ≡ [])
+all_made file rows caller topic none = none_in (next_of rows (steps file rows caller topic)) (last_wants rows topic) none
+
 -- where nothing is left to ask, nothing is left of each step
-none_of_steps : (file : Option File) (rows : Rows) (caller : ℕ) (topic : Topic) → next file rows caller topic ≡ [] →
-    (unknown rows (first_wants caller topic) ≡ []) × (unknown rows (change_wants rows topic) ≡ []) × (unknown rows (file_wants file caller topic) ≡ [])
-none_of_steps file rows caller topic none =
-    let first = none_in (unknown rows (first_wants caller topic)) (or_next (unknown rows (change_wants rows topic)) (or_next (unknown rows (file_wants file caller topic)) [])) none in
-    let second = none_in (unknown rows (change_wants rows topic)) (or_next (unknown rows (file_wants file caller topic)) []) first.1 in
-    (first.0, second.0, (none_in (unknown rows (file_wants file caller topic)) [] second.1).0)
+none_of_steps : (rows : Rows) (xs : List (List Want)) → next_of rows xs ≡ [] → AllByRecursion (λ x. unknown rows x ≡ []) xs
+none_of_steps rows [] none = tt
+none_of_steps rows (x ∷ xs) none = let p = none_in (unknown rows x) (next_of rows xs) none in (p.0, none_of_steps rows xs p.1)
 
 -- where nothing is left to ask, all was asked that is asked first
 pub all_asked : (file : Option File) (rows : Rows) (caller : ℕ) (topic : Topic) → next file rows caller topic ≡ [] → AllByRecursion (IsKnown rows) (first_wants caller topic)
-all_asked file rows caller topic none = each_known rows (first_wants caller topic) (none_of_steps file rows caller topic none).0
+all_asked file rows caller topic none = each_known rows (first_wants caller topic) (none_of_steps rows (steps file rows caller topic) (all_made file rows caller topic none).0).0
 
 -- and all that is asked by the change
 pub change_asked : (file : Option File) (rows : Rows) (caller : ℕ) (topic : Topic) → next file rows caller topic ≡ [] → AllByRecursion (IsKnown rows) (change_wants rows topic)
-change_asked file rows caller topic none = each_known rows (change_wants rows topic) (none_of_steps file rows caller topic none).1
+change_asked file rows caller topic none = each_known rows (change_wants rows topic) (none_of_steps rows (steps file rows caller topic) (all_made file rows caller topic none).0).1.0
 
 -- and all that is asked by the file
 pub file_asked : (file : Option File) (rows : Rows) (caller : ℕ) (topic : Topic) → next file rows caller topic ≡ [] → AllByRecursion (IsKnown rows) (file_wants file caller topic)
-file_asked file rows caller topic none = each_known rows (file_wants file caller topic) (none_of_steps file rows caller topic none).2
+file_asked file rows caller topic none = each_known rows (file_wants file caller topic) (none_of_steps rows (steps file rows caller topic) (all_made file rows caller topic none).0).1.1.0
 
 stays : (a b : Option Found) → is_some a ≡ true → option_or a b ≡ a
 stays None b e = absurd (cc)
@@ -93,6 +105,10 @@ stays (Some f) b e = refl
 -- what is known stays known
 known_stays : (rows more both : Rows) (w : Want) → AreAdded rows more both → IsKnown rows w → known both w ≡ known rows w
 known_stays rows more both w added there = added w ∙ stays (known rows w) (known more w) there
+
+-- a submit asks first for its change
+submit_known : (rows : Rows) (caller n : ℕ) → unknown rows (first_wants caller (OfCommand (Submit n))) ≡ [] → IsKnown rows (want.Change n)
+submit_known rows caller n none = (each_known rows (first_wants caller (OfCommand (Submit n))) none).1.1.1.0
 
 -- once the change is known, what it asks stays
 same_wants : (rows more both : Rows) (caller : ℕ) (topic : Topic) → AreAdded rows more both → unknown rows (first_wants caller topic) ≡ [] → change_wants both topic ≡ change_wants rows topic
@@ -104,62 +120,227 @@ same_wants rows more both caller (OfCommand (PutGroup group members)) added none
 same_wants rows more both caller (OfCommand (PutProject project text)) added none = refl
 same_wants rows more both caller (OfCommand (RecordBase project branch commit)) added none = refl
 same_wants rows more both caller (OfCommand (CreateChange new)) added none = refl
+same_wants rows more both caller (OfCommand (Submit change)) added none =
+    ap (λ k. wants_by submit_wants (change_in k)) (known_stays rows more both (want.Change change) added (submit_known rows caller change none))
 same_wants rows more both caller (OfCommand (OnChange change command)) added none =
     ap (λ k. wants_by (request_wants command) (change_in k)) (known_stays rows more both (want.Change change) added (each_known rows (first_wants caller (OfCommand (OnChange change command))) none).1.1.1.0)
 
-at_most_one : (c : List Want) → left_where c 0 1 ≤ 1
-at_most_one [] = omega arith
-at_most_one (w ∷ ws) = omega arith
+-- steps of which each is the same in both where those before it were made
+abbrev pub AreSteps : Rows → List (List Want) → List (List Want) → Type 0
+AreSteps rows [] [] = Unit {0}
+AreSteps rows [] (y ∷ ys) = ⊥
+AreSteps rows (x ∷ xs) [] = ⊥
+AreSteps rows (x ∷ xs) (y ∷ ys) = (x ≡ y) × (length xs ≡ length ys) × (unknown rows x ≡ [] → AreSteps rows xs ys)
 
-at_most_two : (b c : List Want) → left_where b (left_where c 0 1) 2 ≤ 2
-at_most_two [] c = let one = at_most_one c in omega arith
-at_most_two (w ∷ ws) c = omega arith
+bounded : (u : List Want) (later most : ℕ) → later ≤ most → left_where u later (most + 1) ≤ most + 1
+bounded [] later most below = omega arith
+bounded (w ∷ ws) later most below = omega arith
+
+left_bounded : (rows : Rows) (xs : List (List Want)) → left_of rows xs ≤ length xs
+left_bounded rows [] = omega arith
+left_bounded rows (x ∷ xs) = let most = bounded (unknown rows x) (left_of rows xs) (length xs) (left_bounded rows xs) in omega arith
 
 -- the step that is asked leaves nothing of itself, and those before it have nothing left
-record AreLowered (a b c a2 b2 c2 : List Want) (asked : List Want) : Type 0 where
-  first : a ≡ asked → a2 ≡ []
-  first_none : a ≡ [] → a2 ≡ []
-  second : a ≡ [] → b ≡ asked → b2 ≡ []
-  second_none : a ≡ [] → b ≡ [] → b2 ≡ []
-  third : a ≡ [] → b ≡ [] → c ≡ asked → c2 ≡ []
+steps_lower : (rows more both : Rows) (w : Want) (ws : List Want) → AllByRecursion (IsKnown more) (w ∷ ws) → AreAdded rows more both →
+    (xs ys : List (List Want)) → AreSteps rows xs ys → next_of rows xs ≡ w ∷ ws → left_of both ys < left_of rows xs
+steps_lower rows more both w ws all added [] ys are is = absurd (cc)
+steps_lower rows more both w ws all added (x ∷ xs) [] are is = absurd are
+steps_lower rows more both w ws all added (x ∷ xs) (y ∷ ys) are is =
+    at (unknown rows x) refl (λ none rest. steps_lower rows more both w ws all added xs ys (are.2 none) rest)
+  where
+    now : unknown both x ≡ [] → left_of both (y ∷ ys) ≡ left_of both ys
+    now none = ap (λ s. left_where (unknown both s) (left_of both ys) (length ys + 1)) (sym are.0) ∙ ap (λ l. left_where l (left_of both ys) (length ys + 1)) none
 
-lower : (a b c a2 b2 c2 : List Want) (w : Want) (ws : List Want) → or_next a (or_next b (or_next c [])) ≡ w ∷ ws → AreLowered a b c a2 b2 c2 (w ∷ ws) →
-    left_where a2 (left_where b2 (left_where c2 0 1) 2) 3 < left_where a (left_where b (left_where c 0 1) 2) 3
-lower (x ∷ xs) b c a2 b2 c2 w ws is h =
-    let e = h.first is in let now : left_where a2 (left_where b2 (left_where c2 0 1) 2) 3 ≡ left_where b2 (left_where c2 0 1) 2 = ap (λ l. left_where l (left_where b2 (left_where c2 0 1) 2) 3) e in
-    let two = at_most_two b2 c2 in omega arith
-lower [] (x ∷ xs) c a2 b2 c2 w ws is h =
-    let now : left_where a2 (left_where b2 (left_where c2 0 1) 2) 3 ≡ left_where c2 0 1 =
-    ap (λ l. left_where l (left_where b2 (left_where c2 0 1) 2) 3) (h.first_none refl) ∙ ap (λ l. left_where l (left_where c2 0 1) 2) (h.second refl is) in
-    let one = at_most_one c2 in omega arith
-lower [] [] (x ∷ xs) a2 b2 c2 w ws is h =
-    let now : left_where a2 (left_where b2 (left_where c2 0 1) 2) 3 ≡ 0 =
-    ap (λ l. left_where l (left_where b2 (left_where c2 0 1) 2) 3) (h.first_none refl) ∙ ap (λ l. left_where l (left_where c2 0 1) 2) (h.second_none refl refl)
-    ∙ ap (λ l. left_where l 0 1) (h.third refl refl is) in
-    omega arith
-lower [] [] [] a2 b2 c2 w ws is h = absurd (cc)
+    at : (u : List Want) → unknown rows x ≡ u → (unknown rows x ≡ [] → next_of rows xs ≡ w ∷ ws → left_of both ys < left_of rows xs) → left_of both (y ∷ ys) < left_of rows (x ∷ xs)
+    at [] none on =
+        let later = on none (sym (ap (λ l. or_next l (next_of rows xs)) none) ∙ is) in
+        let here = now (none_left rows more both x added (subst (AllByRecursion (IsKnown more)) (sym none) tt)) in
+        let there : left_of rows (x ∷ xs) ≡ left_of rows xs = ap (λ l. left_where l (left_of rows xs) (length xs + 1)) none in
+        omega arith
+    at (v ∷ vs) some on =
+        let asked : unknown rows x ≡ w ∷ ws = some ∙ (sym (ap (λ l. or_next l (next_of rows xs)) some) ∙ is) in
+        let here = now (none_left rows more both x added (subst (AllByRecursion (IsKnown more)) (sym asked) all)) in
+        let there : left_of rows (x ∷ xs) ≡ length xs + 1 = ap (λ l. left_where l (left_of rows xs) (length xs + 1)) some in
+        let below = left_bounded both ys in
+        let same : length xs ≡ length ys = are.1 in
+        omega arith
+
+-- what is known of a branch stays known
+links_grow : (rows more both : Rows) (project branch : List ℕ) → AreAdded rows more both → IsPart (links_in rows project branch) (links_in both project branch)
+links_grow rows more both project branch added = record {
+  link = λ n l. by_change n l (known rows (want.Change n)) refl;
+  standing = λ x s. by_commit x s (known rows (want.Standing (record { project = project; branch = branch; commit = x }))) refl;
+}
+  where
+    stays_so : (w : Want) (f : Found) → known rows w ≡ Some f → known both w ≡ Some f
+    stays_so w f e = added w ∙ ap (λ o. option_or o (known more w)) e
+
+    by_change : (n : ℕ) (l : Link) (o : Option Found) → known rows (want.Change n) ≡ o → link_for project branch (change_in (known rows (want.Change n))) ≡ Some l →
+        link_for project branch (change_in (known both (want.Change n))) ≡ Some l
+    by_change n l None e is = absurd (let f : None ≡ Some l = sym (ap (λ k. link_for project branch (change_in k)) e) ∙ is in cc)
+    by_change n l (Some f) e is = ap (λ k. link_for project branch (change_in k)) (stays_so (want.Change n) f e ∙ sym e) ∙ is
+
+    by_commit : (x : List ℕ) (s : Standing) (o : Option Found) → known rows (want.Standing (record { project = project; branch = branch; commit = x })) ≡ o →
+        standing_of (known rows (want.Standing (record { project = project; branch = branch; commit = x }))) ≡ Some s → standing_of (known both (want.Standing (record { project = project; branch = branch; commit = x }))) ≡ Some s
+    by_commit x s None e is = absurd (let f : None ≡ Some s = sym (ap standing_of e) ∙ is in cc)
+    by_commit x s (Some f) e is = ap standing_of (stays_so (want.Standing (record { project = project; branch = branch; commit = x })) f e ∙ sym e) ∙ is
+
+-- where a commit was looked up, it is known what it is to the branch
+pub commit_known : (rows : Rows) (project branch x : List ℕ) → IsKnown rows (want.Standing (record { project = project; branch = branch; commit = x })) → IsSome ((links_in rows project branch).standing x)
+commit_known rows project branch x there = at (row_in base_cmp (rows_of rows.standings) (record { project = project; branch = branch; commit = x })) there
+  where
+    at : (o : Option Standing) → is_some (option_map Stands o) ≡ true → IsSome (standing_of (option_map Stands o))
+    at None e = absurd (let f : false ≡ true = e in cc)
+    at (Some s) e = refl
+
+-- rows with those that know what was left of a list leave nothing of it
+none_after : (rows more both : Rows) (ws us : List Want) → AreAdded rows more both → unknown rows ws ≡ us → AllByRecursion (IsKnown more) us → unknown both ws ≡ []
+none_after rows more both ws us added e all = none_left rows more both ws added (subst (AllByRecursion (IsKnown more)) (sym e) all)
+
+-- what is asked for a chain is one look-up, of what is wanted
+pub record IsLook (rows : Rows) (n : ℕ) (c : Change) (asked : List Want) : Type 0 where
+  pub want : ChainWant
+  pub wanted_is : wanted_for rows n c ≡ Some want
+  pub unmade : unknown rows (look_up c.project c.branch want ∷ []) ≡ asked
+
+look_of : (rows : Rows) (n : ℕ) (c : Change) (w : Want) (ws : List Want) → unknown rows (chain_wants rows n c) ≡ w ∷ ws → IsLook rows n c (w ∷ ws)
+look_of rows n c w ws is = at (wanted_for rows n c) refl is
+  where
+    at : (o : Option ChainWant) → wanted_for rows n c ≡ o → unknown rows (option_to_list (option_map (look_up c.project c.branch) o)) ≡ w ∷ ws → IsLook rows n c (w ∷ ws)
+    at None e f = absurd (let g : [] ≡ w ∷ ws = f in cc)
+    at (Some want) e f = record { want = want; wanted_is = e; unmade = f }
+
+-- only an open change that is ready wants something
+open_wants : (rows : Rows) (n : ℕ) (c : Change) (want : ChainWant) → wanted_for rows n c ≡ Some want → (is_open c.state && not c.wip ≡ true) × (wanted (links_in rows c.project c.branch) n ≡ Some want)
+open_wants rows n c want is = at (is_open c.state && not c.wip) refl is
+  where
+    at : (b : Bool) → is_open c.state && not c.wip ≡ b → cond b (wanted (links_in rows c.project c.branch) n) None ≡ Some want →
+        (is_open c.state && not c.wip ≡ true) × (wanted (links_in rows c.project c.branch) n ≡ Some want)
+    at true e f = (e, f)
+    at false e f = absurd (let g : None ≡ Some want = f in cc)
+
+-- a look-up for a chain lowers what is left of it
+chain_lowers : (rows more both : Rows) (n : ℕ) (c : Change) (w : Want) (ws : List Want) → AreAdded rows more both → AllByRecursion (IsKnown more) (w ∷ ws) → unknown rows (chain_wants rows n c) ≡ w ∷ ws →
+    left_if (unknown both (chain_wants both n c)) (left_in_chain (links_in both c.project c.branch) n) < left_if (unknown rows (chain_wants rows n c)) (left_in_chain (links_in rows c.project c.branch) n)
+chain_lowers rows more both n c w ws added all is = rw is (by_next (unknown both (chain_wants both n c)) refl)
+  where
+    before : Branch
+    before = links_in rows c.project c.branch
+
+    after : Branch
+    after = links_in both c.project c.branch
+
+    part : IsPart before after
+    part = links_grow rows more both c.project c.branch added
+
+    look : IsLook rows n c (w ∷ ws)
+    look = look_of rows n c w ws is
+
+    opened : (is_open c.state && not c.wip ≡ true) × (wanted before n ≡ Some look.want)
+    opened = open_wants rows n c look.want look.wanted_is
+
+    made : unknown both (look_up c.project c.branch look.want ∷ []) ≡ []
+    made = none_after rows more both (look_up c.project c.branch look.want ∷ []) (w ∷ ws) added look.unmade all
+
+    less : Knows after look.want → left_in_chain after n < left_in_chain before n
+    less knows = let said = subst (Says before n) opened.1 (wanted_says before n) in fewer_left before after said.0 n look.want part said.1 knows
+
+    now : wanted after n ≡ Some look.want → unknown both (chain_wants both n c) ≡ []
+    now still = ap (λ o. unknown both (option_to_list (option_map (look_up c.project c.branch) o))) (ap (λ b. cond b (wanted after n) None) opened.0 ∙ still) ∙ made
+
+    by_want : (want : ChainWant) → look.want ≡ want → (v : Want) (vs : List Want) → unknown both (chain_wants both n c) ≡ v ∷ vs → left_in_chain after n < left_in_chain before n
+    by_want (TheCommit x) e v vs some =
+        less (subst (Knows after) (sym e) (commit_known both c.project c.branch x (each_known both (look_up c.project c.branch (TheCommit x) ∷ []) (subst (λ u. unknown both (look_up c.project c.branch u ∷ []) ≡ []) e made)).0))
+    by_want (TheChange d) e v vs some = by_link (after.link d) refl
+      where
+        by_link : (o : Option Link) → after.link d ≡ o → left_in_chain after n < left_in_chain before n
+        by_link None none =
+            let still = still_wanted before after n d part (opened.1 ∙ ap Some e) none in
+            absurd (let f : [] ≡ v ∷ vs = sym (now (still ∙ ap Some (sym e))) ∙ some in cc)
+        by_link (Some l) there = less (subst (Knows after) (sym e) (subst IsSome (sym there) refl))
+
+    by_next : (us : List Want) → unknown both (chain_wants both n c) ≡ us → left_if us (left_in_chain after n) < left_in_chain before n + 1
+    by_next [] none = omega arith
+    by_next (v ∷ vs) some = let fewer = by_want look.want refl v vs some in omega arith
+
+-- what is asked last is asked for a submit
+last_lowers : (rows more both : Rows) (topic : Topic) (w : Want) (ws : List Want) → AreAdded rows more both → AllByRecursion (IsKnown more) (w ∷ ws) →
+    ((n : ℕ) → topic ≡ OfCommand (Submit n) → IsKnown rows (want.Change n)) → last_wants rows topic ≡ w ∷ ws → left_if (last_wants both topic) (last_of both topic) < left_if (last_wants rows topic) (last_of rows topic)
+last_lowers rows more both (OfQuery query) w ws added all there is = absurd (let f : [] ≡ w ∷ ws = is in cc)
+last_lowers rows more both (OfCommand (CreateAccount name)) w ws added all there is = absurd (let f : [] ≡ w ∷ ws = is in cc)
+last_lowers rows more both (OfCommand (PutGroup group members)) w ws added all there is = absurd (let f : [] ≡ w ∷ ws = is in cc)
+last_lowers rows more both (OfCommand (PutProject project text)) w ws added all there is = absurd (let f : [] ≡ w ∷ ws = is in cc)
+last_lowers rows more both (OfCommand (RecordBase project branch commit)) w ws added all there is = absurd (let f : [] ≡ w ∷ ws = is in cc)
+last_lowers rows more both (OfCommand (CreateChange new)) w ws added all there is = absurd (let f : [] ≡ w ∷ ws = is in cc)
+last_lowers rows more both (OfCommand (OnChange change command)) w ws added all there is = absurd (let f : [] ≡ w ∷ ws = is in cc)
+last_lowers rows more both (OfCommand (Submit n)) w ws added all there is =
+    rw (ap change_in (known_stays rows more both (want.Change n) added (there n refl))) (by_change (change_in (known rows (want.Change n))) is)
+  where
+    by_change : (o : Option Change) → unknown rows (wants_by (chain_wants rows n) o) ≡ w ∷ ws →
+        left_if (unknown both (wants_by (chain_wants both n) o)) (chain_left both n o) < left_if (unknown rows (wants_by (chain_wants rows n) o)) (chain_left rows n o)
+    by_change None f = absurd (let g : [] ≡ w ∷ ws = f in cc)
+    by_change (Some c) f = chain_lowers rows more both n c w ws added all f
+
+-- where nothing is left of the steps, no step is left, in what is known later too
+none_stays : (rows more both : Rows) → AreAdded rows more both → (xs ys : List (List Want)) → AreSteps rows xs ys → next_of rows xs ≡ [] → (left_of rows xs ≡ 0) × (left_of both ys ≡ 0)
+none_stays rows more both added [] [] are none = (refl, refl)
+none_stays rows more both added [] (y ∷ ys) are none = absurd are
+none_stays rows more both added (x ∷ xs) [] are none = absurd are
+none_stays rows more both added (x ∷ xs) (y ∷ ys) are none =
+    let p = none_in (unknown rows x) (next_of rows xs) none in
+    let later = none_stays rows more both added xs ys (are.2 p.0) p.1 in
+    let here = none_left rows more both x added (subst (AllByRecursion (IsKnown more)) (sym p.0) tt) in (
+      ap (λ l. left_where l (left_of rows xs) (length xs + 1)) p.0 ∙ later.0,
+      ap (λ s. left_where (unknown both s) (left_of both ys) (length ys + 1)) (sym are.0) ∙ (ap (λ l. left_where l (left_of both ys) (length ys + 1)) here ∙ later.1),
+    )
+
+last_bounded : (rows : Rows) (topic : Topic) → left_if (last_wants rows topic) (last_of rows topic) ≤ 201
+last_bounded rows topic = at (last_wants rows topic) (last_of rows topic) (by_topic topic)
+  where
+    at : (ws : List Want) (more : ℕ) → more ≤ 200 → left_if ws more ≤ 201
+    at [] more below = omega arith
+    at (w ∷ ws) more below = omega arith
+
+    by_change : (n : ℕ) (o : Option Change) → chain_left rows n o ≤ 200
+    by_change n None = omega arith
+    by_change n (Some c) = most_left (links_in rows c.project c.branch) n
+
+    by_topic : (t : Topic) → last_of rows t ≤ 200
+    by_topic (OfQuery query) = omega arith
+    by_topic (OfCommand (CreateAccount name)) = omega arith
+    by_topic (OfCommand (PutGroup group members)) = omega arith
+    by_topic (OfCommand (PutProject project text)) = omega arith
+    by_topic (OfCommand (RecordBase project branch commit)) = omega arith
+    by_topic (OfCommand (CreateChange new)) = omega arith
+    by_topic (OfCommand (OnChange change command)) = omega arith
+    by_topic (OfCommand (Submit n)) = by_change n (change_in (known rows (want.Change n)))
+
+before_less : (a b last later : ℕ) → a < b → last ≤ 201 → left_before a last < left_before b later
+before_less a zero last later less below = absurd (omega arith)
+before_less zero (suc b) last later less below = omega arith
+before_less (suc a) (suc b) last later less below = omega arith
 
 -- each step asks for what was not known, and lowers what is left
 pub asking_lowers : AskingLowers
-asking_lowers file rows more both caller topic w ws is all added =
-    lower (unknown rows (first_wants caller topic)) (unknown rows (change_wants rows topic)) (unknown rows (file_wants file caller topic))
-    (unknown both (first_wants caller topic)) (unknown both (change_wants both topic)) (unknown both (file_wants file caller topic)) w ws is
-    (record {
-      first = asked (first_wants caller topic);
-      first_none = kept (first_wants caller topic);
-      second = λ none e. changed none ∙ asked (change_wants rows topic) e;
-      second_none = λ none e. changed none ∙ kept (change_wants rows topic) e;
-      third = λ none after e. asked (file_wants file caller topic) e;
-    })
+asking_lowers file rows more both caller topic w ws is all added = at (next_of rows (steps file rows caller topic)) refl
   where
-    asked : (step : List Want) → unknown rows step ≡ w ∷ ws → unknown both step ≡ []
-    asked step e = none_left rows more both step added (subst (AllByRecursion (IsKnown more)) (sym e) (by_recursion (IsKnown more) (w ∷ ws) all))
+    made : AllByRecursion (IsKnown more) (w ∷ ws)
+    made = by_recursion (IsKnown more) (w ∷ ws) all
 
-    kept : (step : List Want) → unknown rows step ≡ [] → unknown both step ≡ []
-    kept step e = none_left rows more both step added (subst (AllByRecursion (IsKnown more)) (sym e) tt)
+    are : AreSteps rows (steps file rows caller topic) (steps file both caller topic)
+    are = (refl, refl, λ none. (sym (same_wants rows more both caller topic added none), refl, λ made. (refl, refl, λ asked. tt)))
 
-    changed : unknown rows (first_wants caller topic) ≡ [] → unknown both (change_wants both topic) ≡ unknown both (change_wants rows topic)
-    changed none = ap (unknown both) (same_wants rows more both caller topic added none)
+    at : (us : List Want) → next_of rows (steps file rows caller topic) ≡ us → left file both caller topic < left file rows caller topic
+    at [] none =
+        let zeros = none_stays rows more both added (steps file rows caller topic) (steps file both caller topic) are none in
+        let firsts = (none_of_steps rows (steps file rows caller topic) none).0 in
+        let last : last_wants rows topic ≡ w ∷ ws = sym (ap (λ l. or_next l (last_wants rows topic)) none) ∙ is in
+        rw (zeros.0, zeros.1) (last_lowers rows more both topic w ws added made (λ n e. submit_known rows caller n (subst (λ t. unknown rows (first_wants caller t) ≡ []) e firsts)) last)
+    at (v ∷ vs) some =
+        let asked : next_of rows (steps file rows caller topic) ≡ w ∷ ws = some ∙ (sym (ap (λ l. or_next l (last_wants rows topic)) some) ∙ is) in
+        let fewer = steps_lower rows more both w ws made added (steps file rows caller topic) (steps file both caller topic) are asked in
+        before_less (left_of both (steps file both caller topic)) (left_of rows (steps file rows caller topic)) (left_if (last_wants both topic) (last_of both topic)) (left_if (last_wants rows topic) (last_of rows topic)) fewer
+        (last_bounded both topic)
 
 unasked : (rows : Rows) (w : Want) → known rows w ≡ None → IsKnown rows w → ⊥
 unasked rows w none there = let e : false ≡ true = sym (ap is_some none) ∙ there in absurd (cc)

@@ -6,7 +6,7 @@ use Rattle.std.proofs.lemmas.Bool.{cases_Bool}
 use Rattle.std.proofs.lemmas.Slice.Eq.{bytes_eq-Decides}
 use Rattle.review_words.specs.History.{Entry, accepted, if_done, file_text, text_put}
 use Rattle.review_words.specs.declared.command.Command.{Command}
-use Rattle.review_words.specs.declared.command.Command.TheVariants.{CreateAccount, PutGroup, PutProject, RecordBase, CreateChange, OnChange}
+use Rattle.review_words.specs.declared.command.Command.TheVariants.{CreateAccount, PutGroup, PutProject, RecordBase, CreateChange, OnChange, Submit}
 use Rattle.review_words.specs.declared.reply.Answer.{Answer}
 use Rattle.review_words.specs.declared.reply.Refusal.{Refusal}
 use Rattle.review_words.specs.declared.reply.Refusal.TheVariants.{BadFile}
@@ -39,6 +39,7 @@ right_with reading text file is (Some (PutProject project t)) right = read_with 
 right_with reading text file is (Some (RecordBase project branch commit)) right = tt
 right_with reading text file is (Some (CreateChange new)) right = tt
 right_with reading text file is (Some (OnChange n command)) right = tt
+right_with reading text file is (Some (Submit n)) right = tt
 
 reads_with : (reading : Reading) (text : List ℕ) (file : File) → IsRead text file → (h : List Entry) → Reads reading h → Reads (reading_with reading text file) h
 reads_with reading text file is [] reads = tt
@@ -69,6 +70,7 @@ reading_of_one h reading reads caller (PutProject project text) (Done a) answer 
 reading_of_one h reading reads caller (RecordBase project branch commit) (Done a) answer = (reading, tt, reads)
 reading_of_one h reading reads caller (CreateChange new) (Done a) answer = (reading, tt, reads)
 reading_of_one h reading reads caller (OnChange n request) (Done a) answer = (reading, tt, reads)
+reading_of_one h reading reads caller (Submit n) (Done a) answer = (reading, tt, reads)
 
 -- each history has a reading
 pub reading_of : (h : List Entry) → IsHistory h → (reading : Reading) × Reads reading h
@@ -96,6 +98,7 @@ read_by reading (Some (PutProject given put)) project text before right later is
 read_by reading (Some (RecordBase in_project branch commit)) project text before right later is = later is
 read_by reading (Some (CreateChange new)) project text before right later is = later is
 read_by reading (Some (OnChange n command)) project text before right later is = later is
+read_by reading (Some (Submit n)) project text before right later is = later is
 
 -- the text of a project's file is read right
 pub read_of : (reading : Reading) (h : List Entry) (project text : List ℕ) → Reads reading h → file_text h project ≡ Some text → IsRead text (reading text)

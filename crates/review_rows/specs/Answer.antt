@@ -9,10 +9,8 @@ use Rattle.review_words.specs.declared.changes.NewPatch.{NewPatch}
 use Rattle.review_words.specs.declared.changes.Review.{Review as ReviewOf}
 use Rattle.review_words.specs.declared.changes.Role.{Role}
 use Rattle.review_words.specs.declared.changes.Role.TheVariants.{Reviewer, Cc}
-use Rattle.review_words.specs.declared.shown.State.{State}
-use Rattle.review_words.specs.declared.shown.State.TheVariants.{Merged}
 use Rattle.review_words.specs.declared.command.Command.{Command}
-use Rattle.review_words.specs.declared.command.Command.TheVariants.{CreateAccount, PutGroup, PutProject, RecordBase, CreateChange, OnChange}
+use Rattle.review_words.specs.declared.command.Command.TheVariants.{CreateAccount, PutGroup, PutProject, RecordBase, CreateChange, OnChange, Submit}
 use Rattle.review_words.specs.declared.command.ChangeCommand.{ChangeCommand}
 use Rattle.review_words.specs.declared.command.ChangeCommand.TheVariants.{Upload, Review, AddReviewer, RemoveReviewer, SetWip, SetReady, Abandon, Restore, AddAttention, RemoveAttention}
 use Rattle.review_words.specs.declared.reply.Reply.{Reply}
@@ -20,7 +18,7 @@ use Rattle.review_words.specs.declared.reply.Reply.TheVariants.{Done, Refused}
 use Rattle.review_words.specs.declared.reply.Answer.{Answer}
 use Rattle.review_words.specs.declared.reply.Answer.TheVariants.{Account, Nothing, Change as AChange, Patch, Reviewed}
 use Rattle.review_words.specs.declared.reply.Refusal.{Refusal}
-use Rattle.review_words.specs.declared.reply.Refusal.TheVariants.{UnknownCaller, NotAdmin, NoProject, NoBranch, NoChange, NoPatchSet, NoAccount, NoComment, NotAllowed, Closed, SameState, StalePatchSet, NoLabel, ValueOut, VoteRestricted, CommitKnown, UnknownParent, NotEligible, NameTaken, BadFile, LabelNarrowed, Limit}
+use Rattle.review_words.specs.declared.reply.Refusal.TheVariants.{UnknownCaller, NotAdmin, NoProject, NoBranch, NoChange, NoPatchSet, NoAccount, NoComment, NotAllowed, Closed, SameState, WorkInProgress, StalePatchSet, NoLabel, ValueOut, VoteRestricted, CommitKnown, UnknownParent, NotEligible, NameTaken, BadFile, LabelNarrowed, Limit}
 use Rattle.review_words.specs.declared.faults.FileFault.{FileFault}
 use Rattle.review_words.specs.History.{Entry, stored, account_count, name_taken, is_account, is_admin, file_text, is_project, project_count, base_count, is_branch}
 use Rattle.review_names.specs.Forms.{is_within, most_changes, most_patches, most_comments}
@@ -36,6 +34,8 @@ use Rattle.review_changes.specs.Votes.{voted}
 pub use Rattle.review_rows.specs.Limits.{most_requests, most_accounts, most_projects, most_bases}
 use Rattle.review_rows.specs.Changes.{Reading, Reads, change, change_count, file_of, groups_of, is_known, setting_of}
 use Rattle.review_rows.specs.Files.{File, IsRead, IsFileFault, covers}
+pub use Rattle.review_rows.specs.Submits.{IsOf, is_merged}
+use Rattle.review_rows.specs.Submits.{IsSubmitAnswer}
 
 -- whether an account has a right in a project, by the project's file
 abbrev pub has_right : Reading → List Entry → List ℕ → Right → ℕ → Bool
@@ -78,11 +78,6 @@ abbrev pub has_role : Role → Option Role → Bool
 has_role Reviewer was = is_reviewer was
 has_role Cc was = is_cc was
 
--- whether a change has joined its branch
-abbrev pub is_merged : State → Bool
-is_merged Merged = true
-is_merged _ = false
-
 -- whether an account runs a change: its owner, or who runs the desk
 abbrev pub runs : List Entry → ℕ → Change → Bool
 runs h caller c = (caller == c.owner) || is_admin h caller
@@ -106,6 +101,10 @@ request_checks reading h caller (AddAttention account reason) c =
     (is_account h account, NoAccount) ∷ (is_open c.state, Closed) ∷ (eligible c account, NotEligible) ∷ (not (is_some (c.attention account)), SameState) ∷ []
 request_checks reading h caller (RemoveAttention account reason) c = (is_account h account, NoAccount) ∷ (is_open c.state, Closed) ∷ (is_some (c.attention account), SameState) ∷ []
 
+-- the checks of a submit of a change
+abbrev pub submit_checks : Reading → List Entry → ℕ → Change → List (Bool × Refusal)
+submit_checks reading h caller c = (has_right reading h c.project right.Submit caller, NotAllowed) ∷ (is_open c.state, Closed) ∷ (not c.wip, WorkInProgress) ∷ []
+
 -- checks of a change, where there is one
 abbrev pub of_change : (Change → List (Bool × Refusal)) → Option Change → List (Bool × Refusal)
 of_change each None = (false, NoChange) ∷ []
@@ -126,6 +125,7 @@ checks reading h caller (CreateChange new) =
     (is_project h new.project, NoProject) ∷ (is_branch h new.project new.branch, NoBranch) ∷ (has_right reading h new.project right.Create caller, NotAllowed)
     ∷ (commit_checks reading h new.project new.branch new.commit new.parent ++ (nat_lt (change_count h) most_changes, Limit) ∷ [])
 checks reading h caller (OnChange n command) = of_change (request_checks reading h caller command) (change reading h n)
+checks reading h caller (Submit n) = of_change (submit_checks reading h caller) (change reading h n)
 
 -- the refusal of the first check that fails
 abbrev pub first_refusal : List (Bool × Refusal) → Option Refusal
@@ -184,11 +184,6 @@ pub record IsUploadAnswer (reading : Reading) (h : List Entry) (caller n : ℕ) 
   pub many_outdated : AreMany (λ l u. is_lost (copying (setting_of reading h c.project) (Upload patch) caller c) c u l) outdated
   pub reply_is : reply ≡ Done (Patch n (current c + 1) copied outdated)
 
--- it holds of a change that is there
-abbrev pub IsOf : (Change → Type 0) → Option Change → Type 0
-IsOf Holds None = ⊥
-IsOf Holds (Some c) = Holds c
-
 -- what a request on a change is told that no check refuses
 abbrev pub IsRequestOutcome : Reading → List Entry → ℕ → ℕ → ChangeCommand → Reply → Type 0
 IsRequestOutcome reading h caller n (Upload patch) reply = IsOf (λ c. IsUploadAnswer reading h caller n patch c reply) (change reading h n)
@@ -199,6 +194,7 @@ IsRequestOutcome reading h caller n command reply = reply ≡ Done (done_on comm
 abbrev pub IsOutcome : Reading → List Entry → ℕ → Command → Reply → Type 0
 IsOutcome reading h caller (PutProject project text) reply = IsFaultAnswer text reply ⊎ IsFileAnswer reading h project text reply
 IsOutcome reading h caller (OnChange n command) reply = IsRequestOutcome reading h caller n command reply
+IsOutcome reading h caller (Submit n) reply = IsOf (λ c. IsSubmitAnswer reading h n c reply) (change reading h n)
 IsOutcome reading h caller command reply = reply ≡ Done (done reading h command)
 
 -- The reply is an answer to the command, by what is read of the texts that were put.

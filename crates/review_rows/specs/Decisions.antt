@@ -5,7 +5,7 @@ use Rattle.std.specs.Ordering.{nat_cmp}
 use Rattle.review_table.specs.Rows.{change_of}
 use Rattle.review_table.specs.declared.table.Change.{Change}
 use Rattle.review_words.specs.declared.command.Command.{Command}
-use Rattle.review_words.specs.declared.command.Command.TheVariants.{PutProject, CreateChange, OnChange}
+use Rattle.review_words.specs.declared.command.Command.TheVariants.{PutProject, CreateChange, OnChange, Submit}
 use Rattle.review_words.specs.declared.command.Query.{Query}
 use Rattle.review_words.specs.declared.command.Query.TheVariants as asked
 use Rattle.review_words.specs.declared.reply.Reply.{Reply}
@@ -31,6 +31,7 @@ abbrev pub judging_project : Reading → List Entry → Command → Option (List
 judging_project reading h (PutProject project text) = Some project
 judging_project reading h (CreateChange new) = Some new.project
 judging_project reading h (OnChange n command) = option_map (λ c. c.project) (change reading h n)
+judging_project reading h (Submit n) = option_map (λ c. c.project) (change reading h n)
 judging_project reading h command = None
 
 -- the project of the change that a question asks about, by whose file it may be answered

@@ -1,9 +1,13 @@
 -- What a look-up finds in tables, and what rows know.
-use Rattle.std.specs.Prelude.{ℕ, zero, suc, ◌<◌, ◌≡◌, ◌⊎◌, List, [], ◌∷◌, Option, Some, None, IsSome, Bool, true, false, is_some, nat_lt, option_map, if◌then◌else◌}
+use Rattle.std.specs.Prelude.{ℕ, zero, suc, ◌<◌, ◌≡◌, ◌⊎◌, AllPairs, List, [], ◌∷◌, Option, Some, None, IsSome, Bool, true, false, is_some, nat_lt, option_map, if◌then◌else◌}
 use Rattle.std.specs.Option.{option_or}
 use Rattle.std.specs.List.{All, Contains}
 use Rattle.std.specs.Ordering.{nat_cmp}
 use Rattle.std.specs.Cmp.Lexicographic.{slice_cmp}
+use Rattle.review_words.specs.declared.shown.JoinedChange.{JoinedChange}
+use Rattle.review_words.specs.declared.shown.State.TheVariants.{Merged}
+use Rattle.review_chain.specs.declared.links.Standing.{Standing}
+use Rattle.review_chain.specs.declared.links.Standing.TheVariants.{InBranch, PatchSet, Nowhere}
 use Rattle.review_table.specs.Rows.{row_in, rows_of}
 use Rattle.review_changes.specs.Change.{Change}
 use Rattle.review_changes.specs.Parts.{Part, TheHeader, PatchOf, PartRow, AHeader, APatch, part_row}
@@ -20,7 +24,7 @@ use Rattle.review_rows.specs.declared.rows.Rows.{Rows}
 use Rattle.review_rows.specs.Limits.{most_projects, most_bases}
 use Rattle.review_rows.specs.Rows.{Key, AccountKey, MemberKey, FileKey, BaseKey, PartKey, APart, Row, AccountRow, MemberRow, FileRow, BaseRow, Count, Projects, BasesOf, Tables, member_cmp, branch_cmp, base_cmp, member_row}
 
--- what a look-up finds, by its kind: a number, an account's name, the account or the change that was looked for, whether something is so, the members of a group, a project's text, the bases of a branch, a change
+-- what a look-up finds, by its kind: a number, an account's name, the account or the change that was looked for, whether something is so, the members of a group, a project's text, the bases of a branch, a change, what a commit is to a branch, the changes that joined a branch
 pub data Found : Type 0 where
   Number : ℕ → Found
   Name : Option (List ℕ) → Found
@@ -30,6 +34,8 @@ pub data Found : Type 0 where
   Text : Option (List ℕ) → Found
   Commits : List (List ℕ) → Found
   AChange : Option Change → Found
+  Stands : Standing → Found
+  Joins : List JoinedChange → Found
 
 -- the account of a number has the name
 abbrev pub IsNamed : (Key → Option Row) → List ℕ → ℕ → Type 0
@@ -94,6 +100,64 @@ IsSentBy row base None = (n : ℕ) → IsSender row base n → ⊥
 abbrev pub header_key : ℕ → Key
 header_key n = PartKey n TheHeader
 
+-- the change of a number is for the branch, at the place in it
+pub record IsAtPlace (row : Key → Option Row) (key : Branch) (place n : ℕ) : Type 0 where
+  pub header : Header
+  pub stands : row (header_key n) ≡ Some (APart (AHeader header))
+  pub project : header.project ≡ key.project
+  pub branch : header.branch ≡ key.branch
+  pub placed : header.place ≡ place
+
+-- the last place that a change joined the branch at, or 0 where none did
+pub record IsLastJoined (row : Key → Option Row) (key : Branch) (last : ℕ) : Type 0 where
+  pub above : (place n : ℕ) → last < place → IsAtPlace row key place n → ⊥
+  pub there : (last ≡ 0) ⊎ ((n : ℕ) × IsAtPlace row key last n)
+
+-- the patch set of the change of a number that is current: the one with the greatest number
+pub record IsCurrent (row : Key → Option Row) (n : ℕ) (patch : PatchRow) : Type 0 where
+  pub number : ℕ
+  pub sent : row (PartKey n (PatchOf number)) ≡ Some (APart (APatch patch))
+  pub later : (m : ℕ) → number < m → row (PartKey n (PatchOf m)) ≡ None
+
+-- the change of a number is for the branch and merged, and the commit is its current one
+pub record IsMergedWith (row : Key → Option Row) (base : Base) (n : ℕ) : Type 0 where
+  pub header : Header
+  pub stands : row (header_key n) ≡ Some (APart (AHeader header))
+  pub project : header.project ≡ base.project
+  pub branch : header.branch ≡ base.branch
+  pub merged : header.state ≡ Merged
+  pub patch : PatchRow
+  pub current : IsCurrent row n patch
+  pub commit : patch.commit ≡ base.commit
+
+-- the commit is in the branch: a base, or the current commit of a merged change for the branch
+abbrev pub IsInBranch : (Key → Option Row) → Base → Type 0
+IsInBranch row base = IsBaseOrNot row base true ⊎ ((n : ℕ) × IsMergedWith row base n)
+
+-- what the commit is to the branch: in it, or else that of a patch set of a change for it, or else neither
+abbrev pub StandsAs : (Key → Option Row) → Base → Standing → Type 0
+StandsAs row base InBranch = IsInBranch row base
+StandsAs row base (PatchSet n k) = (IsInBranch row base → ⊥) × (sent : IsSender row base n) × (sent.number ≡ k)
+StandsAs row base Nowhere = (IsInBranch row base → ⊥) × IsSentBy row base None
+
+-- the change joined the branch at the place, from 1, and the commit is its current one
+pub record IsJoinedAt (row : Key → Option Row) (key : Branch) (place : ℕ) (joined : JoinedChange) : Type 0 where
+  pub from_one : 0 < place
+  pub at : IsAtPlace row key place joined.change
+  pub patch : PatchRow
+  pub current : IsCurrent row joined.change patch
+  pub commit : patch.commit ≡ joined.commit
+
+-- one change stands before the other: at a smaller place of the branch, or at the same one with a smaller number
+abbrev pub IsBefore : (Key → Option Row) → Branch → JoinedChange → JoinedChange → Type 0
+IsBefore row key a b = (p q : ℕ) → IsAtPlace row key p a.change → IsAtPlace row key q b.change → (p < q) ⊎ ((p ≡ q) × (a.change < b.change))
+
+-- the changes that joined the branch are these, in the order of their places
+pub record HaveJoined (row : Key → Option Row) (key : Branch) (joined : List JoinedChange) : Type 0 where
+  pub each : All (λ j. (place : ℕ) × IsJoinedAt row key place j) joined
+  pub all : (place : ℕ) (j : JoinedChange) → IsJoinedAt row key place j → Contains joined j
+  pub ordered : AllPairs (IsBefore row key) joined
+
 -- what is counted, as tables do
 abbrev pub count_of : Counted → Count
 count_of counted.Projects = Projects
@@ -125,6 +189,9 @@ IsFound t (want.Bases key) = Finds Commits (HasBases t.row key)
 IsFound t (want.Change n) = Finds AChange (HasChange t.row n)
 IsFound t (want.ChangeOf base) = Finds Holder (IsSentBy t.row base)
 IsFound t want.LastChange = Finds Number (IsLast header_key t.row)
+IsFound t (want.LastJoined key) = Finds Number (IsLastJoined t.row key)
+IsFound t (want.Standing base) = Finds Stands (StandsAs t.row base)
+IsFound t (want.Joined key) = Finds Joins (HaveJoined t.row key)
 
 -- What rows know of a look-up: nothing where it wasn't made, and otherwise what it found.
 abbrev pub known : Rows → Want → Option Found
@@ -144,6 +211,9 @@ known rows (want.Bases key) = option_map Commits (row_in branch_cmp (rows_of row
 known rows (want.Change n) = option_map (λ c. AChange (option_map (λ r. seen r) c)) (row_in nat_cmp (rows_of rows.changes) n)
 known rows (want.ChangeOf base) = option_map Holder (row_in base_cmp (rows_of rows.senders) base)
 known rows want.LastChange = option_map Number rows.last_change
+known rows (want.LastJoined key) = option_map Number (row_in branch_cmp (rows_of rows.last_joined) key)
+known rows (want.Standing base) = option_map Stands (row_in base_cmp (rows_of rows.standings) base)
+known rows (want.Joined key) = option_map Joins (row_in branch_cmp (rows_of rows.joined) key)
 
 -- what rows know is so in these tables
 abbrev pub Agrees : Tables → Rows → Type 0
@@ -201,6 +271,16 @@ commits_of found = []
 abbrev pub change_in : Option Found → Option Change
 change_in (Some (AChange c)) = c
 change_in found = None
+
+-- what a commit is found to be to a branch
+abbrev pub standing_of : Option Found → Option Standing
+standing_of (Some (Stands standing)) = Some standing
+standing_of found = None
+
+-- the changes that are found to have joined a branch
+abbrev pub joined_of : Option Found → List JoinedChange
+joined_of (Some (Joins joined)) = joined
+joined_of found = []
 
 -- rows know one look-up more, or anew, and of each other one what they knew
 pub record Learns (want : Want) (found : Found) (old new : Rows) : Type 0 where

@@ -1,9 +1,9 @@
 -- What a command or a question asks of the tables, in steps.
-use Rattle.std.specs.Prelude.{ℕ, ◌+◌, ◌<◌, ◌≡◌, Option, Some, None, List, [], ◌∷◌, ◌++◌, map, flat_map, option_map, not, is_some, length}
+use Rattle.std.specs.Prelude.{ℕ, zero, suc, ◌+◌, ◌<◌, ◌≡◌, ◌&&◌, Option, Some, None, List, [], ◌∷◌, ◌++◌, map, flat_map, option_map, option_to_list, not, is_some, length, if◌then◌else◌}
 use Rattle.std.specs.List.{All, filter}
 use Rattle.review_names.specs.Names.{administrators}
 use Rattle.review_words.specs.declared.command.Command.{Command}
-use Rattle.review_words.specs.declared.command.Command.TheVariants.{CreateAccount, PutGroup, PutProject, RecordBase, CreateChange, OnChange}
+use Rattle.review_words.specs.declared.command.Command.TheVariants.{CreateAccount, PutGroup, PutProject, RecordBase, CreateChange, OnChange, Submit}
 use Rattle.review_words.specs.declared.changes.Given.{Given}
 use Rattle.review_words.specs.declared.command.ChangeCommand.{ChangeCommand}
 use Rattle.review_words.specs.declared.command.ChangeCommand.TheVariants.{Upload, Review, AddReviewer, RemoveReviewer, Abandon, Restore, AddAttention, RemoveAttention}
@@ -11,7 +11,9 @@ use Rattle.review_words.specs.declared.command.ChangeQuery.{ChangeQuery}
 use Rattle.review_words.specs.declared.command.ChangeQuery.TheVariants.{Requirements}
 use Rattle.review_group_names.specs.Named.{copy_groups, required_groups}
 use Rattle.review_project.specs.Rights.{grants_of}
-use Rattle.review_changes.specs.Change.{Change}
+use Rattle.review_chain.specs.Parts.{Want as ChainWant, TheChange, TheCommit}
+use Rattle.review_chain.specs.Steps.{wanted, left as left_in_chain}
+use Rattle.review_changes.specs.Change.{Change, is_open}
 use Rattle.review_rows.specs.Files.{File, IsRead}
 use Rattle.review_words.specs.declared.command.Query.{Query}
 use Rattle.review_words.specs.declared.command.Query.TheVariants as asked
@@ -22,6 +24,7 @@ use Rattle.review_rows.specs.declared.rows.Need.{Need}
 use Rattle.review_rows.specs.declared.rows.Rows.{Rows}
 use Rattle.review_rows.specs.declared.matter.Matter.{Matter}
 use Rattle.review_rows.specs.declared.matter.Matter.TheVariants as matter
+use Rattle.review_rows.specs.Links.{links_in}
 use Rattle.review_rows.specs.Known.{known, AreAdded, IsKnown, change_in, text_of}
 
 -- what is to be answered, as a value
@@ -66,10 +69,12 @@ command_wants (RecordBase project branch commit) =
 command_wants (CreateChange new) =
     want.LastPlace (record { project = new.project; branch = new.branch }) ∷ want.LastChange ∷ patch_wants new.project new.branch new.commit new.parent
 command_wants (OnChange change command) = want.Change change ∷ map want.Account (named_in command)
+command_wants (Submit change) = want.Change change ∷ []
 
 -- what a question asks
 abbrev pub query_wants : ℕ → Query → List Want
-query_wants caller (asked.Branch project branch) = want.Account caller ∷ want.Project project ∷ want.Bases (record { project = project; branch = branch }) ∷ []
+query_wants caller (asked.Branch project branch) =
+    want.Account caller ∷ want.Project project ∷ want.Bases (record { project = project; branch = branch }) ∷ want.Joined (record { project = project; branch = branch }) ∷ []
 query_wants caller (asked.OnChange change query) = want.Account caller ∷ want.Change change ∷ []
 
 -- what a command or a question asks first
@@ -90,6 +95,10 @@ request_wants Abandon c = want.File c.project ∷ []
 request_wants Restore c = want.File c.project ∷ []
 request_wants _ c = []
 
+-- what a submit asks by its change: the project's file, and the last place that a change joined the branch at
+abbrev pub submit_wants : Change → List Want
+submit_wants c = want.File c.project ∷ want.LastJoined (record { project = c.project; branch = c.branch }) ∷ []
+
 -- what a question about a change asks by it
 abbrev pub question_wants : ChangeQuery → Change → List Want
 question_wants Requirements c = want.File c.project ∷ []
@@ -103,6 +112,7 @@ wants_by each (Some c) = each c
 -- what a command or a question asks next, by the change that it names
 abbrev pub change_wants : Rows → Topic → List Want
 change_wants rows (OfCommand (OnChange change command)) = wants_by (request_wants command) (change_in (known rows (want.Change change)))
+change_wants rows (OfCommand (Submit change)) = wants_by submit_wants (change_in (known rows (want.Change change)))
 change_wants rows (OfQuery (asked.OnChange change query)) = wants_by (question_wants query) (change_in (known rows (want.Change change)))
 change_wants rows topic = []
 
@@ -122,6 +132,10 @@ request_groups file caller Abandon = caller_in caller file.access.abandon
 request_groups file caller Restore = caller_in caller file.access.abandon
 request_groups file caller _ = []
 
+-- what a submit asks of groups, by the project's file: whether the caller is in those that may submit, and the members of those that submit requirements name
+abbrev pub submit_groups : File → ℕ → List Want
+submit_groups file caller = caller_in caller file.access.submit ++ map want.Group (required_groups file)
+
 -- what a question about a change asks of groups, by the project's file: the members of those that submit requirements name
 abbrev pub question_groups : File → ChangeQuery → List Want
 question_groups file Requirements = map want.Group (required_groups file)
@@ -132,6 +146,7 @@ abbrev pub file_wants : Option File → ℕ → Topic → List Want
 file_wants None caller topic = []
 file_wants (Some file) caller (OfCommand (CreateChange new)) = caller_in caller file.access.create
 file_wants (Some file) caller (OfCommand (OnChange change command)) = request_groups file caller command
+file_wants (Some file) caller (OfCommand (Submit change)) = submit_groups file caller
 file_wants (Some file) caller (OfQuery (asked.OnChange change query)) = question_groups file query
 file_wants (Some file) caller topic = []
 
@@ -144,6 +159,7 @@ abbrev pub project_of : Rows → Topic → Option (List ℕ)
 project_of rows (OfCommand (PutProject project text)) = Some project
 project_of rows (OfCommand (CreateChange new)) = Some new.project
 project_of rows (OfCommand (OnChange change command)) = option_map (λ c. c.project) (change_in (known rows (want.Change change)))
+project_of rows (OfCommand (Submit change)) = option_map (λ c. c.project) (change_in (known rows (want.Change change)))
 project_of rows (OfQuery (asked.OnChange change query)) = option_map (λ c. c.project) (change_in (known rows (want.Change change)))
 project_of rows topic = None
 
@@ -175,9 +191,27 @@ abbrev pub next_of : Rows → List (List Want) → List Want
 next_of rows [] = []
 next_of rows (step ∷ later) = or_next (unknown rows step) (next_of rows later)
 
+-- what is looked up for what a chain wants in the branch
+abbrev pub look_up : List ℕ → List ℕ → ChainWant → Want
+look_up project branch (TheChange n) = want.Change n
+look_up project branch (TheCommit x) = want.Standing (record { project = project; branch = branch; commit = x })
+
+-- what is wanted for the chain of a change: nothing where it isn't open or is in work in progress
+abbrev pub wanted_for : Rows → ℕ → Change → Option ChainWant
+wanted_for rows n c = if is_open c.state && not c.wip then wanted (links_in rows c.project c.branch) n else None
+
+-- what the chain of a change asks
+abbrev pub chain_wants : Rows → ℕ → Change → List Want
+chain_wants rows n c = option_to_list (option_map (look_up c.project c.branch) (wanted_for rows n c))
+
+-- What a command or a question asks last, one look-up after the other: a submit the changes of its chain.
+abbrev pub last_wants : Rows → Topic → List Want
+last_wants rows (OfCommand (Submit change)) = unknown rows (wants_by (chain_wants rows change) (change_in (known rows (want.Change change))))
+last_wants rows topic = []
+
 -- what a command or a question asks next; nothing where the rows decide it
 abbrev pub next : Option File → Rows → ℕ → Topic → List Want
-next file rows caller topic = next_of rows (steps file rows caller topic)
+next file rows caller topic = or_next (next_of rows (steps file rows caller topic)) (last_wants rows topic)
 
 -- the look-ups of a need, where there is one
 abbrev pub wants_in : Option Need → Option (List Want)
@@ -194,6 +228,26 @@ abbrev pub left_where : List Want → ℕ → ℕ → ℕ
 left_where [] later all = later
 left_where (w ∷ ws) later all = all
 
+-- how many look-ups are left for the chain of a change
+abbrev pub chain_left : Rows → ℕ → Option Change → ℕ
+chain_left rows n None = 0
+chain_left rows n (Some c) = left_in_chain (links_in rows c.project c.branch) n
+
+-- how many look-ups are left of those that are asked last
+abbrev pub last_of : Rows → Topic → ℕ
+last_of rows (OfCommand (Submit change)) = chain_left rows change (change_in (known rows (want.Change change)))
+last_of rows topic = 0
+
+-- how many are left where these are asked: none where nothing is
+abbrev pub left_if : List Want → ℕ → ℕ
+left_if [] more = 0
+left_if (w ∷ ws) more = more + 1
+
+-- how many are left, where this many steps are left before those that are asked last
+abbrev pub left_before : ℕ → ℕ → ℕ
+left_before zero last = last
+left_before (suc steps) last = 201 + suc steps
+
 -- how many of the steps are left
 abbrev pub left_of : Rows → List (List Want) → ℕ
 left_of rows [] = 0
@@ -201,7 +255,7 @@ left_of rows (step ∷ later) = left_where (unknown rows step) (left_of rows lat
 
 -- how many steps of a command or a question are left
 abbrev pub left : Option File → Rows → ℕ → Topic → ℕ
-left file rows caller topic = left_of rows (steps file rows caller topic)
+left file rows caller topic = left_before (left_of rows (steps file rows caller topic)) (left_if (last_wants rows topic) (last_of rows topic))
 
 -- where something is asked next, rows that know it have fewer steps left
 abbrev pub AskingLowers : Type 0

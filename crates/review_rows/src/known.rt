@@ -5,13 +5,16 @@ ghost use Rattle.review_table.specs.Rows.{row_in, rows_of};
 ghost use Rattle.review_rows.specs.declared.rows.Want.{Want};
 ghost use Rattle.review_rows.specs.declared.rows.Want.TheVariants as want;
 ghost use Rattle.review_rows.specs.declared.rows.Counted.TheVariants as counted;
-ghost use Rattle.review_rows.specs.Known.{known, AreAdded, is_so, is_there, number_of, holder_of, members_of, text_of, commits_of, change_in};
+ghost use Rattle.review_rows.specs.Known.{known, AreAdded, is_so, is_there, number_of, holder_of, members_of, text_of, commits_of, change_in, standing_of, joined_of};
 ghost use Rattle.review_changes.specs.Seen.{seen};
 
 use crate::rows::{Base, BranchKey, Counted, MemberKey, Rows, Want};
+use review_chain::Standing;
 use review_changes::ChangeRows;
 use review_table::{Key, Table};
-use review_words::{AccountName, AccountNo, Bases, ChangeNo, FileText, GroupName, ProjectName};
+use review_words::{
+    AccountName, AccountNo, Bases, ChangeNo, FileText, GroupName, JoinedChange, Listed, ProjectName,
+};
 use std::alloc::{AllocError, Global};
 
 impl Rows {
@@ -36,6 +39,9 @@ impl Rows {
             changes: Table::new(alloc),
             senders: Table::new(alloc),
             last_change: None,
+            last_joined: Table::new(alloc),
+            standings: Table::new(alloc),
+            joined: Table::new(alloc),
         }
     }
 
@@ -60,6 +66,9 @@ impl Rows {
             Want::Change(number) => self.changes.get(number).is_some(),
             Want::ChangeOf(commit) => self.senders.get(commit).is_some(),
             Want::LastChange => self.last_change.is_some(),
+            Want::LastJoined(branch) => self.last_joined.get(branch).is_some(),
+            Want::Standing(commit) => self.standings.get(commit).is_some(),
+            Want::Joined(branch) => self.joined.get(branch).is_some(),
         }
     }
 
@@ -83,6 +92,9 @@ impl Rows {
         add_all(alloc, &mut self.bases, more.bases)?;
         add_all(alloc, &mut self.changes, more.changes)?;
         add_all(alloc, &mut self.senders, more.senders)?;
+        add_all(alloc, &mut self.last_joined, more.last_joined)?;
+        add_all(alloc, &mut self.standings, more.standings)?;
+        add_all(alloc, &mut self.joined, more.joined)?;
         Ok(())
     }
 
@@ -211,6 +223,30 @@ impl Rows {
         ensures { result ≡ number_of (known self.now want.LastChange) }
     {
         self.last_change.unwrap_or(0)
+    }
+
+    /// The last place that a change joined a branch at; 0 where none did, or where that is unknown.
+    pub fn last_joined(&self, branch: &BranchKey) -> u32
+        ensures { result ≡ number_of (known self.now (want.LastJoined branch.now)) }
+    {
+        match self.last_joined.get(branch) {
+            Some(place) => *place,
+            None => 0,
+        }
+    }
+
+    /// What a commit is known to be to a branch.
+    pub fn standing(&self, commit: &Base) -> Option<Standing>
+        ensures { result ≡ standing_of (known self.now (want.Standing commit.now)) }
+    {
+        self.standings.get(commit).copied()
+    }
+
+    /// The changes that joined a branch, where they are known.
+    pub fn joined(&self, branch: &BranchKey) -> Option<&Listed<JoinedChange>>
+        ensures { unwrap_or (option_copied result) [] ≡ joined_of (known self.now (want.Joined branch.now)) }
+    {
+        self.joined.get(branch)
     }
 }
 

@@ -3,13 +3,16 @@ ghost use Rattle.std.specs.Prelude.{Some, OnOk, option_map};
 ghost use Rattle.review_table.specs.Rows.{rows_of};
 ghost use Rattle.review_rows.specs.declared.rows.Want.TheVariants as want;
 ghost use Rattle.review_rows.specs.declared.rows.Counted.TheVariants as counted;
-ghost use Rattle.review_rows.specs.Known.{Number, Name, Holder, IsSo, Members, Text, Commits, AChange, Learns};
+ghost use Rattle.review_rows.specs.Known.{Number, Name, Holder, IsSo, Members, Text, Commits, AChange, Stands, Joins, Learns};
 ghost use Rattle.review_changes.specs.Seen.{seen};
 
 use crate::rows::{Base, BranchKey, MemberKey, Rows};
+use review_chain::Standing;
 use review_changes::ChangeRows;
 use review_table::Table;
-use review_words::{AccountName, AccountNo, Bases, ChangeNo, FileText, GroupName, ProjectName};
+use review_words::{
+    AccountName, AccountNo, Bases, ChangeNo, FileText, GroupName, JoinedChange, Listed, ProjectName,
+};
 use std::alloc::AllocError;
 
 impl Rows {
@@ -159,5 +162,33 @@ impl Rows {
         ensures { Learns want.LastChange (Number last) self.old self.new }
     {
         self.last_change = Some(last);
+    }
+
+    /// The last place that a change joined a branch at; 0 where none did.
+    pub fn learn_last_joined(&mut self, branch: BranchKey, last: u32) -> Result<(), AllocError>
+        ensures { OnOk result (Learns (want.LastJoined branch) (Number last) self.old self.new) }
+    {
+        self.last_joined.put(branch, last)?;
+        Ok(())
+    }
+
+    /// What a commit is to a branch.
+    pub fn learn_standing(&mut self, commit: Base, standing: Standing) -> Result<(), AllocError>
+        ensures { OnOk result (Learns (want.Standing commit) (Stands standing) self.old self.new) }
+    {
+        self.standings.put(commit, standing)?;
+        Ok(())
+    }
+
+    /// The changes that joined a branch, in the order of their places.
+    pub fn learn_joined(
+        &mut self,
+        branch: BranchKey,
+        joined: Listed<JoinedChange>,
+    ) -> Result<(), AllocError>
+        ensures { OnOk result (Learns (want.Joined branch) (Joins joined) self.old self.new) }
+    {
+        self.joined.put(branch, joined)?;
+        Ok(())
     }
 }

@@ -6,10 +6,12 @@
 
 mod known;
 mod learned;
+pub mod links;
 pub mod matter;
 pub mod rows;
 pub mod shelf;
 
+pub use links::RowLinks;
 pub use matter::Matter;
 pub use rows::{
     Base, BaseRow, BranchKey, ChangeEdit, Counted, Delta, Kept, MemberKey, Need, ProjectRow, Rows,

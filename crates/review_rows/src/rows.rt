@@ -1,11 +1,12 @@
 //! Typed rows, what may be asked of tables, and what is known of them.
 ghost use Rattle.std.specs.Prelude.{◌≡◌, IfOk};
 
+use review_chain::Standing;
 use review_changes::{Called, ChangeRows, CommentRow, Header, PatchRow, Vote, VoteKey};
 use review_table::{Change, Key, Table};
 use review_words::{
     AccountName, AccountNo, Bases, BranchName, ChangeNo, CommentNo, CommitName, FileText,
-    GroupName, PatchNo, ProjectName, RequestId, Role,
+    GroupName, JoinedChange, Listed, PatchNo, ProjectName, RequestId, Role,
 };
 use std::alloc::{AllocError, Global};
 
@@ -133,6 +134,12 @@ pub enum Want {
     ChangeOf(Base),
     /// The greatest number of a change.
     LastChange,
+    /// The last place that a change joined a branch at.
+    LastJoined(BranchKey),
+    /// What a commit is to a branch.
+    Standing(Base),
+    /// The changes that joined a branch.
+    Joined(BranchKey),
 }
 
 /// What a load asks for.
@@ -163,6 +170,11 @@ pub struct Rows {
     pub senders: Table<Base, Option<ChangeNo>>,
     /// The greatest number of a change; 0 where there is none.
     pub last_change: Option<u32>,
+    /// The last place that a change joined a branch at; 0 where none did.
+    pub last_joined: Table<BranchKey, u32>,
+    pub standings: Table<Base, Standing>,
+    /// The changes that joined a branch, in the order of their places.
+    pub joined: Table<BranchKey, Listed<JoinedChange>>,
 }
 
 /// What a request changes: for each key that it names a new row, or none; the file of a project, a base of a branch, and the rows of

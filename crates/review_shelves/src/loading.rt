@@ -6,13 +6,14 @@ ghost use Rattle.review_table.specs.Rows.{row_in, rows_of};
 ghost use Rattle.review_rows.specs.declared.rows.Want.TheVariants as want;
 ghost use Rattle.review_rows.specs.declared.rows.Counted.TheVariants as counted;
 ghost use Rattle.review_rows.specs.Rows.{AccountKey, member_cmp};
-ghost use Rattle.review_rows.specs.Known.{Agrees, AreAsked, IsLast, HasMembers};
+ghost use Rattle.review_rows.specs.Known.{Agrees, AreAsked, IsLast, HasMembers, StandsAs};
 ghost use Rattle.review_shelves.specs.Desk.{tables_of, desk_of, row_of, IsIndexed, IsNumbered};
 ghost use Rattle.review_shelves.specs.Loads.{Looks, IsUnread};
 
 use crate::branches::BasesFault;
 use crate::keys::NameKey;
 use crate::tables::MemoryTables;
+use review_chain::Standing;
 use review_rows::{Base, BranchKey, Counted, MemberKey, Need, Rows, ShelfFault, Want};
 use review_table::{Key, Table};
 use review_words::{AccountName, AccountNo, ChangeNo, FileText, GroupName, ProjectName};
@@ -80,6 +81,9 @@ impl MemoryTables {
             Want::Change(number) => return self.find_change(alloc, *number, rows),
             Want::ChangeOf(base) => self.find_change_of(alloc, base, rows)?,
             Want::LastChange => self.find_last_change(rows),
+            Want::LastJoined(branch) => self.find_last_joined(alloc, branch, rows)?,
+            Want::Standing(base) => self.find_standing(alloc, base, rows)?,
+            Want::Joined(branch) => self.find_joined(alloc, branch, rows)?,
         }
         Ok(())
     }
@@ -252,6 +256,54 @@ impl MemoryTables {
         ensures { Looks (tables_of (desk_of self.now)) want.LastChange rows.old rows.new }
     {
         rows.learn_last_change(self.changes.last());
+    }
+
+    fn find_last_joined(
+        &self,
+        alloc: Global,
+        branch: &BranchKey,
+        rows: &mut Rows,
+    ) -> Result<(), AllocError>
+        ensures { OnOk result (Looks (tables_of (desk_of self.now)) (want.LastJoined branch.now) rows.old rows.new) }
+    {
+        let last = self.changes.last_joined(alloc, branch)?;
+        rows.learn_last_joined(branch.copy(alloc)?, last)
+    }
+
+    fn find_standing(&self, alloc: Global, base: &Base, rows: &mut Rows) -> Result<(), AllocError>
+        ensures { OnOk result (Looks (tables_of (desk_of self.now)) (want.Standing base.now) rows.old rows.new) }
+    {
+        let standing = self.standing_of(alloc, base)?;
+        rows.learn_standing(base.copy(alloc)?, standing)
+    }
+
+    fn find_joined(
+        &self,
+        alloc: Global,
+        branch: &BranchKey,
+        rows: &mut Rows,
+    ) -> Result<(), AllocError>
+        ensures { OnOk result (Looks (tables_of (desk_of self.now)) (want.Joined branch.now) rows.old rows.new) }
+    {
+        let joined = self.changes.joined(alloc, branch)?;
+        rows.learn_joined(branch.copy(alloc)?, joined)
+    }
+
+    /// What a commit is to a branch.
+    fn standing_of(&self, alloc: Global, base: &Base) -> Result<Standing, AllocError>
+        ensures { IfOk result (StandsAs (row_of (desk_of self.now)) base.now) }
+    {
+        if self.branches.has(alloc, base)? {
+            return Ok(Standing::InBranch);
+        }
+        if self.changes.is_merged(alloc, base)? {
+            return Ok(Standing::InBranch);
+        }
+        let Some(sent) = self.changes.sent_patch(alloc, base)? else {
+            return Ok(Standing::Nowhere);
+        };
+        let (change, patch) = sent;
+        Ok(Standing::PatchSet { change, patch })
     }
 
     /// All members of a group.

@@ -1,4 +1,4 @@
-ghost use Rattle.std.specs.Prelude.{◌≡◌, ◌++◌, ◌&&◌, List, Option, Some, None, [], IfOk, IfErr, IfSome, IsNone, OnOk, OnErr, ◌↔◌, map, length, option_copied, option_map, if◌then◌else◌, Result, Ok, Err, IsSome, false};
+ghost use Rattle.std.specs.Prelude.{◌≡◌, ◌∷◌, ◌++◌, ◌&&◌, List, Option, Some, None, [], IfOk, IfErr, IfNone, IfSome, IsNone, OnOk, OnErr, ◌↔◌, map, length, option_copied, option_map, if◌then◌else◌, Result, Ok, Err, IsSome, true, false};
 ghost use Rattle.std.specs.Ordering.{eq_by_cmp};
 ghost use Rattle.std.specs.List.{All, IsDistinct, filter};
 ghost use Rattle.std.specs.List.Sorted.{IsStrictlySortedBy};
@@ -380,6 +380,36 @@ impl<K: Key, V: Drop> Table<K, V> {
     {
         self.once();
         let mut left = self.places.iter();
+        while let Some((key, place)) = left.next_back() {
+            if place.is_some() {
+                return Some(key);
+            }
+        }
+        None
+    }
+
+    /// The greatest key between two, these included, that has a row. None where none has one, as where
+    /// the first is behind the second.
+    pub fn last_between(&self, from: K, to: K) -> Option<&K>
+        ensures none { IfNone result ((q : K) → range_contains K.cmp (Included from) (Included to) q ≡ true → row_in K.cmp (rows_of self.now) q ≡ None) }
+        ensures there { IfSome result (λ k. IsSome (row_in K.cmp (rows_of self.now) k.now)) }
+        ensures within { IfSome result (λ k. range_contains K.cmp (Included from) (Included to) k.now ≡ true) }
+        ensures above { IfSome result (λ k. (q : K) → K.cmp k.now q ≡ Less → range_contains K.cmp (Included from) (Included to) q ≡ true → row_in K.cmp (rows_of self.now) q ≡ None) }
+    {
+        match from.cmp(&to) {
+            Ordering::Greater => None,
+            Ordering::Less | Ordering::Equal => self.last_ordered(from, to),
+        }
+    }
+
+    fn last_ordered(&self, from: K, to: K) -> Option<&K>
+        requires { IsLeBy K.cmp from to }
+        ensures none { IfNone result (filter (λ e. range_contains K.cmp (Included from) (Included to) e.0) (rows_of self.now) ≡ []) }
+        ensures last { IfSome result (λ k. (front : List (K × V)) × (row : V) × (filter (λ e. range_contains K.cmp (Included from) (Included to) e.0) (rows_of self.now) ≡ front ++ (k.now, row) ∷ [])) }
+        ensures sorted { IsStrictlySortedBy K.cmp (keys_of (rows_of self.now)) }
+    {
+        self.once();
+        let mut left = self.places.range(from..=to);
         while let Some((key, place)) = left.next_back() {
             if place.is_some() {
                 return Some(key);

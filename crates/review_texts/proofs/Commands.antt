@@ -22,7 +22,7 @@ use Rattle.review_words.specs.declared.changes.Role.TheVariants as role
 use Rattle.review_words.specs.declared.command.ChangeCommand.{ChangeCommand}
 use Rattle.review_words.specs.declared.command.ChangeCommand.TheVariants as asked
 use Rattle.review_words.specs.declared.command.Command.{Command}
-use Rattle.review_words.specs.declared.command.Command.TheVariants.{CreateAccount, PutGroup, PutProject, RecordBase, CreateChange, OnChange}
+use Rattle.review_words.specs.declared.command.Command.TheVariants.{CreateAccount, PutGroup, PutProject, RecordBase, CreateChange, OnChange, Submit}
 use Rattle.review_words.specs.Texts.{asked_fields, asked_name, command_fields, comment_fields, given_fields, role_name, role_named, shown_flag, shown_link, shown_patch, shown_truth, signed}
 use Rattle.review_texts.specs.Reading.{at}
 
@@ -102,6 +102,7 @@ command_of fields = let name = at fields 0 in let rest = drop 1 fields in
     else if bytes_eq name (codes "PutProject") then PutProject (at rest 0) (at rest 1)
     else if bytes_eq name (codes "RecordBase") then RecordBase (at rest 0) (at rest 1) (at rest 2)
     else if bytes_eq name (codes "CreateChange") then CreateChange (new_change_of rest)
+    else if bytes_eq name (codes "Submit") then Submit (value (at rest 0))
     else OnChange (value (at rest 0)) (asked_of name (drop 1 rest))
 
 numbers_back : (ns : List ℕ) → map value (map numeral ns) ≡ ns
@@ -264,3 +265,4 @@ command_back (PutProject project file) = refl
 command_back (RecordBase project branch commit) = refl
 command_back (CreateChange new) = change_back new
 command_back (OnChange change command) = on_change_back change command
+command_back (Submit change) = let number = value_numeral change in λ i. Submit (number i)

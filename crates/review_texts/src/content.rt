@@ -263,5 +263,9 @@ pub fn content_text(alloc: Global, command: &Command) -> Result<String, AllocErr
         }
         Command::CreateChange(new) => change_text(alloc, new),
         Command::OnChange { change, command } => asked_text(alloc, *change, command),
+        Command::Submit { change } => {
+            let pieces = [Piece::Text("Submit"), Piece::Number(change.get() as u64)];
+            joined(alloc, &pieces)
+        }
     }
 }

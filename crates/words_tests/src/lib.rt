@@ -1,7 +1,6 @@
-//! Tests of what no script of words shows: what tables hold, and chains of changes.
+//! Tests of what no script of words shows: what tables hold.
 #![tactic(auto)]
 
 #[cfg(test)]
-mod chains;
 #[cfg(test)]
 mod tables;

@@ -10,7 +10,7 @@ use Rattle.review_rows.specs.declared.rows.Want.TheVariants as want
 use Rattle.review_rows.specs.Known.{known, number_of}
 use Rattle.review_account_decisions.proofs.Told.{project_told, room_told, place_told}
 use Rattle.review_account_decisions.proofs.Decided.{admin_is, asked_beside, refused_pair, base_decided, base_refused}
-use Rattle.review_branch_decisions.proofs.Asked.{branch_within}
+use Rattle.review_branch_decisions.proofs.Within.{branch_within}
 use Rattle.review_branch_decisions.proofs.Sent.{known_told}
 use Rattle.review_branch_decisions.proofs.branches.record_base.Goals as goal
 

@@ -41,7 +41,7 @@ returns-clause-served g c = λ honest h hist v fresh.
     let many : c.requests-requests.result ≡ length h = c.requests-requests.ensures ∙ requests_told h old.tables a.caller a.command.now file c.in_ok-rows.rows hist v (x.found between) x.enough in
     let room : length h < most_requests = let p = c.if-requests-ge-MOST_REQUESTS.false in let q = many in omega arith in
     let d : (reading : Reading) → Reads reading h → IsDecided reading h a.caller a.command.now c.in_ok-delta.delta c.in_ok-delta.reply = λ reading reads.
-    c.in_ok-delta.ensures.decided reading h room (enough_shown reading h old.tables a.caller (OfCommand a.command.now) file c.in_ok-rows.rows reads v (x.found between) x.enough) in
+    c.in_ok-delta.ensures.decided reading h room hist (enough_shown reading h old.tables a.caller (OfCommand a.command.now) file c.in_ok-rows.rows reads v (x.found between) x.enough) in
     let number : c.requests-requests.result + 1 ≡ length h + 1 = ap (λ n. n + 1) many in
     let row : AnswerRow = record { identity = record { caller = a.caller; id = c.in_ok-id.id }; request = c.requests-requests.result + 1; content = string_bytes a.content; reply = string_bytes c.in_ok-text.text } in
     let is : row ≡ answer_row (entry_of a.caller a.id.now a.command.now c.in_ok-delta.reply) (length h + 1) =
@@ -71,7 +71,7 @@ returns-in_err-commit-clause-served g c = λ honest h hist v fresh.
     let many : c.requests-requests.result ≡ length h = c.requests-requests.ensures ∙ requests_told h old.tables a.caller a.command.now file c.in_ok-rows.rows hist v (x.found between) x.enough in
     let room : length h < most_requests = let p = c.if-requests-ge-MOST_REQUESTS.false in let q = many in omega arith in
     let d : (reading : Reading) → Reads reading h → IsDecided reading h a.caller a.command.now c.in_ok-delta.delta c.in_ok-delta.reply = λ reading reads.
-    c.in_ok-delta.ensures.decided reading h room (enough_shown reading h old.tables a.caller (OfCommand a.command.now) file c.in_ok-rows.rows reads v (x.found between) x.enough) in
+    c.in_ok-delta.ensures.decided reading h room hist (enough_shown reading h old.tables a.caller (OfCommand a.command.now) file c.in_ok-rows.rows reads v (x.found between) x.enough) in
     let number : c.requests-requests.result + 1 ≡ length h + 1 = ap (λ n. n + 1) many in
     let row : AnswerRow = record { identity = record { caller = a.caller; id = c.in_ok-id.id }; request = c.requests-requests.result + 1; content = string_bytes a.content; reply = string_bytes c.in_ok-text.text } in
     let is : row ≡ answer_row (entry_of a.caller a.id.now a.command.now c.in_ok-delta.reply) (length h + 1) =

@@ -1,44 +1,10 @@
-use Rattle.std.proofs.Common.{◌≡◌, ◌∙◌, ap, cond, Option, Some, None, map, not, ◌&&◌, [], arith, subst, sym, true}
-use Rattle.std.proofs.lemmas.Grind.{common_steps}
-use Rattle.std.specs.Map.Iter.{deref_pair}
-use Rattle.std.specs.Ordering.{is_le, is_lt, nat_cmp}
-use Rattle.review_table.specs.Rows.{row_in, rows_of}
-use Rattle.review_kept_changes.specs.declared.kept.SentKey.{SentKey}
-use Rattle.review_kept_changes.specs.Kept.{is_sent, sent_cmp, KeptView}
-use Rattle.review_kept_changes.proofs.Sending.{between, listed_is, sender_found, sender_is}
-use Rattle.review_kept_changes.proofs.Left.{still_left}
+use Rattle.std.proofs.Common.{false, subst}
+use Rattle.review_table.specs.Rows.{rows_of}
+use Rattle.review_kept_changes.specs.Kept.{IsFoundSent}
+use Rattle.review_kept_changes.proofs.Merged.{no_sender}
 use Rattle.review_kept_changes.proofs.kept.KeptChanges.sender.Goals as goal
 
-pub loop-key-init : goal.loop-key-init
-loop-key-init c = λ n p is.
-    let base = c.args.base.now in
-    let q : SentKey = record { commit = base.commit; change = n; patch = p } in
-    let all = row_in sent_cmp (rows_of c.self.inside.sent) q in
-    let there = listed_is (rows_of c.self.inside.kept) base n p (rows_of c.self.inside.sent) c.self.invariant
-    (subst (λ (v : KeptView). is_sent (row_in nat_cmp (rows_of v.kept) n) base p ≡ true) (sym c.self.view_is) is) in
-    ap (λ xs. row_in sent_cmp (map deref_pair xs) q) c.into_iter-key-iterator.ensures.into_iter_gives.0
-    ∙ c.in_ok-items.ensures.found q
-    ∙ (λ i. cond (is_le (sent_cmp (c.in_ok-from.ensures i) q) && not (is_lt (sent_cmp (c.in_ok-to.ensures i) q))) all None)
-    ∙ ap (λ b. cond b all None) (between base.commit n p (c.self.invariant.fits q there))
-    ∙ there
-
-pub loop-key-preserved : goal.loop-key-preserved
-loop-key-preserved c = λ n p is.
-    still_left (rows_of c.args.self.now.kept) c.args.base.now n p c.in-Some.key.now (map deref_pair c.next.new.self.rest.items) is (sym c.has_sent.ensures ∙ c.if-has_sent.false)
-    (sym (ap (λ xs. row_in sent_cmp (map deref_pair xs) (record { commit = c.args.base.now.commit; change = n; patch = p })) c.in-Some.ensures.steps.0) ∙ c.loop-key.invariant n p is)
-
-pub returns-then-has_sent : goal.returns-then-has_sent
-returns-then-has_sent c = sender_is (rows_of c.args.self.now.kept) c.args.base.now c.in-Some.key.now.change c.in-Some.key.now.patch (sym c.has_sent.ensures ∙ c.if-has_sent.true)
-
-nothing : (o : Option (Unit {0})) → o ≡ None → o ≡ Some tt → ⊥
-nothing None none there = absurd (cc)
-nothing (Some u) none there = absurd (cc)
-
-pub returns : goal.returns
-returns c = λ n s.
-    let base = c.args.base.now in
-    let q : SentKey = record { commit = base.commit; change = n; patch = s.number } in
-    let steps = c.in-None.ensures.steps in
-    let empty : c.loop-key.key-iterator.rest.items ≡ [] = grind (arith, common_steps) in
-    nothing (row_in sent_cmp (map deref_pair c.loop-key.key-iterator.rest.items) q) (ap (λ xs. row_in sent_cmp (map deref_pair xs) q) empty)
-    (c.loop-key.invariant n s.number (sender_found (rows_of c.args.self.now.kept) base n s))
+pub returns-in-None : goal.returns-in-None
+returns-in-None c =
+    let kept = rows_of c.args.self.now.kept in
+    no_sender kept c.args.base.now (subst (IsFoundSent false kept c.args.base.now) c.in-None.is c.in_ok-change.ensures)

@@ -21,6 +21,9 @@ returns c =
       changes = c.add_all-11.new.rows;
       senders = c.add_all-12.new.rows;
       last_change = c.or-self-4.result;
+      last_joined = c.add_all-13.new.rows;
+      standings = c.add_all-14.new.rows;
+      joined = c.add_all-15.new.rows;
     } in
     added_known c.args.self.now c.args.more new c.or-self.ensures c.in_ok-add_all.ensures c.in_ok-add_all-2.ensures c.or-self-2.ensures c.in_ok-add_all-3.ensures c.in_ok-add_all-4.ensures
-    c.in_ok-add_all-5.ensures c.in_ok-add_all-6.ensures c.or-self-3.ensures c.in_ok-add_all-7.ensures c.in_ok-add_all-8.ensures c.in_ok-add_all-9.ensures c.in_ok-add_all-10.ensures c.in_ok-add_all-11.ensures c.in_ok-add_all-12.ensures c.or-self-4.ensures
+    c.in_ok-add_all-5.ensures c.in_ok-add_all-6.ensures c.or-self-3.ensures c.in_ok-add_all-7.ensures c.in_ok-add_all-8.ensures c.in_ok-add_all-9.ensures c.in_ok-add_all-10.ensures c.in_ok-add_all-11.ensures c.in_ok-add_all-12.ensures c.or-self-4.ensures c.in_ok-add_all-13.ensures c.in_ok-add_all-14.ensures c.in_ok-add_all-15.ensures

@@ -6,7 +6,7 @@ use Rattle.review_table.specs.Rows.{row_in, rows_of}
 use Rattle.review_rows.specs.declared.rows.MemberKey.{MemberKey}
 use Rattle.review_rows.specs.Rows.{member_cmp}
 use Rattle.review_kept_changes.specs.declared.edits.ChangeTables.{ChangeTables}
-use Rattle.review_kept_changes.specs.Kept.{KeptView, sent_cmp}
+use Rattle.review_kept_changes.specs.Kept.{KeptView, place_cmp, sent_cmp}
 use Rattle.review_shelves.specs.declared.keys.NameKey.{NameKey}
 use Rattle.review_shelves.specs.Desk.{answer_cmp, name_cmp}
 use Rattle.review_shelves.specs.Branches.{BranchesView, total_in}
@@ -45,6 +45,7 @@ returns-clause-sound c = record {
     changes = record {
       kept = none_empty nat_cmp c.new-3.result.kept (ap (λ (v : KeptView). v.kept) c.new-3.ensures);
       sent = none_empty sent_cmp c.new-3.result.sent (ap (λ (v : KeptView). v.sent) c.new-3.ensures);
+      placed = none_empty place_cmp c.new-3.result.placed (ap (λ (v : KeptView). v.placed) c.new-3.ensures);
     };
     answers = none_empty answer_cmp c.new-4.result c.new-4.ensures;
   };

@@ -1,0 +1,15 @@
+pub mod Linked
+pub mod Made
+pub mod Accepted
+pub mod Places
+pub mod Placed
+pub mod Joined
+pub mod Each
+pub mod Order
+pub mod Numbered
+pub mod Rows
+pub mod Counted
+pub mod Ready
+pub mod Standing
+pub mod Kept
+pub mod Parents
