@@ -2,5 +2,4 @@
 #![tactic(auto)]
 
 #[cfg(test)]
-#[cfg(test)]
 mod tables;
