@@ -74,7 +74,7 @@ unfoldable pub wanted_from : Branch → ℕ → ℕ → Option Want
 wanted_from b zero c = wanted_by (before b most_changes c) (λ d. None)
 wanted_from b (suc more) c = wanted_by (before b (most_changes - suc more) c) (λ d. wanted_from b more d)
 
--- What is wanted for the chain of a change: what the walk from it needs to go on, and isn't known.
+-- What is wanted for the chain of a change: what the walk to it needs to go on, and isn't known.
 abbrev pub wanted : Branch → ℕ → Option Want
 wanted b c = wanted_from b 99 c
 

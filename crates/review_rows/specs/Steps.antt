@@ -204,7 +204,7 @@ wanted_for rows n c = if is_open c.state && not c.wip then wanted (links_in rows
 abbrev pub chain_wants : Rows → ℕ → Change → List Want
 chain_wants rows n c = option_to_list (option_map (look_up c.project c.branch) (wanted_for rows n c))
 
--- What a command or a question asks last, one look-up after the other: a submit the changes of its chain.
+-- What a command or a question asks last, one look-up after the other: a submit what is wanted for the chain of its change.
 abbrev pub last_wants : Rows → Topic → List Want
 last_wants rows (OfCommand (Submit change)) = unknown rows (wants_by (chain_wants rows change) (change_in (known rows (want.Change change))))
 last_wants rows topic = []

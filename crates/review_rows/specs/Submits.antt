@@ -55,7 +55,7 @@ abbrev pub sent_or : ℕ → Option ℕ → Standing → Standing
 sent_or n None otherwise = otherwise
 sent_or n (Some k) otherwise = PatchSet n k
 
--- the patch set of one of the changes up to a number that has the commit
+-- the patch set of one of the changes up to a number that has the commit, of which every history has at most one
 abbrev pub sent_up_to : Reading → List Entry → List ℕ → List ℕ → List ℕ → ℕ → Standing
 sent_up_to reading h project branch x zero = Nowhere
 sent_up_to reading h project branch x (suc n) = sent_or (suc n) (patch_for project branch x (change reading h (suc n))) (sent_up_to reading h project branch x n)
