@@ -26,7 +26,7 @@ use Rattle.review_chain.specs.Steps.{wanted, left as left_in_chain}
 use Rattle.review_chain.proofs.LookingUp.{fewer_left, most_left}
 use Rattle.review_chain.proofs.Wanting.{Says, still_wanted, walked_kept, wanted_says}
 use Rattle.review_rows.specs.Links.{link_for, links_in}
-use Rattle.review_rows.specs.Steps.{Topic, OfCommand, OfQuery, first_wants, change_wants, file_wants, question_wants, request_wants, submit_wants, wants_by, wanted_for, chain_wants, chain_left, last_of, last_wants, look_up, steps, unknown, or_next, next, next_of, left, left_before, left_if, left_of, left_where, AskingLowers, HasComeTo}
+use Rattle.review_rows.specs.Steps.{Topic, OfCommand, OfQuery, first_wants, change_wants, file_wants, question_wants, request_wants, submit_wants, wants_by, wanted_for, chain_wants, chain_left, last_of, last_wants, look_up, steps, unknown, or_next, next, next_of, left, left_before, left_if, left_of, left_where, AskingLowers, HasComeTo, IsWalkTo}
 
 -- what a look-up that was made found in tables that agree
 pub found_of : (t : Tables) (rows : Rows) (w : Want) → Agrees t rows → IsKnown rows w → (f : Found) × (known rows w ≡ Some f) × IsFound t w f
@@ -376,6 +376,16 @@ none_left_later rows more both added (x ∷ xs) (y ∷ ys) are none =
     let here = none_left rows more both x added (subst (AllByRecursion (IsKnown more)) (sym p.0) tt) in
     ap (λ s. or_next (unknown both s) (next_of both ys)) (sym are.0) ∙ (ap (λ l. or_next l (next_of both ys)) here ∙ later)
 
+-- a walk stays one where more is known
+walk_stays : (rows more both : Rows) (n : ℕ) (w : Walked) → AreAdded rows more both → IsKnown rows (want.Change n) → IsWalkTo rows n w → IsWalkTo both n w
+walk_stays rows more both n w added there h = record {
+  change_is = h.change_is;
+  change = h.change;
+  found = ap change_in (known_stays rows more both (want.Change n) added there) ∙ h.found;
+  is_ready = h.is_ready;
+  walks = walked_kept (links_in rows h.change.project h.change.branch) (links_in both h.change.project h.change.branch) (links_grow rows more both h.change.project h.change.branch added) w h.walks;
+}
+
 -- where a look for a chain has come to, it has come to where more is known
 pub come_stays : (file : Option File) (rows more both : Rows) (caller : ℕ) (topic : Topic) (w : Option Walked) → AreAdded rows more both → HasComeTo file rows caller topic w → HasComeTo file both caller topic w
 come_stays file rows more both caller topic None added h = tt
@@ -386,14 +396,8 @@ come_stays file rows more both caller (OfCommand (PutProject project text)) (Som
 come_stays file rows more both caller (OfCommand (RecordBase project branch commit)) (Some w) added h = h
 come_stays file rows more both caller (OfCommand (CreateChange new)) (Some w) added h = h
 come_stays file rows more both caller (OfCommand (OnChange change command)) (Some w) added h = h
-come_stays file rows more both caller (OfCommand (Submit n)) (Some w) added h = record {
-  change_is = h.change_is;
-  made = none_left_later rows more both added (steps file rows caller topic) (steps file both caller topic) (steps_stay file rows more both caller topic added) h.made;
-  change = h.change;
-  found = ap change_in (known_stays rows more both (want.Change n) added (submit_known rows caller n (none_of_steps rows (steps file rows caller topic) h.made).0)) ∙ h.found;
-  is_ready = h.is_ready;
-  walks = walked_kept (links_in rows h.change.project h.change.branch) (links_in both h.change.project h.change.branch) (links_grow rows more both h.change.project h.change.branch added) w h.walks;
-}
-  where
-    topic : Topic
-    topic = OfCommand (Submit n)
+come_stays file rows more both caller (OfCommand (Submit n)) (Some w) added h =
+    let topic : Topic = OfCommand (Submit n) in (
+      none_left_later rows more both added (steps file rows caller topic) (steps file both caller topic) (steps_stay file rows more both caller topic added) h.0,
+      walk_stays rows more both n w added (submit_known rows caller n (none_of_steps rows (steps file rows caller topic) h.0).0) h.1,
+    )

@@ -263,17 +263,21 @@ abbrev pub AskingLowers : Type 0
 AskingLowers = (file : Option File) (rows more both : Rows) (caller : ℕ) (topic : Topic) (w : Want) (ws : List Want) →
     next file rows caller topic ≡ w ∷ ws → All (IsKnown more) (w ∷ ws) → AreAdded rows more both → left file both caller topic < left file rows caller topic
 
--- The look for the chain of a change has come to a walk: all is known that is asked before, and what is walked is a walk to the change.
-pub record HasCome (file : Option File) (rows : Rows) (caller n : ℕ) (w : Walked) : Type 0 where
+-- a walk to the change of this number, which is open and not in work in progress, in its branch
+pub record IsWalkTo (rows : Rows) (n : ℕ) (w : Walked) : Type 0 where
   pub change_is : w.change ≡ n
-  pub made : next_of rows (steps file rows caller (OfCommand (Submit n))) ≡ []
   pub change : Change
   pub found : change_in (known rows (want.Change n)) ≡ Some change
   pub is_ready : is_open change.state && not change.wip ≡ true
   pub walks : HasWalked (links_in rows change.project change.branch) w
 
--- Where a submit's look for its chain has come to, if it was begun.
+-- the walk that a look for a chain has come to, if it was begun
+abbrev pub MayGoOn : Rows → ℕ → Option Walked → Type 0
+MayGoOn rows n None = Unit {0}
+MayGoOn rows n (Some w) = IsWalkTo rows n w
+
+-- Where a submit's look for its chain has come to, if it was begun: all is known that is asked before, and there is such a walk.
 abbrev pub HasComeTo : Option File → Rows → ℕ → Topic → Option Walked → Type 0
 HasComeTo file rows caller topic None = Unit {0}
-HasComeTo file rows caller (OfCommand (Submit n)) (Some w) = HasCome file rows caller n w
+HasComeTo file rows caller (OfCommand (Submit n)) (Some w) = (next_of rows (steps file rows caller (OfCommand (Submit n))) ≡ []) × IsWalkTo rows n w
 HasComeTo file rows caller topic (Some w) = ⊥
