@@ -34,7 +34,8 @@ pub fn gather<S: Shelf, R: Rules>(
     ensures counted { CountsFaults result (S.state shelf.old).faults (S.state shelf.new).faults }
 {
     let mut rows = first;
-    while let Some(need) = rules.next_need(alloc, read, &rows, caller, matter)? {
+    let mut walked = None;
+    while let Some(need) = rules.next_need(alloc, read, &rows, caller, matter, &mut walked)? {
         let more = shelf.load(alloc, &need)?;
         rows.add(alloc, more)?;
     }

@@ -1,4 +1,5 @@
 //! What decides deliveries.
+use review_chain::Walked;
 use review_file::ReadText;
 use review_rows::{Delta, Matter, Need, Rows};
 use review_words::{AccountNo, Command, NotTaken, Query, Reply};
@@ -15,11 +16,12 @@ pub trait Rules {
     ghost use Rattle.review_rows.specs.Questions.{IsQueryAnswerBy};
     ghost use Rattle.review_rows.specs.Changes.{Reading};
     ghost use Rattle.review_rows.specs.Rows.{HasNoEffect};
-    ghost use Rattle.review_rows.specs.Steps.{HasFile, next, text_for, topic_of, wants_in, unless_none, OfCommand, OfQuery};
+    ghost use Rattle.review_rows.specs.Steps.{HasComeTo, HasFile, next, text_for, topic_of, wants_in, unless_none, OfCommand, OfQuery};
     ghost use Rattle.review_rows.specs.View.{AreEnough, IsDecided};
     ghost use Rattle.review_rows.specs.Decisions.{IsUndecided, IsUnread, IsUnshown, NamesEachOnce, IsDoneOrRefused};
 
-    /// What a command or a question asks of the tables next, where this file was read; nothing where the rows decide it.
+    /// What a command or a question asks of the tables next, where this file was read; nothing where the rows decide it. A look for a chain
+    /// goes on from the walk that an earlier one has come to; none is there at first.
     fn next_need(
         &mut self,
         alloc: Global,
@@ -27,8 +29,12 @@ pub trait Rules {
         rows: &Rows,
         caller: AccountNo,
         matter: Matter<'_>,
+        walked: &mut Option<Walked>,
     ) -> Result<Option<Need>, AllocError>
-        ensures { IfOk result (λ need. wants_in need ≡ unless_none (next (file_read (option_copied read.entry)) rows.now caller (topic_of matter.entry))) };
+        ensures need { HasComeTo (file_read (option_copied read.entry)) rows.now caller (topic_of matter.entry) walked.old →
+            IfOk result (λ need. wants_in need ≡ unless_none (next (file_read (option_copied read.entry)) rows.now caller (topic_of matter.entry))) }
+        ensures walked { HasComeTo (file_read (option_copied read.entry)) rows.now caller (topic_of matter.entry) walked.old →
+            HasComeTo (file_read (option_copied read.entry)) rows.now caller (topic_of matter.entry) walked.new };
 
     /// Reads the file of the project by which a command or a question is judged, as rows know its text; none where there is none.
     fn read(
