@@ -1,6 +1,6 @@
 //! One delivery.
 ghost use Rattle.std.specs.Prelude.{◌≡◌, ℕ, List, [], ◌∷◌, None, IfOk, string_bytes};
-ghost use Rattle.review_words.specs.Texts.{content_text};
+ghost use Rattle.review_words.specs.Texts.{content_text, reply_text};
 ghost use Rattle.review_words.specs.History.{Entry, stored};
 ghost use Rattle.review_words.specs.declared.command.Delivery.TheVariants.{Write, Read};
 ghost use Rattle.review_rows.specs.Answer.{IsHistory};
@@ -13,7 +13,7 @@ use crate::rules::Rules;
 use review_rows::{Kept, Matter, Shelf};
 use review_texts::{BadReply, content_text, read_reply, reply_text};
 use review_words::{AccountNo, Command, Delivery, NotTaken, Query, Reply, RequestId};
-use std::alloc::Global;
+use std::alloc::{AllocError, Global};
 
 /// The last number of a request.
 const MOST_REQUESTS: u64 = 9_007_199_254_740_991;
@@ -166,15 +166,29 @@ fn first_arrival<S: Shelf, R: Rules>(
         return Err(NotTaken::Full);
     }
     let (delta, reply) = rules.decide(alloc, read, &rows, caller, command)?;
-    let id = id.copy(alloc)?;
-    let text = reply_text(alloc, &reply)?;
-    let kept = Kept {
-        caller,
-        id,
-        request: requests + 1,
-        content,
-        reply: text,
-    };
+    let kept = kept_for(alloc, caller, id, requests + 1, content, &reply)?;
     shelf.commit(alloc, &delta, &kept)?;
     Ok(reply)
+}
+
+// What is stored of a request and its reply.
+fn kept_for(
+    alloc: Global,
+    caller: AccountNo,
+    id: &RequestId,
+    request: u64,
+    content: String,
+    reply: &Reply,
+) -> Result<Kept, AllocError>
+    ensures { IfOk result (λ kept. kept_row kept ≡ record { identity = record { caller = caller; id = id.now }; request = request; content = string_bytes content; reply = reply_text reply.now }) }
+{
+    let id = id.copy(alloc)?;
+    let reply = reply_text(alloc, reply)?;
+    Ok(Kept {
+        caller,
+        id,
+        request,
+        content,
+        reply,
+    })
 }

@@ -1,9 +1,9 @@
 use Rattle.std.proofs.Common.{◌≡◌, ◌∙◌, ◌+◌, ◌<◌, ◌≤◌, ap, subst, arith, length, inl, inr, ⊎_elim}
-use Rattle.std.specs.String.{string_bytes}
+use Rattle.review_words.specs.Texts.{reply_text}
 use Rattle.review_words.specs.declared.command.Delivery.TheVariants.{Write}
 use Rattle.review_words.specs.declared.reply.NotTaken.TheVariants.{Memory, Full}
 use Rattle.review_rows.specs.Answer.{most_requests}
-use Rattle.review_rows.specs.Rows.{AnswerRow}
+use Rattle.review_rows.specs.Rows.{AnswerRow, kept_row}
 use Rattle.review_rows.specs.View.{IsDecided, answer_row}
 use Rattle.review_rows.specs.Changes.{Reading, Reads}
 use Rattle.review_file.specs.Texts.{file_read}
@@ -43,9 +43,9 @@ returns-clause-served g c = λ honest h hist v fresh.
     let d : (reading : Reading) → Reads reading h → IsDecided reading h a.caller a.command.now c.in_ok-delta.delta c.in_ok-delta.reply = λ reading reads.
     c.in_ok-delta.ensures.decided reading h room hist (enough_shown reading h old.tables a.caller (OfCommand a.command.now) file c.in_ok-rows.rows reads v (x.found between) x.enough) in
     let number : c.requests-requests.result + 1 ≡ length h + 1 = ap (λ n. n + 1) many in
-    let row : AnswerRow = record { identity = record { caller = a.caller; id = c.in_ok-id.id }; request = c.requests-requests.result + 1; content = string_bytes a.content; reply = string_bytes c.in_ok-text.text } in
+    let row : AnswerRow = kept_row c.in_ok-kept.kept in
     let is : row ≡ answer_row (entry_of a.caller a.id.now a.command.now c.in_ok-delta.reply) (length h + 1) =
-    λ i. record { identity = record { caller = a.caller; id = c.in_ok-id.ensures i }; request = number i; content = c.requires i; reply = c.in_ok-text.ensures i } in
+    c.in_ok-kept.ensures ∙ (λ i. record { identity = record { caller = a.caller; id = a.id.now }; request = number i; content = c.requires i; reply = reply_text c.in_ok-delta.reply }) in
     let view = views_stay h old.tables mid.tables (x.tables between) v in
     after_read h (Write a.caller a.id.now a.command.now) c.in_ok-delta.reply old mid new x.counted (x.stops between)
     (first_served h c.in_ok-delta.delta row a.caller a.id.now a.command.now c.in_ok-delta.reply mid new hist view fresh room d is (y.done honest) (y.alone honest) y.counted
@@ -73,9 +73,9 @@ returns-in_err-commit-clause-served g c = λ honest h hist v fresh.
     let d : (reading : Reading) → Reads reading h → IsDecided reading h a.caller a.command.now c.in_ok-delta.delta c.in_ok-delta.reply = λ reading reads.
     c.in_ok-delta.ensures.decided reading h room hist (enough_shown reading h old.tables a.caller (OfCommand a.command.now) file c.in_ok-rows.rows reads v (x.found between) x.enough) in
     let number : c.requests-requests.result + 1 ≡ length h + 1 = ap (λ n. n + 1) many in
-    let row : AnswerRow = record { identity = record { caller = a.caller; id = c.in_ok-id.id }; request = c.requests-requests.result + 1; content = string_bytes a.content; reply = string_bytes c.in_ok-text.text } in
+    let row : AnswerRow = kept_row c.in_ok-kept.kept in
     let is : row ≡ answer_row (entry_of a.caller a.id.now a.command.now c.in_ok-delta.reply) (length h + 1) =
-    λ i. record { identity = record { caller = a.caller; id = c.in_ok-id.ensures i }; request = number i; content = c.requires i; reply = c.in_ok-text.ensures i } in
+    c.in_ok-kept.ensures ∙ (λ i. record { identity = record { caller = a.caller; id = a.id.now }; request = number i; content = c.requires i; reply = reply_text c.in_ok-delta.reply }) in
     let view = views_stay h old.tables mid.tables (x.tables between) v in
     subst (λ r. IsServed h (Write a.caller a.id.now a.command.now) r old new) (err_reply c.from_residual-in_err-commit.result (cause_of fault) c.from_residual-in_err-commit.ensures)
     (after_read h (Write a.caller a.id.now a.command.now) (NotTaken (cause_of fault)) old mid new x.counted (x.stops between)
@@ -93,7 +93,7 @@ returns-clause-once g c = λ honest none.
     (stored_shown i a.command.now c.in_ok-delta.reply c.in_ok-delta.delta (file_read c.in_ok-rows.read) c.in_ok-rows.rows _
     (g.S.Shelf.state a.shelf.now).tables (g.S.Shelf.state c.gathered.new.shelf).tables (g.S.Shelf.state c.commit.new.self).tables
     (c.in_ok-rows.ensures.tables (y.honest honest)) none (c.in_ok-rows.ensures.found (y.honest honest)) c.in_ok-rows.ensures.enough.0 c.in_ok-delta.ensures.refused (y.done honest)
-    (λ n e k. record { identity = record { caller = a.caller; id = c.in_ok-id.ensures k }; request = (c.requests-requests.ensures ∙ e) k + 1; content = c.requires k; reply = c.in_ok-text.ensures k }))
+    (λ n e. c.in_ok-kept.ensures ∙ (λ k. record { identity = record { caller = a.caller; id = a.id.now }; request = (c.requests-requests.ensures ∙ e) k + 1; content = c.requires k; reply = reply_text c.in_ok-delta.reply })))
 
 pub returns-in_err-delta-clause-served : goal.returns-in_err-delta-clause-served
 returns-in_err-delta-clause-served g c = λ honest h hist v fresh.
@@ -128,22 +128,13 @@ returns-in_err-delta-clause-counted g c =
     subst (λ r. CountsReply r before after) (err_reply c.from_residual-in_err-delta.result cause c.from_residual-in_err-delta.ensures)
     (undecided_counts a.caller a.command.now (file_read c.in_ok-rows.read) c.in_ok-rows.rows cause before after c.in_err-delta.ensures.cause c.in_ok-rows.ensures.counted)
 
-pub returns-in_err-text-clause-served : goal.returns-in_err-text-clause-served
-returns-in_err-text-clause-served g c = λ honest h hist v fresh.
+pub returns-in_err-kept-clause-served : goal.returns-in_err-kept-clause-served
+returns-in_err-kept-clause-served g c = λ honest h hist v fresh.
     let x = c.in_ok-rows.ensures in
     let a = c.args in
     let old = g.S.Shelf.state a.shelf.now in
     let new = g.S.Shelf.state c.gathered.new.shelf in
-    subst (λ r. IsServed h (Write a.caller a.id.now a.command.now) r old new) (err_reply c.from_residual-in_err-text.result Memory c.from_residual-in_err-text.ensures)
-    (not_taken_served h (Write a.caller a.id.now a.command.now) Memory old new hist (views_stay h old.tables new.tables (x.tables honest) v) x.counted (λ t y. inl (x.stops honest t y)))
-
-pub returns-in_err-id-clause-served : goal.returns-in_err-id-clause-served
-returns-in_err-id-clause-served g c = λ honest h hist v fresh.
-    let x = c.in_ok-rows.ensures in
-    let a = c.args in
-    let old = g.S.Shelf.state a.shelf.now in
-    let new = g.S.Shelf.state c.gathered.new.shelf in
-    subst (λ r. IsServed h (Write a.caller a.id.now a.command.now) r old new) (err_reply c.from_residual-in_err-id.result Memory c.from_residual-in_err-id.ensures)
+    subst (λ r. IsServed h (Write a.caller a.id.now a.command.now) r old new) (err_reply c.from_residual-in_err-kept.result Memory c.from_residual-in_err-kept.ensures)
     (not_taken_served h (Write a.caller a.id.now a.command.now) Memory old new hist (views_stay h old.tables new.tables (x.tables honest) v) x.counted (λ t y. inl (x.stops honest t y)))
 
 pub returns-then-requests-ge-MOST_REQUESTS-clause-unchanged : goal.returns-then-requests-ge-MOST_REQUESTS-clause-unchanged
@@ -179,19 +170,19 @@ returns-in_err-rows-clause-counted g c =
     subst (λ r. CountsReply r before after) (err_reply c.from_residual.result c.in_err-rows.field-0.0 c.from_residual.ensures)
     c.in_err-rows.ensures.counted
 
-pub returns-in_err-text-clause-unchanged : goal.returns-in_err-text-clause-unchanged
-returns-in_err-text-clause-unchanged g c = λ honest none.
+pub returns-in_err-kept-clause-unchanged : goal.returns-in_err-kept-clause-unchanged
+returns-in_err-kept-clause-unchanged g c = λ honest none.
     let a = c.args in
     let old = (g.S.Shelf.state a.shelf.now).tables in
     let new = (g.S.Shelf.state c.gathered.new.shelf).tables in
-    subst (λ r. KeepsUntaken (Write a.caller a.id.now a.command.now) r old new) (err_reply c.from_residual-in_err-text.result Memory c.from_residual-in_err-text.ensures)
+    subst (λ r. KeepsUntaken (Write a.caller a.id.now a.command.now) r old new) (err_reply c.from_residual-in_err-kept.result Memory c.from_residual-in_err-kept.ensures)
     (tt, c.in_ok-rows.ensures.tables honest)
 
-pub returns-in_err-text-clause-counted : goal.returns-in_err-text-clause-counted
-returns-in_err-text-clause-counted g c =
+pub returns-in_err-kept-clause-counted : goal.returns-in_err-kept-clause-counted
+returns-in_err-kept-clause-counted g c =
     let before = (g.S.Shelf.state c.args.shelf.now).faults in
     let after = (g.S.Shelf.state c.gathered.new.shelf).faults in
-    subst (λ r. CountsReply r before after) (err_reply c.from_residual-in_err-text.result Memory c.from_residual-in_err-text.ensures) c.in_ok-rows.ensures.counted
+    subst (λ r. CountsReply r before after) (err_reply c.from_residual-in_err-kept.result Memory c.from_residual-in_err-kept.ensures) c.in_ok-rows.ensures.counted
 
 pub returns-in_err-commit-clause-unchanged : goal.returns-in_err-commit-clause-unchanged
 returns-in_err-commit-clause-unchanged g c = λ honest none.
