@@ -13,3 +13,4 @@ pub mod Readable
 pub mod Going
 pub mod Outcomes
 pub mod Restarting
+pub mod Unstored

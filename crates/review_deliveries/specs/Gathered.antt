@@ -1,15 +1,18 @@
 -- What is gathered of the tables before a command or a question is answered.
-use Rattle.std.specs.Prelude.{ℕ, ◌≡◌, ◌⊎◌, List, [], Option, None, Result, Ok, Err}
+use Rattle.std.specs.Prelude.{ℕ, ◌≡◌, ◌≤◌, ◌⊎◌, List, [], Option, None, Result, Ok, Err}
 use Rattle.review_words.specs.History.{Entry}
+use Rattle.review_words.specs.declared.command.Command.{Command}
 use Rattle.review_words.specs.declared.reply.NotTaken.{NotTaken as Cause}
 use Rattle.review_words.specs.declared.reply.NotTaken.TheVariants.{Memory, Store, Damaged, Pattern, Full}
 use Rattle.review_words.specs.declared.reply.Reply.TheVariants.{NotTaken}
 use Rattle.review_rows.specs.declared.rows.Want.{Want}
+use Rattle.review_rows.specs.declared.rows.Want.TheVariants.{Requests}
+use Rattle.review_rows.specs.Answer.{most_requests}
 use Rattle.review_rows.specs.declared.rows.Rows.{Rows}
 use Rattle.review_rows.specs.Changes.{Reading, Reads}
-use Rattle.review_rows.specs.Decisions.{HasPatternIn, topic_project}
+use Rattle.review_rows.specs.Decisions.{HasPatternIn, IsUndecided, topic_project}
 use Rattle.review_rows.specs.Files.{File}
-use Rattle.review_rows.specs.Known.{known, IsKnown, Agrees}
+use Rattle.review_rows.specs.Known.{known, number_of, IsKnown, Agrees}
 use Rattle.review_rows.specs.Rows.{Tables}
 use Rattle.review_rows.specs.Shelf.{Shows, LeavesBy, IsDamaged}
 use Rattle.review_rows.specs.Steps.{Topic, HasFile, next, text_for}
@@ -49,3 +52,8 @@ LeavesTables (Err cause) old new = LeavesBy cause old new
 abbrev pub CountsCause : {X : Type 0} → Result X Cause → ℕ → ℕ → Type 0
 CountsCause (Ok x) before after = after ≡ before
 CountsCause (Err cause) before after = CountsReply (NotTaken cause) before after
+
+-- Why a command is not stored that was gathered for: there is no number left for its request, or it is not decided.
+abbrev pub IsUnstored : ℕ → Command → Option File → Rows → Cause → Type 0
+IsUnstored caller command file rows Full = most_requests ≤ number_of (known rows Requests)
+IsUnstored caller command file rows cause = IsUndecided caller command file rows cause

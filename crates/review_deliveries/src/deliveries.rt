@@ -1,16 +1,24 @@
 //! One delivery.
-ghost use Rattle.std.specs.Prelude.{◌≡◌, ℕ, List, [], ◌∷◌, None, IfOk, string_bytes};
-ghost use Rattle.review_words.specs.Texts.{content_text, reply_text};
+ghost use Rattle.std.specs.Prelude.{◌≡◌, ◌≤◌, ◌<◌, ◌+◌, ℕ, List, [], ◌∷◌, None, IfErr, IfOk, length, string_bytes};
+ghost use Rattle.review_words.specs.Texts.{IsStored, content_text, reply_text};
 ghost use Rattle.review_words.specs.History.{Entry, stored};
 ghost use Rattle.review_words.specs.declared.command.Delivery.TheVariants.{Write, Read};
-ghost use Rattle.review_rows.specs.Answer.{IsHistory};
-ghost use Rattle.review_rows.specs.Rows.{kept_row};
+ghost use Rattle.review_file.specs.Texts.{file_read};
+ghost use Rattle.review_rows.specs.Answer.{IsHistory, most_requests};
+ghost use Rattle.review_rows.specs.Changes.{Reading};
+ghost use Rattle.review_rows.specs.declared.rows.Want.TheVariants as want;
+ghost use Rattle.review_rows.specs.Known.{known, number_of};
+ghost use Rattle.review_rows.specs.Rows.{HasNoEffect, kept_row};
 ghost use Rattle.review_rows.specs.Shelf.{Shows, Views};
+ghost use Rattle.review_rows.specs.Steps.{OfCommand};
+ghost use Rattle.review_rows.specs.View.{AreEnough, IsDecided};
+ghost use Rattle.review_deliveries.specs.Gathered.{IsUnstored};
 ghost use Rattle.review_deliveries.specs.Replies.{IsServed, IsToldAgain, KeepsUntaken, StoresOnce, CountsReply, StopGoesOnFrom, StopHasEntry, history_after, reply_of};
 
 use crate::gathering::gathered;
 use crate::rules::Rules;
-use review_rows::{Kept, Matter, Shelf};
+use review_file::ReadText;
+use review_rows::{Delta, Kept, Matter, Rows, Shelf};
 use review_texts::{BadReply, content_text, read_reply, reply_text};
 use review_words::{AccountNo, Command, Delivery, NotTaken, Query, Reply, RequestId};
 use std::alloc::{AllocError, Global};
@@ -161,14 +169,46 @@ fn first_arrival<S: Shelf, R: Rules>(
     ensures counted { CountsReply (reply_of result) (S.state shelf.old).faults (S.state shelf.new).faults }
 {
     let (rows, read) = gathered(alloc, shelf, rules, caller, Matter::Command(command))?;
+    let decided = decide(alloc, rules, read, rows, caller, command)?;
+    let kept = kept_for(alloc, caller, id, decided.request, content, &decided.reply)?;
+    shelf.commit(alloc, &decided.delta, &kept)?;
+    Ok(decided.reply)
+}
+
+/// What is to be stored of a command that was decided.
+#[derive(Drop)]
+struct Decided {
+    /// The number of its request.
+    request: u64,
+    delta: Delta,
+    reply: Reply,
+}
+
+// Decides a command, where there is a number left for its request.
+fn decide<R: Rules>(
+    alloc: Global,
+    rules: &mut R,
+    read: Option<ReadText>,
+    rows: Rows,
+    caller: AccountNo,
+    command: &Command,
+) -> Result<Decided, NotTaken>
+    ensures request { IfOk result (λ d. (d.request ≡ number_of (known rows want.Requests) + 1) × (d.request ≤ most_requests)) }
+    ensures decided { IfOk result (λ d. (reading : Reading) (h : List Entry) → length h < most_requests → IsHistory h → AreEnough reading h caller (OfCommand command.now) (file_read read) rows → IsDecided reading h caller command.now d.delta d.reply) }
+    ensures stored { IfOk result (λ d. IsStored d.reply) }
+    ensures refused { IfOk result (λ d. HasNoEffect d.reply d.delta) }
+    ensures cause { IfErr result (IsUnstored caller command.now (file_read read) rows) }
+{
     let requests = rows.requests();
     if requests >= MOST_REQUESTS {
         return Err(NotTaken::Full);
     }
     let (delta, reply) = rules.decide(alloc, read, &rows, caller, command)?;
-    let kept = kept_for(alloc, caller, id, requests + 1, content, &reply)?;
-    shelf.commit(alloc, &delta, &kept)?;
-    Ok(reply)
+    Ok(Decided {
+        request: requests + 1,
+        delta,
+        reply,
+    })
 }
 
 // What is stored of a request and its reply.

@@ -1,7 +1,7 @@
 use Rattle.std.proofs.Common.{◌≡◌, ◌∙◌, ◌+◌, ◌<◌, ◌≤◌, ap, subst, arith, length, inl, inr, ⊎_elim}
 use Rattle.review_words.specs.Texts.{reply_text}
 use Rattle.review_words.specs.declared.command.Delivery.TheVariants.{Write}
-use Rattle.review_words.specs.declared.reply.NotTaken.TheVariants.{Memory, Full}
+use Rattle.review_words.specs.declared.reply.NotTaken.TheVariants.{Memory}
 use Rattle.review_rows.specs.Answer.{most_requests}
 use Rattle.review_rows.specs.Rows.{AnswerRow, kept_row}
 use Rattle.review_rows.specs.View.{IsDecided, answer_row}
@@ -11,22 +11,13 @@ use Rattle.review_rows.specs.Steps.{OfCommand}
 use Rattle.review_rows.specs.Shelf.{IsCommitted, IsCounted, Shows, cause_of}
 use Rattle.review_words.specs.declared.reply.Reply.TheVariants.{NotTaken}
 use Rattle.review_deliveries.specs.Replies.{entry_of, IsServed, KeepsUntaken, CountsReply}
-use Rattle.review_deliveries.proofs.Histories.{history_length, enough_shown, requests_told}
-use Rattle.review_deliveries.proofs.Served.{undecided_lawful, undecided_keeps, undecided_counts, first_served, not_taken_served, fault_served, ungathered_served, ungathered_keeps, after_read, views_stay, effect, err_reply}
+use Rattle.review_deliveries.proofs.Histories.{enough_shown, requests_told}
+use Rattle.review_deliveries.proofs.Unstored.{unstored_lawful, unstored_keeps, unstored_counts}
+use Rattle.review_deliveries.proofs.Served.{first_served, not_taken_served, fault_served, ungathered_served, ungathered_keeps, after_read, views_stay, effect, err_reply}
 use Rattle.review_words.specs.History.{Identity}
-use Rattle.review_deliveries.proofs.Effects.{stores_once, stored_shown, full_keeps, decided_keeps, fault_keeps, fault_counts, stored_counts}
+use Rattle.review_deliveries.proofs.Effects.{stores_once, stored_shown, decided_keeps, fault_keeps, fault_counts, stored_counts}
 use Rattle.review_deliveries.proofs.Asking.{left_before}
 use Rattle.review_deliveries.proofs.deliveries.first_arrival.Goals as goal
-
-pub returns-then-requests-ge-MOST_REQUESTS-clause-served : goal.returns-then-requests-ge-MOST_REQUESTS-clause-served
-returns-then-requests-ge-MOST_REQUESTS-clause-served g c = λ honest h hist v fresh.
-    let x = c.in_ok-rows.ensures in
-    let old = g.S.Shelf.state c.args.shelf.now in
-    let new = g.S.Shelf.state c.gathered.new.shelf in
-    let many : c.requests-requests.result ≡ length h =
-    c.requests-requests.ensures ∙ requests_told h old.tables c.args.caller c.args.command.now (file_read c.in_ok-rows.read) c.in_ok-rows.rows hist v (x.found honest) x.enough in
-    let long : length h ≡ most_requests = let a = history_length h hist in let b = many in omega arith in
-    not_taken_served h (Write c.args.caller c.args.id.now c.args.command.now) Full old new hist (views_stay h old.tables new.tables (x.tables honest) v) (fresh, long, x.counted) (λ t y. inl (x.stops honest t y))
 
 pub returns-clause-served : goal.returns-clause-served
 returns-clause-served g c = λ honest h hist v fresh.
@@ -38,24 +29,23 @@ returns-clause-served g c = λ honest h hist v fresh.
     let new = g.S.Shelf.state c.commit.new.self in
     let between = y.honest honest in
     let file = file_read c.in_ok-rows.read in
-    let many : c.requests-requests.result ≡ length h = c.requests-requests.ensures ∙ requests_told h old.tables a.caller a.command.now file c.in_ok-rows.rows hist v (x.found between) x.enough in
-    let room : length h < most_requests = let p = c.if-requests-ge-MOST_REQUESTS.false in let q = many in omega arith in
-    let d : (reading : Reading) → Reads reading h → IsDecided reading h a.caller a.command.now c.in_ok-delta.delta c.in_ok-delta.reply = λ reading reads.
-    c.in_ok-delta.ensures.decided reading h room hist (enough_shown reading h old.tables a.caller (OfCommand a.command.now) file c.in_ok-rows.rows reads v (x.found between) x.enough) in
-    let number : c.requests-requests.result + 1 ≡ length h + 1 = ap (λ n. n + 1) many in
+    let number : c.in_ok-decided.decided.request ≡ length h + 1 = c.in_ok-decided.ensures.request.0 ∙ ap (λ n. n + 1) (requests_told h old.tables a.caller a.command.now file c.in_ok-rows.rows hist v (x.found between) x.enough) in
+    let room : length h < most_requests = let p = c.in_ok-decided.ensures.request.1 in let q = number in omega arith in
+    let d : (reading : Reading) → Reads reading h → IsDecided reading h a.caller a.command.now c.in_ok-decided.decided.delta c.in_ok-decided.decided.reply = λ reading reads.
+    c.in_ok-decided.ensures.decided reading h room hist (enough_shown reading h old.tables a.caller (OfCommand a.command.now) file c.in_ok-rows.rows reads v (x.found between) x.enough) in
     let row : AnswerRow = kept_row c.in_ok-kept.kept in
-    let is : row ≡ answer_row (entry_of a.caller a.id.now a.command.now c.in_ok-delta.reply) (length h + 1) =
-    c.in_ok-kept.ensures ∙ (λ i. record { identity = record { caller = a.caller; id = a.id.now }; request = number i; content = c.requires i; reply = reply_text c.in_ok-delta.reply }) in
+    let is : row ≡ answer_row (entry_of a.caller a.id.now a.command.now c.in_ok-decided.decided.reply) (length h + 1) =
+    c.in_ok-kept.ensures ∙ (λ i. record { identity = record { caller = a.caller; id = a.id.now }; request = number i; content = c.requires i; reply = reply_text c.in_ok-decided.decided.reply }) in
     let view = views_stay h old.tables mid.tables (x.tables between) v in
-    after_read h (Write a.caller a.id.now a.command.now) c.in_ok-delta.reply old mid new x.counted (x.stops between)
-    (first_served h c.in_ok-delta.delta row a.caller a.id.now a.command.now c.in_ok-delta.reply mid new hist view fresh room d is (y.done honest) (y.alone honest) y.counted
+    after_read h (Write a.caller a.id.now a.command.now) c.in_ok-decided.decided.reply old mid new x.counted (x.stops between)
+    (first_served h c.in_ok-decided.decided.delta row a.caller a.id.now a.command.now c.in_ok-decided.decided.reply mid new hist view fresh room d is (y.done honest) (y.alone honest) y.counted
     (λ t s. ⊎_elim (λ (k : mid.stops t). inl k)
-    (λ (k : Shows mid.tables (λ was. IsCommitted was c.in_ok-delta.delta row t)). inr (effect h mid.tables t c.in_ok-delta.delta row a.caller a.id.now a.command.now c.in_ok-delta.reply hist view fresh room d is k))
+    (λ (k : Shows mid.tables (λ was. IsCommitted was c.in_ok-decided.decided.delta row t)). inr (effect h mid.tables t c.in_ok-decided.decided.delta row a.caller a.id.now a.command.now c.in_ok-decided.decided.reply hist view fresh room d is k))
     (y.stops honest t s)))
 
 pub returns-clause-counted : goal.returns-clause-counted
 returns-clause-counted g c =
-    stored_counts c.in_ok-delta.reply (g.S.Shelf.state c.args.shelf.now).faults (g.S.Shelf.state c.commit.new.self).faults c.in_ok-delta.ensures.stored (c.in_ok-commit.ensures.counted ∙ c.in_ok-rows.ensures.counted)
+    stored_counts c.in_ok-decided.decided.reply (g.S.Shelf.state c.args.shelf.now).faults (g.S.Shelf.state c.commit.new.self).faults c.in_ok-decided.ensures.stored (c.in_ok-commit.ensures.counted ∙ c.in_ok-rows.ensures.counted)
 
 pub returns-in_err-commit-clause-served : goal.returns-in_err-commit-clause-served
 returns-in_err-commit-clause-served g c = λ honest h hist v fresh.
@@ -68,20 +58,19 @@ returns-in_err-commit-clause-served g c = λ honest h hist v fresh.
     let new = g.S.Shelf.state c.commit.new.self in
     let between = y.honest honest in
     let file = file_read c.in_ok-rows.read in
-    let many : c.requests-requests.result ≡ length h = c.requests-requests.ensures ∙ requests_told h old.tables a.caller a.command.now file c.in_ok-rows.rows hist v (x.found between) x.enough in
-    let room : length h < most_requests = let p = c.if-requests-ge-MOST_REQUESTS.false in let q = many in omega arith in
-    let d : (reading : Reading) → Reads reading h → IsDecided reading h a.caller a.command.now c.in_ok-delta.delta c.in_ok-delta.reply = λ reading reads.
-    c.in_ok-delta.ensures.decided reading h room hist (enough_shown reading h old.tables a.caller (OfCommand a.command.now) file c.in_ok-rows.rows reads v (x.found between) x.enough) in
-    let number : c.requests-requests.result + 1 ≡ length h + 1 = ap (λ n. n + 1) many in
+    let number : c.in_ok-decided.decided.request ≡ length h + 1 = c.in_ok-decided.ensures.request.0 ∙ ap (λ n. n + 1) (requests_told h old.tables a.caller a.command.now file c.in_ok-rows.rows hist v (x.found between) x.enough) in
+    let room : length h < most_requests = let p = c.in_ok-decided.ensures.request.1 in let q = number in omega arith in
+    let d : (reading : Reading) → Reads reading h → IsDecided reading h a.caller a.command.now c.in_ok-decided.decided.delta c.in_ok-decided.decided.reply = λ reading reads.
+    c.in_ok-decided.ensures.decided reading h room hist (enough_shown reading h old.tables a.caller (OfCommand a.command.now) file c.in_ok-rows.rows reads v (x.found between) x.enough) in
     let row : AnswerRow = kept_row c.in_ok-kept.kept in
-    let is : row ≡ answer_row (entry_of a.caller a.id.now a.command.now c.in_ok-delta.reply) (length h + 1) =
-    c.in_ok-kept.ensures ∙ (λ i. record { identity = record { caller = a.caller; id = a.id.now }; request = number i; content = c.requires i; reply = reply_text c.in_ok-delta.reply }) in
+    let is : row ≡ answer_row (entry_of a.caller a.id.now a.command.now c.in_ok-decided.decided.reply) (length h + 1) =
+    c.in_ok-kept.ensures ∙ (λ i. record { identity = record { caller = a.caller; id = a.id.now }; request = number i; content = c.requires i; reply = reply_text c.in_ok-decided.decided.reply }) in
     let view = views_stay h old.tables mid.tables (x.tables between) v in
     subst (λ r. IsServed h (Write a.caller a.id.now a.command.now) r old new) (err_reply c.from_residual-in_err-commit.result (cause_of fault) c.from_residual-in_err-commit.ensures)
     (after_read h (Write a.caller a.id.now a.command.now) (NotTaken (cause_of fault)) old mid new x.counted (x.stops between)
     (fault_served h (Write a.caller a.id.now a.command.now) fault mid new hist view (y.undone honest) (y.damaged honest) y.counted
     (λ t s. ⊎_elim (λ (k : mid.stops t). inl k)
-    (λ (k : Shows mid.tables (λ was. IsCommitted was c.in_ok-delta.delta row t)). inr (effect h mid.tables t c.in_ok-delta.delta row a.caller a.id.now a.command.now c.in_ok-delta.reply hist view fresh room d is k))
+    (λ (k : Shows mid.tables (λ was. IsCommitted was c.in_ok-decided.decided.delta row t)). inr (effect h mid.tables t c.in_ok-decided.decided.delta row a.caller a.id.now a.command.now c.in_ok-decided.decided.reply hist view fresh room d is k))
     (y.stops honest t s))))
 
 pub returns-clause-once : goal.returns-clause-once
@@ -89,44 +78,46 @@ returns-clause-once g c = λ honest none.
     let y = c.in_ok-commit.ensures in
     let a = c.args in
     let i : Identity = record { caller = a.caller; id = a.id.now } in
-    stores_once a.caller a.id.now a.command.now c.in_ok-delta.reply (g.S.Shelf.state a.shelf.now).tables (g.S.Shelf.state c.commit.new.self).tables
-    (stored_shown i a.command.now c.in_ok-delta.reply c.in_ok-delta.delta (file_read c.in_ok-rows.read) c.in_ok-rows.rows _
+    stores_once a.caller a.id.now a.command.now c.in_ok-decided.decided.reply (g.S.Shelf.state a.shelf.now).tables (g.S.Shelf.state c.commit.new.self).tables
+    (stored_shown i a.command.now c.in_ok-decided.decided.reply c.in_ok-decided.decided.delta (file_read c.in_ok-rows.read) c.in_ok-rows.rows _
     (g.S.Shelf.state a.shelf.now).tables (g.S.Shelf.state c.gathered.new.shelf).tables (g.S.Shelf.state c.commit.new.self).tables
-    (c.in_ok-rows.ensures.tables (y.honest honest)) none (c.in_ok-rows.ensures.found (y.honest honest)) c.in_ok-rows.ensures.enough.0 c.in_ok-delta.ensures.refused (y.done honest)
-    (λ n e. c.in_ok-kept.ensures ∙ (λ k. record { identity = record { caller = a.caller; id = a.id.now }; request = (c.requests-requests.ensures ∙ e) k + 1; content = c.requires k; reply = reply_text c.in_ok-delta.reply })))
+    (c.in_ok-rows.ensures.tables (y.honest honest)) none (c.in_ok-rows.ensures.found (y.honest honest)) c.in_ok-rows.ensures.enough.0 c.in_ok-decided.ensures.refused (y.done honest)
+    (λ n e. c.in_ok-kept.ensures ∙ (λ k. record { identity = record { caller = a.caller; id = a.id.now }; request = (c.in_ok-decided.ensures.request.0 ∙ ap (λ m. m + 1) e) k; content = c.requires k; reply = reply_text c.in_ok-decided.decided.reply })))
 
-pub returns-in_err-delta-clause-served : goal.returns-in_err-delta-clause-served
-returns-in_err-delta-clause-served g c = λ honest h hist v fresh.
+pub returns-in_err-decided-clause-served : goal.returns-in_err-decided-clause-served
+returns-in_err-decided-clause-served g c = λ honest h hist v fresh.
     let x = c.in_ok-rows.ensures in
     let a = c.args in
-    let cause = c.in_err-delta.field-0.0 in
+    let cause = c.in_err-decided.field-0.0 in
     let old = g.S.Shelf.state a.shelf.now in
     let new = g.S.Shelf.state c.gathered.new.shelf in
     let file = file_read c.in_ok-rows.read in
     let has = λ (reading : Reading) (reads : Reads reading h).
     enough_shown reading h old.tables a.caller (OfCommand a.command.now) file c.in_ok-rows.rows reads v (x.found honest) x.enough in
-    subst (λ r. IsServed h (Write a.caller a.id.now a.command.now) r old new) (err_reply c.from_residual-in_err-delta.result cause c.from_residual-in_err-delta.ensures)
+    subst (λ r. IsServed h (Write a.caller a.id.now a.command.now) r old new) (err_reply c.from_residual-in_err-decided.result cause c.from_residual-in_err-decided.ensures)
     (not_taken_served h (Write a.caller a.id.now a.command.now) cause old new hist (views_stay h old.tables new.tables (x.tables honest) v)
-    (undecided_lawful h a.caller a.id.now a.command.now file c.in_ok-rows.rows cause old.faults new.faults hist has fresh c.in_err-delta.ensures.cause x.counted)
+    (unstored_lawful h a.caller a.id.now a.command.now file c.in_ok-rows.rows cause old.faults new.faults hist has
+    (requests_told h old.tables a.caller a.command.now file c.in_ok-rows.rows hist v (x.found honest) x.enough) fresh c.in_err-decided.ensures.cause x.counted)
     (λ t y. inl (x.stops honest t y)))
 
-pub returns-in_err-delta-clause-unchanged : goal.returns-in_err-delta-clause-unchanged
-returns-in_err-delta-clause-unchanged g c = λ honest none.
+pub returns-in_err-decided-clause-unchanged : goal.returns-in_err-decided-clause-unchanged
+returns-in_err-decided-clause-unchanged g c = λ honest none.
     let a = c.args in
-    let cause = c.in_err-delta.field-0.0 in
+    let cause = c.in_err-decided.field-0.0 in
     let old = (g.S.Shelf.state a.shelf.now).tables in
     let new = (g.S.Shelf.state c.gathered.new.shelf).tables in
-    subst (λ r. KeepsUntaken (Write a.caller a.id.now a.command.now) r old new) (err_reply c.from_residual-in_err-delta.result cause c.from_residual-in_err-delta.ensures)
-    (undecided_keeps a.caller a.id.now a.command.now (file_read c.in_ok-rows.read) c.in_ok-rows.rows cause old new c.in_err-delta.ensures.cause (c.in_ok-rows.ensures.tables honest))
+    subst (λ r. KeepsUntaken (Write a.caller a.id.now a.command.now) r old new) (err_reply c.from_residual-in_err-decided.result cause c.from_residual-in_err-decided.ensures)
+    (unstored_keeps a.caller a.id.now a.command.now (file_read c.in_ok-rows.read) c.in_ok-rows.rows cause old new none (c.in_ok-rows.ensures.found honest) c.in_ok-rows.ensures.enough.0
+    c.in_err-decided.ensures.cause (c.in_ok-rows.ensures.tables honest))
 
-pub returns-in_err-delta-clause-counted : goal.returns-in_err-delta-clause-counted
-returns-in_err-delta-clause-counted g c =
+pub returns-in_err-decided-clause-counted : goal.returns-in_err-decided-clause-counted
+returns-in_err-decided-clause-counted g c =
     let a = c.args in
-    let cause = c.in_err-delta.field-0.0 in
+    let cause = c.in_err-decided.field-0.0 in
     let before = (g.S.Shelf.state a.shelf.now).faults in
     let after = (g.S.Shelf.state c.gathered.new.shelf).faults in
-    subst (λ r. CountsReply r before after) (err_reply c.from_residual-in_err-delta.result cause c.from_residual-in_err-delta.ensures)
-    (undecided_counts a.caller a.command.now (file_read c.in_ok-rows.read) c.in_ok-rows.rows cause before after c.in_err-delta.ensures.cause c.in_ok-rows.ensures.counted)
+    subst (λ r. CountsReply r before after) (err_reply c.from_residual-in_err-decided.result cause c.from_residual-in_err-decided.ensures)
+    (unstored_counts a.caller a.command.now (file_read c.in_ok-rows.read) c.in_ok-rows.rows cause before after c.in_err-decided.ensures.cause c.in_ok-rows.ensures.counted)
 
 pub returns-in_err-kept-clause-served : goal.returns-in_err-kept-clause-served
 returns-in_err-kept-clause-served g c = λ honest h hist v fresh.
@@ -136,13 +127,6 @@ returns-in_err-kept-clause-served g c = λ honest h hist v fresh.
     let new = g.S.Shelf.state c.gathered.new.shelf in
     subst (λ r. IsServed h (Write a.caller a.id.now a.command.now) r old new) (err_reply c.from_residual-in_err-kept.result Memory c.from_residual-in_err-kept.ensures)
     (not_taken_served h (Write a.caller a.id.now a.command.now) Memory old new hist (views_stay h old.tables new.tables (x.tables honest) v) x.counted (λ t y. inl (x.stops honest t y)))
-
-pub returns-then-requests-ge-MOST_REQUESTS-clause-unchanged : goal.returns-then-requests-ge-MOST_REQUESTS-clause-unchanged
-returns-then-requests-ge-MOST_REQUESTS-clause-unchanged g c = λ honest none.
-    let x = c.in_ok-rows.ensures in
-    let a = c.args in
-    full_keeps a.caller a.id.now a.command.now (file_read c.in_ok-rows.read) c.in_ok-rows.rows (g.S.Shelf.state a.shelf.now).tables (g.S.Shelf.state c.gathered.new.shelf).tables
-    none (x.found honest) x.enough.0 (subst (λ n. most_requests ≤ n) c.requests-requests.ensures c.if-requests-ge-MOST_REQUESTS.true) (x.tables honest)
 
 pub returns-in_err-rows-clause-served : goal.returns-in_err-rows-clause-served
 returns-in_err-rows-clause-served g c = λ honest h hist v fresh.
@@ -206,4 +190,4 @@ returns-in_err-commit-clause-counted g c =
 pub returns-clause-unchanged : goal.returns-clause-unchanged
 returns-clause-unchanged g c = λ honest none.
     let a = c.args in
-    decided_keeps a.caller a.id.now a.command.now c.in_ok-delta.reply (g.S.Shelf.state a.shelf.now).tables (g.S.Shelf.state c.commit.new.self).tables c.in_ok-delta.ensures.stored
+    decided_keeps a.caller a.id.now a.command.now c.in_ok-decided.decided.reply (g.S.Shelf.state a.shelf.now).tables (g.S.Shelf.state c.commit.new.self).tables c.in_ok-decided.ensures.stored
