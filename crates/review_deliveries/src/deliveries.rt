@@ -6,6 +6,7 @@ ghost use Rattle.review_words.specs.declared.command.Delivery.TheVariants.{Write
 ghost use Rattle.review_file.specs.Texts.{file_read};
 ghost use Rattle.review_rows.specs.Answer.{IsHistory, most_requests};
 ghost use Rattle.review_rows.specs.Changes.{Reading};
+ghost use Rattle.review_rows.specs.declared.rows.Want.{Want};
 ghost use Rattle.review_rows.specs.declared.rows.Want.TheVariants as want;
 ghost use Rattle.review_rows.specs.Known.{known, number_of};
 ghost use Rattle.review_rows.specs.Rows.{HasNoEffect, kept_row};
@@ -111,7 +112,10 @@ fn write<S: Shelf, R: Rules>(
     let content = content_text(alloc, command)?;
     match shelf.recall(alloc, caller, id)? {
         Some(kept) => repeated(alloc, &kept, content.as_str()),
-        None => first_arrival(alloc, shelf, rules, caller, id, command, content),
+        None => {
+            let mut rows = Rows::new(alloc);
+            first_arrival(alloc, shelf, rules, &mut rows, caller, id, command, content)
+        }
     }
 }
 
@@ -129,7 +133,8 @@ fn read<S: Shelf, R: Rules>(
     ensures unchanged { (S.state shelf.new).is_honest → KeepsUntaken (Read caller query.now) (reply_of result) (S.state shelf.old).tables (S.state shelf.new).tables }
     ensures counted { CountsReply (reply_of result) (S.state shelf.old).faults (S.state shelf.new).faults }
 {
-    let (rows, read) = gathered(alloc, shelf, rules, caller, Matter::Query(query))?;
+    let mut rows = Rows::new(alloc);
+    let read = gathered(alloc, shelf, rules, &mut rows, caller, Matter::Query(query))?;
     rules.show(alloc, read, &rows, caller, query)
 }
 
@@ -147,17 +152,19 @@ fn repeated(alloc: Global, kept: &Kept, content: &str) -> Result<Reply, NotTaken
     }
 }
 
-// Decides a request whose identity is new, and stores it with its answer in the same commit.
+// Decides a request whose identity is new, by rows that know nothing yet, and stores it with its answer in the same commit.
 fn first_arrival<S: Shelf, R: Rules>(
     alloc: Global,
     shelf: &mut S,
     rules: &mut R,
+    rows: &mut Rows,
     caller: AccountNo,
     id: &RequestId,
     command: &Command,
     content: String,
 ) -> Result<Reply, NotTaken>
-    requires { string_bytes content ≡ content_text command.now }
+    requires nothing { (w : Want) → known rows.old w ≡ None }
+    requires content { string_bytes content ≡ content_text command.now }
     ensures honest { (S.state shelf.new).is_honest → (S.state shelf.old).is_honest }
     ensures served { (S.state shelf.new).is_honest → (h : List Entry) → IsHistory h → Views h (S.state shelf.old).tables →
         stored h (record { caller = caller; id = id.now }) ≡ None →
@@ -168,7 +175,8 @@ fn first_arrival<S: Shelf, R: Rules>(
         StoresOnce (Write caller id.now command.now) (reply_of result) (S.state shelf.old).tables (S.state shelf.new).tables }
     ensures counted { CountsReply (reply_of result) (S.state shelf.old).faults (S.state shelf.new).faults }
 {
-    let (rows, read) = gathered(alloc, shelf, rules, caller, Matter::Command(command))?;
+    let matter = Matter::Command(command);
+    let read = gathered(alloc, shelf, rules, rows, caller, matter)?;
     let decided = decide(alloc, rules, read, rows, caller, command)?;
     let kept = kept_for(alloc, caller, id, decided.request, content, &decided.reply)?;
     shelf.commit(alloc, &decided.delta, &kept)?;
@@ -189,21 +197,21 @@ fn decide<R: Rules>(
     alloc: Global,
     rules: &mut R,
     read: Option<ReadText>,
-    rows: Rows,
+    rows: &Rows,
     caller: AccountNo,
     command: &Command,
 ) -> Result<Decided, NotTaken>
-    ensures request { IfOk result (λ d. (d.request ≡ number_of (known rows want.Requests) + 1) × (d.request ≤ most_requests)) }
-    ensures decided { IfOk result (λ d. (reading : Reading) (h : List Entry) → length h < most_requests → IsHistory h → AreEnough reading h caller (OfCommand command.now) (file_read read) rows → IsDecided reading h caller command.now d.delta d.reply) }
+    ensures request { IfOk result (λ d. (d.request ≡ number_of (known rows.now want.Requests) + 1) × (d.request ≤ most_requests)) }
+    ensures decided { IfOk result (λ d. (reading : Reading) (h : List Entry) → length h < most_requests → IsHistory h → AreEnough reading h caller (OfCommand command.now) (file_read read) rows.now → IsDecided reading h caller command.now d.delta d.reply) }
     ensures stored { IfOk result (λ d. IsStored d.reply) }
     ensures refused { IfOk result (λ d. HasNoEffect d.reply d.delta) }
-    ensures cause { IfErr result (IsUnstored caller command.now (file_read read) rows) }
+    ensures cause { IfErr result (IsUnstored caller command.now (file_read read) rows.now) }
 {
     let requests = rows.requests();
     if requests >= MOST_REQUESTS {
         return Err(NotTaken::Full);
     }
-    let (delta, reply) = rules.decide(alloc, read, &rows, caller, command)?;
+    let (delta, reply) = rules.decide(alloc, read, rows, caller, command)?;
     Ok(Decided {
         request: requests + 1,
         delta,
