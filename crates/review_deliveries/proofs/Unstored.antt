@@ -1,5 +1,5 @@
 -- A command that is not stored.
-use Rattle.std.proofs.Common.{◌≡◌, ℕ, ◌≤◌, List, [], Option, Some, None, length, arith}
+use Rattle.std.proofs.Common.{◌≡◌, ℕ, ◌≤◌, List, [], Option, None, length, arith}
 use Rattle.review_words.specs.declared.command.Command.{Command}
 use Rattle.review_words.specs.declared.command.Delivery.TheVariants.{Write}
 use Rattle.review_words.specs.declared.reply.Reply.TheVariants.{NotTaken}
@@ -20,7 +20,7 @@ use Rattle.review_deliveries.specs.Gathered.{IsUnstored}
 use Rattle.review_deliveries.specs.Replies.{IsLawful, KeepsUntaken, CountsReply}
 use Rattle.review_deliveries.proofs.Effects.{full_keeps}
 use Rattle.review_deliveries.proofs.Histories.{history_length}
-use Rattle.review_deliveries.proofs.Served.{undecided_lawful, undecided_keeps, undecided_counts}
+use Rattle.review_deliveries.proofs.Served.{undecided_lawful, undecided_keeps}
 
 -- it is not taken for a lawful cause
 pub unstored_lawful : (h : List Entry) (caller : ℕ) (id : List ℕ) (command : Command) (file : Option File) (rows : Rows) (cause : Cause) (before after : ℕ) → IsHistory h →

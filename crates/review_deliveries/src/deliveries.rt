@@ -1,6 +1,6 @@
 //! One delivery.
-ghost use Rattle.std.specs.Prelude.{◌≡◌, ◌≤◌, ◌<◌, ◌+◌, ℕ, List, [], ◌∷◌, None, IfErr, IfOk, length, string_bytes};
-ghost use Rattle.review_words.specs.Texts.{IsStored, content_text, reply_text};
+ghost use Rattle.std.specs.Prelude.{◌≡◌, ◌≤◌, ◌<◌, ◌+◌, ◌⊎◌, ℕ, List, [], ◌∷◌, None, IfErr, IfOk, OnOk, length, string_bytes};
+ghost use Rattle.review_words.specs.Texts.{IsStored, content_text};
 ghost use Rattle.review_words.specs.History.{Entry, stored};
 ghost use Rattle.review_words.specs.declared.command.Delivery.TheVariants.{Write, Read};
 ghost use Rattle.review_file.specs.Texts.{file_read};
@@ -9,17 +9,18 @@ ghost use Rattle.review_rows.specs.Changes.{Reading};
 ghost use Rattle.review_rows.specs.declared.rows.Want.{Want};
 ghost use Rattle.review_rows.specs.declared.rows.Want.TheVariants as want;
 ghost use Rattle.review_rows.specs.Known.{known, number_of};
-ghost use Rattle.review_rows.specs.Rows.{HasNoEffect, kept_row};
-ghost use Rattle.review_rows.specs.Shelf.{Shows, Views};
+ghost use Rattle.review_rows.specs.Rows.{HasNoEffect, Tables, kept_row};
+ghost use Rattle.review_rows.specs.Shelf.{BlamesTables, CountsFaults, IsCommitted, LeavesUndone, Shows, StopLeavesOwnTables, Views};
 ghost use Rattle.review_rows.specs.Steps.{OfCommand};
 ghost use Rattle.review_rows.specs.View.{AreEnough, IsDecided};
 ghost use Rattle.review_deliveries.specs.Gathered.{IsUnstored};
+ghost use Rattle.review_deliveries.specs.Kept.{row_for};
 ghost use Rattle.review_deliveries.specs.Replies.{IsServed, IsToldAgain, KeepsUntaken, StoresOnce, CountsReply, StopGoesOnFrom, StopHasEntry, history_after, reply_of};
 
 use crate::gathering::gathered;
 use crate::rules::Rules;
 use review_file::ReadText;
-use review_rows::{Delta, Kept, Matter, Rows, Shelf};
+use review_rows::{Delta, Kept, Matter, Rows, Shelf, ShelfFault};
 use review_texts::{BadReply, content_text, read_reply, reply_text};
 use review_words::{AccountNo, Command, Delivery, NotTaken, Query, Reply, RequestId};
 use std::alloc::{AllocError, Global};
@@ -178,8 +179,7 @@ fn first_arrival<S: Shelf, R: Rules>(
     let matter = Matter::Command(command);
     let read = gathered(alloc, shelf, rules, rows, caller, matter)?;
     let decided = decide(alloc, rules, read, rows, caller, command)?;
-    let kept = kept_for(alloc, caller, id, decided.request, content, &decided.reply)?;
-    shelf.commit(alloc, &decided.delta, &kept)?;
+    store(alloc, shelf, caller, id, &decided, content)?;
     Ok(decided.reply)
 }
 
@@ -219,23 +219,44 @@ fn decide<R: Rules>(
     })
 }
 
-// What is stored of a request and its reply.
+// Stores a request with its answer, and what it changes, in one commit.
+fn store<S: Shelf>(
+    alloc: Global,
+    shelf: &mut S,
+    caller: AccountNo,
+    id: &RequestId,
+    decided: &Decided,
+    content: String,
+) -> Result<(), ShelfFault>
+    ensures honest { (S.state shelf.new).is_honest → (S.state shelf.old).is_honest }
+    ensures done { (S.state shelf.new).is_honest → OnOk result (Shows (S.state shelf.old).tables (λ t. Shows (S.state shelf.new).tables (IsCommitted t decided.now.delta (row_for caller id.now decided.now (string_bytes content))))) }
+    ensures alone { (S.state shelf.new).is_honest → OnOk result (StopLeavesOwnTables (S.state shelf.new)) }
+    ensures undone { (S.state shelf.new).is_honest → LeavesUndone result (S.state shelf.old).tables (S.state shelf.new).tables }
+    ensures damaged { (S.state shelf.new).is_honest → BlamesTables result (S.state shelf.old).tables }
+    ensures stops { (S.state shelf.new).is_honest → (t : Tables) → (S.state shelf.new).stops t →
+        (S.state shelf.old).stops t ⊎ Shows (S.state shelf.old).tables (λ was. IsCommitted was decided.now.delta (row_for caller id.now decided.now (string_bytes content)) t) }
+    ensures counted { CountsFaults result (S.state shelf.old).faults (S.state shelf.new).faults }
+{
+    let kept = kept_for(alloc, caller, id, decided, content)?;
+    shelf.commit(alloc, &decided.delta, &kept)
+}
+
+// What is stored of a request that was decided.
 fn kept_for(
     alloc: Global,
     caller: AccountNo,
     id: &RequestId,
-    request: u64,
+    decided: &Decided,
     content: String,
-    reply: &Reply,
 ) -> Result<Kept, AllocError>
-    ensures { IfOk result (λ kept. kept_row kept ≡ record { identity = record { caller = caller; id = id.now }; request = request; content = string_bytes content; reply = reply_text reply.now }) }
+    ensures { IfOk result (λ kept. kept_row kept ≡ row_for caller id.now decided.now (string_bytes content)) }
 {
     let id = id.copy(alloc)?;
-    let reply = reply_text(alloc, reply)?;
+    let reply = reply_text(alloc, &decided.reply)?;
     Ok(Kept {
         caller,
         id,
-        request,
+        request: decided.request,
         content,
         reply,
     })

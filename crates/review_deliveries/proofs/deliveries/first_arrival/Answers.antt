@@ -1,9 +1,10 @@
-use Rattle.std.proofs.Common.{◌≡◌, ◌∙◌, ◌+◌, ◌<◌, ◌≤◌, ap, subst, arith, length, inl, inr, ⊎_elim}
+use Rattle.std.proofs.Common.{◌≡◌, ◌∙◌, ◌+◌, ◌<◌, ap, subst, arith, length, inl, inr, ⊎_elim}
 use Rattle.review_words.specs.Texts.{reply_text}
 use Rattle.review_words.specs.declared.command.Delivery.TheVariants.{Write}
-use Rattle.review_words.specs.declared.reply.NotTaken.TheVariants.{Memory}
 use Rattle.review_rows.specs.Answer.{most_requests}
-use Rattle.review_rows.specs.Rows.{AnswerRow, kept_row}
+use Rattle.std.specs.Prelude.{string_bytes}
+use Rattle.review_rows.specs.Rows.{AnswerRow}
+use Rattle.review_deliveries.specs.Kept.{row_for}
 use Rattle.review_rows.specs.View.{IsDecided, answer_row}
 use Rattle.review_rows.specs.Changes.{Reading, Reads}
 use Rattle.review_file.specs.Texts.{file_read}
@@ -22,20 +23,20 @@ use Rattle.review_deliveries.proofs.deliveries.first_arrival.Goals as goal
 pub returns-clause-served : goal.returns-clause-served
 returns-clause-served g c = λ honest h hist v fresh.
     let x = c.in_ok-read.ensures in
-    let y = c.in_ok-commit.ensures in
+    let y = c.in_ok-store.ensures in
     let a = c.args in
     let old = g.S.Shelf.state a.shelf.now in
     let mid = g.S.Shelf.state c.gathered.new.shelf in
-    let new = g.S.Shelf.state c.commit.new.self in
+    let new = g.S.Shelf.state c.store.new.shelf in
     let between = y.honest honest in
     let file = file_read c.in_ok-read.read in
     let number : c.in_ok-decided.decided.request ≡ length h + 1 = c.in_ok-decided.ensures.request.0 ∙ ap (λ n. n + 1) (requests_told h old.tables a.caller a.command.now file c.gathered.new.rows hist v (x.found between (inl c.requires.nothing)) x.enough) in
     let room : length h < most_requests = let p = c.in_ok-decided.ensures.request.1 in let q = number in omega arith in
     let d : (reading : Reading) → Reads reading h → IsDecided reading h a.caller a.command.now c.in_ok-decided.decided.delta c.in_ok-decided.decided.reply = λ reading reads.
     c.in_ok-decided.ensures.decided reading h room hist (enough_shown reading h old.tables a.caller (OfCommand a.command.now) file c.gathered.new.rows reads v (x.found between (inl c.requires.nothing)) x.enough) in
-    let row : AnswerRow = kept_row c.in_ok-kept.kept in
+    let row : AnswerRow = row_for a.caller a.id.now c.in_ok-decided.decided (string_bytes a.content) in
     let is : row ≡ answer_row (entry_of a.caller a.id.now a.command.now c.in_ok-decided.decided.reply) (length h + 1) =
-    c.in_ok-kept.ensures ∙ (λ i. record { identity = record { caller = a.caller; id = a.id.now }; request = number i; content = c.requires.content i; reply = reply_text c.in_ok-decided.decided.reply }) in
+    λ i. record { identity = record { caller = a.caller; id = a.id.now }; request = number i; content = c.requires.content i; reply = reply_text c.in_ok-decided.decided.reply } in
     let view = views_stay h old.tables mid.tables (x.tables between) v in
     after_read h (Write a.caller a.id.now a.command.now) c.in_ok-decided.decided.reply old mid new x.counted (x.stops between)
     (first_served h c.in_ok-decided.decided.delta row a.caller a.id.now a.command.now c.in_ok-decided.decided.reply mid new hist view fresh room d is (y.done honest) (y.alone honest) y.counted
@@ -45,28 +46,28 @@ returns-clause-served g c = λ honest h hist v fresh.
 
 pub returns-clause-counted : goal.returns-clause-counted
 returns-clause-counted g c =
-    stored_counts c.in_ok-decided.decided.reply (g.S.Shelf.state c.args.shelf.now).faults (g.S.Shelf.state c.commit.new.self).faults c.in_ok-decided.ensures.stored (c.in_ok-commit.ensures.counted ∙ c.in_ok-read.ensures.counted)
+    stored_counts c.in_ok-decided.decided.reply (g.S.Shelf.state c.args.shelf.now).faults (g.S.Shelf.state c.store.new.shelf).faults c.in_ok-decided.ensures.stored (c.in_ok-store.ensures.counted ∙ c.in_ok-read.ensures.counted)
 
-pub returns-in_err-commit-clause-served : goal.returns-in_err-commit-clause-served
-returns-in_err-commit-clause-served g c = λ honest h hist v fresh.
+pub returns-in_err-store-clause-served : goal.returns-in_err-store-clause-served
+returns-in_err-store-clause-served g c = λ honest h hist v fresh.
     let x = c.in_ok-read.ensures in
-    let y = c.in_err-commit.ensures in
+    let y = c.in_err-store.ensures in
     let a = c.args in
-    let fault = c.in_err-commit.field-0.0 in
+    let fault = c.in_err-store.field-0.0 in
     let old = g.S.Shelf.state a.shelf.now in
     let mid = g.S.Shelf.state c.gathered.new.shelf in
-    let new = g.S.Shelf.state c.commit.new.self in
+    let new = g.S.Shelf.state c.store.new.shelf in
     let between = y.honest honest in
     let file = file_read c.in_ok-read.read in
     let number : c.in_ok-decided.decided.request ≡ length h + 1 = c.in_ok-decided.ensures.request.0 ∙ ap (λ n. n + 1) (requests_told h old.tables a.caller a.command.now file c.gathered.new.rows hist v (x.found between (inl c.requires.nothing)) x.enough) in
     let room : length h < most_requests = let p = c.in_ok-decided.ensures.request.1 in let q = number in omega arith in
     let d : (reading : Reading) → Reads reading h → IsDecided reading h a.caller a.command.now c.in_ok-decided.decided.delta c.in_ok-decided.decided.reply = λ reading reads.
     c.in_ok-decided.ensures.decided reading h room hist (enough_shown reading h old.tables a.caller (OfCommand a.command.now) file c.gathered.new.rows reads v (x.found between (inl c.requires.nothing)) x.enough) in
-    let row : AnswerRow = kept_row c.in_ok-kept.kept in
+    let row : AnswerRow = row_for a.caller a.id.now c.in_ok-decided.decided (string_bytes a.content) in
     let is : row ≡ answer_row (entry_of a.caller a.id.now a.command.now c.in_ok-decided.decided.reply) (length h + 1) =
-    c.in_ok-kept.ensures ∙ (λ i. record { identity = record { caller = a.caller; id = a.id.now }; request = number i; content = c.requires.content i; reply = reply_text c.in_ok-decided.decided.reply }) in
+    λ i. record { identity = record { caller = a.caller; id = a.id.now }; request = number i; content = c.requires.content i; reply = reply_text c.in_ok-decided.decided.reply } in
     let view = views_stay h old.tables mid.tables (x.tables between) v in
-    subst (λ r. IsServed h (Write a.caller a.id.now a.command.now) r old new) (err_reply c.from_residual-in_err-commit.result (cause_of fault) c.from_residual-in_err-commit.ensures)
+    subst (λ r. IsServed h (Write a.caller a.id.now a.command.now) r old new) (err_reply c.from_residual-in_err-store.result (cause_of fault) c.from_residual-in_err-store.ensures)
     (after_read h (Write a.caller a.id.now a.command.now) (NotTaken (cause_of fault)) old mid new x.counted (x.stops between)
     (fault_served h (Write a.caller a.id.now a.command.now) fault mid new hist view (y.undone honest) (y.damaged honest) y.counted
     (λ t s. ⊎_elim (λ (k : mid.stops t). inl k)
@@ -75,14 +76,14 @@ returns-in_err-commit-clause-served g c = λ honest h hist v fresh.
 
 pub returns-clause-once : goal.returns-clause-once
 returns-clause-once g c = λ honest none.
-    let y = c.in_ok-commit.ensures in
+    let y = c.in_ok-store.ensures in
     let a = c.args in
     let i : Identity = record { caller = a.caller; id = a.id.now } in
-    stores_once a.caller a.id.now a.command.now c.in_ok-decided.decided.reply (g.S.Shelf.state a.shelf.now).tables (g.S.Shelf.state c.commit.new.self).tables
+    stores_once a.caller a.id.now a.command.now c.in_ok-decided.decided.reply (g.S.Shelf.state a.shelf.now).tables (g.S.Shelf.state c.store.new.shelf).tables
     (stored_shown i a.command.now c.in_ok-decided.decided.reply c.in_ok-decided.decided.delta (file_read c.in_ok-read.read) c.gathered.new.rows _
-    (g.S.Shelf.state a.shelf.now).tables (g.S.Shelf.state c.gathered.new.shelf).tables (g.S.Shelf.state c.commit.new.self).tables
+    (g.S.Shelf.state a.shelf.now).tables (g.S.Shelf.state c.gathered.new.shelf).tables (g.S.Shelf.state c.store.new.shelf).tables
     (c.in_ok-read.ensures.tables (y.honest honest)) none (c.in_ok-read.ensures.found (y.honest honest) (inl c.requires.nothing)) c.in_ok-read.ensures.enough.0 c.in_ok-decided.ensures.refused (y.done honest)
-    (λ n e. c.in_ok-kept.ensures ∙ (λ k. record { identity = record { caller = a.caller; id = a.id.now }; request = (c.in_ok-decided.ensures.request.0 ∙ ap (λ m. m + 1) e) k; content = c.requires.content k; reply = reply_text c.in_ok-decided.decided.reply })))
+    (λ n e k. record { identity = record { caller = a.caller; id = a.id.now }; request = (c.in_ok-decided.ensures.request.0 ∙ ap (λ m. m + 1) e) k; content = c.requires.content k; reply = reply_text c.in_ok-decided.decided.reply }))
 
 pub returns-in_err-decided-clause-served : goal.returns-in_err-decided-clause-served
 returns-in_err-decided-clause-served g c = λ honest h hist v fresh.
@@ -119,15 +120,6 @@ returns-in_err-decided-clause-counted g c =
     subst (λ r. CountsReply r before after) (err_reply c.from_residual-in_err-decided.result cause c.from_residual-in_err-decided.ensures)
     (unstored_counts a.caller a.command.now (file_read c.in_ok-read.read) c.gathered.new.rows cause before after c.in_err-decided.ensures.cause c.in_ok-read.ensures.counted)
 
-pub returns-in_err-kept-clause-served : goal.returns-in_err-kept-clause-served
-returns-in_err-kept-clause-served g c = λ honest h hist v fresh.
-    let x = c.in_ok-read.ensures in
-    let a = c.args in
-    let old = g.S.Shelf.state a.shelf.now in
-    let new = g.S.Shelf.state c.gathered.new.shelf in
-    subst (λ r. IsServed h (Write a.caller a.id.now a.command.now) r old new) (err_reply c.from_residual-in_err-kept.result Memory c.from_residual-in_err-kept.ensures)
-    (not_taken_served h (Write a.caller a.id.now a.command.now) Memory old new hist (views_stay h old.tables new.tables (x.tables honest) v) x.counted (λ t y. inl (x.stops honest t y)))
-
 pub returns-in_err-read-clause-served : goal.returns-in_err-read-clause-served
 returns-in_err-read-clause-served g c = λ honest h hist v fresh.
     let x = c.in_err-read.ensures in
@@ -154,40 +146,26 @@ returns-in_err-read-clause-counted g c =
     subst (λ r. CountsReply r before after) (err_reply c.from_residual.result c.in_err-read.field-0.0 c.from_residual.ensures)
     c.in_err-read.ensures.counted
 
-pub returns-in_err-kept-clause-unchanged : goal.returns-in_err-kept-clause-unchanged
-returns-in_err-kept-clause-unchanged g c = λ honest none.
+pub returns-in_err-store-clause-unchanged : goal.returns-in_err-store-clause-unchanged
+returns-in_err-store-clause-unchanged g c = λ honest none.
     let a = c.args in
-    let old = (g.S.Shelf.state a.shelf.now).tables in
-    let new = (g.S.Shelf.state c.gathered.new.shelf).tables in
-    subst (λ r. KeepsUntaken (Write a.caller a.id.now a.command.now) r old new) (err_reply c.from_residual-in_err-kept.result Memory c.from_residual-in_err-kept.ensures)
-    (tt, c.in_ok-read.ensures.tables honest)
-
-pub returns-in_err-kept-clause-counted : goal.returns-in_err-kept-clause-counted
-returns-in_err-kept-clause-counted g c =
-    let before = (g.S.Shelf.state c.args.shelf.now).faults in
-    let after = (g.S.Shelf.state c.gathered.new.shelf).faults in
-    subst (λ r. CountsReply r before after) (err_reply c.from_residual-in_err-kept.result Memory c.from_residual-in_err-kept.ensures) c.in_ok-read.ensures.counted
-
-pub returns-in_err-commit-clause-unchanged : goal.returns-in_err-commit-clause-unchanged
-returns-in_err-commit-clause-unchanged g c = λ honest none.
-    let a = c.args in
-    let y = c.in_err-commit.ensures in
-    let fault = c.in_err-commit.field-0.0 in
+    let y = c.in_err-store.ensures in
+    let fault = c.in_err-store.field-0.0 in
     let old = (g.S.Shelf.state a.shelf.now).tables in
     let mid = (g.S.Shelf.state c.gathered.new.shelf).tables in
-    let new = (g.S.Shelf.state c.commit.new.self).tables in
-    subst (λ r. KeepsUntaken (Write a.caller a.id.now a.command.now) r old new) (err_reply c.from_residual-in_err-commit.result (cause_of fault) c.from_residual-in_err-commit.ensures)
+    let new = (g.S.Shelf.state c.store.new.shelf).tables in
+    subst (λ r. KeepsUntaken (Write a.caller a.id.now a.command.now) r old new) (err_reply c.from_residual-in_err-store.result (cause_of fault) c.from_residual-in_err-store.ensures)
     (fault_keeps a.caller a.id.now a.command.now fault old new (left_before fault old mid new (c.in_ok-read.ensures.tables (y.honest honest)) (y.undone honest)))
 
-pub returns-in_err-commit-clause-counted : goal.returns-in_err-commit-clause-counted
-returns-in_err-commit-clause-counted g c =
-    let fault = c.in_err-commit.field-0.0 in
+pub returns-in_err-store-clause-counted : goal.returns-in_err-store-clause-counted
+returns-in_err-store-clause-counted g c =
+    let fault = c.in_err-store.field-0.0 in
     let before = (g.S.Shelf.state c.args.shelf.now).faults in
-    let after = (g.S.Shelf.state c.commit.new.self).faults in
-    subst (λ r. CountsReply r before after) (err_reply c.from_residual-in_err-commit.result (cause_of fault) c.from_residual-in_err-commit.ensures)
-    (fault_counts fault before after (subst (λ n. IsCounted fault n after) c.in_ok-read.ensures.counted c.in_err-commit.ensures.counted))
+    let after = (g.S.Shelf.state c.store.new.shelf).faults in
+    subst (λ r. CountsReply r before after) (err_reply c.from_residual-in_err-store.result (cause_of fault) c.from_residual-in_err-store.ensures)
+    (fault_counts fault before after (subst (λ n. IsCounted fault n after) c.in_ok-read.ensures.counted c.in_err-store.ensures.counted))
 
 pub returns-clause-unchanged : goal.returns-clause-unchanged
 returns-clause-unchanged g c = λ honest none.
     let a = c.args in
-    decided_keeps a.caller a.id.now a.command.now c.in_ok-decided.decided.reply (g.S.Shelf.state a.shelf.now).tables (g.S.Shelf.state c.commit.new.self).tables c.in_ok-decided.ensures.stored
+    decided_keeps a.caller a.id.now a.command.now c.in_ok-decided.decided.reply (g.S.Shelf.state a.shelf.now).tables (g.S.Shelf.state c.store.new.shelf).tables c.in_ok-decided.ensures.stored
