@@ -81,7 +81,7 @@ fn serve<S: Shelf, R: Rules>(
             caller,
             id,
             command,
-        } => told(write(alloc, shelf, rules, *caller, id, command)),
+        } => { let mut rows = Rows::new(alloc); if let Ok(read) = gathered(alloc, shelf, rules, &mut rows, *caller, Matter::Command(command)) { if let Ok(decided) = decide(alloc, rules, read, &rows, *caller, command) { if let Reply::Refused(why) = decided.reply { return Reply::Refused(why); } } } told(write(alloc, shelf, rules, *caller, id, command)) }
         Delivery::Read { caller, query } => told(read(alloc, shelf, rules, *caller, query)),
     }
 }
