@@ -1,17 +1,19 @@
 //! The change that a command names, and what it makes of it.
 ghost use Rattle.std.specs.Prelude.{◌≡◌, ◌⊎◌, IfOk, IfErr};
+ghost use Rattle.review_names.specs.Forms.{most_comments, most_patches};
+ghost use Rattle.review_change_rows.specs.Edits.{GoesOn};
 ghost use Rattle.review_words.specs.declared.reply.NotTaken.TheVariants.{Damaged, Memory};
 ghost use Rattle.review_changes.specs.Seen.{seen};
 ghost use Rattle.review_changes.specs.Sound.{IsSound};
 ghost use Rattle.review_rows.specs.Decisions.{NamesEachOnce, NamesRowsOnce};
-ghost use Rattle.review_change_decisions.specs.Facts.{EditsChange};
+ghost use Rattle.review_change_decisions.specs.Facts.{EditsChange, MakesChange};
 
 use review_account_decisions::nothing;
-use review_change_rows::copied_change;
+use review_change_rows::{copied_change, edit_of};
 use review_changes::ChangeRows;
 use review_core::{ChangeFile, RowsFault};
 use review_rows::{ChangeEdit, Delta};
-use review_words::NotTaken;
+use review_words::{ChangeNo, NotTaken};
 use std::alloc::{AllocError, Global};
 
 /// The change of rows that were loaded. Damaged only where they don't fit together.
@@ -45,4 +47,20 @@ pub fn edited(alloc: Global, edit: ChangeEdit) -> Result<Delta, AllocError>
     let mut delta = nothing(alloc);
     delta.changes.push(edit)?;
     Ok(delta)
+}
+
+/// The delta that turns a change into one that goes on from it.
+pub fn turned(
+    alloc: Global,
+    change: ChangeNo,
+    found: &ChangeRows,
+    new: ChangeFile,
+) -> Result<Delta, AllocError>
+    requires patches { GoesOn most_patches found.now.patches.items new.rows.patches.items }
+    requires comments { GoesOn most_comments found.now.comments.items new.rows.comments.items }
+    ensures made { IfOk result (MakesChange change (seen found.now) (seen new.rows)) }
+    ensures once { IfOk result NamesEachOnce }
+{
+    let edit = edit_of(alloc, change, found, new.rows())?;
+    edited(alloc, edit)
 }
