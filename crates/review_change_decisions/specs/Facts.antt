@@ -9,6 +9,9 @@ use Rattle.review_words.specs.declared.changes.NewChange.{NewChange}
 use Rattle.review_words.specs.declared.changes.NewPatch.{NewPatch}
 use Rattle.review_words.specs.declared.changes.Review.{Review as ReviewOf}
 use Rattle.review_words.specs.declared.reply.Refusal.{Refusal}
+use Rattle.review_changes.specs.Seen.{seen}
+use Rattle.review_change_decisions.specs.declared.edits.Checked.{Checked}
+use Rattle.review_change_decisions.specs.declared.edits.Checked.TheVariants.{Passes, Fails}
 use Rattle.review_words.specs.declared.reply.Refusal.TheVariants.{NoProject, NoBranch, NoPatchSet, NoComment, NotAllowed, Closed, StalePatchSet, NoLabel, ValueOut, VoteRestricted, CommitKnown, UnknownParent, Limit}
 use Rattle.review_project.specs.Rights.{grants_of, greatest_of, groups_of, least_of}
 use Rattle.review_project.specs.declared.parts.Right.{Right}
@@ -128,3 +131,8 @@ pub record IsUploaded (file : File) (n : ℕ) (p : NewPatch) (caller : ℕ) (row
   pub many_copied : AreMany (λ l u. voted (carried (copying (setting_in file rows) (UploadCommand p) caller c) c l u)) copied
   pub many_outdated : AreMany (λ l u. is_lost (copying (setting_in file rows) (UploadCommand p) caller c) c u l) outdated
   pub reply_is : reply ≡ Done (Patch n (current c + 1) copied outdated)
+
+-- the checks of a request come to this, where the first that fails refuses so and its change is this one
+abbrev pub IsChecked : Option Refusal → Change → Checked → Type 0
+IsChecked why c (Passes file) = (why ≡ None) × (seen file.rows ≡ c)
+IsChecked why c (Fails refusal) = why ≡ Some refusal

@@ -8,7 +8,7 @@ ghost use Rattle.review_words.specs.declared.command.Command.TheVariants.{OnChan
 ghost use Rattle.review_words.specs.declared.reply.NotTaken.TheVariants.{Damaged, Memory};
 ghost use Rattle.review_changes.specs.Change.{after_plain, current, reviewed, said};
 ghost use Rattle.review_changes.specs.Seen.{seen};
-ghost use Rattle.review_changes.specs.Sound.{answer_stored, fits};
+ghost use Rattle.review_changes.specs.Sound.{IsSound, answer_stored, fits};
 ghost use Rattle.review_rows.specs.Answer.{first_refusal, most_requests, numbers_after};
 ghost use Rattle.review_rows.specs.Changes.{Reading};
 ghost use Rattle.review_rows.specs.Decisions.{IsUndecided, NamesEachOnce};
@@ -16,9 +16,9 @@ ghost use Rattle.review_words.specs.declared.command.ChangeCommand.TheVariants.{
 ghost use Rattle.review_rows.specs.Rows.{HasNoEffect};
 ghost use Rattle.review_rows.specs.Steps.{OfCommand};
 ghost use Rattle.review_rows.specs.View.{AreEnough, IsDecided};
-ghost use Rattle.review_change_decisions.specs.Facts.{IsReviewed, LacksFile, MakesChange, given_in, given_of, next_numbers, review_list};
+ghost use Rattle.review_change_decisions.specs.Facts.{IsChecked, IsReviewed, LacksFile, MakesChange, given_in, given_of, next_numbers, review_list};
 
-use crate::edits::{change_file, turned};
+use crate::edits::{Checked, change_file, checked_by, turned};
 use crate::facts::is_open;
 use crate::ranges::{are_in_range, has_labels, has_values};
 use review_account_decisions::refused;
@@ -256,12 +256,29 @@ pub fn review(
     let Some(found) = rows.change(change) else {
         return Ok(refused(alloc, Refusal::NoChange));
     };
+    let checked = review_checked(alloc, had, rows, caller, review, found)?;
+    match checked {
+        Checked::Passes(file) => Ok(reviewed(alloc, rows, caller, change, found, file, review)?),
+        Checked::Fails(refusal) => Ok(refused(alloc, refusal)),
+    }
+}
+
+/// What the checks of a review of a change come to. Damaged only where the change isn't sound, or there is no file to judge values by.
+fn review_checked(
+    alloc: Global,
+    had: Option<&ProjectFile>,
+    rows: &Rows,
+    caller: AccountNo,
+    review: &Review,
+    found: &ChangeRows,
+) -> Result<Checked, NotTaken>
+    ensures checked { IfOk result (IsChecked (first_refusal (review_list (option_copied had.entry) rows.now caller review.now (seen found.now))) (seen found.now)) }
+    ensures judged { IfOk result (λ r. LacksFile (option_copied had.entry) review.now.labels → is_within (current (seen found.now)) (reviewed review.now (seen found.now)) ≡ false) }
+    ensures cause { IfErr result (λ e. (e ≡ Memory) ⊎ ((e ≡ Damaged) × ((IsSound (seen found.now) → ⊥) ⊎ LacksFile (option_copied had.entry) review.now.labels))) }
+{
     let file = change_file(alloc, found)?;
     let refusal = review_refusal(alloc, had, rows, caller, review, found)?;
-    if let Some(refusal) = refusal {
-        return Ok(refused(alloc, refusal));
-    }
-    Ok(reviewed(alloc, rows, caller, change, found, file, review)?)
+    Ok(checked_by(file, refusal))
 }
 
 /// The answer to a review that no check refuses, and what it changes.

@@ -1,16 +1,17 @@
 //! New patch sets.
-ghost use Rattle.std.specs.Prelude.{◌≡◌, ◌<◌, ◌+◌, ◌==◌, ◌||◌, List, IfOk, IfErr, length, option_copied, true};
+ghost use Rattle.std.specs.Prelude.{◌≡◌, ◌⊎◌, ◌<◌, ◌+◌, ◌==◌, ◌||◌, List, IfOk, IfErr, length, option_copied, true};
 ghost use Rattle.review_names.specs.Forms.{is_within, most_patches};
 ghost use Rattle.review_words.specs.Texts.{IsStored, IsStoredAnswer};
 ghost use Rattle.review_words.specs.History.{Entry, is_account};
 ghost use Rattle.review_words.specs.declared.command.Command.TheVariants.{OnChange};
 ghost use Rattle.review_words.specs.declared.reply.Answer.TheVariants.{Patch};
+ghost use Rattle.review_words.specs.declared.reply.NotTaken.TheVariants.{Damaged, Memory};
 ghost use Rattle.review_project.specs.declared.parts.Right.TheVariants as right;
 ghost use Rattle.review_changes.specs.Change.{after, carried, copying, current, is_lost};
 ghost use Rattle.review_changes.specs.Counts.{AreMany};
 ghost use Rattle.review_changes.specs.Votes.{voted};
 ghost use Rattle.review_changes.specs.Seen.{seen};
-ghost use Rattle.review_changes.specs.Sound.{fits};
+ghost use Rattle.review_changes.specs.Sound.{IsSound, fits};
 ghost use Rattle.review_words.specs.declared.command.ChangeCommand.TheVariants.{Upload as UploadOf};
 ghost use Rattle.review_rows.specs.Answer.{first_refusal, most_requests};
 ghost use Rattle.review_rows.specs.Changes.{Reading};
@@ -18,9 +19,9 @@ ghost use Rattle.review_rows.specs.Decisions.{IsUndecided, NamesEachOnce};
 ghost use Rattle.review_rows.specs.Rows.{HasNoEffect};
 ghost use Rattle.review_rows.specs.Steps.{OfCommand};
 ghost use Rattle.review_rows.specs.View.{AreEnough, IsDecided};
-ghost use Rattle.review_change_decisions.specs.Facts.{IsUploaded, right_in, setting_in, upload_list};
+ghost use Rattle.review_change_decisions.specs.Facts.{IsChecked, IsUploaded, right_in, setting_in, upload_list};
 
-use crate::edits::{change_file, turned};
+use crate::edits::{Checked, change_file, checked_by, turned};
 use crate::facts::{has_right, is_open};
 use review_account_decisions::refused;
 use review_branch_decisions::is_known;
@@ -134,12 +135,30 @@ pub fn upload(
     let Some(project) = had else {
         return Err(NotTaken::Damaged);
     };
+    let checked = upload_checked(alloc, project, rows, caller, patch, found)?;
+    match checked {
+        Checked::Passes(file) => {
+            Ok(uploaded(alloc, project, rows, caller, change, found, file, patch)?)
+        }
+        Checked::Fails(refusal) => Ok(refused(alloc, refusal)),
+    }
+}
+
+/// What the checks of a new patch set of a change come to. Damaged only where the change isn't sound.
+fn upload_checked(
+    alloc: Global,
+    project: &ProjectFile,
+    rows: &Rows,
+    caller: AccountNo,
+    patch: &NewPatch,
+    found: &ChangeRows,
+) -> Result<Checked, NotTaken>
+    ensures checked { IfOk result (IsChecked (first_refusal (upload_list project.now rows.now caller patch.now (seen found.now))) (seen found.now)) }
+    ensures cause { IfErr result (λ e. (e ≡ Memory) ⊎ ((e ≡ Damaged) × (IsSound (seen found.now) → ⊥))) }
+{
     let file = change_file(alloc, found)?;
     let refusal = upload_refusal(alloc, project, rows, caller, patch, found)?;
-    if let Some(refusal) = refusal {
-        return Ok(refused(alloc, refusal));
-    }
-    Ok(uploaded(alloc, project, rows, caller, change, found, file, patch)?)
+    Ok(checked_by(file, refusal))
 }
 
 /// A change with a new patch set, and the numbers of votes that were copied to it and that weren't.
