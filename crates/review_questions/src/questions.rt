@@ -88,9 +88,24 @@ fn show_on(
     let Some(found) = rows.change(change) else {
         return Ok(Reply::Refused(Refusal::NoChange));
     };
-    let file = fitting(alloc, found)?;
-    let told = told(alloc, had, &rows.groups, change, &file, query)?;
+    let told = told_of(alloc, had, rows, change, found, query)?;
     Ok(Reply::Done(told))
+}
+
+/// What a question about a change is told, by the change's rows. Damaged only where they don't fit together, or there is no file to judge by.
+fn told_of(
+    alloc: Global,
+    had: Option<&ProjectFile>,
+    rows: &Rows,
+    change: ChangeNo,
+    found: &ChangeRows,
+    query: ChangeQuery,
+) -> Result<Answer, NotTaken>
+    ensures told { IfOk result (IsToldBy (option_copied had.entry) rows.now.groups change query (seen found.now)) }
+    ensures cause { IfErr result (λ e. (e ≡ Memory) ⊎ ((e ≡ Damaged) × ((IsSound (seen found.now) → ⊥) ⊎ LacksFile (option_copied had.entry) query))) }
+{
+    let file = fitting(alloc, found)?;
+    told(alloc, had, &rows.groups, change, &file, query)
 }
 
 /// What a question about a change is told.
