@@ -7,6 +7,7 @@ pub mod Bounds
 pub mod Stored
 pub mod Histories
 pub mod Filed
+pub mod Resting
 pub mod Served
 pub mod Effects
 pub mod Readable

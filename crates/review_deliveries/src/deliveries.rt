@@ -6,6 +6,7 @@ ghost use Rattle.review_words.specs.declared.command.Delivery.TheVariants.{Write
 ghost use Rattle.review_file.specs.Texts.{file_read};
 ghost use Rattle.review_rows.specs.Answer.{IsHistory, most_requests};
 ghost use Rattle.review_rows.specs.Changes.{Reading};
+ghost use Rattle.review_rows.specs.Decisions.{RestsOn};
 ghost use Rattle.review_rows.specs.declared.rows.Want.{Want};
 ghost use Rattle.review_rows.specs.declared.rows.Want.TheVariants as want;
 ghost use Rattle.review_rows.specs.Known.{known, number_of};
@@ -81,7 +82,7 @@ fn serve<S: Shelf, R: Rules>(
             caller,
             id,
             command,
-        } => { let mut rows = Rows::new(alloc); if let Ok(read) = gathered(alloc, shelf, rules, &mut rows, *caller, Matter::Command(command)) { if let Ok(decided) = decide(alloc, rules, read, &rows, *caller, command) { if let Reply::Refused(why) = decided.reply { return Reply::Refused(why); } } } told(write(alloc, shelf, rules, *caller, id, command)) }
+        } => told(write(alloc, shelf, rules, *caller, id, command)),
         Delivery::Read { caller, query } => told(read(alloc, shelf, rules, *caller, query)),
     }
 }
@@ -202,7 +203,7 @@ fn decide<R: Rules>(
     command: &Command,
 ) -> Result<Decided, NotTaken>
     ensures request { IfOk result (λ d. (d.request ≡ number_of (known rows.now want.Requests) + 1) × (d.request ≤ most_requests)) }
-    ensures decided { IfOk result (λ d. (reading : Reading) (h : List Entry) → length h < most_requests → IsHistory h → AreEnough reading h caller (OfCommand command.now) (file_read read) rows.now → IsDecided reading h caller command.now d.delta d.reply) }
+    ensures decided { IfOk result (λ d. (reading : Reading) (h : List Entry) → length h < most_requests → RestsOn (OfCommand command.now) h → AreEnough reading h caller (OfCommand command.now) (file_read read) rows.now → IsDecided reading h caller command.now d.delta d.reply) }
     ensures stored { IfOk result (λ d. IsStored d.reply) }
     ensures refused { IfOk result (λ d. HasNoEffect d.reply d.delta) }
     ensures cause { IfErr result (IsUnstored caller command.now (file_read read) rows.now) }

@@ -13,6 +13,7 @@ use Rattle.review_rows.specs.Shelf.{IsCommitted, IsCounted, Shows, cause_of}
 use Rattle.review_words.specs.declared.reply.Reply.TheVariants.{NotTaken}
 use Rattle.review_deliveries.specs.Replies.{entry_of, IsServed, KeepsUntaken, CountsReply}
 use Rattle.review_deliveries.proofs.Histories.{enough_shown, requests_told}
+use Rattle.review_deliveries.proofs.Resting.{rests_on}
 use Rattle.review_deliveries.proofs.Unstored.{unstored_lawful, unstored_keeps, unstored_counts}
 use Rattle.review_deliveries.proofs.Served.{first_served, not_taken_served, fault_served, ungathered_served, ungathered_keeps, after_read, views_stay, effect, err_reply}
 use Rattle.review_words.specs.History.{Identity}
@@ -33,7 +34,7 @@ returns-clause-served g c = λ honest h hist v fresh.
     let number : c.in_ok-decided.decided.request ≡ length h + 1 = c.in_ok-decided.ensures.request.0 ∙ ap (λ n. n + 1) (requests_told h old.tables a.caller a.command.now file c.gathered.new.rows hist v (x.found between (inl c.requires.nothing)) x.enough) in
     let room : length h < most_requests = let p = c.in_ok-decided.ensures.request.1 in let q = number in omega arith in
     let d : (reading : Reading) → Reads reading h → IsDecided reading h a.caller a.command.now c.in_ok-decided.decided.delta c.in_ok-decided.decided.reply = λ reading reads.
-    c.in_ok-decided.ensures.decided reading h room hist (enough_shown reading h old.tables a.caller (OfCommand a.command.now) file c.gathered.new.rows reads v (x.found between (inl c.requires.nothing)) x.enough) in
+    c.in_ok-decided.ensures.decided reading h room (rests_on h (OfCommand a.command.now) hist) (enough_shown reading h old.tables a.caller (OfCommand a.command.now) file c.gathered.new.rows reads v (x.found between (inl c.requires.nothing)) x.enough) in
     let row : AnswerRow = row_for a.caller a.id.now c.in_ok-decided.decided (string_bytes a.content) in
     let is : row ≡ answer_row (entry_of a.caller a.id.now a.command.now c.in_ok-decided.decided.reply) (length h + 1) =
     λ i. record { identity = record { caller = a.caller; id = a.id.now }; request = number i; content = c.requires.content i; reply = reply_text c.in_ok-decided.decided.reply } in
@@ -62,7 +63,7 @@ returns-in_err-store-clause-served g c = λ honest h hist v fresh.
     let number : c.in_ok-decided.decided.request ≡ length h + 1 = c.in_ok-decided.ensures.request.0 ∙ ap (λ n. n + 1) (requests_told h old.tables a.caller a.command.now file c.gathered.new.rows hist v (x.found between (inl c.requires.nothing)) x.enough) in
     let room : length h < most_requests = let p = c.in_ok-decided.ensures.request.1 in let q = number in omega arith in
     let d : (reading : Reading) → Reads reading h → IsDecided reading h a.caller a.command.now c.in_ok-decided.decided.delta c.in_ok-decided.decided.reply = λ reading reads.
-    c.in_ok-decided.ensures.decided reading h room hist (enough_shown reading h old.tables a.caller (OfCommand a.command.now) file c.gathered.new.rows reads v (x.found between (inl c.requires.nothing)) x.enough) in
+    c.in_ok-decided.ensures.decided reading h room (rests_on h (OfCommand a.command.now) hist) (enough_shown reading h old.tables a.caller (OfCommand a.command.now) file c.gathered.new.rows reads v (x.found between (inl c.requires.nothing)) x.enough) in
     let row : AnswerRow = row_for a.caller a.id.now c.in_ok-decided.decided (string_bytes a.content) in
     let is : row ≡ answer_row (entry_of a.caller a.id.now a.command.now c.in_ok-decided.decided.reply) (length h + 1) =
     λ i. record { identity = record { caller = a.caller; id = a.id.now }; request = number i; content = c.requires.content i; reply = reply_text c.in_ok-decided.decided.reply } in

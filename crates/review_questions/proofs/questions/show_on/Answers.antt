@@ -8,12 +8,12 @@ use Rattle.review_questions.proofs.Loaded.{change_told, err_with, untold}
 use Rattle.review_questions.proofs.questions.show_on.Goals as goal
 
 pub returns-then-not-known-clause-shown : goal.returns-then-not-known-clause-shown
-returns-then-not-known-clause-shown c = λ reading h history l.
+returns-then-not-known-clause-shown c = λ reading h l.
     let a = c.args in
     c.is_asker-known.ensures.refused c.if-not-known.true reading (option_copied a.had) h (OnChange a.change a.query) l
 
 pub returns-in_default-clause-shown : goal.returns-in_default-clause-shown
-returns-in_default-clause-shown c = λ reading h history l.
+returns-in_default-clause-shown c = λ reading h l.
     let a = c.args in
     let known = sym (c.is_asker-known.ensures.told reading (option_copied a.had) h (OnChange a.change a.query) l) ∙ c.if-not-known.false in
     none_there reading h a.caller a.change a.query known
@@ -27,7 +27,7 @@ returns-in_err-told-clause-cause c =
     (untold c.changes_are_sound.ensures a.caller a.change a.query (option_copied a.had) a.rows.now (seen c.in-Some.found.now) c.in_err-told.field-0.0 there c.in_err-told.ensures.cause)
 
 pub returns-clause-shown : goal.returns-clause-shown
-returns-clause-shown c = λ reading h history l.
+returns-clause-shown c = λ reading h l.
     let a = c.args in
     let had = option_copied a.had in
     let known = sym (c.is_asker-known.ensures.told reading had h (OnChange a.change a.query) l) ∙ c.if-not-known.false in
