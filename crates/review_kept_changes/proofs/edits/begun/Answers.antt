@@ -1,4 +1,4 @@
-use Rattle.std.proofs.Common.{◌≡◌, ◌∙◌, None}
+use Rattle.std.proofs.Common.{◌∙◌, None}
 use Rattle.std.proofs.lemmas.Result.{IfOk-weaker}
 use Rattle.review_kept_changes.specs.Kept.{part_in, AreEdited}
 use Rattle.review_kept_changes.proofs.Turned.{bare_before}

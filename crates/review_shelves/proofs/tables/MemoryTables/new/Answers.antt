@@ -1,14 +1,10 @@
-use Rattle.std.proofs.Common.{ℕ, List, Option, ◌∙◌, ◌≤◌, ap, sym, subst, cond, Some, arith}
+use Rattle.std.proofs.Common.{ℕ, List, Option, ◌≤◌, ap, sym, subst, arith}
 use Rattle.std.specs.Ordering.{nat_cmp}
-use Rattle.std.specs.BTreeMap.{is_at}
 use Rattle.std.specs.Cmp.Lexicographic.{slice_cmp}
-use Rattle.review_table.specs.Rows.{row_in, rows_of}
-use Rattle.review_rows.specs.declared.rows.MemberKey.{MemberKey}
-use Rattle.review_rows.specs.Rows.{member_cmp}
+use Rattle.review_table.specs.Rows.{rows_of}
 use Rattle.review_kept_changes.specs.declared.edits.ChangeTables.{ChangeTables}
 use Rattle.review_kept_changes.specs.Kept.{KeptView, place_cmp, sent_cmp}
-use Rattle.review_shelves.specs.declared.keys.NameKey.{NameKey}
-use Rattle.review_shelves.specs.Desk.{answer_cmp, name_cmp}
+use Rattle.review_shelves.specs.Desk.{answer_cmp}
 use Rattle.review_shelves.specs.Branches.{BranchesView, total_in}
 use Rattle.review_shelves.proofs.Spare.{none_empty}
 use Rattle.review_shelves.proofs.First.{first_in_use, first_indexed, first_numbered, first_view}
