@@ -1,0 +1,12 @@
+//! Tests of values that no script has, over public calls alone: what tables hold, tokens and words that are never cut from a text, and a term
+//! that no word spells. All else is in the scripts of `word_scripts` and `language_scripts`.
+#![tactic(auto)]
+
+#[cfg(test)]
+mod tables;
+#[cfg(test)]
+mod terms;
+#[cfg(test)]
+mod tokens;
+#[cfg(test)]
+mod words;
