@@ -28,26 +28,26 @@ unfolding understood everything
 insert_is = (refl, (refl, refl))
 
 pub adds : (old new : State) (caller : ℤ) (id : List ℕ) (request : ℤ) (content : List ℕ) (reply : List ℕ) (count : ℕ) → IsReady old.now → Executes INSERT_ANSWER.now (Int caller ∷ Text id ∷ Int request ∷ Text content ∷ Text reply ∷ []) old new (Ok count)
-    → IsReady new.now × AddsValues 19 (Int caller ∷ Text id ∷ Int request ∷ Text content ∷ Text reply ∷ []) old.now.trees new.now.trees
+    → IsReady new.now × AddsValues 22 (Int caller ∷ Text id ∷ Int request ∷ Text content ∷ Text reply ∷ []) old.now.trees new.now.trees
 adds old new caller id request content reply count has h =
-    let row : Row = Int (next_rowid (old.now.trees 19)) ∷ Int caller ∷ Text id ∷ Int request ∷ Text content ∷ Text reply ∷ [] in
-    let it = inserts answers.name 19 answers.columns None answers.primary answers.uniques answers.orders INSERT_ANSWER.now _ old new has insert_is.1 10 refl refl insert_terms 6 insert_is.0 count h row (rw (cast_null, cast_int caller, cast_int request) refl) in
-    (it.0, (next_rowid (old.now.trees 19), it.1))
+    let row : Row = Int (next_rowid (old.now.trees 22)) ∷ Int caller ∷ Text id ∷ Int request ∷ Text content ∷ Text reply ∷ [] in
+    let it = inserts answers.name 22 answers.columns None answers.primary answers.uniques answers.orders INSERT_ANSWER.now _ old new has insert_is.1 10 refl refl insert_terms 6 insert_is.0 count h row (rw (cast_null, cast_int caller, cast_int request) refl) in
+    (it.0, (next_rowid (old.now.trees 22), it.1))
 
 abbrev tests : List Term
 tests = number_is 1 0 ∷ text_is 2 1 ∷ []
 
-delete_is : (command_of (understood desk_schema DELETE_ANSWER.now) ≡ Delete 10 (record { lets = []; body = over_table 19 tests (col 1 0 ∷ []) [] })) × IsPlain (understood desk_schema DELETE_ANSWER.now)
+delete_is : (command_of (understood desk_schema DELETE_ANSWER.now) ≡ Delete 10 (record { lets = []; body = over_table 22 tests (col 1 0 ∷ []) [] })) × IsPlain (understood desk_schema DELETE_ANSWER.now)
 unfolding understood everything
 delete_is = (refl, (refl, refl))
 
 has_tests : (caller : ℤ) (id : List ℕ) (row : Row) → passes (Int caller ∷ Text id ∷ []) tests row ≡ has_key ((1, Int caller) ∷ (2, Text id) ∷ []) row
 has_tests caller id row = (λ i. (tested_number (Int caller ∷ Text id ∷ []) row 1 0 caller refl i && (tested_text (Int caller ∷ Text id ∷ []) row 2 1 id refl i && true)))
 
-pub removes : (old new : State) (caller : ℤ) (id : List ℕ) (count : ℕ) → IsReady old.now → Executes DELETE_ANSWER.now (Int caller ∷ Text id ∷ []) old new (Ok count) → IsReady new.now × Removes 19 ((1, Int caller) ∷ (2, Text id) ∷ []) old.now.trees new.now.trees
-removes old new caller id count has h = deletes answers.name 19 answers.columns None answers.primary answers.uniques answers.orders DELETE_ANSWER.now _ old new has delete_is.1 10 refl refl tests delete_is.0 refl count h ((1, Int caller) ∷ (2, Text id) ∷ []) (has_tests caller id)
+pub removes : (old new : State) (caller : ℤ) (id : List ℕ) (count : ℕ) → IsReady old.now → Executes DELETE_ANSWER.now (Int caller ∷ Text id ∷ []) old new (Ok count) → IsReady new.now × Removes 22 ((1, Int caller) ∷ (2, Text id) ∷ []) old.now.trees new.now.trees
+removes old new caller id count has h = deletes answers.name 22 answers.columns None answers.primary answers.uniques answers.orders DELETE_ANSWER.now _ old new has delete_is.1 10 refl refl tests delete_is.0 refl count h ((1, Int caller) ∷ (2, Text id) ∷ []) (has_tests caller id)
 
-find_is : command_of (understood desk_schema FIND_ANSWER.now) ≡ Select (record { lets = []; body = over_table 19 tests (col 1 3 ∷ col 1 4 ∷ col 1 5 ∷ []) [] }) (codes "request" ∷ codes "content" ∷ codes "reply" ∷ [])
+find_is : command_of (understood desk_schema FIND_ANSWER.now) ≡ Select (record { lets = []; body = over_table 22 tests (col 1 3 ∷ col 1 4 ∷ col 1 5 ∷ []) [] }) (codes "request" ∷ codes "content" ∷ codes "reply" ∷ [])
 unfolding understood everything
 find_is = refl
 
@@ -59,10 +59,10 @@ find_unlisted : reads_listing desk_schema FIND_ANSWER.now ≡ false
 unfolding understood everything
 find_unlisted = refl
 
-pub found : (old new : State) (caller : ℤ) (id : List ℕ) (rows : List Row) → old.now.schema ≡ desk_schema → Shown FIND_ANSWER.now (Int caller ∷ Text id ∷ []) old new rows → IsPermutation (map (λ r. column r 3 ∷ column r 4 ∷ column r 5 ∷ []) (filter (has_key ((1, Int caller) ∷ (2, Text id) ∷ [])) (old.now.trees 19))) rows
-found old new caller id rows has h = finds FIND_ANSWER.now (Int caller ∷ Text id ∷ []) old new has 19 tests (col 1 3 ∷ col 1 4 ∷ col 1 5 ∷ []) (codes "request" ∷ codes "content" ∷ codes "reply" ∷ []) find_is find_plain find_unlisted ((1, Int caller) ∷ (2, Text id) ∷ []) (has_tests caller id) refl rows h
+pub found : (old new : State) (caller : ℤ) (id : List ℕ) (rows : List Row) → old.now.schema ≡ desk_schema → Shown FIND_ANSWER.now (Int caller ∷ Text id ∷ []) old new rows → IsPermutation (map (λ r. column r 3 ∷ column r 4 ∷ column r 5 ∷ []) (filter (has_key ((1, Int caller) ∷ (2, Text id) ∷ [])) (old.now.trees 22))) rows
+found old new caller id rows has h = finds FIND_ANSWER.now (Int caller ∷ Text id ∷ []) old new has 22 tests (col 1 3 ∷ col 1 4 ∷ col 1 5 ∷ []) (codes "request" ∷ codes "content" ∷ codes "reply" ∷ []) find_is find_plain find_unlisted ((1, Int caller) ∷ (2, Text id) ∷ []) (has_tests caller id) refl rows h
 
-ids_is : command_of (understood desk_schema ANSWER_IDS.now) ≡ Select (record { lets = []; body = over_table 19 [] (col 1 0 ∷ []) [] }) (codes "rowid" ∷ [])
+ids_is : command_of (understood desk_schema ANSWER_IDS.now) ≡ Select (record { lets = []; body = over_table 22 [] (col 1 0 ∷ []) [] }) (codes "rowid" ∷ [])
 unfolding understood everything
 ids_is = refl
 
@@ -74,5 +74,5 @@ ids_unlisted : reads_listing desk_schema ANSWER_IDS.now ≡ false
 unfolding understood everything
 ids_unlisted = refl
 
-pub ids_found : (old new : State) (rows : List Row) → old.now.schema ≡ desk_schema → Shown ANSWER_IDS.now [] old new rows → IsPermutation (map (λ r. rowid r ∷ []) (old.now.trees 19)) rows
-ids_found old new rows has h = finds_ids ANSWER_IDS.now old new has 19 (codes "rowid" ∷ []) ids_is ids_plain ids_unlisted refl rows h
+pub ids_found : (old new : State) (rows : List Row) → old.now.schema ≡ desk_schema → Shown ANSWER_IDS.now [] old new rows → IsPermutation (map (λ r. rowid r ∷ []) (old.now.trees 22)) rows
+ids_found old new rows has h = finds_ids ANSWER_IDS.now old new has 22 (codes "rowid" ∷ []) ids_is ids_plain ids_unlisted refl rows h

@@ -6,13 +6,9 @@ use Rattle.sqlite_trees.specs.Tree.{Trees}
 use Rattle.review_table.specs.declared.table.Change.{Change}
 use Rattle.review_table.specs.Rows.{change_of, after_change}
 use Rattle.review_tables.specs.Content.{SparesOthers}
+use Rattle.review_tables.specs.Fronts.{IsExact}
 use Rattle.review_tables.specs.Search.{Search, row_at, SetsRows, SetsAny}
 use Rattle.review_tables.proofs.Keys.{spares_then}
-
--- the order of keys tells them apart
-pub record IsExact {A : Type 0} (cmp : A → A → Ordering) : Type 0 where
-  pub same : (a b : A) → is_at (cmp a) b ≡ true → a ≡ b
-  pub itself : (a : A) → is_at (cmp a) a ≡ true
 
 module _ {A X : Type 0} (s : Search A X) where
   module _ (cmp : A → A → Ordering) (exact : IsExact cmp) where

@@ -28,26 +28,26 @@ unfolding understood everything
 insert_is = (refl, (refl, refl))
 
 pub adds : (old new : State) (version : ℤ) (requests : ℤ) (count : ℕ) → IsReady old.now → Executes INSERT_DESK.now (Int version ∷ Int requests ∷ []) old new (Ok count)
-    → IsReady new.now × AddsValues 22 (Int version ∷ Int requests ∷ []) old.now.trees new.now.trees
+    → IsReady new.now × AddsValues 25 (Int version ∷ Int requests ∷ []) old.now.trees new.now.trees
 adds old new version requests count has h =
-    let row : Row = Int (next_rowid (old.now.trees 22)) ∷ Int version ∷ Int requests ∷ [] in
-    let it = inserts desk.name 22 desk.columns None desk.primary desk.uniques desk.orders INSERT_DESK.now _ old new has insert_is.1 11 refl refl insert_terms 3 insert_is.0 count h row (rw (cast_null, cast_int version, cast_int requests) refl) in
-    (it.0, (next_rowid (old.now.trees 22), it.1))
+    let row : Row = Int (next_rowid (old.now.trees 25)) ∷ Int version ∷ Int requests ∷ [] in
+    let it = inserts desk.name 25 desk.columns None desk.primary desk.uniques desk.orders INSERT_DESK.now _ old new has insert_is.1 11 refl refl insert_terms 3 insert_is.0 count h row (rw (cast_null, cast_int version, cast_int requests) refl) in
+    (it.0, (next_rowid (old.now.trees 25), it.1))
 
 abbrev tests : List Term
 tests = []
 
-delete_is : (command_of (understood desk_schema DELETE_DESK.now) ≡ Delete 11 (record { lets = []; body = over_table 22 tests (col 1 0 ∷ []) [] })) × IsPlain (understood desk_schema DELETE_DESK.now)
+delete_is : (command_of (understood desk_schema DELETE_DESK.now) ≡ Delete 11 (record { lets = []; body = over_table 25 tests (col 1 0 ∷ []) [] })) × IsPlain (understood desk_schema DELETE_DESK.now)
 unfolding understood everything
 delete_is = (refl, (refl, refl))
 
 has_tests : (row : Row) → passes [] tests row ≡ has_key [] row
 has_tests row = refl
 
-pub removes : (old new : State) (count : ℕ) → IsReady old.now → Executes DELETE_DESK.now [] old new (Ok count) → IsReady new.now × Removes 22 [] old.now.trees new.now.trees
-removes old new count has h = deletes desk.name 22 desk.columns None desk.primary desk.uniques desk.orders DELETE_DESK.now _ old new has delete_is.1 11 refl refl tests delete_is.0 refl count h [] has_tests
+pub removes : (old new : State) (count : ℕ) → IsReady old.now → Executes DELETE_DESK.now [] old new (Ok count) → IsReady new.now × Removes 25 [] old.now.trees new.now.trees
+removes old new count has h = deletes desk.name 25 desk.columns None desk.primary desk.uniques desk.orders DELETE_DESK.now _ old new has delete_is.1 11 refl refl tests delete_is.0 refl count h [] has_tests
 
-find_is : command_of (understood desk_schema FIND_DESK.now) ≡ Select (record { lets = []; body = over_table 22 tests (col 1 1 ∷ col 1 2 ∷ []) [] }) (codes "version" ∷ codes "requests" ∷ [])
+find_is : command_of (understood desk_schema FIND_DESK.now) ≡ Select (record { lets = []; body = over_table 25 tests (col 1 1 ∷ col 1 2 ∷ []) [] }) (codes "version" ∷ codes "requests" ∷ [])
 unfolding understood everything
 find_is = refl
 
@@ -59,10 +59,10 @@ find_unlisted : reads_listing desk_schema FIND_DESK.now ≡ false
 unfolding understood everything
 find_unlisted = refl
 
-pub found : (old new : State) (rows : List Row) → old.now.schema ≡ desk_schema → Shown FIND_DESK.now [] old new rows → IsPermutation (map (λ r. column r 1 ∷ column r 2 ∷ []) (filter (has_key []) (old.now.trees 22))) rows
-found old new rows has h = finds FIND_DESK.now [] old new has 22 tests (col 1 1 ∷ col 1 2 ∷ []) (codes "version" ∷ codes "requests" ∷ []) find_is find_plain find_unlisted [] has_tests refl rows h
+pub found : (old new : State) (rows : List Row) → old.now.schema ≡ desk_schema → Shown FIND_DESK.now [] old new rows → IsPermutation (map (λ r. column r 1 ∷ column r 2 ∷ []) (filter (has_key []) (old.now.trees 25))) rows
+found old new rows has h = finds FIND_DESK.now [] old new has 25 tests (col 1 1 ∷ col 1 2 ∷ []) (codes "version" ∷ codes "requests" ∷ []) find_is find_plain find_unlisted [] has_tests refl rows h
 
-ids_is : command_of (understood desk_schema DESK_IDS.now) ≡ Select (record { lets = []; body = over_table 22 [] (col 1 0 ∷ []) [] }) (codes "rowid" ∷ [])
+ids_is : command_of (understood desk_schema DESK_IDS.now) ≡ Select (record { lets = []; body = over_table 25 [] (col 1 0 ∷ []) [] }) (codes "rowid" ∷ [])
 unfolding understood everything
 ids_is = refl
 
@@ -74,5 +74,5 @@ ids_unlisted : reads_listing desk_schema DESK_IDS.now ≡ false
 unfolding understood everything
 ids_unlisted = refl
 
-pub ids_found : (old new : State) (rows : List Row) → old.now.schema ≡ desk_schema → Shown DESK_IDS.now [] old new rows → IsPermutation (map (λ r. rowid r ∷ []) (old.now.trees 22)) rows
-ids_found old new rows has h = finds_ids DESK_IDS.now old new has 22 (codes "rowid" ∷ []) ids_is ids_plain ids_unlisted refl rows h
+pub ids_found : (old new : State) (rows : List Row) → old.now.schema ≡ desk_schema → Shown DESK_IDS.now [] old new rows → IsPermutation (map (λ r. rowid r ∷ []) (old.now.trees 25)) rows
+ids_found old new rows has h = finds_ids DESK_IDS.now old new has 25 (codes "rowid" ∷ []) ids_is ids_plain ids_unlisted refl rows h

@@ -152,15 +152,15 @@ decides_four P Q R T a b d e p q r t = Decides-and a (b && (d && e)) p (Decides-
 abbrev Apart : Trees → List ℕ → Type 0
 Apart db trees = AllByRecursion (λ tree. AreApart (db tree)) trees
 
-joined : (db : Trees) → Apart db (0 ∷ 2 ∷ 4 ∷ 6 ∷ []) × (Apart db (8 ∷ 9 ∷ 11 ∷ 13 ∷ []) × Apart db (15 ∷ 17 ∷ 19 ∷ 22 ∷ [])) → AllByRecursion (λ t. AreApart (db t.tree)) desk_schema.tables
+joined : (db : Trees) → Apart db (0 ∷ 2 ∷ 4 ∷ 6 ∷ []) × (Apart db (9 ∷ 11 ∷ 14 ∷ 16 ∷ []) × Apart db (18 ∷ 20 ∷ 22 ∷ 25 ∷ [])) → AllByRecursion (λ t. AreApart (db t.tree)) desk_schema.tables
 joined db h = (h.0.0, (h.0.1.0, (h.0.1.1.0, (h.0.1.1.1.0, (h.1.0.0, (h.1.0.1.0, (h.1.0.1.1.0, (h.1.0.1.1.1.0, (h.1.1.0, (h.1.1.1.0, (h.1.1.1.1.0, (h.1.1.1.1.1.0, tt))))))))))))
 
-parted : (db : Trees) → AllByRecursion (λ t. AreApart (db t.tree)) desk_schema.tables → Apart db (0 ∷ 2 ∷ 4 ∷ 6 ∷ []) × (Apart db (8 ∷ 9 ∷ 11 ∷ 13 ∷ []) × Apart db (15 ∷ 17 ∷ 19 ∷ 22 ∷ []))
+parted : (db : Trees) → AllByRecursion (λ t. AreApart (db t.tree)) desk_schema.tables → Apart db (0 ∷ 2 ∷ 4 ∷ 6 ∷ []) × (Apart db (9 ∷ 11 ∷ 14 ∷ 16 ∷ []) × Apart db (18 ∷ 20 ∷ 22 ∷ 25 ∷ []))
 parted db h = (
   (h.0, (h.1.0, (h.1.1.0, (h.1.1.1.0, tt)))),
   (let r = h.1.1.1.1 in ((r.0, (r.1.0, (r.1.1.0, (r.1.1.1.0, tt)))), (let q = r.1.1.1.1 in (q.0, (q.1.0, (q.1.1.0, (q.1.1.1.0, tt))))))),
 )
 
-pub decides_all : (db : Trees) (a b d : Bool) → Decides a (Apart db (0 ∷ 2 ∷ 4 ∷ 6 ∷ [])) → Decides b (Apart db (8 ∷ 9 ∷ 11 ∷ 13 ∷ [])) → Decides d (Apart db (15 ∷ 17 ∷ 19 ∷ 22 ∷ []))
+pub decides_all : (db : Trees) (a b d : Bool) → Decides a (Apart db (0 ∷ 2 ∷ 4 ∷ 6 ∷ [])) → Decides b (Apart db (9 ∷ 11 ∷ 14 ∷ 16 ∷ [])) → Decides d (Apart db (18 ∷ 20 ∷ 22 ∷ 25 ∷ []))
     → Decides (a && (b && d)) (AllByRecursion (λ t. AreApart (db t.tree)) desk_schema.tables)
 decides_all db a b d p q r = Decides-like (a && (b && d)) (joined db) (parted db) (Decides-and a (b && d) p (Decides-and b d q r))

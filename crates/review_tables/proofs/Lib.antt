@@ -20,5 +20,9 @@ pub mod AnswerTexts
 pub mod DeskTexts
 pub mod Ids
 pub mod LookupTexts
+pub mod FrontTexts
+pub mod Cut
+pub mod LastTexts
+pub mod Owned
 pub mod Changed
 pub mod Single

@@ -28,26 +28,26 @@ unfolding understood everything
 insert_is = (refl, (refl, refl))
 
 pub adds : (old new : State) (change : ℤ) (account : ℤ) (role : List ℕ) (count : ℕ) → IsReady old.now → Executes INSERT_REVIEWER.now (Int change ∷ Int account ∷ Text role ∷ []) old new (Ok count)
-    → IsReady new.now × AddsValues 13 (Int change ∷ Int account ∷ Text role ∷ []) old.now.trees new.now.trees
+    → IsReady new.now × AddsValues 16 (Int change ∷ Int account ∷ Text role ∷ []) old.now.trees new.now.trees
 adds old new change account role count has h =
-    let row : Row = Int (next_rowid (old.now.trees 13)) ∷ Int change ∷ Int account ∷ Text role ∷ [] in
-    let it = inserts reviewers.name 13 reviewers.columns None reviewers.primary reviewers.uniques reviewers.orders INSERT_REVIEWER.now _ old new has insert_is.1 7 refl refl insert_terms 4 insert_is.0 count h row (rw (cast_null, cast_int change, cast_int account) refl) in
-    (it.0, (next_rowid (old.now.trees 13), it.1))
+    let row : Row = Int (next_rowid (old.now.trees 16)) ∷ Int change ∷ Int account ∷ Text role ∷ [] in
+    let it = inserts reviewers.name 16 reviewers.columns None reviewers.primary reviewers.uniques reviewers.orders INSERT_REVIEWER.now _ old new has insert_is.1 7 refl refl insert_terms 4 insert_is.0 count h row (rw (cast_null, cast_int change, cast_int account) refl) in
+    (it.0, (next_rowid (old.now.trees 16), it.1))
 
 abbrev tests : List Term
 tests = number_is 1 0 ∷ number_is 2 1 ∷ []
 
-delete_is : (command_of (understood desk_schema DELETE_REVIEWER.now) ≡ Delete 7 (record { lets = []; body = over_table 13 tests (col 1 0 ∷ []) [] })) × IsPlain (understood desk_schema DELETE_REVIEWER.now)
+delete_is : (command_of (understood desk_schema DELETE_REVIEWER.now) ≡ Delete 7 (record { lets = []; body = over_table 16 tests (col 1 0 ∷ []) [] })) × IsPlain (understood desk_schema DELETE_REVIEWER.now)
 unfolding understood everything
 delete_is = (refl, (refl, refl))
 
 has_tests : (change : ℤ) (account : ℤ) (row : Row) → passes (Int change ∷ Int account ∷ []) tests row ≡ has_key ((1, Int change) ∷ (2, Int account) ∷ []) row
 has_tests change account row = (λ i. (tested_number (Int change ∷ Int account ∷ []) row 1 0 change refl i && (tested_number (Int change ∷ Int account ∷ []) row 2 1 account refl i && true)))
 
-pub removes : (old new : State) (change : ℤ) (account : ℤ) (count : ℕ) → IsReady old.now → Executes DELETE_REVIEWER.now (Int change ∷ Int account ∷ []) old new (Ok count) → IsReady new.now × Removes 13 ((1, Int change) ∷ (2, Int account) ∷ []) old.now.trees new.now.trees
-removes old new change account count has h = deletes reviewers.name 13 reviewers.columns None reviewers.primary reviewers.uniques reviewers.orders DELETE_REVIEWER.now _ old new has delete_is.1 7 refl refl tests delete_is.0 refl count h ((1, Int change) ∷ (2, Int account) ∷ []) (has_tests change account)
+pub removes : (old new : State) (change : ℤ) (account : ℤ) (count : ℕ) → IsReady old.now → Executes DELETE_REVIEWER.now (Int change ∷ Int account ∷ []) old new (Ok count) → IsReady new.now × Removes 16 ((1, Int change) ∷ (2, Int account) ∷ []) old.now.trees new.now.trees
+removes old new change account count has h = deletes reviewers.name 16 reviewers.columns None reviewers.primary reviewers.uniques reviewers.orders DELETE_REVIEWER.now _ old new has delete_is.1 7 refl refl tests delete_is.0 refl count h ((1, Int change) ∷ (2, Int account) ∷ []) (has_tests change account)
 
-find_is : command_of (understood desk_schema FIND_REVIEWER.now) ≡ Select (record { lets = []; body = over_table 13 tests (col 1 3 ∷ []) [] }) (codes "role" ∷ [])
+find_is : command_of (understood desk_schema FIND_REVIEWER.now) ≡ Select (record { lets = []; body = over_table 16 tests (col 1 3 ∷ []) [] }) (codes "role" ∷ [])
 unfolding understood everything
 find_is = refl
 
@@ -59,10 +59,10 @@ find_unlisted : reads_listing desk_schema FIND_REVIEWER.now ≡ false
 unfolding understood everything
 find_unlisted = refl
 
-pub found : (old new : State) (change : ℤ) (account : ℤ) (rows : List Row) → old.now.schema ≡ desk_schema → Shown FIND_REVIEWER.now (Int change ∷ Int account ∷ []) old new rows → IsPermutation (map (λ r. column r 3 ∷ []) (filter (has_key ((1, Int change) ∷ (2, Int account) ∷ [])) (old.now.trees 13))) rows
-found old new change account rows has h = finds FIND_REVIEWER.now (Int change ∷ Int account ∷ []) old new has 13 tests (col 1 3 ∷ []) (codes "role" ∷ []) find_is find_plain find_unlisted ((1, Int change) ∷ (2, Int account) ∷ []) (has_tests change account) refl rows h
+pub found : (old new : State) (change : ℤ) (account : ℤ) (rows : List Row) → old.now.schema ≡ desk_schema → Shown FIND_REVIEWER.now (Int change ∷ Int account ∷ []) old new rows → IsPermutation (map (λ r. column r 3 ∷ []) (filter (has_key ((1, Int change) ∷ (2, Int account) ∷ [])) (old.now.trees 16))) rows
+found old new change account rows has h = finds FIND_REVIEWER.now (Int change ∷ Int account ∷ []) old new has 16 tests (col 1 3 ∷ []) (codes "role" ∷ []) find_is find_plain find_unlisted ((1, Int change) ∷ (2, Int account) ∷ []) (has_tests change account) refl rows h
 
-ids_is : command_of (understood desk_schema REVIEWER_IDS.now) ≡ Select (record { lets = []; body = over_table 13 [] (col 1 0 ∷ []) [] }) (codes "rowid" ∷ [])
+ids_is : command_of (understood desk_schema REVIEWER_IDS.now) ≡ Select (record { lets = []; body = over_table 16 [] (col 1 0 ∷ []) [] }) (codes "rowid" ∷ [])
 unfolding understood everything
 ids_is = refl
 
@@ -74,5 +74,5 @@ ids_unlisted : reads_listing desk_schema REVIEWER_IDS.now ≡ false
 unfolding understood everything
 ids_unlisted = refl
 
-pub ids_found : (old new : State) (rows : List Row) → old.now.schema ≡ desk_schema → Shown REVIEWER_IDS.now [] old new rows → IsPermutation (map (λ r. rowid r ∷ []) (old.now.trees 13)) rows
-ids_found old new rows has h = finds_ids REVIEWER_IDS.now old new has 13 (codes "rowid" ∷ []) ids_is ids_plain ids_unlisted refl rows h
+pub ids_found : (old new : State) (rows : List Row) → old.now.schema ≡ desk_schema → Shown REVIEWER_IDS.now [] old new rows → IsPermutation (map (λ r. rowid r ∷ []) (old.now.trees 16)) rows
+ids_found old new rows has h = finds_ids REVIEWER_IDS.now old new has 16 (codes "rowid" ∷ []) ids_is ids_plain ids_unlisted refl rows h

@@ -4,6 +4,8 @@
 pub mod changes;
 pub mod columns;
 pub mod creating;
+pub mod fronts;
+pub mod greatest;
 pub mod reads;
 pub mod rowids;
 mod schemas;

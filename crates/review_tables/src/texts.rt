@@ -10,13 +10,13 @@ pub const CREATE_PROJECTS: &str =
     "CREATE TABLE projects (name TEXT NOT NULL, file TEXT NOT NULL, PRIMARY KEY (name))";
 
 pub const CREATE_BASES: &str =
-    "CREATE TABLE bases (project TEXT NOT NULL, branch TEXT NOT NULL, place INTEGER NOT NULL, commit_name TEXT NOT NULL, PRIMARY KEY (project, branch, place))";
+    "CREATE TABLE bases (project TEXT NOT NULL, branch TEXT NOT NULL, place INTEGER NOT NULL, commit_name TEXT NOT NULL, PRIMARY KEY (project, branch, place), UNIQUE (project, branch, commit_name, place))";
 
 pub const CREATE_CHANGES: &str =
-    "CREATE TABLE changes (number INTEGER PRIMARY KEY, project TEXT NOT NULL, branch TEXT NOT NULL, subject TEXT NOT NULL, owner INTEGER NOT NULL, status TEXT NOT NULL, wip INTEGER NOT NULL, place INTEGER NOT NULL, updated INTEGER NOT NULL)";
+    "CREATE TABLE changes (number INTEGER PRIMARY KEY, project TEXT NOT NULL, branch TEXT NOT NULL, subject TEXT NOT NULL, owner INTEGER NOT NULL, status TEXT NOT NULL, wip INTEGER NOT NULL, place INTEGER NOT NULL, updated INTEGER NOT NULL, UNIQUE (project, branch, place, number))";
 
 pub const CREATE_PATCHES: &str =
-    "CREATE TABLE patches (change INTEGER NOT NULL, patch INTEGER NOT NULL, commit_name TEXT NOT NULL, parent TEXT NOT NULL, kind TEXT NOT NULL, uploader INTEGER NOT NULL, paths TEXT NOT NULL, PRIMARY KEY (change, patch))";
+    "CREATE TABLE patches (change INTEGER NOT NULL, patch INTEGER NOT NULL, commit_name TEXT NOT NULL, parent TEXT NOT NULL, kind TEXT NOT NULL, uploader INTEGER NOT NULL, paths TEXT NOT NULL, PRIMARY KEY (change, patch), UNIQUE (commit_name, change, patch))";
 
 pub const CREATE_VOTES: &str =
     "CREATE TABLE votes (change INTEGER NOT NULL, patch INTEGER NOT NULL, label TEXT NOT NULL, account INTEGER NOT NULL, value INTEGER NOT NULL, PRIMARY KEY (change, patch, label, account))";
@@ -163,6 +163,46 @@ pub const FIND_BASE_COMMIT: &str =
 
 pub const FIND_BRANCH: &str =
     "SELECT place, commit_name FROM bases WHERE project = ?1 AND branch = ?2";
+
+// ---- all rows of a change, or of a branch
+
+pub const FIND_PATCHES: &str =
+    "SELECT patch, commit_name, parent, kind, uploader, paths FROM patches WHERE change = ?1";
+
+pub const FIND_VOTES: &str = "SELECT patch, label, account, value FROM votes WHERE change = ?1";
+
+pub const FIND_REVIEWERS: &str = "SELECT account, role FROM reviewers WHERE change = ?1";
+
+pub const FIND_COMMENTS: &str =
+    "SELECT number, patch, path, line, author, message, unresolved, answers_to, request FROM comments WHERE change = ?1";
+
+pub const FIND_CALLS: &str = "SELECT account, reason, request FROM attention WHERE change = ?1";
+
+pub const FIND_SENT: &str = "SELECT change, patch FROM patches WHERE commit_name = ?1";
+
+pub const FIND_BRANCH_CHANGES: &str =
+    "SELECT number, place FROM changes WHERE project = ?1 AND branch = ?2";
+
+// ---- greatest numbers
+
+pub const FIND_LAST_ACCOUNT: &str = "SELECT number FROM accounts ORDER BY number DESC LIMIT 1";
+
+pub const FIND_LAST_PLACE: &str =
+    "SELECT place FROM bases WHERE project = ?1 AND branch = ?2 ORDER BY place DESC LIMIT 1";
+
+pub const FIND_LAST_CHANGE: &str = "SELECT number FROM changes ORDER BY number DESC LIMIT 1";
+
+pub const FIND_LAST_JOINED: &str =
+    "SELECT place FROM changes WHERE project = ?1 AND branch = ?2 ORDER BY place DESC LIMIT 1";
+
+pub const FIND_LAST_PATCH: &str =
+    "SELECT patch, commit_name FROM patches WHERE change = ?1 ORDER BY patch DESC LIMIT 1";
+
+// ---- whether there are so many rows and more
+
+pub const FIND_PROJECT_BEYOND: &str = "SELECT name FROM projects LIMIT 1 OFFSET 999";
+
+pub const FIND_BASE_BEYOND: &str = "SELECT place FROM bases WHERE project = ?1 LIMIT 1 OFFSET 99999";
 
 // ---- whether a table is there
 

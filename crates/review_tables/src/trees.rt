@@ -68,7 +68,7 @@ impl Tree for Bases {
 pub struct Changes;
 
 impl Tree for Changes {
-    ghost tree = { 8 };
+    ghost tree = { 9 };
 
     fn select_ids<S: Alter>(tx: &mut Transaction<'_, S>) -> Result<Vec<Row>, Error> {
         tx.query_all(texts::CHANGE_IDS, &[])
@@ -79,7 +79,7 @@ impl Tree for Changes {
 pub struct Patches;
 
 impl Tree for Patches {
-    ghost tree = { 9 };
+    ghost tree = { 11 };
 
     fn select_ids<S: Alter>(tx: &mut Transaction<'_, S>) -> Result<Vec<Row>, Error> {
         tx.query_all(texts::PATCH_IDS, &[])
@@ -90,7 +90,7 @@ impl Tree for Patches {
 pub struct Votes;
 
 impl Tree for Votes {
-    ghost tree = { 11 };
+    ghost tree = { 14 };
 
     fn select_ids<S: Alter>(tx: &mut Transaction<'_, S>) -> Result<Vec<Row>, Error> {
         tx.query_all(texts::VOTE_IDS, &[])
@@ -101,7 +101,7 @@ impl Tree for Votes {
 pub struct Reviewers;
 
 impl Tree for Reviewers {
-    ghost tree = { 13 };
+    ghost tree = { 16 };
 
     fn select_ids<S: Alter>(tx: &mut Transaction<'_, S>) -> Result<Vec<Row>, Error> {
         tx.query_all(texts::REVIEWER_IDS, &[])
@@ -112,7 +112,7 @@ impl Tree for Reviewers {
 pub struct Comments;
 
 impl Tree for Comments {
-    ghost tree = { 15 };
+    ghost tree = { 18 };
 
     fn select_ids<S: Alter>(tx: &mut Transaction<'_, S>) -> Result<Vec<Row>, Error> {
         tx.query_all(texts::COMMENT_IDS, &[])
@@ -123,7 +123,7 @@ impl Tree for Comments {
 pub struct Attention;
 
 impl Tree for Attention {
-    ghost tree = { 17 };
+    ghost tree = { 20 };
 
     fn select_ids<S: Alter>(tx: &mut Transaction<'_, S>) -> Result<Vec<Row>, Error> {
         tx.query_all(texts::ATTENTION_IDS, &[])
@@ -134,7 +134,7 @@ impl Tree for Attention {
 pub struct Answers;
 
 impl Tree for Answers {
-    ghost tree = { 19 };
+    ghost tree = { 22 };
 
     fn select_ids<S: Alter>(tx: &mut Transaction<'_, S>) -> Result<Vec<Row>, Error> {
         tx.query_all(texts::ANSWER_IDS, &[])
@@ -145,7 +145,7 @@ impl Tree for Answers {
 pub struct Desk;
 
 impl Tree for Desk {
-    ghost tree = { 22 };
+    ghost tree = { 25 };
 
     fn select_ids<S: Alter>(tx: &mut Transaction<'_, S>) -> Result<Vec<Row>, Error> {
         tx.query_all(texts::DESK_IDS, &[])

@@ -12,8 +12,8 @@ pub returns-clause-looks : goal.returns-clause-looks
 returns-clause-looks g c =
     let F : List ℕ → Trees → Bool → Type 0 = λ trees db is. Decides is (AllByRecursion (λ tree. AreApart (db tree)) trees) in
     let one : List ℕ = 0 ∷ 2 ∷ 4 ∷ 6 ∷ [] in
-    let two : List ℕ = 8 ∷ 9 ∷ 11 ∷ 13 ∷ [] in
-    let three : List ℕ = 15 ∷ 17 ∷ 19 ∷ 22 ∷ [] in
+    let two : List ℕ = 9 ∷ 11 ∷ 14 ∷ 16 ∷ [] in
+    let three : List ℕ = 18 ∷ 20 ∷ 22 ∷ 25 ∷ [] in
     let s0 = state g.S.Store c.args.tx.now.conn.now in
     let s1 = state g.S.Store c.four_are_apart.new.tx.conn.now in
     let s2 = state g.S.Store c.four_are_apart-2.new.tx.conn.now in
