@@ -1,5 +1,5 @@
 -- What a query shows that is cut: the row with the greatest value of a column, or one where there are more than so many.
-use Rattle.std.proofs.Common.{◌≡◌, ◌∙◌, ◌==◌, ◌≤◌, ℕ, suc, pos, List, [], ◌∷◌, Option, Some, None, true, false, Bool, Ordering, Less, Equal, Greater, refl, sym, ap, subst, arith, map, filter, length, take, drop, nat_le, is_gt, is_lt, inl, inr, IsSorted}
+use Rattle.std.proofs.Common.{◌≡◌, ◌∙◌, ◌==◌, ◌≤◌, ℕ, suc, pos, List, [], ◌∷◌, Option, Some, None, true, false, Bool, Ordering, Less, Equal, Greater, refl, sym, ap, subst, arith, map, filter, length, take, drop, nat_le, nat_lt, is_gt, is_lt, inl, inr, IsSorted}
 use Rattle.std.proofs.lemmas.Bool.Decides.{leb_tells}
 use Rattle.std.proofs.lemmas.List.{length-map, length-take-le, length-drop, drop_all}
 use Rattle.std.specs.List.{AllByRecursion}
@@ -90,11 +90,15 @@ module _ (tree : ℕ) (tests project : List Term) (place : ℕ) (params : Row) w
       let least : AllByRecursion (λ x. is_gt (output_cmp q o x) ≡ false) (o ∷ os) = (own o, first_least (output_cmp q) q_total o os sorted) in
       let Q : Output → Type 0 = λ x. is_gt (output_cmp q o x) ≡ false in
       let back = all_unmap Q put found
-          (recursion_from_All Q (map put found) (All-permutation Q (o ∷ os) (map put found) (IsPermutation-sym _ _ same) (All-from_recursion Q (o ∷ os) least))) in
-      subst (ShowsGreatest (shows params project) place found) (sym shown) (r, record {
-        among = each.0.1;
-        most = all_weaker _ _ (λ s h. as_values r s (subst (λ x. is_gt (output_cmp q x (put s)) ≡ false) each.0.2 h)) found back;
-      }, ap (λ (x : Output). x.1 ∷ []) each.0.2)
+      (recursion_from_All Q (map put found) (All-permutation Q (o ∷ os) (map put found) (IsPermutation-sym _ _ same) (All-from_recursion Q (o ∷ os) least))) in
+      subst (ShowsGreatest (shows params project) place found) (sym shown) (
+        r,
+        record {
+          among = each.0.1;
+          most = all_weaker _ _ (λ s h. as_values r s (subst (λ x. is_gt (output_cmp q x (put s)) ≡ false) each.0.2 h)) found back;
+        },
+        ap (λ (x : Output). x.1 ∷ []) each.0.2,
+      )
     where
       own : (o : Output) → is_gt (output_cmp q o o) ≡ false
       own o = ap is_gt (Rattle.std.proofs.lemmas.Cmp.tied_itself q_total o)
@@ -116,6 +120,12 @@ finds_last sql params old new has tree tests project place names is plain unlist
     subst (λ l. ShowsGreatest (shows params project) place l rows) (filter_same _ _ same (old.now.trees tree)) (greatest tree tests project place params old.now.trees rows own (it.answer Rattle.sqlite_value.specs.declared.value.Value.TheVariants.Null))
 
 -- ---- whether there are more
+
+pub fewer : (n count : ℕ) → nat_lt n (suc count) ≡ nat_le n count
+fewer n count = elim (leb_tells n count) [
+  | inl few ↦ elim (leb_tells (suc n) (suc count)) [ inl less ↦ less.0 ∙ sym few.0 | inr other ↦ absurd (omega (arith, few.1, other.1)) ]
+  | inr many ↦ elim (leb_tells (suc n) (suc count)) [ inl less ↦ absurd (omega (arith, many.1, less.1)) | inr other ↦ other.0 ∙ sym many.0 ]
+]
 
 abbrev pub beyond : ℕ → List Term → List Term → ℕ → Query
 beyond tree tests project count = record (over_table tree tests project []) { limit = lit (Int (pos 1)); offset = lit (Int (pos count)) }

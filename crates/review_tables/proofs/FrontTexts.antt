@@ -14,6 +14,7 @@ use Rattle.review_tables.specs.Desk.{desk_schema}
 use Rattle.review_tables.specs.Content.{has_key}
 use Rattle.review_tables.proofs.Queries.{over_table, passes}
 use Rattle.review_tables.proofs.Meaning.{number_is, tested_number, text_is, tested_text, finds}
+
 -- ---- patches
 
 abbrev patches_tests : List Term

@@ -15,6 +15,7 @@ use Rattle.review_tables.specs.Greatest.{ShowsGreatest, ShowsBeyond}
 use Rattle.review_tables.proofs.Queries.{passes}
 use Rattle.review_tables.proofs.Cut.{last_of, finds_last, beyond, finds_beyond}
 use Rattle.review_tables.proofs.Meaning.{number_is, tested_number, text_is, tested_text}
+
 -- ---- last account
 
 abbrev last_account_tests : List Term

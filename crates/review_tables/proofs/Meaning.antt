@@ -84,7 +84,7 @@ finds sql params old new has tree tests project names is plain unlisted key same
     let it = reads_as sql params old new desk_schema has _ is plain unlisted rows h in
     subst (λ l. IsPermutation (map (shows params project) l) rows) (filter_same _ _ same (old.now.trees tree)) (selects tree tests project [] old.now.trees params rows own (it.answer Null))
 
-all_pass : (rows : List Row) → filter (has_key []) rows ≡ rows
+pub all_pass : (rows : List Row) → filter (has_key []) rows ≡ rows
 all_pass [] = refl
 all_pass (r ∷ rows) = ap (λ l. r ∷ l) (all_pass rows)
 

@@ -35,7 +35,10 @@ pub trait Greatest {
 }
 
 // The first row as it reads, if there is one.
-fn read_first<G: Greatest>(alloc: Global, rows: &[Row]) -> Result<Option<Option<G::Item>>, AllocError>
+fn read_first<G: Greatest>(
+    alloc: Global,
+    rows: &[Row],
+) -> Result<Option<Option<G::Item>>, AllocError>
     ensures { IfOk result (λ found. found ≡ first_as G.search.read rows.now) }
 {
     match rows.first() {

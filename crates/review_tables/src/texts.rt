@@ -202,7 +202,8 @@ pub const FIND_LAST_PATCH: &str =
 
 pub const FIND_PROJECT_BEYOND: &str = "SELECT name FROM projects LIMIT 1 OFFSET 999";
 
-pub const FIND_BASE_BEYOND: &str = "SELECT place FROM bases WHERE project = ?1 LIMIT 1 OFFSET 99999";
+pub const FIND_BASE_BEYOND: &str =
+    "SELECT place FROM bases WHERE project = ?1 LIMIT 1 OFFSET 99999";
 
 // ---- whether a table is there
 
