@@ -1,5 +1,5 @@
 -- The tables that are not of changes: how their rows are looked up and stored.
-use Rattle.std.specs.Prelude.{ℕ, ℤ, pos, ◌&&◌, Bool, List, [], ◌∷◌, Option, Some, None, if◌then◌else◌, option_map}
+use Rattle.std.specs.Prelude.{nat_le, ℕ, ℤ, pos, ◌&&◌, Bool, List, [], ◌∷◌, Option, Some, None, if◌then◌else◌, option_map}
 use Rattle.std.specs.Option.{option_and_then}
 use Rattle.std.specs.Str.{is_utf8}
 use Rattle.sqlite_value.specs.declared.value.Value.TheVariants.{Null, Int, Text}
@@ -113,7 +113,7 @@ branch_bases = record {
   tree = 6;
   at = λ b. (1, Text b.project) ∷ (2, Text b.branch) ∷ [];
   shown = λ r. column r 3 ∷ column r 4 ∷ [];
-  read = λ r. both (number_in (column r 0)) (where_is is_commit (text_in (column r 1)));
+  read = λ r. both (where_is (nat_le 1) (number_in (column r 0))) (where_is is_commit (text_in (column r 1)));
 }
 
 -- the places of a branch's bases

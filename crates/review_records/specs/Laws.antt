@@ -1,5 +1,5 @@
 -- The laws of the tables.
-use Rattle.std.proofs.Common.{◌≡◌, ◌&&◌, ℕ, pos, negsuc, List, Option, Some, None, Bool, true, refl, ap, sym, subst, inl, inr}
+use Rattle.std.proofs.Common.{◌≡◌, ◌&&◌, nat_le, ℕ, pos, negsuc, List, Option, Some, None, Bool, true, refl, ap, sym, subst, inl, inr}
 use Rattle.std.specs.Ordering.{nat_cmp, is_eq}
 use Rattle.std.proofs.lemmas.Cmp.{nat_cmp_total, tied_itself}
 use Rattle.std.proofs.lemmas.Map.Lookups.{exact_unsigned}
@@ -83,7 +83,7 @@ desk_lawful = record { keyed = λ u d id. refl; reads_back = λ u d id good. ref
 -- ---- the rows of an owner
 
 -- the number that a value reads as
-number_is : (v : Value) (n : ℕ) → number_in v ≡ Some n → v ≡ Int (pos n)
+pub number_is : (v : Value) (n : ℕ) → number_in v ≡ Some n → v ≡ Int (pos n)
 number_is Null n is = absurd (cc)
 number_is (Int (pos m)) n is = let e : m ≡ n = cc in ap (λ k. Int (pos k)) e
 number_is (Int (negsuc m)) n is = absurd (cc)
@@ -92,7 +92,7 @@ number_is (Text t) n is = absurd (cc)
 number_is (Blob b) n is = absurd (cc)
 
 -- what passes a test is what it was
-passed : {X : Type 0} (test : X → Bool) (o : Option X) (x : X) → where_is test o ≡ Some x → o ≡ Some x
+pub passed : {X : Type 0} (test : X → Bool) (o : Option X) (x : X) → where_is test o ≡ Some x → o ≡ Some x
 passed test None x is = absurd (cc)
 passed test (Some y) x is = elim (cases_Bool (test y)) [ inl pass ↦ (let e = rw pass at is in e) | inr other ↦ absurd (let e = rw other at is in cc) ]
 
@@ -133,7 +133,7 @@ bases_of_branch = record {
   keyed = λ b n commit r h is.
       let p = and_parts _ _ h in
       let it = both_are _ _ n commit is in
-      and_from _ _ p.0 (and_from _ _ (and_parts _ _ p.1).0 (and_from _ _ (at_number (column r 3) n it.0) refl));
+      and_from _ _ p.0 (and_from _ _ (and_parts _ _ p.1).0 (and_from _ _ (at_number (column r 3) n (passed (nat_le 1) _ n it.0)) refl));
   shows = λ b n commit r is. (both_are _ _ n commit is).1;
-  alone = λ b j n commit r is h. one_number (column r 3) j n (both_are _ _ j commit is).0 (and_parts _ _ (and_parts _ _ (and_parts _ _ h).1).1).0;
+  alone = λ b j n commit r is h. one_number (column r 3) j n (passed (nat_le 1) _ j (both_are _ _ j commit is).0) (and_parts _ _ (and_parts _ _ (and_parts _ _ h).1).1).0;
 }

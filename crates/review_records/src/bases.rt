@@ -6,7 +6,7 @@ ghost use Rattle.review_tables.specs.Greatest.{ShowsBeyond};
 ghost use Rattle.review_tables.specs.Ran.{Looks};
 ghost use Rattle.review_tables.specs.Search.{rows_at};
 
-use crate::names::name_at;
+use crate::names::{name_at, place_at};
 use crate::numbers::to_sql;
 use crate::rows::{PlaceKey, PlaceNo};
 use review_rows::{Base, BaseRow, BranchKey};
@@ -139,13 +139,13 @@ impl Front for BranchBases {
     }
 
     fn read(alloc: Global, row: &Row) -> Result<Option<(PlaceNo, CommitName)>, AllocError> {
-        let Some(place) = number_at(row, 0) else {
+        let Some(place) = place_at(row, 0) else {
             return Ok(None);
         };
         let Some(commit) = name_at(alloc, row, 1)? else {
             return Ok(None);
         };
-        Ok(Some((PlaceNo::new(place), commit)))
+        Ok(Some((place, commit)))
     }
 
     ghost lawful = { bases_of_branch };

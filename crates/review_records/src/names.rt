@@ -1,10 +1,11 @@
 //! Names and numbers, as they are read from columns.
-ghost use Rattle.std.specs.Prelude.{◌≡◌, Some, IfOk, option_map, pos};
+ghost use Rattle.std.specs.Prelude.{◌≡◌, Some, IfOk, nat_le, option_map, pos};
 ghost use Rattle.sqlite_value.specs.Order.{column};
 ghost use Rattle.review_names.specs.Names.{is_account_number};
 ghost use Rattle.review_tables.specs.Columns.{number_in, text_in};
 ghost use Rattle.review_records.specs.Forms.{where_is};
 
+use crate::rows::PlaceNo;
 use review_tables::columns::{number_at, text_at};
 use review_words::{AccountNo, BadName, Form, Name};
 use sqlite::Row;
@@ -29,4 +30,11 @@ pub fn account_at(row: &Row, at: usize) -> Option<AccountNo>
     ensures { result ≡ where_is is_account_number (number_in (column row.now at)) }
 {
     AccountNo::from_number(number_at(row, at)?)
+}
+
+/// The place whose number is in a column; none where it is no such number.
+pub fn place_at(row: &Row, at: usize) -> Option<PlaceNo>
+    ensures { result ≡ where_is (nat_le 1) (number_in (column row.now at)) }
+{
+    PlaceNo::from_number(number_at(row, at)?)
 }

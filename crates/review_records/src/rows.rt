@@ -1,5 +1,5 @@
 //! The keys and rows of tables, as they are read.
-ghost use Rattle.std.specs.Prelude.{◌≡◌, IfOk, string_bytes};
+ghost use Rattle.std.specs.Prelude.{◌≡◌, ◌≤◌, Some, None, IfOk, nat_le, string_bytes, if◌then◌else◌};
 
 use review_table::Key;
 use review_words::{AccountNo, BranchName, ProjectName, RequestId};
@@ -39,31 +39,40 @@ impl Text {
     }
 }
 
-/// The number of a place, from 0. Contracts see the number.
+/// The number of a place, from 1. Contracts see the number.
 #[derive(Clone, Copy, Debug, PartialEq, Eq, PartialOrd, Ord)]
 pub struct PlaceNo {
     number: u64,
 }
 
 impl Model for PlaceNo {
-    ghost use Rattle.std.specs.Prelude.{ℕ};
+    ghost use Rattle.std.specs.Prelude.{ℕ, IsTrue, nat_le};
 
     ghost Value = { ℕ };
 
     ghost view = { λ p. p.number };
 
+    ghost invariant = { λ p. IsTrue (nat_le 1 p.number) };
+
     ghost inverse = { λ n. record { number = n } };
 }
 
 impl PlaceNo {
-    pub fn new(number: u64) -> PlaceNo
-        ensures { result ≡ number }
+    /// The place of a number, or none where the number is 0.
+    pub fn from_number(number: u64) -> Option<PlaceNo>
+        ensures { result ≡ (if nat_le 1 number then Some number else None) }
     {
-        PlaceNo { number }
+        if number >= 1 {
+            Some(PlaceNo { number })
+        } else {
+            None
+        }
     }
 
+    /// The number, from 1.
     pub fn get(self) -> u64
-        ensures { result ≡ self }
+        ensures value { result ≡ self }
+        ensures least { 1 ≤ self }
     {
         self.number
     }

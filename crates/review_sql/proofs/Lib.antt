@@ -1,0 +1,9 @@
+pub mod Commit
+pub mod Begin
+pub mod Staying
+pub mod Made
+pub mod Peeking
+pub mod Singles
+pub mod Telling
+pub mod Asking
+pub mod Shown

@@ -1,0 +1,7 @@
+pub mod Tables
+pub mod Changes
+pub mod First
+pub mod Shelf
+pub mod Loads
+pub mod Created
+pub mod Opened
