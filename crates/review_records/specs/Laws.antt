@@ -18,7 +18,7 @@ use Rattle.review_records.specs.Forms.{where_is, alone, both, member_parts, grou
 use Rattle.review_names.specs.Forms.{is_commit}
 
 -- a text of a form reads as itself
-reads_text : (form : List ℕ → Bool) (t : List ℕ) → (is_utf8 t && form t) ≡ true → where_is form (text_in (Text t)) ≡ Some t
+pub reads_text : (form : List ℕ → Bool) (t : List ℕ) → (is_utf8 t && form t) ≡ true → where_is form (text_in (Text t)) ≡ Some t
 reads_text form t good = let parts = and_parts (is_utf8 t) (form t) good in rw (parts.0, parts.1) refl
 
 pub account_lawful : IsLawful accounts account_form
@@ -96,23 +96,23 @@ pub passed : {X : Type 0} (test : X → Bool) (o : Option X) (x : X) → where_i
 passed test None x is = absurd (cc)
 passed test (Some y) x is = elim (cases_Bool (test y)) [ inl pass ↦ (let e = rw pass at is in e) | inr other ↦ absurd (let e = rw other at is in cc) ]
 
-numbers_exact : IsExact nat_cmp
+pub numbers_exact : IsExact nat_cmp
 numbers_exact = record { same = λ a b is. exact_unsigned a b (equal_is _ is); itself = λ a. ap is_eq (tied_itself nat_cmp_total a) }
 
 alone_is : (o : Option ℕ) (n : ℕ) (u : Unit {0}) → alone o ≡ Some (n, u) → o ≡ Some n
 alone_is None n u is = absurd (cc)
 alone_is (Some m) n u is = ap (λ (e : ℕ × Unit {0}). Some e.0) (same_Some _ _ is)
 
-both_are : {X Y : Type 0} (a : Option X) (b : Option Y) (x : X) (y : Y) → both a b ≡ Some (x, y) → (a ≡ Some x) × (b ≡ Some y)
+pub both_are : {X Y : Type 0} (a : Option X) (b : Option Y) (x : X) (y : Y) → both a b ≡ Some (x, y) → (a ≡ Some x) × (b ≡ Some y)
 both_are None b x y is = absurd (cc)
 both_are (Some m) None x y is = absurd (cc)
 both_are {X = X} {Y = Y} (Some m) (Some n) x y is = let e = same_Some _ _ is in (ap (λ (p : X × Y). Some p.0) e, ap (λ (p : X × Y). Some p.1) e)
 
 -- a value that is a number has it as its key
-at_number : (v : Value) (n : ℕ) → number_in v ≡ Some n → is_eq (value_cmp v (Int (pos n))) ≡ true
+pub at_number : (v : Value) (n : ℕ) → number_in v ≡ Some n → is_eq (value_cmp v (Int (pos n))) ≡ true
 at_number v n is = subst (λ w. is_eq (value_cmp w (Int (pos n))) ≡ true) (sym (number_is v n is)) (itself (Int (pos n)))
 
-one_number : (v : Value) (m n : ℕ) → number_in v ≡ Some m → is_eq (value_cmp v (Int (pos n))) ≡ true → m ≡ n
+pub one_number : (v : Value) (m n : ℕ) → number_in v ≡ Some m → is_eq (value_cmp v (Int (pos n))) ≡ true → m ≡ n
 one_number v m n is at = same_int v m n (at_number v m is) at
 
 pub members_of_group : IsFront nat_cmp group_members member_parts

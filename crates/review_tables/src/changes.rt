@@ -28,6 +28,20 @@ pub fn change<T: Table, S: Alter>(
     }
 }
 
+/// Gives a key this row.
+pub fn set<T: Table, S: Alter>(
+    tx: &mut Transaction<'_, S>,
+    key: &T::Key,
+    row: &T::Item,
+) -> Result<(), Error>
+    ensures same_reference { tx.new.conn.ghost_name ≡ tx.old.conn.ghost_name }
+    ensures ran { Inside (SetsRow T.search key.now (Some row.now)) (state S.Store tx.old.conn.now) (state S.Store tx.new.conn.now) result }
+{
+    T::remove(tx, key)?;
+    T::insert(tx, key, row)?;
+    Ok(())
+}
+
 /// Makes the changes, the last first, so that the first of a key stands.
 pub fn change_all<T: Table, S: Alter>(
     tx: &mut Transaction<'_, S>,

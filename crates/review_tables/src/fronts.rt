@@ -56,6 +56,7 @@ pub trait Parts: Front {
     /// Puts a row in under a key.
     fn insert<S: Alter>(
         tx: &mut Transaction<'_, S>,
+        alloc: Global,
         owner: &Self::Owner,
         part: &Self::Part,
         row: &Self::Item,
@@ -116,6 +117,7 @@ pub fn find_parts<F: Front, S: Alter>(
 /// Gives a key of an owner this row, or none.
 pub fn change_part<T: Parts, S: Alter>(
     tx: &mut Transaction<'_, S>,
+    alloc: Global,
     owner: &T::Owner,
     part: &T::Part,
     row: &Option<T::Item>,
@@ -127,7 +129,7 @@ pub fn change_part<T: Parts, S: Alter>(
     T::remove(tx, owner, part)?;
     match row {
         Some(row) => {
-            T::insert(tx, owner, part, row)?;
+            T::insert(tx, alloc, owner, part, row)?;
             Ok(())
         }
         None => Ok(()),
@@ -137,6 +139,7 @@ pub fn change_part<T: Parts, S: Alter>(
 /// Makes the changes of an owner's rows, the last first, so that the first of a key stands.
 pub fn change_parts<T: Parts, S: Alter>(
     tx: &mut Transaction<'_, S>,
+    alloc: Global,
     owner: &T::Owner,
     changes: &[Change<T::Part, T::Item>],
 ) -> Result<(), Error>
@@ -147,7 +150,7 @@ pub fn change_parts<T: Parts, S: Alter>(
     while left > 0 {
         left -= 1;
         let change = &changes[left];
-        change_part::<T, S>(tx, owner, &change.key, &change.row)?;
+        change_part::<T, S>(tx, alloc, owner, &change.key, &change.row)?;
     }
     Ok(())
 }
