@@ -1,5 +1,5 @@
 -- Look-ups one after the other.
-use Rattle.std.proofs.Common.{◌≡◌, ℕ, ◌+◌, ◌<◌, List, take, get_or, length, Ok, [], ◌∷◌, refl, arith}
+use Rattle.std.proofs.Common.{◌≡◌, ℕ, ◌+◌, ◌<◌, List, take, get_or, length, Ok}
 use Rattle.sqlite_trees.specs.Tree.{Trees}
 use Rattle.sqlite.specs.State.{State}
 use Rattle.review_rows.specs.declared.rows.Rows.{Rows}
@@ -23,8 +23,3 @@ learnt_asked wants i w old new below is asked learnt = asked_more wants i w lear
 module _ (w : Want) (old new : Rows) (a b c : State) (have : Looks (Have old) a b (Ok (tt {0}))) where
   pub have_more : Looks (Sees w old new) b c (Ok sight.Learnt) → Looks (Have new) a c (Ok (tt {0}))
   have_more sees = look_on _ (Have new) a c sight.Learnt (Ok (tt {0})) (look_both (Have old) (Sees w old new) a b c (tt {0}) (Ok sight.Learnt) have sees) (λ db h. looked_agrees (tables_at db) w old new h.1 h.0)
-
--- a list that has no item
-pub no_items : {X : Type 0} (xs : List X) → length xs ≡ 0 → xs ≡ []
-no_items [] none = refl
-no_items (x ∷ xs) none = absurd (omega (arith, none))

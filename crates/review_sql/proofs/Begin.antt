@@ -13,7 +13,7 @@ use Rattle.sqlite.specs.Effect.{Database}
 use Rattle.review_names.specs.Names.{admin_name, administrators}
 use Rattle.review_words.specs.History.{is_listed}
 use Rattle.review_rows.specs.declared.rows.MemberKey.{MemberKey}
-use Rattle.review_rows.specs.Rows.{Key, AccountKey, MemberKey as OfMember, FileKey, BaseKey, PartKey, OddKey, AccountRow, MemberRow, FileRow, BaseRow, Count, Projects, BasesOf}
+use Rattle.review_rows.specs.Rows.{Key, AccountKey, MemberKey as OfMember, FileKey, BaseKey, PartKey, OddKey, AccountRow, MemberRow, FileRow, BaseRow, APart, Count, Projects, BasesOf}
 use Rattle.review_rows.specs.Changes.{Reading}
 use Rattle.review_rows.specs.View.{IsView, fact, counted}
 use Rattle.review_tables.specs.Desk.{schema_0, desk_schema, is_tree}
@@ -24,8 +24,10 @@ use Rattle.review_tables.proofs.Keys.{equal_is}
 use Rattle.review_tables.proofs.Sequences.{Next}
 use Rattle.review_tables.proofs.Made.{ready_blank, empty_at}
 use Rattle.review_sql.specs.First.{SetsFirst, MakesDesk}
+use Rattle.review_changes.specs.Parts.{Part, TheHeader, PatchOf, VoteOf, RoleOf, CommentOf, AttentionOf, AHeader, APatch, ARole, AComment, ACall}
+use Rattle.review_change_records.specs.Forms.{headers, patches, votes, roles, comments, calls}
 use Rattle.review_records.specs.Forms.{accounts, members, projects, bases, answers}
-use Rattle.review_sql.specs.Tables.{told, row_in, count_in, stored_as, number_of, tables_at}
+use Rattle.review_sql.specs.Tables.{part_in, vote_told, told, row_in, count_in, stored_as, number_of, tables_at}
 
 pub same_bytes : (s t : List ℕ) → bytes_eq s t ≡ true → s ≡ t
 same_bytes s t is = exact_bytes s t (equal_is (slice_cmp nat_cmp s t) (is_eq-slice_cmp s t ∙ is))
@@ -67,12 +69,20 @@ module _ (a b : Trees) (blank : (t : ℕ) → is_tree t ≡ true → a t ≡ [])
     | inr other ↦ rw other (no_member (record { group = group; account = n }) (λ same. both_ways _ other (own_bytes administrators group (sym (ap (λ (k : MemberKey). k.group) same)))))
   ]
 
+  no_part : (n : ℕ) (part : Part) → part_in b n part ≡ None
+  no_part n TheHeader = ap (λ l. told (λ x. APart (AHeader x)) (only (reads headers) (rows_at (headers.at n) l))) (untouched 9 refl (λ e. omega (arith, e)) (λ e. omega (arith, e)) (λ e. omega (arith, e)))
+  no_part n (PatchOf k) = ap (λ l. told (λ x. APart (APatch x)) (only (reads patches) (rows_at (patches.at (n, k)) l))) (untouched 11 refl (λ e. omega (arith, e)) (λ e. omega (arith, e)) (λ e. omega (arith, e)))
+  no_part n (VoteOf k label u) = ap (λ l. vote_told (only (reads votes) (rows_at (votes.at (n, record { patch = k; label = label; account = u })) l))) (untouched 14 refl (λ e. omega (arith, e)) (λ e. omega (arith, e)) (λ e. omega (arith, e)))
+  no_part n (RoleOf u) = ap (λ l. told (λ x. APart (ARole x)) (only (reads roles) (rows_at (roles.at (n, u)) l))) (untouched 16 refl (λ e. omega (arith, e)) (λ e. omega (arith, e)) (λ e. omega (arith, e)))
+  no_part n (CommentOf k) = ap (λ l. told (λ x. APart (AComment x)) (only (reads comments) (rows_at (comments.at (n, k)) l))) (untouched 18 refl (λ e. omega (arith, e)) (λ e. omega (arith, e)) (λ e. omega (arith, e)))
+  no_part n (AttentionOf u) = ap (λ l. told (λ x. APart (ACall x)) (only (reads calls) (rows_at (calls.at (n, u)) l))) (untouched 20 refl (λ e. omega (arith, e)) (λ e. omega (arith, e)) (λ e. omega (arith, e)))
+
   rows : (reading : Reading) (k : Key) → row_in b k ≡ fact reading [] k
   rows reading (AccountKey n) = ap (λ l. told AccountRow (only (reads accounts) (rows_at (accounts.at n) l))) (h.2.others 0 refl (λ e. omega (arith, e)) ∙ mem.others 0 refl (λ e. omega (arith, e))) ∙ account_row n
   rows reading (OfMember group n) = ap (λ l. told (λ u. MemberRow) (only (reads members) (rows_at (members.at (record { group = group; account = n })) l))) (h.2.others 2 refl (λ e. omega (arith, e))) ∙ member_row group n
   rows reading (FileKey project) = ap (λ l. told FileRow (only (reads projects) (rows_at (projects.at project) l))) (untouched 4 refl (λ e. omega (arith, e)) (λ e. omega (arith, e)) (λ e. omega (arith, e)))
   rows reading (BaseKey project branch place) = ap (λ l. told BaseRow (only (reads bases) (rows_at (bases.at (record { project = project; branch = branch; place = place })) l))) (untouched 6 refl (λ e. omega (arith, e)) (λ e. omega (arith, e)) (λ e. omega (arith, e)))
-  rows reading (PartKey n part) = refl
+  rows reading (PartKey n part) = no_part n part
   rows reading (OddKey o) = refl
 
   counts : (c : Count) → count_in b c ≡ counted [] c

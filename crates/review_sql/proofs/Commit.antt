@@ -1,5 +1,5 @@
 -- What the statements of a commit do together.
-use Rattle.std.proofs.Common.{◌≡◌, ◌≢◌, ◌∙◌, ◌+◌, ◌≤◌, ◌==◌, ◌&&◌, ℕ, List, [], ◌∷◌, Option, Some, None, option_map, Bool, cond, Ordering, Less, Equal, Greater, true, is_some, refl, sym, ap, subst, arith, inl, inr, length, filter, eqb-true, eq-eqb}
+use Rattle.std.proofs.Common.{◌≡◌, ◌≢◌, ◌∙◌, ◌+◌, ◌≤◌, ◌==◌, ◌&&◌, ℕ, List, [], ◌∷◌, Option, Some, None, option_map, Bool, cond, Ordering, Less, Equal, Greater, true, false, is_some, refl, sym, ap, subst, arith, inl, inr, length, filter, eqb-true, eq-eqb}
 use Rattle.std.specs.Str.{bytes_eq}
 use Rattle.std.specs.Ordering.{nat_cmp, is_eq, ordering_then}
 use Rattle.std.specs.Cmp.Lexicographic.{slice_cmp}
@@ -30,6 +30,7 @@ use Rattle.review_tables.proofs.Keys.{equal_is, same_text}
 use Rattle.review_sql.specs.Changes.{SetsDelta, SetsKept, SetsDesk, place_of}
 use Rattle.review_records.specs.Forms.{accounts, members, projects, bases, answers}
 use Rattle.review_sql.specs.Tables.{told, row_in, count_in, answer_in, stored_as, number_of, tables_at, Commits, IsDesk, AreSingle}
+use Rattle.review_sql.proofs.Edits.{edits_spare, is_part_tree, part_same, parts_edited}
 use Rattle.review_sql.proofs.Begin.{same_bytes, own_bytes}
 
 -- ---- keys
@@ -161,87 +162,104 @@ answer_row kept old new h i = elim (cases_Bool (is_same (kept_row kept).identity
 
 -- ---- all of it
 
-module _ (delta : Delta) (none : delta.changes.items ≡ []) (kept : Kept) (n : ℕ) (a b : Trees) (single : AreSingle a) (was : IsDesk n a) (h : Then (Then (SetsDelta delta) (SetsKept kept)) (SetsDesk (n + 1)) a b) where
+module _ (delta : Delta) (kept : Kept) (n : ℕ) (a b : Trees) (single : AreSingle a) (was : IsDesk n a) (h : Then (Then (SetsDelta delta) (SetsKept kept)) (SetsDesk (n + 1)) a b) where
   abbrev t2 : Trees
   t2 = h.0
 
   abbrev t1 : Trees
   t1 = h.1.0
 
+  abbrev u : Trees
+  u = h.1.1.0
+
   abbrev d3 : Trees
-  d3 = h.1.1.0
+  d3 = h.1.1.1.0
 
   abbrev d2 : Trees
-  d2 = h.1.1.1.0
+  d2 = h.1.1.1.1.0
 
   abbrev d1 : Trees
-  d1 = h.1.1.1.1.0
+  d1 = h.1.1.1.1.1.0
 
-  late : (t : ℕ) → is_tree t ≡ true → t ≢ 22 → t ≢ 25 → b t ≡ t1 t
-  late t is p q = h.2.others t is q ∙ h.1.2.others t is p
+  last : (t : ℕ) → is_tree t ≡ true → t ≢ 22 → t ≢ 25 → b t ≡ t1 t
+  last t is p q = h.2.others t is q ∙ h.1.2.others t is p
 
-  base_spares : (t : ℕ) → is_tree t ≡ true → t ≢ 6 → t1 t ≡ d3 t
-  base_spares t is p = any_spares bases place_of (λ r. r.commit) delta.base d3 t1 h.1.1.2 t is p
+  late : (t : ℕ) → is_tree t ≡ true → is_part_tree t ≡ false → t ≢ 22 → t ≢ 25 → b t ≡ u t
+  late t is other p q = last t is p q ∙ edits_spare [] delta.changes.items u t1 h.1.1.2 t is other
+
+  base_spares : (t : ℕ) → is_tree t ≡ true → t ≢ 6 → u t ≡ d3 t
+  base_spares t is p = any_spares bases place_of (λ r. r.commit) delta.base d3 u h.1.1.1.2 t is p
 
   file_spares : (t : ℕ) → is_tree t ≡ true → t ≢ 4 → d3 t ≡ d2 t
-  file_spares t is p = any_spares projects (λ r. r.project) (λ r. r.file) delta.file d2 d3 h.1.1.1.2 t is p
+  file_spares t is p = any_spares projects (λ r. r.project) (λ r. r.file) delta.file d2 d3 h.1.1.1.1.2 t is p
 
   member_spares : (t : ℕ) → is_tree t ≡ true → t ≢ 2 → d2 t ≡ d1 t
-  member_spares t is p = rows_spare members delta.members.items d1 d2 h.1.1.1.1.2 t is p
+  member_spares t is p = rows_spare members delta.members.items d1 d2 h.1.1.1.1.1.2 t is p
 
   account_spares : (t : ℕ) → is_tree t ≡ true → t ≢ 0 → d1 t ≡ a t
-  account_spares t is p = rows_spare accounts delta.accounts.items a d1 h.1.1.1.1.1 t is p
+  account_spares t is p = rows_spare accounts delta.accounts.items a d1 h.1.1.1.1.1.1 t is p
 
   at_0 : b 0 ≡ d1 0
-  at_0 = late 0 refl (λ e. omega (arith, e)) (λ e. omega (arith, e)) ∙ (base_spares 0 refl (λ e. omega (arith, e)) ∙ (file_spares 0 refl (λ e. omega (arith, e)) ∙ member_spares 0 refl (λ e. omega (arith, e))))
+  at_0 = late 0 refl refl (λ e. omega (arith, e)) (λ e. omega (arith, e)) ∙ (base_spares 0 refl (λ e. omega (arith, e)) ∙ (file_spares 0 refl (λ e. omega (arith, e)) ∙ member_spares 0 refl (λ e. omega (arith, e))))
 
   at_2 : b 2 ≡ d2 2
-  at_2 = late 2 refl (λ e. omega (arith, e)) (λ e. omega (arith, e)) ∙ (base_spares 2 refl (λ e. omega (arith, e)) ∙ file_spares 2 refl (λ e. omega (arith, e)))
+  at_2 = late 2 refl refl (λ e. omega (arith, e)) (λ e. omega (arith, e)) ∙ (base_spares 2 refl (λ e. omega (arith, e)) ∙ file_spares 2 refl (λ e. omega (arith, e)))
 
   was_2 : d1 2 ≡ a 2
   was_2 = account_spares 2 refl (λ e. omega (arith, e))
 
   at_4 : b 4 ≡ d3 4
-  at_4 = late 4 refl (λ e. omega (arith, e)) (λ e. omega (arith, e)) ∙ base_spares 4 refl (λ e. omega (arith, e))
+  at_4 = late 4 refl refl (λ e. omega (arith, e)) (λ e. omega (arith, e)) ∙ base_spares 4 refl (λ e. omega (arith, e))
 
   was_4 : d2 4 ≡ a 4
   was_4 = member_spares 4 refl (λ e. omega (arith, e)) ∙ account_spares 4 refl (λ e. omega (arith, e))
 
-  at_6 : b 6 ≡ t1 6
-  at_6 = late 6 refl (λ e. omega (arith, e)) (λ e. omega (arith, e))
+  at_6 : b 6 ≡ u 6
+  at_6 = late 6 refl refl (λ e. omega (arith, e)) (λ e. omega (arith, e))
 
   was_6 : d3 6 ≡ a 6
   was_6 = file_spares 6 refl (λ e. omega (arith, e)) ∙ (member_spares 6 refl (λ e. omega (arith, e)) ∙ account_spares 6 refl (λ e. omega (arith, e)))
 
   was_22 : t1 22 ≡ a 22
-  was_22 = base_spares 22 refl (λ e. omega (arith, e)) ∙ (file_spares 22 refl (λ e. omega (arith, e)) ∙ (member_spares 22 refl (λ e. omega (arith, e)) ∙ account_spares 22 refl (λ e. omega (arith, e))))
+  was_22 = edits_spare [] delta.changes.items u t1 h.1.1.2 22 refl refl ∙ (base_spares 22 refl (λ e. omega (arith, e)) ∙ (file_spares 22 refl (λ e. omega (arith, e)) ∙ (member_spares 22 refl (λ e. omega (arith, e)) ∙ account_spares 22 refl (λ e. omega (arith, e)))))
+
+  -- the trees of changes before edits
+  early : (t : ℕ) → is_tree t ≡ true → is_part_tree t ≡ true → u t ≡ a t
+  early t is part = base_spares t is (other 6 t refl part) ∙ (file_spares t is (other 4 t refl part) ∙ (member_spares t is (other 2 t refl part) ∙ account_spares t is (other 0 t refl part)))
+    where
+      other : (n t : ℕ) → is_part_tree n ≡ false → is_part_tree t ≡ true → t ≢ n
+      other n t not_one one same = both_ways (is_part_tree n) not_one (subst (λ m. is_part_tree m ≡ true) same one)
 
   rows : (k : Key) → row_in b k ≡ after delta k (row_in a k)
   rows (AccountKey number) =
       ap (λ l. told AccountRow (only (reads accounts) (rows_at (accounts.at number) l))) at_0
-      ∙ (ap (told AccountRow) (rows_changed accounts nat_cmp numbers_exact delta.accounts.items a d1 h.1.1.1.1.1 number) ∙ told_account (change_of nat_cmp delta.accounts.items number) (row_at accounts a number))
+      ∙ (ap (told AccountRow) (rows_changed accounts nat_cmp numbers_exact delta.accounts.items a d1 h.1.1.1.1.1.1 number) ∙ told_account (change_of nat_cmp delta.accounts.items number) (row_at accounts a number))
   rows (MemberKey group account) =
       let k : Member = record { group = group; account = account } in
       ap (λ l. told (λ u. MemberRow) (only (reads members) (rows_at (members.at k) l))) at_2
-      ∙ (ap (told (λ u. MemberRow)) (rows_changed members member_cmp members_exact delta.members.items d1 d2 h.1.1.1.1.2 k) ∙ (told_member (change_of member_cmp delta.members.items k) (row_at members d1 k)
+      ∙ (ap (told (λ u. MemberRow)) (rows_changed members member_cmp members_exact delta.members.items d1 d2 h.1.1.1.1.1.2 k) ∙ (told_member (change_of member_cmp delta.members.items k) (row_at members d1 k)
       ∙ ap (λ l. after_change (member_change (change_of member_cmp delta.members.items k)) (told (λ u. MemberRow) (only (reads members) (rows_at (members.at k) l)))) was_2))
   rows (FileKey project) =
       ap (λ l. told FileRow (only (reads projects) (rows_at (projects.at project) l))) at_4
-      ∙ (file_row delta.file d2 d3 h.1.1.1.2 project ∙ ap (λ l. file_after delta.file project (told FileRow (only (reads projects) (rows_at (projects.at project) l)))) was_4)
+      ∙ (file_row delta.file d2 d3 h.1.1.1.1.2 project ∙ ap (λ l. file_after delta.file project (told FileRow (only (reads projects) (rows_at (projects.at project) l)))) was_4)
   rows (BaseKey project branch place) =
       let k : PlaceKey = record { project = project; branch = branch; place = place } in
       ap (λ l. told BaseRow (only (reads bases) (rows_at (bases.at k) l))) at_6
-      ∙ (base_row delta.base d3 t1 h.1.1.2 project branch place ∙ ap (λ l. base_after delta.base project branch place (told BaseRow (only (reads bases) (rows_at (bases.at k) l)))) was_6)
-  rows (PartKey n part) = ap (λ es. after_change (option_map (option_map APart) (edited es n part)) None) (sym none)
+      ∙ (base_row delta.base d3 u h.1.1.1.2 project branch place ∙ ap (λ l. base_after delta.base project branch place (told BaseRow (only (reads bases) (rows_at (bases.at k) l)))) was_6)
+  rows (PartKey n part) =
+      part_same t1 b (last 9 refl (λ e. omega (arith, e)) (λ e. omega (arith, e))) (last 11 refl (λ e. omega (arith, e)) (λ e. omega (arith, e))) (last 14 refl (λ e. omega (arith, e)) (λ e. omega (arith, e)))
+      (last 16 refl (λ e. omega (arith, e)) (λ e. omega (arith, e))) (last 18 refl (λ e. omega (arith, e)) (λ e. omega (arith, e))) (last 20 refl (λ e. omega (arith, e)) (λ e. omega (arith, e))) n part
+      ∙ (parts_edited [] delta.changes.items u t1 h.1.1.2 n part
+      ∙ ap (λ r. after_change (option_map (option_map APart) (edited delta.changes.items n part)) r) (part_same a u (early 9 refl refl) (early 11 refl refl) (early 14 refl refl) (early 16 refl refl) (early 18 refl refl) (early 20 refl refl) n part))
   rows (OddKey o) = refl
 
   counts : (c : Count) → count_in b c ≡ count_after delta (row_in a) c (count_in a c)
   counts Projects =
-      ap length at_4 ∙ (file_count delta.file d2 d3 h.1.1.1.2 (λ p. subst (λ l. length (rows_at (projects.at p) l) ≤ 1) (sym was_4) (single.projects_are p))
+      ap length at_4 ∙ (file_count delta.file d2 d3 h.1.1.1.1.2 (λ p. subst (λ l. length (rows_at (projects.at p) l) ≤ 1) (sym was_4) (single.projects_are p))
       ∙ (ap (λ l. count_after_file delta.file (λ p. told FileRow (only (reads projects) (rows_at (projects.at p) l))) (length l)) was_4 ∙ file_counts delta.file (row_in a) (length (a 4))))
   counts (BasesOf project) =
       ap (λ l. length (rows_at ((1, Text project) ∷ []) l)) at_6
-      ∙ (base_count delta.base d3 t1 h.1.1.2 (λ k. subst (λ l. length (rows_at (bases.at k) l) ≤ 1) (sym was_6) (single.bases_are k)) project
+      ∙ (base_count delta.base d3 u h.1.1.1.2 (λ k. subst (λ l. length (rows_at (bases.at k) l) ≤ 1) (sym was_6) (single.bases_are k)) project
       ∙ (ap (λ l. count_after_base delta.base (λ k. told BaseRow (only (reads bases) (rows_at (bases.at k) l))) project (length (rows_at ((1, Text project) ∷ []) l))) was_6
       ∙ base_counts delta.base (row_in a) project (length (rows_at ((1, Text project) ∷ []) (a 6)))))
 
@@ -256,4 +274,4 @@ module _ (delta : Delta) (none : delta.changes.items ≡ []) (kept : Kept) (n : 
   }
 
 pub commits : (delta : Delta) (kept : Kept) (n : ℕ) (old new : Database) → OnDesk (Then (Then (SetsDelta delta) (SetsKept kept)) (SetsDesk (n + 1))) old new → Commits delta kept n old new
-commits delta kept n old new h = record { ready = h.ready; committed = λ none ready single was. committed delta none kept n old.trees new.trees single was (h.changes ready); desk = λ ready. (h.changes ready).2.here }
+commits delta kept n old new h = record { ready = h.ready; committed = λ ready single was. committed delta kept n old.trees new.trees single was (h.changes ready); desk = λ ready. (h.changes ready).2.here }

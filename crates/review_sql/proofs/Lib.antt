@@ -1,3 +1,4 @@
+pub mod Edits
 pub mod Commit
 pub mod Begin
 pub mod Staying
@@ -6,4 +7,5 @@ pub mod Peeking
 pub mod Singles
 pub mod Telling
 pub mod Asking
+pub mod Reviewing
 pub mod Shown

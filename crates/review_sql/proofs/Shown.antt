@@ -69,9 +69,9 @@ module _ {S : Type 0} (g : Ghosts S) (old new : Held S) where
     served ours clean x it = let f = it.found clean (desk_if_open ours) in (f.0, f.3)
 
     module _ (delta : Delta) (kept : Request) (r : Result (Unit {0}) Error) (acts : Transacts (Commits delta kept requests) (state g old) (state g new) r)
-        (none : delta.changes.items ≡ []) (single : IsTrue is_ours → IsTrue (state g old).is_open → AreSingle (state g old).now.trees) where
+        (single : IsTrue is_ours → IsTrue (state g old).is_open → AreSingle (state g old).now.trees) where
       committed_from : IsTrue is_ours → IsTrue (state g old).is_open → (after : Database) → Commits delta kept requests (state g old).now after → IsCommitted (tables_at (state g old).now.trees) delta (kept_row kept) (tables_at after.trees)
-      committed_from ours was after c = let it = holds.ready ours was in c.committed none it.0 (single ours was) it.1
+      committed_from ours was after c = let it = holds.ready ours was in c.committed it.0 (single ours was) it.1
 
       pub stops_committed : IsTrue is_ours → HasCleanDisk (state g new) → (t : Tables) → stops_of g new t → stops_of g old t ⊎ Shows (tables_of g old) (λ was. IsCommitted was delta (kept_row kept) t)
       stops_committed ours clean t left = elim (acts.survives.crash clean left.0 left.1) [

@@ -1,10 +1,11 @@
 -- A database as the tables of a desk.
-use Rattle.std.specs.Prelude.{ℕ, ◌+◌, ◌≡◌, ◌≤◌, List, [], ◌∷◌, length, Option, Some, None}
+use Rattle.std.specs.Prelude.{option_map, ℤ, ℕ, ◌+◌, ◌≡◌, ◌≤◌, List, [], ◌∷◌, length, Option, Some, None}
 use Rattle.sqlite_value.specs.declared.value.Value.TheVariants.{Text}
 use Rattle.sqlite_trees.specs.Tree.{Trees}
 use Rattle.sqlite.specs.Effect.{Database}
 use Rattle.review_words.specs.History.{Identity}
-use Rattle.review_rows.specs.Rows.{Key, AccountKey, MemberKey, FileKey, BaseKey, PartKey, OddKey, Row, AccountRow, MemberRow, FileRow, BaseRow, OddRow, Count, Projects, BasesOf, Stored, Answered, OddAnswer, Tables, kept_row}
+use Rattle.review_changes.specs.Parts.{Part, TheHeader, PatchOf, VoteOf, RoleOf, CommentOf, AttentionOf, AHeader, APatch, ARole, AComment, ACall}
+use Rattle.review_rows.specs.Rows.{Key, AccountKey, MemberKey, FileKey, BaseKey, PartKey, OddKey, Row, AccountRow, MemberRow, FileRow, BaseRow, APart, OddRow, vote_row, Count, Projects, BasesOf, Stored, Answered, OddAnswer, Tables, kept_row}
 use Rattle.review_rows.specs.Shelf.{IsCommitted}
 use Rattle.review_rows.specs.declared.rows.Delta.{Delta}
 use Rattle.review_rows.specs.declared.rows.Kept.{Kept}
@@ -13,6 +14,7 @@ use Rattle.review_tables.specs.Search.{rows_at, row_at}
 use Rattle.review_records.specs.declared.rows.DeskRow.{DeskRow}
 use Rattle.review_records.specs.declared.rows.PlaceKey.{PlaceKey}
 use Rattle.review_records.specs.declared.rows.Answered.{Answered as Rest}
+use Rattle.review_change_records.specs.Forms.{headers, patches, votes, roles, comments, calls}
 use Rattle.review_records.specs.Forms.{accounts, members, projects, bases, answers, desk}
 
 -- a row as tables tell it; an odd one is none of its table
@@ -21,13 +23,28 @@ told kind None = None
 told kind (Some None) = Some OddRow
 told kind (Some (Some x)) = Some (kind x)
 
+-- the same of a vote, of which a value of 0 is none
+abbrev pub vote_told : Option (Option ℤ) → Option Row
+vote_told None = None
+vote_told (Some None) = Some OddRow
+vote_told (Some (Some v)) = option_map APart (vote_row (Some v))
+
+-- a row of a change
+abbrev pub part_in : Trees → ℕ → Part → Option Row
+part_in db n TheHeader = told (λ x. APart (AHeader x)) (row_at headers db n)
+part_in db n (PatchOf k) = told (λ x. APart (APatch x)) (row_at patches db (n, k))
+part_in db n (VoteOf k l a) = vote_told (row_at votes db (n, record { patch = k; label = l; account = a }))
+part_in db n (RoleOf u) = told (λ x. APart (ARole x)) (row_at roles db (n, u))
+part_in db n (CommentOf k) = told (λ x. APart (AComment x)) (row_at comments db (n, k))
+part_in db n (AttentionOf u) = told (λ x. APart (ACall x)) (row_at calls db (n, u))
+
 -- TODO: the rows that have no key of their table
 abbrev pub row_in : Trees → Key → Option Row
 row_in db (AccountKey number) = told AccountRow (row_at accounts db number)
 row_in db (MemberKey group account) = told (λ u. MemberRow) (row_at members db (record { group = group; account = account }))
 row_in db (FileKey project) = told FileRow (row_at projects db project)
 row_in db (BaseKey project branch place) = told BaseRow (row_at bases db (record { project = project; branch = branch; place = place }))
-row_in db (PartKey n part) = None
+row_in db (PartKey n part) = part_in db n part
 row_in db (OddKey o) = None
 
 abbrev pub count_in : Trees → Count → ℕ
@@ -70,5 +87,5 @@ pub record AreSingle (db : Trees) : Type 0 where
 -- the delta is applied and the request is stored, where the tables are a desk's and so many requests were
 pub record Commits (delta : Delta) (kept : Kept) (requests : ℕ) (old new : Database) : Type 0 where
   pub ready : IsReady old → IsReady new
-  pub committed : delta.changes.items ≡ [] → IsReady old → AreSingle old.trees → IsDesk requests old.trees → IsCommitted (tables_at old.trees) delta (kept_row kept) (tables_at new.trees)
+  pub committed : IsReady old → AreSingle old.trees → IsDesk requests old.trees → IsCommitted (tables_at old.trees) delta (kept_row kept) (tables_at new.trees)
   pub desk : IsReady old → IsDesk (requests + 1) new.trees

@@ -1,7 +1,7 @@
 //! The tables of a desk in SQLite, as a shelf.
 //!
-//! It keeps accounts, members, projects, bases and stored requests. The tables of changes are there and stay empty: a delta that changes a
-//! change is refused as a store fault, and so is a look-up of changes.
+//! It keeps all tables of a desk. Of the look-ups of changes it answers that of one change and that of the greatest number; each other one
+//! is refused as a store fault.
 #![tactic(auto)]
 
 mod branches;
@@ -11,6 +11,7 @@ mod learning;
 mod loading;
 mod opening;
 mod people;
+mod reviews;
 mod seen;
 mod serving;
 pub mod shelf;

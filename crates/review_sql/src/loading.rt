@@ -4,7 +4,7 @@ ghost use Rattle.sqlite.specs.Held.{state};
 ghost use Rattle.review_tables.specs.Ran.{Looks, Serves};
 ghost use Rattle.review_sql.specs.Loads.{Sees, AreLoaded, HasLearnt, WereAsked};
 
-use crate::{branches, people};
+use crate::{branches, people, reviews};
 use review_records::desk::Desk;
 use review_rows::{Counted, Rows, Want};
 use review_tables::reads::find as find_row;
@@ -59,12 +59,11 @@ fn find<S: Alter>(
         Want::Base(base) => branches::find_base(tx, alloc, base, rows),
         Want::LastPlace(branch) => branches::find_last_place(tx, alloc, branch, rows),
         Want::Bases(branch) => branches::find_bases(tx, alloc, branch, rows),
-        Want::Change(_)
-        | Want::ChangeOf(_)
-        | Want::LastChange
-        | Want::LastJoined(_)
-        | Want::Standing(_)
-        | Want::Joined(_) => Err(Error::InvalidQuery),
+        Want::Change(number) => reviews::find_change(tx, alloc, *number, rows),
+        Want::LastChange => reviews::find_last_change(tx, alloc, rows),
+        Want::ChangeOf(_) | Want::LastJoined(_) | Want::Standing(_) | Want::Joined(_) => Err(
+            Error::InvalidQuery,
+        ),
     }
 }
 

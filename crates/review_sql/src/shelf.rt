@@ -182,16 +182,12 @@ impl<S: Alter> Shelf for SqlShelf<S> {
     }
 
     fn commit(&mut self, alloc: Global, delta: &Delta, kept: &Kept) -> Result<(), ShelfFault> {
-        let _ = alloc;
-        if !delta.changes.is_empty() {
-            return Err(refuse(&mut self.faults));
-        }
         let requests = self.requests;
         let Some(more) = requests.checked_add(1) else {
             return Err(refuse(&mut self.faults));
         };
         let _live = self.conn.schema();
-        match transact(&mut self.conn, delta, kept, requests) {
+        match transact(&mut self.conn, alloc, delta, kept, requests) {
             Ok(()) => {
                 let _settled = self.conn.is_autocommit();
                 self.requests = more;

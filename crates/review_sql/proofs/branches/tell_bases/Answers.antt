@@ -1,4 +1,4 @@
-use Rattle.std.proofs.Common.{◌≡◌, Some, None, refl, rules, subst, sym}
+use Rattle.std.proofs.Common.{◌≡◌, Some, None, refl, rules, subst}
 use Rattle.review_rows.specs.declared.rows.Want.TheVariants as want
 use Rattle.review_table.specs.Rows.{rows_of}
 use Rattle.review_rows.specs.Known.{Commits}

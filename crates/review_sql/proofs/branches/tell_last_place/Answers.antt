@@ -1,4 +1,4 @@
-use Rattle.std.proofs.Common.{refl, ◌≡◌, Some, None, sym, subst, rules}
+use Rattle.std.proofs.Common.{refl, ◌≡◌, Some, None, subst, rules}
 use Rattle.review_rows.specs.declared.rows.Want.TheVariants as want
 use Rattle.review_rows.specs.Known.{Number}
 use Rattle.review_records.specs.Forms.{base_places}

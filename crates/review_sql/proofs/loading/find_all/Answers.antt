@@ -1,4 +1,4 @@
-use Rattle.std.proofs.Common.{◌≡◌, ◌∙◌, take, Ok, subst, rules, arith}
+use Rattle.std.proofs.Common.{◌≡◌, ◌∙◌, Ok, subst, rules, arith}
 use Rattle.std.proofs.lemmas.List.{take_all}
 use Rattle.sqlite.specs.Held.{state}
 use Rattle.review_rows.specs.Known.{AreAsked}

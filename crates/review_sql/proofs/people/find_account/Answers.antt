@@ -1,4 +1,4 @@
-use Rattle.std.proofs.Common.{◌≡◌, Option, List, ℕ, Bool, Ok}
+use Rattle.std.proofs.Common.{◌≡◌, Option, List, ℕ, Ok}
 use Rattle.sqlite.specs.Held.{state}
 use Rattle.sqlite_trees.specs.Tree.{Trees}
 use Rattle.review_tables.specs.Search.{row_at}

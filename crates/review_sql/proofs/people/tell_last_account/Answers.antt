@@ -1,5 +1,4 @@
-use Rattle.std.proofs.Common.{refl, rules, subst, Some, ◌≡◌}
-use Rattle.review_rows.specs.declared.rows.Want.TheVariants as want
+use Rattle.std.proofs.Common.{refl, rules, Some, ◌≡◌}
 use Rattle.review_rows.specs.Known.{Number}
 use Rattle.review_sql.specs.Loads.{last_of}
 use Rattle.review_sql.proofs.Telling.{last_account}
