@@ -5,7 +5,7 @@ use Rattle.sqlite_value.specs.declared.value.Value.{Value}
 use Rattle.sqlite_value.specs.declared.value.Value.TheVariants.{Null, Int, Real, Text, Blob}
 use Rattle.sqlite_value.specs.Order.{column}
 use Rattle.review_names.specs.declared.kinds.ChangeKind.{ChangeKind}
-use Rattle.review_names.specs.Forms.{is_commit, is_label, is_line, is_message, is_place, is_slashed_name, is_within, most_comments, most_patches}
+use Rattle.review_names.specs.Forms.{is_commit, is_label, is_line, is_message, is_place, is_slashed_name, is_within, most_changes, most_comments, most_patches}
 use Rattle.review_names.specs.Kinds.{kind_name, kind_named}
 use Rattle.review_names.specs.Names.{is_account_number}
 use Rattle.review_words.specs.declared.changes.Role.{Role}
@@ -265,3 +265,12 @@ change_numbers = record { tree = 9; at = λ u. []; shown = λ r. column r 0 ∷ 
 -- the places of a branch's changes
 abbrev pub change_places : Search BranchKey ℕ
 change_places = record { tree = 9; at = λ b. (2, Text b.project) ∷ (3, Text b.branch) ∷ []; shown = λ r. column r 8 ∷ []; read = λ r. number_in (column r 0) }
+
+-- the patch sets that have a commit
+abbrev pub sent : Search (List ℕ) (ℕ × ℕ)
+sent = record {
+  tree = 11;
+  at = λ commit. (3, Text commit) ∷ [];
+  shown = λ r. column r 1 ∷ column r 2 ∷ [];
+  read = λ r. both (where_is (is_within most_changes) (number_in (column r 0))) (where_is (is_within most_patches) (number_in (column r 1)));
+}

@@ -16,8 +16,8 @@ use Rattle.std.proofs.lemmas.Map.Lookups.{exact_unsigned, exact_bytes}
 use Rattle.std.proofs.lemmas.Option.{same_Some}
 use Rattle.sqlite_value.specs.declared.value.Value.{Value}
 use Rattle.sqlite_value.specs.declared.value.Value.TheVariants.{Int, Text}
-use Rattle.sqlite_value.specs.Order.{column, value_cmp}
-use Rattle.review_names.specs.Forms.{is_commit, is_label, is_line, is_message, is_place, is_slashed_name, is_within, most_comments, most_patches}
+use Rattle.sqlite_value.specs.Order.{Row as Raw, column, value_cmp}
+use Rattle.review_names.specs.Forms.{is_commit, is_label, is_line, is_message, is_place, is_slashed_name, is_within, most_changes, most_comments, most_patches}
 use Rattle.review_names.specs.declared.kinds.ChangeKind.{ChangeKind}
 use Rattle.review_names.specs.declared.kinds.ChangeKind.TheVariants as kind
 use Rattle.review_names.specs.Kinds.{kind_name, kind_named}
@@ -27,16 +27,18 @@ use Rattle.review_words.specs.declared.changes.Role.TheVariants.{Reviewer, Cc}
 use Rattle.review_words.specs.declared.shown.State.{State}
 use Rattle.review_words.specs.declared.shown.State.TheVariants.{New, Merged, Abandoned}
 use Rattle.review_words.specs.Texts.{role_name, role_named}
+use Rattle.review_changes.specs.declared.rows.PatchRow.{PatchRow}
 use Rattle.review_changes.specs.declared.rows.VoteKey.{VoteKey}
 use Rattle.review_changes.specs.Seen.{vote_cmp}
 use Rattle.review_tables.specs.Columns.{number_in, text_in}
+use Rattle.review_tables.specs.Content.{has_key}
 use Rattle.review_tables.specs.Fronts.{IsExact, IsFront}
-use Rattle.review_tables.specs.Search.{IsLawful}
+use Rattle.review_tables.specs.Search.{IsLawful, reads}
 use Rattle.review_tables.proofs.Keys.{equal_is, itself, same_int, same_text}
 use Rattle.review_records.specs.Forms.{where_is}
 use Rattle.review_records.specs.Laws.{at_number, both_are, numbers_exact, one_number, passed, reads_text}
 use Rattle.review_change_records.specs.Paths.{are_read_back, are_same, paths_in, paths_text, were_read}
-use Rattle.review_change_records.specs.Forms.{answered, answers_number, call_form, calls, change_calls, change_comments, change_patches, change_roles, change_votes, comment_form, comments, flag_number, flagged, header_form, headers, is_answer, is_small, named, patch_form, patches, role_form, roles, state_name, state_named, vote_form, vote_key, votes}
+use Rattle.review_change_records.specs.Forms.{answered, answers_number, call_form, calls, change_calls, change_comments, change_patches, change_roles, change_votes, comment_form, comments, flag_number, flagged, header_form, headers, is_answer, is_small, named, patch_form, patched, patches, sent, role_form, roles, state_name, state_named, vote_form, vote_key, votes}
 
 -- ---- values
 
@@ -98,7 +100,7 @@ reads_kind kind.TrivialRebaseWithMessageUpdate = rw (ascii (kind_name kind.Trivi
 reads_kind kind.MergeFirstParentUpdate = rw (ascii (kind_name kind.MergeFirstParentUpdate) refl) refl
 reads_kind kind.Rework = rw (ascii (kind_name kind.Rework) refl) refl
 
-same_bytes : (s t : List ℕ) → bytes_eq s t ≡ true → s ≡ t
+pub same_bytes : (s t : List ℕ) → bytes_eq s t ≡ true → s ≡ t
 same_bytes s t is = exact_bytes s t (equal_is (slice_cmp nat_cmp s t) (is_eq-slice_cmp s t ∙ is))
 
 same_paths : (some others : List (List ℕ)) → are_same some others ≡ true → some ≡ others
@@ -226,7 +228,7 @@ text_is : (v : Value) (t : List ℕ) → text_in v ≡ Some t → v ≡ Text t
 text_is (Text s) t is = elim (cases_Bool (is_utf8 s)) [ inl good ↦ (let e = rw good at is in ap Text (same_Some _ _ e)) | inr bad ↦ absurd (let e = rw bad at is in cc) ]
 text_is v t is = absurd (cc)
 
-at_text : (v : Value) (t : List ℕ) → text_in v ≡ Some t → is_eq (value_cmp v (Text t)) ≡ true
+pub at_text : (v : Value) (t : List ℕ) → text_in v ≡ Some t → is_eq (value_cmp v (Text t)) ≡ true
 at_text v t is = subst (λ w. is_eq (value_cmp w (Text t)) ≡ true) (sym (text_is v t is)) (itself (Text t))
 
 pub vote_lawful : IsLawful votes vote_form
@@ -255,7 +257,7 @@ both_equal Greater p is = absurd (cc)
 then_equal : (o p : Ordering) → o ≡ Equal → p ≡ Equal → ordering_then o p ≡ Equal
 then_equal o p a b = rw (a, b) refl
 
-votes_exact : IsExact vote_cmp
+pub votes_exact : IsExact vote_cmp
 votes_exact = record {
   same = λ a b is.
       let one = both_equal (nat_cmp a.patch b.patch) _ is in
@@ -287,3 +289,25 @@ votes_of_change = record {
       let account : j.account ≡ k.account = one_number (column r 4) j.account k.account (passed is_account_number _ j.account it.2) (and_parts _ _ three.1).0 in
       (λ i. record { patch = patch i; label = label i; account = account i });
 }
+
+-- ---- commits of patch sets
+
+patched_commit : (a b : Option (List ℕ)) (k : Option ChangeKind) (u : Option ℕ) (p : Option (List (List ℕ))) (x : PatchRow) → patched a b k u p ≡ Some x → a ≡ Some x.commit
+patched_commit None b k u p x is = absurd (cc)
+patched_commit (Some a) None k u p x is = absurd (cc)
+patched_commit (Some a) (Some b) None u p x is = absurd (cc)
+patched_commit (Some a) (Some b) (Some k) None p x is = absurd (cc)
+patched_commit (Some a) (Some b) (Some k) (Some u) None x is = absurd (cc)
+patched_commit (Some a) (Some b) (Some k) (Some u) (Some p) x is = ap (λ (x : PatchRow). Some x.commit) (same_Some _ _ is)
+
+-- a patch set is among those that have its commit
+pub sent_by_key : (p : ℕ × ℕ) (x : PatchRow) (r : Raw) → has_key (patches.at p) r ≡ true → reads patches r ≡ Some x → has_key (sent.at x.commit) r ≡ true
+sent_by_key p x r h is = and_from _ _ (at_text (column r 3) x.commit (passed is_commit _ x.commit (patched_commit _ _ _ _ _ x is))) refl
+
+-- with its own key
+pub sent_is : (p e : ℕ × ℕ) (r : Raw) → has_key (patches.at p) r ≡ true → reads sent r ≡ Some e → e ≡ p
+sent_is p e r h is =
+    let it = both_are _ _ e.0 e.1 is in
+    let first : e.0 ≡ p.0 = one_number (column r 1) e.0 p.0 (passed (is_within most_changes) _ e.0 it.0) (and_parts _ _ h).0 in
+    let second : e.1 ≡ p.1 = one_number (column r 2) e.1 p.1 (passed (is_within most_patches) _ e.1 it.1) (and_parts _ _ (and_parts _ _ h).1).0 in
+    (λ i. (first i, second i))

@@ -7,5 +7,6 @@ pub mod headers;
 pub mod patches;
 mod paths;
 pub mod roles;
+pub mod sent;
 mod values;
 pub mod votes;

@@ -2,7 +2,7 @@
 ghost use Rattle.std.specs.Prelude.{◌≡◌, true, FitsSigned};
 ghost use Rattle.std.specs.Int.{w64};
 ghost use Rattle.sqlite_value.specs.Order.{column};
-ghost use Rattle.review_names.specs.Forms.{is_within, most_comments, most_patches};
+ghost use Rattle.review_names.specs.Forms.{is_within, most_changes, most_comments, most_patches};
 ghost use Rattle.review_names.specs.Kinds.{kind_named};
 ghost use Rattle.review_names.specs.Names.{is_account_number};
 ghost use Rattle.review_words.specs.Texts.{role_named};
@@ -12,7 +12,7 @@ ghost use Rattle.review_change_records.specs.Forms.{answered, answers_number, fl
 
 use review_changes::Vote;
 use review_tables::columns::{number_at, text_at};
-use review_words::{AccountNo, ChangeKind, CommentNo, PatchNo, Role, State};
+use review_words::{AccountNo, ChangeKind, ChangeNo, CommentNo, PatchNo, Role, State};
 use sqlite::Row;
 use sqlite::types::ValueRef;
 
@@ -103,6 +103,13 @@ pub fn patch_at(row: &Row, at: usize) -> Option<PatchNo>
     ensures { result ≡ where_is (is_within most_patches) (number_in (column row.now at)) }
 {
     PatchNo::from_number(number_at(row, at)?)
+}
+
+/// The change whose number is in a column; none where it is no such number.
+pub fn change_at(row: &Row, at: usize) -> Option<ChangeNo>
+    ensures { result ≡ where_is (is_within most_changes) (number_in (column row.now at)) }
+{
+    ChangeNo::from_number(number_at(row, at)?)
 }
 
 /// The comment whose number is in a column; none where it is no such number.

@@ -8,4 +8,5 @@ pub mod Singles
 pub mod Telling
 pub mod Asking
 pub mod Reviewing
+pub mod Sending
 pub mod Shown

@@ -45,7 +45,7 @@ vote_whole : (o : Option ℤ) → vote_told (option_map Some o) ≡ option_map A
 vote_whole None = refl
 vote_whole (Some v) = refl
 
-known_as : {X : Type 0} (o : Option X) (x : X) (P : X → Type 0) → o ≡ Some x → Knows o P → P x
+pub known_as : {X : Type 0} (o : Option X) (x : X) (P : X → Type 0) → o ≡ Some x → Knows o P → P x
 known_as o x P is known = subst (λ o. Knows o P) is known
 
 -- the tables of a change that has a header

@@ -4,5 +4,6 @@ pub mod First
 pub mod Shelf
 pub mod Loads
 pub mod Reviews
+pub mod Senders
 pub mod Created
 pub mod Opened

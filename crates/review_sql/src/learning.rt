@@ -9,7 +9,7 @@ ghost use Rattle.review_sql.specs.Loads.{last_of, learnt_by};
 use crate::loading::Sight;
 use review_rows::{Base, BranchKey, MemberKey, Rows};
 use review_table::{Key, Table};
-use review_words::{AccountName, AccountNo, Bases, FileText, GroupName, ProjectName};
+use review_words::{AccountName, AccountNo, Bases, ChangeNo, FileText, GroupName, ProjectName};
 use std::alloc::{AllocError, Global};
 
 /// That rows learnt, or that there was no memory for it.
@@ -137,4 +137,15 @@ pub fn learn_bases(
     ensures { OnOk result (Learns (want.Bases branch.now) (Commits bases) rows.old rows.new) }
 {
     rows.learn_bases(branch.copy(alloc)?, bases)
+}
+
+pub fn learn_change_of(
+    alloc: Global,
+    base: &Base,
+    change: Option<ChangeNo>,
+    rows: &mut Rows,
+) -> Result<(), AllocError>
+    ensures { OnOk result (Learns (want.ChangeOf base.now) (Holder change) rows.old rows.new) }
+{
+    rows.learn_change_of(base.copy(alloc)?, change)
 }

@@ -1,7 +1,7 @@
 //! The tables of a desk in SQLite, as a shelf.
 //!
-//! It keeps all tables of a desk. Of the look-ups of changes it answers that of one change and that of the greatest number; each other one
-//! is refused as a store fault.
+//! It keeps all tables of a desk. Three look-ups are not answered yet, and refused as store faults: what a commit is to a branch, the last
+//! place that a change joined a branch at, and the changes that joined it. So no change can be submitted.
 #![tactic(auto)]
 
 mod branches;
@@ -13,6 +13,7 @@ mod opening;
 mod people;
 mod reviews;
 mod seen;
+mod senders;
 mod serving;
 pub mod shelf;
 mod there;

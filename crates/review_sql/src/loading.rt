@@ -4,7 +4,7 @@ ghost use Rattle.sqlite.specs.Held.{state};
 ghost use Rattle.review_tables.specs.Ran.{Looks, Serves};
 ghost use Rattle.review_sql.specs.Loads.{Sees, AreLoaded, HasLearnt, WereAsked};
 
-use crate::{branches, people, reviews};
+use crate::{branches, people, reviews, senders};
 use review_records::desk::Desk;
 use review_rows::{Counted, Rows, Want};
 use review_tables::reads::find as find_row;
