@@ -1,0 +1,5 @@
+//! A shelf in SQLite, made, written, read and opened again.
+#![tactic(auto)]
+
+#[cfg(test)]
+mod desks;
