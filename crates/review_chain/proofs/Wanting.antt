@@ -1,16 +1,15 @@
 -- What is wanted for the chain of a change, as a value.
-use Rattle.std.proofs.Common.{◌≡◌, ℕ, zero, suc, ◌+◌, ◌-◌, ◌<◌, ◌≤◌, true, false, List, [], ◌∷◌, length, Option, Some, None, ◌⊎◌, inl, inr, refl, sym, ap, ◌∙◌, subst, arith}
-use Rattle.std.specs.Prelude.{◌==◌}
-use Rattle.std.proofs.lemmas.Bool.{false≢true}
-use Rattle.std.proofs.lemmas.Bool.Decides.{nat_tests}
+use Rattle.std.proofs.Common.{◌≡◌, ℕ, zero, suc, ◌+◌, ◌-◌, ◌<◌, List, [], ◌∷◌, length, Option, Some, None, ◌⊎◌, inl, inr, refl, sym, ap, ◌∙◌, subst, arith}
+use Rattle.std.specs.Prelude.{Result, Ok, Err, IfOk, IfSome, IfNone, option_map}
 use Rattle.review_chain.specs.Branches.{Branch}
 use Rattle.review_chain.specs.declared.walks.ChainFault.{ChainFault}
+use Rattle.review_chain.specs.declared.walks.LookUp.{LookUp}
 use Rattle.review_chain.specs.Walks.{IsWalk, IsChain, IsBadLink, first_of, most_changes}
-use Rattle.review_chain.specs.Parts.{Want, TheChange, IsPart, IsWanted, IsDecided}
-use Rattle.review_chain.specs.Steps.{Before, TheBase, Change, Bad, Wants, before, wanted, wanted_by, wanted_from}
-use Rattle.review_chain.proofs.Before.{meaning}
-use Rattle.review_chain.proofs.Walking.{Meets, IsEnd, decided, goes_on, meets_wanted, wanted_meets, chain_meets, bad_meets, one_end}
-use Rattle.review_chain.proofs.Parting.{wanted_stays, one_is_there, chain_kept, bad_kept}
+use Rattle.review_chain.specs.declared.walks.Walked.{Walked}
+use Rattle.review_chain.specs.Parts.{Want, TheChange, HasWalked, IsPart, IsWanted, IsDecided}
+use Rattle.review_chain.specs.Steps.{Before, TheBase, Change, Bad, Wants, before, want_of, wanted, wanted_by, wanted_from}
+use Rattle.review_chain.proofs.Walking.{Meets, IsEnd, met, decided, goes_on, meets_wanted, wanted_meets, chain_meets, bad_meets, one_end}
+use Rattle.review_chain.proofs.Parting.{wanted_stays, one_is_there, walk_kept, chain_kept, bad_kept}
 
 -- what is said to be wanted is, and where nothing is said the change is decided
 abbrev pub Says : Branch → ℕ → Option Want → Type 0
@@ -48,32 +47,36 @@ says_from b c (suc more) walk count walks =
 pub wanted_says : (b : Branch) (c : ℕ) → Says b c (wanted b c)
 wanted_says b c = says_from b c 99 (c ∷ []) (omega arith) refl
 
-last_step : (b : Branch) (c : ℕ) (further : ℕ → Option Want) → wanted_by (before b most_changes c) (λ d. None) ≡ wanted_by (before b most_changes c) further
-last_step b c further = by_before (before b most_changes c) refl
-  where
-    by_before : (v : Before) → before b most_changes c ≡ v → wanted_by v (λ d. None) ≡ wanted_by v further
-    by_before TheBase e = refl
-    by_before (Change d) e = absurd (let m = meaning b most_changes c (Change d) e in false≢true (sym m.0))
-    by_before (Bad fault) e = refl
-    by_before (Wants want) e = refl
+-- what a walk has come to, with what stands before it
+pub walked_meets : (b : Branch) (w : Walked) (v : Before) → (h : HasWalked b w) → v ≡ before b w.count w.first → Meets b h.walk w.change v
+walked_meets b w v h is = met b h.walk w.change w.count w.first v h.walks h.short h.counted h.begins is
 
--- it is the value that a walk of so many changes finds
-pub wanted_step : (b : Branch) (n c : ℕ) → 1 ≤ n → n ≤ 100 → wanted_from b (100 - n) c ≡ wanted_by (before b n c) (λ d. wanted_from b (100 - (n + 1)) d)
-unfolding wanted_from
-wanted_step b n c from most = by_more (100 - n) refl
+-- what is wanted is what the end of a walk wants, wherever the walk was begun anew
+pub walked_wants : (b : Branch) (w : Walked) (v : Before) → HasWalked b w → v ≡ before b w.count w.first → IsEnd v → wanted_by v (λ d. None) ≡ wanted b w.change
+walked_wants b w v h is e = by_said (wanted b w.change) (wanted_says b w.change) v (walked_meets b w v h is) e
   where
-    by_more : (more : ℕ) → 100 - n ≡ more → wanted_from b (100 - n) c ≡ wanted_by (before b n c) (λ d. wanted_from b (100 - (n + 1)) d)
-    by_more zero e =
-        let full : most_changes ≡ n = omega arith in
-        ap (λ m. wanted_from b m c) e ∙ (last_step b c (λ d. wanted_from b (100 - (n + 1)) d) ∙ ap (λ m. wanted_by (before b m c) (λ d. wanted_from b (100 - (n + 1)) d)) full)
-    by_more (suc more) e =
-        let count : most_changes - suc more ≡ n = omega arith in
-        let less : more ≡ 100 - (n + 1) = omega arith in
-        ap (λ m. wanted_from b m c) e ∙ (ap (λ m. wanted_by (before b m c) (λ d. wanted_from b more d)) count ∙ ap (λ m. wanted_by (before b n c) (λ d. wanted_from b m d)) less)
+    by_said : (o : Option Want) → Says b w.change o → (v : Before) → Meets b h.walk w.change v → IsEnd v → wanted_by v (λ d. None) ≡ o
+    by_said None decided TheBase m e = refl
+    by_said None decided (Change d) m e = absurd e
+    by_said None decided (Bad fault) m e = refl
+    by_said None decided (Wants want) m e = absurd (decided h.walk want (meets_wanted b h.walk w.change want m))
+    by_said (Some want) said v m e = sym (ap (λ u. wanted_by u (λ d. None)) (one_end b said.0 h.walk w.change (Wants want) v (wanted_meets b said.0 w.change want said.1) tt m e))
 
--- what is wanted, by what a walk of so many changes finds
-pub wanted_here : (b : Branch) (change n c : ℕ) (v : Before) → 1 ≤ n → n ≤ 100 → v ≡ before b n c → wanted_from b (100 - n) c ≡ wanted b change → wanted_by v (λ d. wanted_from b (100 - (n + 1)) d) ≡ wanted b change
-wanted_here b change n c v from most e same = ap (λ u. wanted_by u (λ d. wanted_from b (100 - (n + 1)) d)) e ∙ (sym (wanted_step b n c from most) ∙ same)
+-- where a change stands before a walk, the walk goes on with it
+pub walked_on : (b : Branch) (w : Walked) (d : ℕ) → HasWalked b w → Change d ≡ before b w.count w.first → HasWalked b (record { change = w.change; first = d; count = w.count + 1 })
+walked_on b w d h is =
+    let on = goes_on b h.walk w.change d (walked_meets b w (Change d) h is) in
+    let counted : length h.walk ≡ w.count = h.counted in
+    let more : length h.walk < 100 = on.more in
+    record { walk = d ∷ h.walk; walks = on.walks; begins = refl; counted = omega arith; short = omega arith }
+
+-- a change alone is a walk to it
+pub walked_alone : (b : Branch) (c : ℕ) → HasWalked b (record { change = c; first = c; count = 1 })
+walked_alone b c = record { walk = c ∷ []; walks = refl; begins = refl; counted = refl; short = omega arith }
+
+-- what was walked stays so where more is known
+pub walked_kept : (part whole : Branch) → IsPart part whole → (w : Walked) → HasWalked part w → HasWalked whole w
+walked_kept part whole is w h = record { walk = h.walk; walks = walk_kept part whole is h.walk w.change h.walks; begins = h.begins; counted = h.counted; short = h.short }
 
 -- a change that is wanted, and of which no more is known afterwards, is still wanted
 pub still_wanted : (b after : Branch) (c d : ℕ) → IsPart b after → wanted b c ≡ Some (TheChange d) → after.link d ≡ None → wanted after c ≡ Some (TheChange d)
@@ -100,3 +103,15 @@ stays_decided b after c is w =
         absurd (decided after walk c TheBase (chain_meets after walk c (chain_kept b after walk c is chain)) tt said.0 want said.1)
     by_said (Some want) said walk (inr (fault, bad)) =
         absurd (decided after walk c (Bad fault) (bad_meets after walk c fault (bad_kept b after walk c fault is bad)) tt said.0 want said.1)
+
+-- what is found wanted is, by a walk
+pub found_wanted : (b : Branch) (c : ℕ) {E : Type 0} (r : Result (Option LookUp) E) → IfOk r (λ found. option_map want_of found ≡ wanted b c) → IfOk r (λ found. IfSome found (λ w. (walk : List ℕ) × IsWanted b walk c (want_of w)))
+found_wanted b c (Err e) is = tt
+found_wanted b c (Ok None) is = tt
+found_wanted b c (Ok (Some w)) is = subst (Says b c) (sym is) (wanted_says b c)
+
+-- where nothing is found wanted the change is decided
+pub found_decided : (b : Branch) (c : ℕ) {E : Type 0} (r : Result (Option LookUp) E) → IfOk r (λ found. option_map want_of found ≡ wanted b c) → IfOk r (λ found. IfNone found (IsDecided b c))
+found_decided b c (Err e) is = tt
+found_decided b c (Ok None) is = subst (Says b c) (sym is) (wanted_says b c)
+found_decided b c (Ok (Some w)) is = tt

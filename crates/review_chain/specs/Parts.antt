@@ -3,6 +3,7 @@ use Rattle.std.specs.Prelude.{◌≡◌, ◌⊎◌, ℕ, ◌<◌, ◌≤◌, Lis
 use Rattle.review_chain.specs.declared.links.Link.{Link}
 use Rattle.review_chain.specs.declared.links.Standing.{Standing}
 use Rattle.review_chain.specs.declared.links.Standing.TheVariants.{PatchSet}
+use Rattle.review_chain.specs.declared.walks.Walked.{Walked}
 use Rattle.review_chain.specs.Branches.{Branch, parent_standing}
 use Rattle.review_chain.specs.Walks.{IsWalk, first_of, most_changes}
 
@@ -30,6 +31,14 @@ pub record IsWanted (b : Branch) (walk : List ℕ) (c : ℕ) (want : Want) : Typ
   pub walks : IsWalk b walk c
   pub short : length walk ≤ most_changes
   pub lacks : Lacks b (length walk) (first_of walk) want
+
+-- There is such a walk to the change: of so many changes, of which this one stands first.
+pub record HasWalked (b : Branch) (w : Walked) : Type 0 where
+  pub walk : List ℕ
+  pub walks : IsWalk b walk w.change
+  pub begins : first_of walk ≡ w.first
+  pub counted : length walk ≡ w.count
+  pub short : w.count ≤ most_changes
 
 -- Nothing is wanted for the chain of a change.
 abbrev pub IsDecided : Branch → ℕ → Type 0

@@ -5,7 +5,7 @@
 //! to 100 changes. The first link that isn't so is the change's bad link.
 //!
 //! [`Links`] say what is known of a branch, which may be a part: [`chain`] answers the chain or the name of the bad link, or that something
-//! isn't known, and [`wanted`] what has to be looked up next. [`joins`] gives the changes of a chain their places. The laws say that there is
+//! isn't known, and [`wanted`] what has to be looked up next, [`wanted_on`] the same from where an earlier look has come to. [`joins`] gives the changes of a chain their places. The laws say that there is
 //! one chain or one bad link, and that a part in which nothing is wanted decides for the whole branch.
 #![tactic(auto)]
 
@@ -20,4 +20,4 @@ pub use laws::{
 };
 pub use links::{Link, Links, Standing};
 pub use places::joins;
-pub use walks::{ChainFault, LookUp, chain, wanted};
+pub use walks::{ChainFault, LookUp, Walked, chain, wanted, wanted_on};

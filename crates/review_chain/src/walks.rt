@@ -1,7 +1,7 @@
 //! The chain of a change, and what has to be looked up to find it.
 ghost use Rattle.std.specs.Prelude.{◌≡◌, ◌≤◌, ◌==◌, ℕ, List, Option, None, IfOk, IfErr, IfSome, IfNone, option_map};
 ghost use Rattle.review_chain.specs.Walks.{IsChain, patch_set_fault};
-ghost use Rattle.review_chain.specs.Parts.{IsDecided, IsWanted};
+ghost use Rattle.review_chain.specs.Parts.{HasWalked, IsDecided, IsWanted};
 ghost use Rattle.review_chain.specs.Steps.{IsFault, before, before_change, before_known, before_of, want_of, wanted};
 
 use crate::links::{Link, Links, Standing};
@@ -165,6 +165,55 @@ pub fn chain<L: Links>(
     }
 }
 
+/// Where the look for the chain of a change has come to: a walk to it.
+#[derive(Clone, Copy, Debug, PartialEq, Eq)]
+pub struct Walked {
+    /// The change whose chain is looked for.
+    pub change: ChangeNo,
+    /// The change at which the walk begins.
+    pub first: ChangeNo,
+    /// How many changes the walk has, from 1 to 100.
+    pub count: usize,
+}
+
+impl Walked {
+    /// The walk of the change alone.
+    pub fn new(change: ChangeNo) -> Walked
+        ensures { result ≡ record { change = change; first = change; count = 1 } }
+    {
+        Walked {
+            change,
+            first: change,
+            count: 1,
+        }
+    }
+}
+
+/// What has to be looked up next to find the chain of a change, going on from a walk to it; what [`wanted`] answers. The walk is then the
+/// longest that is known. An error is want of memory, and leaves a walk too.
+pub fn wanted_on<L: Links>(
+    alloc: Global,
+    links: &L,
+    walked: &mut Walked,
+) -> Result<Option<LookUp>, AllocError>
+    ensures change { walked.new.change ≡ walked.old.change }
+    ensures walked { HasWalked (L.known links.now) walked.old → HasWalked (L.known links.now) walked.new }
+    ensures is { HasWalked (L.known links.now) walked.old → IfOk result (λ found. option_map want_of found ≡ wanted (L.known links.now) walked.old.change) }
+{
+    while walked.count <= 100 {
+        match before(alloc, links, walked.count, walked.first)? {
+            Step::AtBase => return Ok(None),
+            Step::AtFault(_) => return Ok(None),
+            Step::AtUnknown(wanted) => return Ok(Some(wanted)),
+            Step::At(earlier) => {
+                walked.first = earlier;
+                walked.count += 1;
+            }
+        }
+    }
+    Ok(None)
+}
+
 /// What has to be looked up next to find the chain of a change, or none where the links decide its chain or its bad link. After at most 200
 /// look-ups nothing is wanted (`look_ups_end`). An error is want of memory.
 pub fn wanted<L: Links>(
@@ -176,14 +225,6 @@ pub fn wanted<L: Links>(
     ensures some { IfOk result (λ found. IfSome found (λ w. (walk : List ℕ) × IsWanted (L.known links.now) walk change (want_of w))) }
     ensures none { IfOk result (λ found. IfNone found (IsDecided (L.known links.now) change)) }
 {
-    let mut first = change;
-    'back: for count in 1..101 {
-        match before(alloc, links, count, first)? {
-            Step::AtBase => return Ok(None),
-            Step::AtFault(_) => return Ok(None),
-            Step::AtUnknown(wanted) => return Ok(Some(wanted)),
-            Step::At(earlier) => first = earlier,
-        }
-    }
-    Ok(None)
+    let mut walked = Walked::new(change);
+    wanted_on(alloc, links, &mut walked)
 }

@@ -1,5 +1,5 @@
 //! New changes.
-ghost use Rattle.std.specs.Prelude.{◌≡◌, ◌<◌, ◌+◌, List, Option, IfOk, IfErr, length, option_copied, true};
+ghost use Rattle.std.specs.Prelude.{◌≡◌, ◌<◌, ◌+◌, List, None, Option, IfOk, IfErr, length, nat_le, option_copied, true};
 ghost use Rattle.review_names.specs.Forms.{is_within, most_changes, most_patches};
 ghost use Rattle.review_words.specs.Texts.{IsStored};
 ghost use Rattle.review_words.specs.History.{Entry, is_account};
@@ -7,8 +7,13 @@ ghost use Rattle.review_words.specs.declared.command.Command.TheVariants.{Create
 ghost use Rattle.review_words.specs.declared.reply.NotTaken.TheVariants.{Memory};
 ghost use Rattle.review_rows.specs.Answer.{first_refusal, most_requests};
 ghost use Rattle.review_rows.specs.Changes.{Reading};
-ghost use Rattle.review_rows.specs.Decisions.{NamesEachOnce};
-ghost use Rattle.review_rows.specs.Rows.{HasNoEffect};
+ghost use Rattle.review_table.specs.Rows.{after_change};
+ghost use Rattle.review_changes.specs.Change.{begun};
+ghost use Rattle.review_changes.specs.Parts.{Part, part_row};
+ghost use Rattle.review_rows.specs.Decisions.{NamesEachOnce, NamesRowsOnce};
+ghost use Rattle.review_rows.specs.Known.{known, number_of};
+ghost use Rattle.review_rows.specs.Rows.{HasNoEffect, part_change};
+ghost use Rattle.review_rows.specs.declared.rows.Want.TheVariants as want;
 ghost use Rattle.review_rows.specs.Steps.{OfCommand};
 ghost use Rattle.review_rows.specs.View.{AreEnough, IsDecided};
 ghost use Rattle.review_change_decisions.specs.Facts.{create_checks};
@@ -20,10 +25,24 @@ use review_branch_decisions::{branch_of, is_known};
 use review_change_rows::{copied_new, edit_of_new};
 use review_core::ChangeFile;
 use review_file::{ProjectFile, Right};
+use review_names::{BranchName, ProjectName};
 use review_project_laws::one_file;
-use review_rows::{Delta, Rows};
+use review_rows::{ChangeEdit, Delta, Rows};
 use review_words::{AccountNo, Answer, ChangeNo, NewChange, NotTaken, PatchNo, Refusal, Reply};
 use std::alloc::{AllocError, Global};
+
+/// Whether a project has a branch.
+fn has_branch(
+    alloc: Global,
+    rows: &Rows,
+    project: &ProjectName,
+    branch: &BranchName,
+) -> Result<bool, AllocError>
+    ensures { IfOk result (λ b. b ≡ nat_le 1 (number_of (known rows.now (want.LastPlace (record { project = project.now; branch = branch.now }))))) }
+{
+    let key = branch_of(alloc, project, branch)?;
+    Ok(rows.last_place(&key) > 0)
+}
 
 /// The first check of a new change that fails, where one does.
 fn create_refusal(
@@ -38,8 +57,7 @@ fn create_refusal(
     let Some(file) = had else {
         return Ok(Some(Refusal::NoProject));
     };
-    let branch = branch_of(alloc, &new.project, &new.branch)?;
-    if rows.last_place(&branch) == 0 {
+    if !has_branch(alloc, rows, &new.project, &new.branch)? {
         return Ok(Some(Refusal::NoBranch));
     }
     if !has_right(alloc, rows, file, Right::Create, caller)? {
@@ -79,6 +97,23 @@ fn patch_of(number: u32) -> PatchNo
     }
 }
 
+/// What makes a new change.
+fn begun_edit(
+    alloc: Global,
+    change: ChangeNo,
+    new: &NewChange,
+    caller: AccountNo,
+    request: u64,
+) -> Result<ChangeEdit, AllocError>
+    ensures change { IfOk result (λ e. e.change ≡ change) }
+    ensures becomes { IfOk result (λ e. (part : Part) → after_change (part_change e part) None ≡ part_row (begun new.now caller request) part) }
+    ensures once { IfOk result NamesRowsOnce }
+{
+    let new = copied_new(alloc, new)?;
+    let file = ChangeFile::begin(alloc, new, caller, request)?;
+    edit_of_new(alloc, change, file.rows())
+}
+
 /// A new change for a branch, with its first patch set; the caller is its owner. Refused for a project or a branch that isn't there, for
 /// want of the right to create changes, a commit that is known in the branch, a parent that isn't, or the last number given, in this order.
 /// An error is want of memory.
@@ -102,9 +137,7 @@ pub fn create_change(
     }
     let change = next_change(rows.last_change());
     let request = rows.requests().saturating_add(1);
-    let new = copied_new(alloc, new)?;
-    let file = ChangeFile::begin(alloc, new, caller, request)?;
-    let edit = edit_of_new(alloc, change, file.rows())?;
+    let edit = begun_edit(alloc, change, new, caller, request)?;
     let delta = edited(alloc, edit)?;
     let patch = patch_of(1);
     Ok((delta, Reply::Done(Answer::Change { change, patch })))

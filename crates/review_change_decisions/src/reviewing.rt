@@ -8,29 +8,26 @@ ghost use Rattle.review_words.specs.declared.command.Command.TheVariants.{OnChan
 ghost use Rattle.review_words.specs.declared.reply.NotTaken.TheVariants.{Damaged, Memory};
 ghost use Rattle.review_changes.specs.Change.{after_plain, current, reviewed, said};
 ghost use Rattle.review_changes.specs.Seen.{seen};
-ghost use Rattle.review_changes.specs.Sound.{answer_stored, fits};
+ghost use Rattle.review_changes.specs.Sound.{IsSound, answer_stored, fits};
 ghost use Rattle.review_rows.specs.Answer.{first_refusal, most_requests, numbers_after};
 ghost use Rattle.review_rows.specs.Changes.{Reading};
-ghost use Rattle.review_rows.specs.Decisions.{IsUndecided, NamesEachOnce, NamesRowsOnce};
-ghost use Rattle.review_changes.specs.Parts.{Part, part_row};
+ghost use Rattle.review_rows.specs.Decisions.{IsUndecided, NamesEachOnce};
 ghost use Rattle.review_words.specs.declared.command.ChangeCommand.TheVariants.{Review as ReviewOf};
-ghost use Rattle.review_table.specs.Rows.{after_change};
-ghost use Rattle.review_rows.specs.Rows.{HasNoEffect, part_change};
+ghost use Rattle.review_rows.specs.Rows.{HasNoEffect};
 ghost use Rattle.review_rows.specs.Steps.{OfCommand};
 ghost use Rattle.review_rows.specs.View.{AreEnough, IsDecided};
-ghost use Rattle.review_change_decisions.specs.Facts.{IsReviewed, LacksFile, given_in, given_of, next_numbers, review_list};
+ghost use Rattle.review_change_decisions.specs.Facts.{IsChecked, IsReviewed, LacksFile, MakesChange, given_in, given_of, next_numbers, review_list};
 
-use crate::edits::{change_file, edited};
+use crate::edits::{Checked, change_file, checked_by, turned};
 use crate::facts::is_open;
 use crate::ranges::{are_in_range, has_labels, has_values};
 use review_account_decisions::refused;
 use review_change_laws::changes_are_sound;
-use review_change_rows::edit_of;
 use review_changes::ChangeRows;
 use review_core::ChangeFile;
 use review_file::ProjectFile;
 use review_project_laws::one_file;
-use review_rows::{ChangeEdit, Delta, Rows};
+use review_rows::{Delta, Rows};
 use review_words::{
     AccountNo, Answer, ChangeNo, CommentNo, CommentNumbers, NewComment, NotTaken, Refusal, Reply,
     Review,
@@ -217,7 +214,7 @@ fn comment_of(number: usize) -> CommentNo
     }
 }
 
-/// What a review makes of a change.
+/// The delta of what a review makes of a change.
 fn with_review(
     alloc: Global,
     change: ChangeNo,
@@ -226,15 +223,14 @@ fn with_review(
     review: &Review,
     caller: AccountNo,
     request: u64,
-) -> Result<ChangeEdit, AllocError>
+) -> Result<Delta, AllocError>
     requires same { seen file.rows ≡ seen found.now }
     requires fits { fits (ReviewOf review.now) (seen found.now) ≡ true }
-    ensures change { IfOk result (λ e. e.change ≡ change) }
-    ensures becomes { IfOk result (λ e. (part : Part) → after_change (part_change e part) (part_row (seen found.now) part) ≡ part_row (after_plain (ReviewOf review.now) caller request (seen found.now)) part) }
-    ensures once { IfOk result NamesRowsOnce }
+    ensures made { IfOk result (MakesChange change (seen found.now) (after_plain (ReviewOf review.now) caller request (seen found.now))) }
+    ensures once { IfOk result NamesEachOnce }
 {
     let new = file.with_review(alloc, review, caller, request)?;
-    edit_of(alloc, change, found, new.rows())
+    turned(alloc, change, found, new)
 }
 
 /// What an account says of a patch set of a change: a message, values on labels, comments. Refused for a change or a patch set that isn't
@@ -260,12 +256,29 @@ pub fn review(
     let Some(found) = rows.change(change) else {
         return Ok(refused(alloc, Refusal::NoChange));
     };
+    let checked = review_checked(alloc, had, rows, caller, review, found)?;
+    match checked {
+        Checked::Passes(file) => Ok(reviewed(alloc, rows, caller, change, found, file, review)?),
+        Checked::Fails(refusal) => Ok(refused(alloc, refusal)),
+    }
+}
+
+/// What the checks of a review of a change come to. Damaged only where the change isn't sound, or there is no file to judge values by.
+fn review_checked(
+    alloc: Global,
+    had: Option<&ProjectFile>,
+    rows: &Rows,
+    caller: AccountNo,
+    review: &Review,
+    found: &ChangeRows,
+) -> Result<Checked, NotTaken>
+    ensures checked { IfOk result (IsChecked (first_refusal (review_list (option_copied had.entry) rows.now caller review.now (seen found.now))) (seen found.now)) }
+    ensures judged { IfOk result (λ r. LacksFile (option_copied had.entry) review.now.labels → is_within (current (seen found.now)) (reviewed review.now (seen found.now)) ≡ false) }
+    ensures cause { IfErr result (λ e. (e ≡ Memory) ⊎ ((e ≡ Damaged) × ((IsSound (seen found.now) → ⊥) ⊎ LacksFile (option_copied had.entry) review.now.labels))) }
+{
     let file = change_file(alloc, found)?;
     let refusal = review_refusal(alloc, had, rows, caller, review, found)?;
-    if let Some(refusal) = refusal {
-        return Ok(refused(alloc, refusal));
-    }
-    Ok(reviewed(alloc, rows, caller, change, found, file, review)?)
+    Ok(checked_by(file, refusal))
 }
 
 /// The answer to a review that no check refuses, and what it changes.
@@ -287,7 +300,6 @@ fn reviewed(
 {
     let numbers = new_numbers(alloc, found.comments.len(), said_count(review))?;
     let request = rows.requests().saturating_add(1);
-    let edit = with_review(alloc, change, found, file, review, caller, request)?;
-    let delta = edited(alloc, edit)?;
+    let delta = with_review(alloc, change, found, file, review, caller, request)?;
     Ok((delta, Reply::Done(Answer::Reviewed(numbers))))
 }

@@ -1,14 +1,17 @@
 //! New patch sets.
-ghost use Rattle.std.specs.Prelude.{◌≡◌, ◌<◌, ◌+◌, ◌==◌, ◌||◌, List, IfOk, IfErr, length, option_copied, true};
+ghost use Rattle.std.specs.Prelude.{◌≡◌, ◌⊎◌, ◌<◌, ◌+◌, ◌==◌, ◌||◌, List, IfOk, IfErr, length, option_copied, true};
 ghost use Rattle.review_names.specs.Forms.{is_within, most_patches};
 ghost use Rattle.review_words.specs.Texts.{IsStored, IsStoredAnswer};
 ghost use Rattle.review_words.specs.History.{Entry, is_account};
 ghost use Rattle.review_words.specs.declared.command.Command.TheVariants.{OnChange};
 ghost use Rattle.review_words.specs.declared.reply.Answer.TheVariants.{Patch};
+ghost use Rattle.review_words.specs.declared.reply.NotTaken.TheVariants.{Damaged, Memory};
 ghost use Rattle.review_project.specs.declared.parts.Right.TheVariants as right;
-ghost use Rattle.review_changes.specs.Change.{after, current};
+ghost use Rattle.review_changes.specs.Change.{after, carried, copying, current, is_lost};
+ghost use Rattle.review_changes.specs.Counts.{AreMany};
+ghost use Rattle.review_changes.specs.Votes.{voted};
 ghost use Rattle.review_changes.specs.Seen.{seen};
-ghost use Rattle.review_changes.specs.Sound.{fits};
+ghost use Rattle.review_changes.specs.Sound.{IsSound, fits};
 ghost use Rattle.review_words.specs.declared.command.ChangeCommand.TheVariants.{Upload as UploadOf};
 ghost use Rattle.review_rows.specs.Answer.{first_refusal, most_requests};
 ghost use Rattle.review_rows.specs.Changes.{Reading};
@@ -16,14 +19,14 @@ ghost use Rattle.review_rows.specs.Decisions.{IsUndecided, NamesEachOnce};
 ghost use Rattle.review_rows.specs.Rows.{HasNoEffect};
 ghost use Rattle.review_rows.specs.Steps.{OfCommand};
 ghost use Rattle.review_rows.specs.View.{AreEnough, IsDecided};
-ghost use Rattle.review_change_decisions.specs.Facts.{IsUploaded, right_in, upload_list};
+ghost use Rattle.review_change_decisions.specs.Facts.{IsChecked, IsUploaded, right_in, setting_in, upload_list};
 
-use crate::edits::{change_file, edited};
+use crate::edits::{Checked, change_file, checked_by, turned};
 use crate::facts::{has_right, is_open};
 use review_account_decisions::refused;
 use review_branch_decisions::is_known;
 use review_change_laws::changes_are_sound;
-use review_change_rows::{copied_patch, edit_of};
+use review_change_rows::copied_patch;
 use review_changes::{ChangeRows, Header};
 use review_core::{ChangeFile, Copied};
 use review_file::{ProjectFile, Right};
@@ -132,12 +135,49 @@ pub fn upload(
     let Some(project) = had else {
         return Err(NotTaken::Damaged);
     };
+    let checked = upload_checked(alloc, project, rows, caller, patch, found)?;
+    match checked {
+        Checked::Passes(file) => {
+            Ok(uploaded(alloc, project, rows, caller, change, found, file, patch)?)
+        }
+        Checked::Fails(refusal) => Ok(refused(alloc, refusal)),
+    }
+}
+
+/// What the checks of a new patch set of a change come to. Damaged only where the change isn't sound.
+fn upload_checked(
+    alloc: Global,
+    project: &ProjectFile,
+    rows: &Rows,
+    caller: AccountNo,
+    patch: &NewPatch,
+    found: &ChangeRows,
+) -> Result<Checked, NotTaken>
+    ensures checked { IfOk result (IsChecked (first_refusal (upload_list project.now rows.now caller patch.now (seen found.now))) (seen found.now)) }
+    ensures cause { IfErr result (λ e. (e ≡ Memory) ⊎ ((e ≡ Damaged) × (IsSound (seen found.now) → ⊥))) }
+{
     let file = change_file(alloc, found)?;
     let refusal = upload_refusal(alloc, project, rows, caller, patch, found)?;
-    if let Some(refusal) = refusal {
-        return Ok(refused(alloc, refusal));
-    }
-    Ok(uploaded(alloc, project, rows, caller, change, found, file, patch)?)
+    Ok(checked_by(file, refusal))
+}
+
+/// A change with a new patch set, and the numbers of votes that were copied to it and that weren't.
+fn with_patch(
+    alloc: Global,
+    project: &ProjectFile,
+    rows: &Rows,
+    caller: AccountNo,
+    file: ChangeFile,
+    patch: &NewPatch,
+    request: u64,
+) -> Result<(ChangeFile, Copied), AllocError>
+    requires { fits (UploadOf patch.now) (seen file.rows) ≡ true }
+    ensures change { IfOk result (λ r. seen r.0.rows ≡ after (setting_in project.now rows.now) (UploadOf patch.now) caller request (seen file.rows)) }
+    ensures copied { IfOk result (λ r. AreMany (λ l u. voted (carried (copying (setting_in project.now rows.now) (UploadOf patch.now) caller (seen file.rows)) (seen file.rows) l u)) r.1.copied) }
+    ensures outdated { IfOk result (λ r. AreMany (λ l u. is_lost (copying (setting_in project.now rows.now) (UploadOf patch.now) caller (seen file.rows)) (seen file.rows) u l) r.1.outdated) }
+{
+    let patch = copied_patch(alloc, patch)?;
+    file.with_patch_set(alloc, patch, caller, project, &rows.groups, request)
 }
 
 /// The answer to a new patch set that no check refuses, and what it changes.
@@ -159,10 +199,8 @@ fn uploaded(
     ensures once { IfOk result (λ r. NamesEachOnce r.0) }
 {
     let request = rows.requests().saturating_add(1);
-    let patch = copied_patch(alloc, patch)?;
-    let (new, counts) = file.with_patch_set(alloc, patch, caller, project, &rows.groups, request)?;
-    let edit = edit_of(alloc, change, found, new.rows())?;
-    let delta = edited(alloc, edit)?;
+    let (new, counts) = with_patch(alloc, project, rows, caller, file, patch, request)?;
+    let delta = turned(alloc, change, found, new)?;
     let answer = patch_answer(change, next_patch(found.patches.len()), counts);
     Ok((delta, Reply::Done(answer)))
 }

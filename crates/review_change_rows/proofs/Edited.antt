@@ -41,10 +41,6 @@ pub record Before : Type 0 where
 abbrev pub of_rows : ChangeRows → Before
 of_rows rows = record { patches = rows.patches.items; votes = rows.votes; roles = rows.roles; comments = rows.comments.items; attention = rows.attention }
 
--- none
-abbrev pub no_rows : Before
-no_rows = record { patches = []; votes = []; roles = []; comments = []; attention = [] }
-
 -- an edit turns these tables into those of the new change
 pub record Turns (e : ChangeEdit) (old : Before) (new : ChangeRows) : Type 0 where
   pub header : e.header ≡ new.header
@@ -71,14 +67,21 @@ none_at [] zero e = refl
 none_at [] (suc n) e = refl
 none_at (x ∷ xs) n e = absurd (cc)
 
-pub begun_by : (e : ChangeEdit) (new : ChangeRows) → Turns e no_rows new → (part : Part) → after_change (part_change e part) None ≡ part_row (seen new) part
-begun_by e new t TheHeader = ap (λ h. Some (AHeader h)) t.header
-begun_by e new t (PatchOf n) =
-    after_mapped APatch (change_of nat_cmp e.patches.items n) None ∙ ap (option_map APatch) (ap (after_change (change_of nat_cmp e.patches.items n)) (none_at [] n refl) ∙ t.patches n)
-begun_by e new t (VoteOf n l a) =
+-- rows of a change that has no more than its header
+pub record AreBare (rows : ChangeRows) : Type 0 where
+  pub patches : rows.patches.items ≡ []
+  pub votes : rows.votes ≡ []
+  pub roles : rows.roles ≡ []
+  pub comments : rows.comments.items ≡ []
+  pub attention : rows.attention ≡ []
+
+-- an edit makes of them what it makes of nothing, since it puts a header
+pub bare_before : (e : ChangeEdit) (rows : ChangeRows) → AreBare rows → (part : Part) → after_change (part_change e part) (part_row (seen rows) part) ≡ after_change (part_change e part) None
+bare_before e rows bare TheHeader = refl
+bare_before e rows bare (PatchOf n) = ap (λ o. after_change (part_change e (PatchOf n)) (option_map APatch o)) (sym (none_at rows.patches.items n bare.patches))
+bare_before e rows bare (VoteOf n l a) =
     let q : VoteKey = record { patch = n; label = l; account = a } in
-    after_vote (change_of vote_cmp e.votes.items q) None ∙ (ap vote_row (t.votes q) ∙ sym (vote_is (row_in vote_cmp (rows_of new.votes) q)))
-begun_by e new t (RoleOf u) = after_mapped ARole (change_of nat_cmp e.roles.items u) None ∙ ap (option_map ARole) (t.roles u)
-begun_by e new t (CommentOf n) =
-    after_mapped AComment (change_of nat_cmp e.comments.items n) None ∙ ap (option_map AComment) (ap (after_change (change_of nat_cmp e.comments.items n)) (none_at [] n refl) ∙ t.comments n)
-begun_by e new t (AttentionOf u) = after_mapped ACall (change_of nat_cmp e.attention.items u) None ∙ ap (option_map ACall) (t.attention u)
+    ap (after_change (part_change e (VoteOf n l a))) (vote_is (row_in vote_cmp (rows_of rows.votes) q)) ∙ (λ i. after_change (part_change e (VoteOf n l a)) (vote_row (row_in vote_cmp (rows_of (bare.votes i)) q)))
+bare_before e rows bare (RoleOf u) = λ i. after_change (part_change e (RoleOf u)) (option_map ARole (of_account (bare.roles i) u))
+bare_before e rows bare (CommentOf n) = ap (λ o. after_change (part_change e (CommentOf n)) (option_map AComment o)) (sym (none_at rows.comments.items n bare.comments))
+bare_before e rows bare (AttentionOf u) = λ i. after_change (part_change e (AttentionOf u)) (option_map ACall (of_account (bare.attention i) u))

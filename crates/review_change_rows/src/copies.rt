@@ -1,13 +1,15 @@
 //! Changes and patch sets that are copied.
-ghost use Rattle.std.specs.Prelude.{◌≡◌, ◌∷◌, [], IfOk, OnOk};
+ghost use Rattle.std.specs.Prelude.{◌≡◌, ◌∷◌, ℕ, [], IfOk, OnOk};
+ghost use Rattle.std.specs.Ordering.{nat_cmp};
 ghost use Rattle.std.specs.Option.{option_or};
 ghost use Rattle.review_table.specs.Rows.{row_in, rows_of};
-ghost use Rattle.review_changes.specs.Seen.{seen};
+ghost use Rattle.review_changes.specs.Seen.{seen, vote_cmp};
+ghost use Rattle.review_changes.specs.declared.rows.VoteKey.{VoteKey};
 
 use crate::rows::Copied;
-use review_changes::{ChangeRows, CommentRow, Header, PatchRow};
+use review_changes::{Called, ChangeRows, CommentRow, Header, PatchRow, Vote, VoteKey};
 use review_table::{Key, Table};
-use review_words::{NewChange, NewPatch};
+use review_words::{AccountNo, NewChange, NewPatch, Role};
 use std::alloc::{AllocError, Global};
 
 /// A new change once more. An error where there was no memory for it.
@@ -37,22 +39,44 @@ pub fn copied_patch(alloc: Global, patch: &NewPatch) -> Result<NewPatch, AllocEr
     })
 }
 
+/// The rows of a change that are kept by accounts: its votes, roles and attention set.
+#[derive(Drop)]
+struct Marks {
+    votes: Table<VoteKey, Vote>,
+    roles: Table<AccountNo, Role>,
+    attention: Table<AccountNo, Called>,
+}
+
 /// A change once more. An error where there was no memory for it.
 pub fn copied_change(alloc: Global, rows: &ChangeRows) -> Result<ChangeRows, AllocError>
     ensures { IfOk result (λ c. seen c ≡ seen rows.now) }
 {
+    let marks = copied_marks(alloc, rows)?;
     let header = copied_header(alloc, &rows.header)?;
     let patches = copied_patches(alloc, &rows.patches)?;
-    let votes = copied_table(alloc, &rows.votes)?;
-    let roles = copied_table(alloc, &rows.roles)?;
     let comments = copied_comments(alloc, &rows.comments)?;
-    let attention = copied_table(alloc, &rows.attention)?;
     Ok(ChangeRows {
         header,
         patches,
+        votes: marks.votes,
+        roles: marks.roles,
+        comments,
+        attention: marks.attention,
+    })
+}
+
+// The votes, roles and attention set of a change once more.
+fn copied_marks(alloc: Global, rows: &ChangeRows) -> Result<Marks, AllocError>
+    ensures votes { IfOk result (λ m. (q : VoteKey) → row_in vote_cmp (rows_of m.votes) q ≡ row_in vote_cmp (rows_of rows.now.votes) q) }
+    ensures roles { IfOk result (λ m. (u : ℕ) → row_in nat_cmp (rows_of m.roles) u ≡ row_in nat_cmp (rows_of rows.now.roles) u) }
+    ensures attention { IfOk result (λ m. (u : ℕ) → row_in nat_cmp (rows_of m.attention) u ≡ row_in nat_cmp (rows_of rows.now.attention) u) }
+{
+    let votes = copied_table(alloc, &rows.votes)?;
+    let roles = copied_table(alloc, &rows.roles)?;
+    let attention = copied_table(alloc, &rows.attention)?;
+    Ok(Marks {
         votes,
         roles,
-        comments,
         attention,
     })
 }

@@ -2,21 +2,30 @@
 ghost use Rattle.std.specs.Prelude.{◌≡◌, ℕ, [], IfOk, None};
 ghost use Rattle.std.specs.Ordering.{nat_cmp};
 ghost use Rattle.review_names.specs.Forms.{most_comments, most_patches};
-ghost use Rattle.review_table.specs.Rows.{after_change, changed};
+ghost use Rattle.review_table.specs.Rows.{after_change, changed, row_in, rows_of};
 ghost use Rattle.review_changes.specs.Change.{of_number};
 ghost use Rattle.review_changes.specs.Parts.{Part, part_row};
-ghost use Rattle.review_changes.specs.Seen.{seen};
+ghost use Rattle.review_changes.specs.Seen.{of_account, seen, vote_cmp};
+ghost use Rattle.review_changes.specs.declared.rows.VoteKey.{VoteKey};
 ghost use Rattle.review_rows.specs.Decisions.{NamesOnce, NamesRowsOnce};
 ghost use Rattle.review_rows.specs.Rows.{part_change};
 ghost use Rattle.review_change_rows.specs.Edits.{GoesOn};
 
 use crate::copies::{copied_comment, copied_header, copied_patch_row};
 use crate::differences::difference;
-use review_changes::{ChangeRows, CommentRow, PatchRow};
+use review_changes::{Called, ChangeRows, CommentRow, PatchRow, Vote, VoteKey};
 use review_rows::ChangeEdit;
 use review_table::{Change, Table};
-use review_words::{ChangeNo, CommentNo, PatchNo};
+use review_words::{AccountNo, ChangeNo, CommentNo, PatchNo, Role};
 use std::alloc::{AllocError, Global};
+
+/// What turns the rows that a change keeps by accounts into others: its votes, roles and attention set.
+#[derive(Drop)]
+struct MarkChanges {
+    votes: Vec<Change<VoteKey, Vote>>,
+    roles: Vec<Change<AccountNo, Role>>,
+    attention: Vec<Change<AccountNo, Called>>,
+}
 
 /// What turns a change into one that goes on from it: its patch sets and comments are the old ones and more.
 pub fn edit_of(
@@ -31,14 +40,41 @@ pub fn edit_of(
     ensures becomes { IfOk result (λ e. (part : Part) → after_change (part_change e part) (part_row (seen old.now) part) ≡ part_row (seen new.now) part) }
     ensures once { IfOk result NamesRowsOnce }
 {
+    let marks = mark_changes(alloc, old, new)?;
+    let header = copied_header(alloc, &new.header)?;
+    let patches = more_patches(alloc, &old.patches, &new.patches)?;
+    let comments = more_comments(alloc, &old.comments, &new.comments)?;
     Ok(ChangeEdit {
         change,
-        header: copied_header(alloc, &new.header)?,
-        patches: more_patches(alloc, &old.patches, &new.patches)?,
-        votes: difference(alloc, &old.votes, &new.votes)?,
-        roles: difference(alloc, &old.roles, &new.roles)?,
-        comments: more_comments(alloc, &old.comments, &new.comments)?,
-        attention: difference(alloc, &old.attention, &new.attention)?,
+        header,
+        patches,
+        votes: marks.votes,
+        roles: marks.roles,
+        comments,
+        attention: marks.attention,
+    })
+}
+
+// What turns the votes, roles and attention set of a change into those of another.
+fn mark_changes(
+    alloc: Global,
+    old: &ChangeRows,
+    new: &ChangeRows,
+) -> Result<MarkChanges, AllocError>
+    ensures votes { IfOk result (λ m. (q : VoteKey) → changed vote_cmp m.votes.items q (row_in vote_cmp (rows_of old.now.votes) q) ≡ row_in vote_cmp (rows_of new.now.votes) q) }
+    ensures roles { IfOk result (λ m. (u : ℕ) → changed nat_cmp m.roles.items u (of_account old.now.roles u) ≡ of_account new.now.roles u) }
+    ensures attention { IfOk result (λ m. (u : ℕ) → changed nat_cmp m.attention.items u (of_account old.now.attention u) ≡ of_account new.now.attention u) }
+    ensures votes_once { IfOk result (λ m. NamesOnce vote_cmp m.votes.items) }
+    ensures roles_once { IfOk result (λ m. NamesOnce nat_cmp m.roles.items) }
+    ensures attention_once { IfOk result (λ m. NamesOnce nat_cmp m.attention.items) }
+{
+    let votes = difference(alloc, &old.votes, &new.votes)?;
+    let roles = difference(alloc, &old.roles, &new.roles)?;
+    let attention = difference(alloc, &old.attention, &new.attention)?;
+    Ok(MarkChanges {
+        votes,
+        roles,
+        attention,
     })
 }
 
@@ -54,14 +90,27 @@ pub fn edit_of_new(
     ensures becomes { IfOk result (λ e. (part : Part) → after_change (part_change e part) None ≡ part_row (seen new.now) part) }
     ensures once { IfOk result NamesRowsOnce }
 {
-    Ok(ChangeEdit {
-        change,
-        header: copied_header(alloc, &new.header)?,
-        patches: more_patches(alloc, &[], &new.patches)?,
-        votes: difference(alloc, &Table::new(alloc), &new.votes)?,
-        roles: difference(alloc, &Table::new(alloc), &new.roles)?,
-        comments: more_comments(alloc, &[], &new.comments)?,
-        attention: difference(alloc, &Table::new(alloc), &new.attention)?,
+    let bare = bare_rows(alloc, new)?;
+    edit_of(alloc, change, &bare, new)
+}
+
+// Rows with a change's header alone.
+fn bare_rows(alloc: Global, new: &ChangeRows) -> Result<ChangeRows, AllocError>
+    ensures header { IfOk result (λ r. r.header ≡ new.now.header) }
+    ensures patches { IfOk result (λ r. r.patches.items ≡ []) }
+    ensures votes { IfOk result (λ r. r.votes ≡ []) }
+    ensures roles { IfOk result (λ r. r.roles ≡ []) }
+    ensures comments { IfOk result (λ r. r.comments.items ≡ []) }
+    ensures attention { IfOk result (λ r. r.attention ≡ []) }
+{
+    let header = copied_header(alloc, &new.header)?;
+    Ok(ChangeRows {
+        header,
+        patches: Vec::new(alloc),
+        votes: Table::new(alloc),
+        roles: Table::new(alloc),
+        comments: Vec::new(alloc),
+        attention: Table::new(alloc),
     })
 }
 

@@ -1,5 +1,5 @@
 //! A change whose rows fit together, and what each request makes of it.
-ghost use Rattle.std.specs.Prelude.{◌≡◌, true, IfOk, MatchResult};
+ghost use Rattle.std.specs.Prelude.{◌≡◌, ◌↔◌, true, IfOk, MatchResult};
 ghost use Rattle.review_changes.specs.Change.{after, after_plain, begun, carried, copying, eligible, is_lost, joined_at};
 ghost use Rattle.review_changes.specs.Seen.{seen};
 ghost use Rattle.review_changes.specs.Sound.{IsSound, fits};
@@ -65,16 +65,7 @@ impl ChangeFile {
     pub fn from_rows(alloc: Global, rows: ChangeRows) -> Result<ChangeFile, RowsFault>
         ensures { MatchResult result (λ file. file.rows ≡ rows) (IsRefused rows) }
     {
-        let owner = roles::owner_of(&rows.header);
-        rows.votes.once();
-        rows.attention.once();
-        let current = rows.patches.len();
-        let uploader = roles::uploader_of(&rows.header, &rows.patches);
-        let votes = are_in_place(alloc, &rows.votes, current, &rows.roles)?;
-        let called = are_eligible(alloc, owner, uploader, &rows.roles, &rows.attention)?;
-        let counted = are_counted(&rows.patches, &rows.comments);
-        let ordered = are_in_order(&rows.comments, current);
-        if !are_all(counted, ordered, votes, called) {
+        if !fit_together(alloc, &rows)? {
             return Err(RowsFault::Broken);
         }
         Ok(ChangeFile { rows })
@@ -277,4 +268,20 @@ impl ChangeFile {
         let rows = attending::unattend(self.rows, account, reason, caller, request);
         ChangeFile { rows }
     }
+}
+
+/// Whether rows fit together.
+fn fit_together(alloc: Global, rows: &ChangeRows) -> Result<bool, AllocError>
+    ensures { IfOk result (λ fit. (fit ≡ true) ↔ IsSound (seen rows.now)) }
+{
+    let owner = roles::owner_of(&rows.header);
+    rows.votes.once();
+    rows.attention.once();
+    let current = rows.patches.len();
+    let uploader = roles::uploader_of(&rows.header, &rows.patches);
+    let votes = are_in_place(alloc, &rows.votes, current, &rows.roles)?;
+    let called = are_eligible(alloc, owner, uploader, &rows.roles, &rows.attention)?;
+    let counted = are_counted(&rows.patches, &rows.comments);
+    let ordered = are_in_order(&rows.comments, current);
+    Ok(are_all(counted, ordered, votes, called))
 }

@@ -63,18 +63,17 @@ fn reviewed_patch(patches: &[PatchRow], review: &Review) -> PatchNo
     }
 }
 
-/// The change after a review.
-pub fn with_review(
+/// Makes of a change what it is after a review. Where memory is wanting, a part may be made.
+fn review_rows(
     alloc: Global,
-    rows: ChangeRows,
+    rows: &mut ChangeRows,
     review: &Review,
     caller: AccountNo,
     request: u64,
-) -> Result<ChangeRows, AllocError>
-    requires { is_within most_patches (current (seen rows)) ≡ true }
-    ensures { IfOk result (λ new. seen new ≡ after_plain (ReviewOf review.now) caller request (seen rows)) }
+) -> Result<(), AllocError>
+    requires { is_within most_patches (current (seen rows.now)) ≡ true }
+    ensures { OnOk result (seen rows.new ≡ after_plain (ReviewOf review.now) caller request (seen rows.old)) }
 {
-    let mut rows = rows;
     let state = rows.header.state;
     let who = who_for(&rows.header, &rows.patches, caller);
     let patch = reviewed_patch(&rows.patches, review);
@@ -102,5 +101,21 @@ pub fn with_review(
     )?;
     rows.comments.append(&mut new)?;
     rows.header.updated = request;
+    Ok(())
+}
+
+/// The change after a review.
+pub fn with_review(
+    alloc: Global,
+    rows: ChangeRows,
+    review: &Review,
+    caller: AccountNo,
+    request: u64,
+) -> Result<ChangeRows, AllocError>
+    requires { is_within most_patches (current (seen rows)) ≡ true }
+    ensures { IfOk result (λ new. seen new ≡ after_plain (ReviewOf review.now) caller request (seen rows)) }
+{
+    let mut rows = rows;
+    review_rows(alloc, &mut rows, review, caller, request)?;
     Ok(rows)
 }

@@ -1,5 +1,5 @@
 //! A new patch set: its votes, and who is called.
-ghost use Rattle.std.specs.Prelude.{◌≡◌, ◌+◌, ◌==◌, ℕ, List, [], pos, true, length, IfOk};
+ghost use Rattle.std.specs.Prelude.{◌≡◌, ◌+◌, ◌==◌, ℕ, List, [], pos, true, length, IfOk, OnOk};
 ghost use Rattle.std.specs.Cmp.Lexicographic.{pointwise};
 ghost use Rattle.review_names.specs.Forms.{is_within, most_patches};
 ghost use Rattle.review_changes.specs.Change.{after, carried, copying, current, is_lost, last_paths};
@@ -94,24 +94,23 @@ fn sent_by(patch: NewPatch, caller: AccountNo) -> PatchRow
     }
 }
 
-/// The change after a new patch set, and how many votes were copied and lost.
-pub fn with_patch_set(
+/// Adds a new patch set to a change, and tells how many votes were copied and lost. Where memory is wanting, a part may be made.
+fn add_patch_set(
     alloc: Global,
-    rows: ChangeRows,
+    rows: &mut ChangeRows,
     patch: NewPatch,
     caller: AccountNo,
     file: &ProjectFile,
     groups: &GroupTables,
     request: u64,
-) -> Result<(ChangeRows, Copied), AllocError>
-    requires now { is_within most_patches (current (seen rows)) ≡ true }
-    requires next { is_within most_patches (current (seen rows) + 1) ≡ true }
-    requires free { (l : List ℕ) (a : ℕ) → vote_in rows.votes (current (seen rows) + 1) l a ≡ pos 0 }
-    ensures rows { IfOk result (λ r. seen r.0 ≡ after (record { file = file.now; groups = group_list groups.now }) (Upload patch) caller request (seen rows)) }
-    ensures copied { IfOk result (λ r. AreMany (λ l u. voted (carried (copying (record { file = file.now; groups = group_list groups.now }) (Upload patch) caller (seen rows)) (seen rows) l u)) r.1.copied) }
-    ensures outdated { IfOk result (λ r. AreMany (λ l u. is_lost (copying (record { file = file.now; groups = group_list groups.now }) (Upload patch) caller (seen rows)) (seen rows) u l) r.1.outdated) }
+) -> Result<Copied, AllocError>
+    requires now { is_within most_patches (current (seen rows.now)) ≡ true }
+    requires next { is_within most_patches (current (seen rows.now) + 1) ≡ true }
+    requires free { (l : List ℕ) (a : ℕ) → vote_in rows.now.votes (current (seen rows.now) + 1) l a ≡ pos 0 }
+    ensures rows { OnOk result (seen rows.new ≡ after (record { file = file.now; groups = group_list groups.now }) (Upload patch) caller request (seen rows.old)) }
+    ensures copied { IfOk result (λ r. AreMany (λ l u. voted (carried (copying (record { file = file.now; groups = group_list groups.now }) (Upload patch) caller (seen rows.old)) (seen rows.old) l u)) r.copied) }
+    ensures outdated { IfOk result (λ r. AreMany (λ l u. is_lost (copying (record { file = file.now; groups = group_list groups.now }) (Upload patch) caller (seen rows.old)) (seen rows.old) u l) r.outdated) }
 {
-    let mut rows = rows;
     let now = current_patch(&rows.patches);
     let next = next_patch(now);
     let former = uploader_of(&rows.header, &rows.patches);
@@ -140,5 +139,27 @@ pub fn with_patch_set(
         &rule,
         request,
     )?;
+    Ok(counts)
+}
+
+/// The change after a new patch set, and how many votes were copied and lost.
+pub fn with_patch_set(
+    alloc: Global,
+    rows: ChangeRows,
+    patch: NewPatch,
+    caller: AccountNo,
+    file: &ProjectFile,
+    groups: &GroupTables,
+    request: u64,
+) -> Result<(ChangeRows, Copied), AllocError>
+    requires now { is_within most_patches (current (seen rows)) ≡ true }
+    requires next { is_within most_patches (current (seen rows) + 1) ≡ true }
+    requires free { (l : List ℕ) (a : ℕ) → vote_in rows.votes (current (seen rows) + 1) l a ≡ pos 0 }
+    ensures rows { IfOk result (λ r. seen r.0 ≡ after (record { file = file.now; groups = group_list groups.now }) (Upload patch) caller request (seen rows)) }
+    ensures copied { IfOk result (λ r. AreMany (λ l u. voted (carried (copying (record { file = file.now; groups = group_list groups.now }) (Upload patch) caller (seen rows)) (seen rows) l u)) r.1.copied) }
+    ensures outdated { IfOk result (λ r. AreMany (λ l u. is_lost (copying (record { file = file.now; groups = group_list groups.now }) (Upload patch) caller (seen rows)) (seen rows) u l) r.1.outdated) }
+{
+    let mut rows = rows;
+    let counts = add_patch_set(alloc, &mut rows, patch, caller, file, groups, request)?;
     Ok((rows, counts))
 }

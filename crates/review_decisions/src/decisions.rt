@@ -3,9 +3,9 @@ ghost use Rattle.std.specs.Prelude.{◌≡◌, ◌<◌, List, IfOk, IfErr, lengt
 ghost use Rattle.review_file.specs.Texts.{file_read};
 ghost use Rattle.review_words.specs.Texts.{IsStored};
 ghost use Rattle.review_words.specs.History.{Entry, is_account};
-ghost use Rattle.review_rows.specs.Answer.{IsHistory, most_requests};
+ghost use Rattle.review_rows.specs.Answer.{most_requests};
 ghost use Rattle.review_rows.specs.Changes.{Reading};
-ghost use Rattle.review_rows.specs.Decisions.{IsDoneOrRefused, IsUndecided, IsUnshown, NamesEachOnce};
+ghost use Rattle.review_rows.specs.Decisions.{IsDoneOrRefused, IsUndecided, IsUnshown, NamesEachOnce, RestsOn};
 ghost use Rattle.review_rows.specs.Questions.{IsQueryAnswerBy};
 ghost use Rattle.review_rows.specs.Rows.{HasNoEffect};
 ghost use Rattle.review_rows.specs.Steps.{OfCommand, OfQuery};
@@ -34,7 +34,7 @@ pub fn decide(
     caller: AccountNo,
     command: &Command,
 ) -> Result<(Delta, Reply), NotTaken>
-    ensures decided { IfOk result (λ r. (reading : Reading) (h : List Entry) → length h < most_requests → IsHistory h → AreEnough reading h caller (OfCommand command.now) (file_read read) rows.now → IsDecided reading h caller command.now r.0 r.1) }
+    ensures decided { IfOk result (λ r. (reading : Reading) (h : List Entry) → length h < most_requests → RestsOn (OfCommand command.now) h → AreEnough reading h caller (OfCommand command.now) (file_read read) rows.now → IsDecided reading h caller command.now r.0 r.1) }
     ensures cause { IfErr result (IsUndecided caller command.now (file_read read) rows.now) }
     ensures stored { IfOk result (λ r. IsStored r.1) }
     ensures refused { IfOk result (λ r. HasNoEffect r.1 r.0) }
@@ -55,7 +55,7 @@ pub fn show(
     caller: AccountNo,
     query: &Query,
 ) -> Result<Reply, NotTaken>
-    ensures shown { IfOk result (λ r. (reading : Reading) (h : List Entry) → IsHistory h → AreEnough reading h caller (OfQuery query.now) (file_read read) rows.now → IsQueryAnswerBy reading h caller query.now r) }
+    ensures shown { IfOk result (λ r. (reading : Reading) (h : List Entry) → RestsOn (OfQuery query.now) h → AreEnough reading h caller (OfQuery query.now) (file_read read) rows.now → IsQueryAnswerBy reading h caller query.now r) }
     ensures answered { IfOk result IsDoneOrRefused }
     ensures cause { IfErr result (IsUnshown caller query.now (file_read read) rows.now) }
 {
@@ -100,7 +100,7 @@ fn decide_by(
     caller: AccountNo,
     command: &Command,
 ) -> Result<(Delta, Reply), NotTaken>
-    ensures decided { IfOk result (λ r. (reading : Reading) (h : List Entry) → length h < most_requests → IsHistory h → AreEnough reading h caller (OfCommand command.now) (option_copied had.entry) rows.now → IsDecided reading h caller command.now r.0 r.1) }
+    ensures decided { IfOk result (λ r. (reading : Reading) (h : List Entry) → length h < most_requests → RestsOn (OfCommand command.now) h → AreEnough reading h caller (OfCommand command.now) (option_copied had.entry) rows.now → IsDecided reading h caller command.now r.0 r.1) }
     ensures cause { IfErr result (IsUndecided caller command.now (option_copied had.entry) rows.now) }
     ensures stored { IfOk result (λ r. IsStored r.1) }
     ensures refused { IfOk result (λ r. HasNoEffect r.1 r.0) }
@@ -121,7 +121,7 @@ fn decide_for(
     caller: AccountNo,
     command: &Command,
 ) -> Result<(Delta, Reply), NotTaken>
-    ensures decided { IfOk result (λ r. (reading : Reading) (h : List Entry) → length h < most_requests → IsHistory h → is_account h caller ≡ true → AreEnough reading h caller (OfCommand command.now) (option_copied had.entry) rows.now → IsDecided reading h caller command.now r.0 r.1) }
+    ensures decided { IfOk result (λ r. (reading : Reading) (h : List Entry) → length h < most_requests → RestsOn (OfCommand command.now) h → is_account h caller ≡ true → AreEnough reading h caller (OfCommand command.now) (option_copied had.entry) rows.now → IsDecided reading h caller command.now r.0 r.1) }
     ensures cause { IfErr result (IsUndecided caller command.now (option_copied had.entry) rows.now) }
     ensures stored { IfOk result (λ r. IsStored r.1) }
     ensures refused { IfOk result (λ r. HasNoEffect r.1 r.0) }

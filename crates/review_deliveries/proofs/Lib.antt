@@ -7,9 +7,11 @@ pub mod Bounds
 pub mod Stored
 pub mod Histories
 pub mod Filed
+pub mod Resting
 pub mod Served
 pub mod Effects
 pub mod Readable
 pub mod Going
 pub mod Outcomes
 pub mod Restarting
+pub mod Unstored

@@ -26,13 +26,14 @@ use Rattle.review_rows.specs.Answer.{IsHistory, IsAnswer, most_requests}
 use Rattle.review_rows.specs.Questions.{IsQueryAnswer, IsQueryAnswerBy}
 use Rattle.review_rows.specs.View.{AreEnough, IsView, IsDecided, answer_row}
 use Rattle.review_rows.specs.Shelf.{IsCommitted, Shown, Shows, Views, LeavesBy, StopLeavesOwnTables, AddsNoStop, IsCounted, Blames, cause_of}
-use Rattle.review_rows.specs.Decisions.{IsUndecided, IsUnshown, IsDoneOrRefused}
+use Rattle.review_rows.specs.Decisions.{IsUndecided, IsUnshown, IsDoneOrRefused, RestsOn}
 use Rattle.review_rows.specs.Changes.{Reading, Reads}
 use Rattle.review_rows.specs.Files.{File}
 use Rattle.review_rows.specs.Known.{Agrees}
 use Rattle.review_rows.proofs.Readings.{reading_of}
 use Rattle.review_deliveries.specs.Gathered.{IsAllAsked, IsUngathered}
 use Rattle.review_deliveries.specs.Replies.{history_after, with_entries as hist, entry_of, IsRight, IsTold, IsToldOfStored, IsServed, IsToldAgain, IsLawful, reply_of, IsNew, HasEffect, StopGoesOnFrom, StopHasEntry, IsEntered, GoesOn, KeepsUntaken, CountsReply}
+use Rattle.review_deliveries.proofs.Resting.{rests_on}
 use Rattle.review_deliveries.proofs.Histories.{recalled, not_recalled, view_grows, answer_given, stored_given, enough_shown, stored_stays, stored_here, same_to, stored_identity}
 
 -- a new identity adds its entry, and an old one nothing
@@ -390,10 +391,10 @@ unshown_lawful h caller query file rows Full before after hist l u same = absurd
 -- a question, answered or not
 pub shown_served : (h : List Entry) (caller : ℕ) (query : Query) (r : Result Reply Cause) (file : Option File) (rows : Rows) (old new : Shown) → IsHistory h → Views h old.tables →
     Shows old.tables (λ t. Agrees t rows) → IsAllAsked caller (OfQuery query) file rows → IfOk r IsDoneOrRefused →
-    IfOk r (λ reply. (reading : Reading) (h : List Entry) → IsHistory h → AreEnough reading h caller (OfQuery query) file rows → IsQueryAnswerBy reading h caller query reply) → IfErr r (IsUnshown caller query file rows) →
+    IfOk r (λ reply. (reading : Reading) (h : List Entry) → RestsOn (OfQuery query) h → AreEnough reading h caller (OfQuery query) file rows → IsQueryAnswerBy reading h caller query reply) → IfErr r (IsUnshown caller query file rows) →
     new.tables ≡ old.tables → new.faults ≡ old.faults → AddsNoStop old new → IsServed h (Read caller query) (reply_of r) old new
 shown_served h caller query (Ok reply) file rows old new hist v found asked answered shown cause stays quiet adds =
-    read_served h caller query reply old new hist v answered (λ reading reads. shown reading h hist (enough_shown reading h old.tables caller (OfQuery query) file rows reads v found asked)) stays quiet adds
+    read_served h caller query reply old new hist v answered (λ reading reads. shown reading h (rests_on h (OfQuery query) hist) (enough_shown reading h old.tables caller (OfQuery query) file rows reads v found asked)) stays quiet adds
 shown_served h caller query (Err e) file rows old new hist v found asked answered shown cause stays quiet adds =
     not_taken_served h (Read caller query) e old new hist (views_stay h old.tables new.tables stays v)
     (unshown_lawful h caller query file rows e old.faults new.faults hist (λ reading reads. enough_shown reading h old.tables caller (OfQuery query) file rows reads v found asked) cause quiet) (λ t x. inl (adds t x))

@@ -1,19 +1,30 @@
 //! One delivery.
-ghost use Rattle.std.specs.Prelude.{◌≡◌, ℕ, List, [], ◌∷◌, None, IfOk, string_bytes};
-ghost use Rattle.review_words.specs.Texts.{content_text};
+ghost use Rattle.std.specs.Prelude.{◌≡◌, ◌≤◌, ◌<◌, ◌+◌, ◌⊎◌, ℕ, List, [], ◌∷◌, None, IfErr, IfOk, OnOk, length, string_bytes};
+ghost use Rattle.review_words.specs.Texts.{IsStored, content_text};
 ghost use Rattle.review_words.specs.History.{Entry, stored};
 ghost use Rattle.review_words.specs.declared.command.Delivery.TheVariants.{Write, Read};
-ghost use Rattle.review_rows.specs.Answer.{IsHistory};
-ghost use Rattle.review_rows.specs.Rows.{kept_row};
-ghost use Rattle.review_rows.specs.Shelf.{Shows, Views};
+ghost use Rattle.review_file.specs.Texts.{file_read};
+ghost use Rattle.review_rows.specs.Answer.{IsHistory, most_requests};
+ghost use Rattle.review_rows.specs.Changes.{Reading};
+ghost use Rattle.review_rows.specs.Decisions.{RestsOn};
+ghost use Rattle.review_rows.specs.declared.rows.Want.{Want};
+ghost use Rattle.review_rows.specs.declared.rows.Want.TheVariants as want;
+ghost use Rattle.review_rows.specs.Known.{known, number_of};
+ghost use Rattle.review_rows.specs.Rows.{HasNoEffect, Tables, kept_row};
+ghost use Rattle.review_rows.specs.Shelf.{BlamesTables, CountsFaults, IsCommitted, LeavesUndone, Shows, StopLeavesOwnTables, Views};
+ghost use Rattle.review_rows.specs.Steps.{OfCommand};
+ghost use Rattle.review_rows.specs.View.{AreEnough, IsDecided};
+ghost use Rattle.review_deliveries.specs.Gathered.{IsUnstored};
+ghost use Rattle.review_deliveries.specs.Kept.{row_for};
 ghost use Rattle.review_deliveries.specs.Replies.{IsServed, IsToldAgain, KeepsUntaken, StoresOnce, CountsReply, StopGoesOnFrom, StopHasEntry, history_after, reply_of};
 
 use crate::gathering::gathered;
 use crate::rules::Rules;
-use review_rows::{Kept, Matter, Shelf};
+use review_file::ReadText;
+use review_rows::{Delta, Kept, Matter, Rows, Shelf, ShelfFault};
 use review_texts::{BadReply, content_text, read_reply, reply_text};
 use review_words::{AccountNo, Command, Delivery, NotTaken, Query, Reply, RequestId};
-use std::alloc::Global;
+use std::alloc::{AllocError, Global};
 
 /// The last number of a request.
 const MOST_REQUESTS: u64 = 9_007_199_254_740_991;
@@ -103,7 +114,10 @@ fn write<S: Shelf, R: Rules>(
     let content = content_text(alloc, command)?;
     match shelf.recall(alloc, caller, id)? {
         Some(kept) => repeated(alloc, &kept, content.as_str()),
-        None => first_arrival(alloc, shelf, rules, caller, id, command, content),
+        None => {
+            let mut rows = Rows::new(alloc);
+            first_arrival(alloc, shelf, rules, &mut rows, caller, id, command, content)
+        }
     }
 }
 
@@ -121,7 +135,8 @@ fn read<S: Shelf, R: Rules>(
     ensures unchanged { (S.state shelf.new).is_honest → KeepsUntaken (Read caller query.now) (reply_of result) (S.state shelf.old).tables (S.state shelf.new).tables }
     ensures counted { CountsReply (reply_of result) (S.state shelf.old).faults (S.state shelf.new).faults }
 {
-    let (rows, read) = gathered(alloc, shelf, rules, caller, Matter::Query(query))?;
+    let mut rows = Rows::new(alloc);
+    let read = gathered(alloc, shelf, rules, &mut rows, caller, Matter::Query(query))?;
     rules.show(alloc, read, &rows, caller, query)
 }
 
@@ -139,17 +154,19 @@ fn repeated(alloc: Global, kept: &Kept, content: &str) -> Result<Reply, NotTaken
     }
 }
 
-// Decides a request whose identity is new, and stores it with its answer in the same commit.
+// Decides a request whose identity is new, by rows that know nothing yet, and stores it with its answer in the same commit.
 fn first_arrival<S: Shelf, R: Rules>(
     alloc: Global,
     shelf: &mut S,
     rules: &mut R,
+    rows: &mut Rows,
     caller: AccountNo,
     id: &RequestId,
     command: &Command,
     content: String,
 ) -> Result<Reply, NotTaken>
-    requires { string_bytes content ≡ content_text command.now }
+    requires nothing { (w : Want) → known rows.old w ≡ None }
+    requires content { string_bytes content ≡ content_text command.now }
     ensures honest { (S.state shelf.new).is_honest → (S.state shelf.old).is_honest }
     ensures served { (S.state shelf.new).is_honest → (h : List Entry) → IsHistory h → Views h (S.state shelf.old).tables →
         stored h (record { caller = caller; id = id.now }) ≡ None →
@@ -160,21 +177,88 @@ fn first_arrival<S: Shelf, R: Rules>(
         StoresOnce (Write caller id.now command.now) (reply_of result) (S.state shelf.old).tables (S.state shelf.new).tables }
     ensures counted { CountsReply (reply_of result) (S.state shelf.old).faults (S.state shelf.new).faults }
 {
-    let (rows, read) = gathered(alloc, shelf, rules, caller, Matter::Command(command))?;
+    let matter = Matter::Command(command);
+    let read = gathered(alloc, shelf, rules, rows, caller, matter)?;
+    let decided = decide(alloc, rules, read, rows, caller, command)?;
+    store(alloc, shelf, caller, id, &decided, content)?;
+    Ok(decided.reply)
+}
+
+/// What is to be stored of a command that was decided.
+#[derive(Drop)]
+struct Decided {
+    /// The number of its request.
+    request: u64,
+    delta: Delta,
+    reply: Reply,
+}
+
+// Decides a command, where there is a number left for its request.
+fn decide<R: Rules>(
+    alloc: Global,
+    rules: &mut R,
+    read: Option<ReadText>,
+    rows: &Rows,
+    caller: AccountNo,
+    command: &Command,
+) -> Result<Decided, NotTaken>
+    ensures request { IfOk result (λ d. (d.request ≡ number_of (known rows.now want.Requests) + 1) × (d.request ≤ most_requests)) }
+    ensures decided { IfOk result (λ d. (reading : Reading) (h : List Entry) → length h < most_requests → RestsOn (OfCommand command.now) h → AreEnough reading h caller (OfCommand command.now) (file_read read) rows.now → IsDecided reading h caller command.now d.delta d.reply) }
+    ensures stored { IfOk result (λ d. IsStored d.reply) }
+    ensures refused { IfOk result (λ d. HasNoEffect d.reply d.delta) }
+    ensures cause { IfErr result (IsUnstored caller command.now (file_read read) rows.now) }
+{
     let requests = rows.requests();
     if requests >= MOST_REQUESTS {
         return Err(NotTaken::Full);
     }
-    let (delta, reply) = rules.decide(alloc, read, &rows, caller, command)?;
+    let (delta, reply) = rules.decide(alloc, read, rows, caller, command)?;
+    Ok(Decided {
+        request: requests + 1,
+        delta,
+        reply,
+    })
+}
+
+// Stores a request with its answer, and what it changes, in one commit.
+fn store<S: Shelf>(
+    alloc: Global,
+    shelf: &mut S,
+    caller: AccountNo,
+    id: &RequestId,
+    decided: &Decided,
+    content: String,
+) -> Result<(), ShelfFault>
+    ensures honest { (S.state shelf.new).is_honest → (S.state shelf.old).is_honest }
+    ensures done { (S.state shelf.new).is_honest → OnOk result (Shows (S.state shelf.old).tables (λ t. Shows (S.state shelf.new).tables (IsCommitted t decided.now.delta (row_for caller id.now decided.now (string_bytes content))))) }
+    ensures alone { (S.state shelf.new).is_honest → OnOk result (StopLeavesOwnTables (S.state shelf.new)) }
+    ensures undone { (S.state shelf.new).is_honest → LeavesUndone result (S.state shelf.old).tables (S.state shelf.new).tables }
+    ensures damaged { (S.state shelf.new).is_honest → BlamesTables result (S.state shelf.old).tables }
+    ensures stops { (S.state shelf.new).is_honest → (t : Tables) → (S.state shelf.new).stops t →
+        (S.state shelf.old).stops t ⊎ Shows (S.state shelf.old).tables (λ was. IsCommitted was decided.now.delta (row_for caller id.now decided.now (string_bytes content)) t) }
+    ensures counted { CountsFaults result (S.state shelf.old).faults (S.state shelf.new).faults }
+{
+    let kept = kept_for(alloc, caller, id, decided, content)?;
+    shelf.commit(alloc, &decided.delta, &kept)
+}
+
+// What is stored of a request that was decided.
+fn kept_for(
+    alloc: Global,
+    caller: AccountNo,
+    id: &RequestId,
+    decided: &Decided,
+    content: String,
+) -> Result<Kept, AllocError>
+    ensures { IfOk result (λ kept. kept_row kept ≡ row_for caller id.now decided.now (string_bytes content)) }
+{
     let id = id.copy(alloc)?;
-    let text = reply_text(alloc, &reply)?;
-    let kept = Kept {
+    let reply = reply_text(alloc, &decided.reply)?;
+    Ok(Kept {
         caller,
         id,
-        request: requests + 1,
+        request: decided.request,
         content,
-        reply: text,
-    };
-    shelf.commit(alloc, &delta, &kept)?;
-    Ok(reply)
+        reply,
+    })
 }

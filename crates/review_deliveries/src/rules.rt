@@ -1,4 +1,5 @@
 //! What decides deliveries.
+use review_chain::Walked;
 use review_file::ReadText;
 use review_rows::{Delta, Matter, Need, Rows};
 use review_words::{AccountNo, Command, NotTaken, Query, Reply};
@@ -11,15 +12,16 @@ pub trait Rules {
     ghost use Rattle.review_file.specs.Texts.{file_read};
     ghost use Rattle.review_words.specs.Texts.{IsStored};
     ghost use Rattle.review_words.specs.History.{Entry};
-    ghost use Rattle.review_rows.specs.Answer.{IsHistory, most_requests};
+    ghost use Rattle.review_rows.specs.Answer.{most_requests};
     ghost use Rattle.review_rows.specs.Questions.{IsQueryAnswerBy};
     ghost use Rattle.review_rows.specs.Changes.{Reading};
     ghost use Rattle.review_rows.specs.Rows.{HasNoEffect};
-    ghost use Rattle.review_rows.specs.Steps.{HasFile, next, text_for, topic_of, wants_in, unless_none, OfCommand, OfQuery};
+    ghost use Rattle.review_rows.specs.Steps.{HasComeTo, HasFile, next, text_for, topic_of, wants_in, unless_none, OfCommand, OfQuery};
     ghost use Rattle.review_rows.specs.View.{AreEnough, IsDecided};
-    ghost use Rattle.review_rows.specs.Decisions.{IsUndecided, IsUnread, IsUnshown, NamesEachOnce, IsDoneOrRefused};
+    ghost use Rattle.review_rows.specs.Decisions.{IsUndecided, IsUnread, IsUnshown, NamesEachOnce, IsDoneOrRefused, RestsOn};
 
-    /// What a command or a question asks of the tables next, where this file was read; nothing where the rows decide it.
+    /// What a command or a question asks of the tables next, where this file was read; nothing where the rows decide it. A look for a chain
+    /// goes on from the walk that an earlier one has come to; none is there at first.
     fn next_need(
         &mut self,
         alloc: Global,
@@ -27,8 +29,12 @@ pub trait Rules {
         rows: &Rows,
         caller: AccountNo,
         matter: Matter<'_>,
+        walked: &mut Option<Walked>,
     ) -> Result<Option<Need>, AllocError>
-        ensures { IfOk result (λ need. wants_in need ≡ unless_none (next (file_read (option_copied read.entry)) rows.now caller (topic_of matter.entry))) };
+        ensures need { HasComeTo (file_read (option_copied read.entry)) rows.now caller (topic_of matter.entry) walked.old →
+            IfOk result (λ need. wants_in need ≡ unless_none (next (file_read (option_copied read.entry)) rows.now caller (topic_of matter.entry))) }
+        ensures walked { HasComeTo (file_read (option_copied read.entry)) rows.now caller (topic_of matter.entry) walked.old →
+            HasComeTo (file_read (option_copied read.entry)) rows.now caller (topic_of matter.entry) walked.new };
 
     /// Reads the file of the project by which a command or a question is judged, as rows know its text; none where there is none.
     fn read(
@@ -49,7 +55,7 @@ pub trait Rules {
         caller: AccountNo,
         command: &Command,
     ) -> Result<(Delta, Reply), NotTaken>
-        ensures decided { IfOk result (λ r. (reading : Reading) (h : List Entry) → length h < most_requests → IsHistory h → AreEnough reading h caller (OfCommand command.now) (file_read read) rows.now → IsDecided reading h caller command.now r.0 r.1) }
+        ensures decided { IfOk result (λ r. (reading : Reading) (h : List Entry) → length h < most_requests → RestsOn (OfCommand command.now) h → AreEnough reading h caller (OfCommand command.now) (file_read read) rows.now → IsDecided reading h caller command.now r.0 r.1) }
         ensures cause { IfErr result (IsUndecided caller command.now (file_read read) rows.now) }
         ensures stored { IfOk result (λ r. IsStored r.1) }
         ensures refused { IfOk result (λ r. HasNoEffect r.1 r.0) }
@@ -64,7 +70,7 @@ pub trait Rules {
         caller: AccountNo,
         query: &Query,
     ) -> Result<Reply, NotTaken>
-        ensures shown { IfOk result (λ r. (reading : Reading) (h : List Entry) → IsHistory h → AreEnough reading h caller (OfQuery query.now) (file_read read) rows.now → IsQueryAnswerBy reading h caller query.now r) }
+        ensures shown { IfOk result (λ r. (reading : Reading) (h : List Entry) → RestsOn (OfQuery query.now) h → AreEnough reading h caller (OfQuery query.now) (file_read read) rows.now → IsQueryAnswerBy reading h caller query.now r) }
         ensures answered { IfOk result IsDoneOrRefused }
         ensures cause { IfErr result (IsUnshown caller query.now (file_read read) rows.now) };
 }

@@ -4,3 +4,4 @@ pub mod Ends
 pub mod KeysInOrder
 pub mod TablesInOrder
 pub mod NamesInOrder
+mod Carried

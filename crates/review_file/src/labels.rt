@@ -17,14 +17,21 @@ use review_words::{GroupName, LabelName};
 use std::alloc::{AllocError, Global};
 use toml::{Table, Value};
 
+fn read_value(alloc: Global, key: &str, text: &Value) -> Result<LabelValue, AllocError>
+    ensures { IfOk result (λ v. v ≡ value_in (key.now, view text.now)) }
+{
+    let value = value_of(key).unwrap_or(0);
+    let text = String::from_str(alloc, text_of(text))?;
+    Ok(LabelValue { value, text })
+}
+
 fn read_values(alloc: Global, values: &Table) -> Result<Vec<LabelValue>, AllocError>
     ensures { IfOk result (λ v. v.items ≡ map value_in (members (table_view values.now))) }
 {
     let mut read = Vec::new(alloc);
     for (key, text) in values {
-        let value = value_of(key.as_str()).unwrap_or(0);
-        let text = String::from_str(alloc, text_of(text))?;
-        read.push(LabelValue { value, text })?;
+        let value = read_value(alloc, key.as_str(), text)?;
+        read.push(value)?;
     }
     Ok(read)
 }

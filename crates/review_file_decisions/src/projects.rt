@@ -121,10 +121,9 @@ fn put_text(
     ensures delta { IfOk result (λ r. PutsFile project.now file.now r.0) }
     ensures once { IfOk result (λ r. NamesEachOnce r.0) }
 {
+    let project = project.copy(alloc)?;
+    let file = file.copy(alloc)?;
     let mut delta = nothing(alloc);
-    delta.file = Some(ProjectRow {
-        project: project.copy(alloc)?,
-        file: file.copy(alloc)?,
-    });
+    delta.file = Some(ProjectRow { project, file });
     Ok((delta, Reply::Done(Answer::Nothing)))
 }

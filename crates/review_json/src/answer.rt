@@ -1,17 +1,19 @@
 //! The JSON text of a reply.
-ghost use Rattle.std.specs.Prelude.{◌≡◌, IfOk, false, string_bytes};
-ghost use Rattle.review_words.specs.declared.reply.Answer.TheVariants.{Branch, Submitted};
+ghost use Rattle.std.specs.Prelude.{◌≡◌, IfOk, OnOk, false, string_bytes};
+ghost use Rattle.review_words.specs.declared.reply.Answer.TheVariants.{Attention, Branch, Change, Patch, Requirements, Reviewed, Submitted};
 ghost use Rattle.serde_json.specs.Data.{no_members, object};
-ghost use Rattle.serde_json.specs.View.{view, items_view};
+ghost use Rattle.serde_json.specs.View.{view, items_view, members_view};
 ghost use Rattle.serde_json.specs.Written.{compact_text};
 ghost use Rattle.review_json.specs.Values.{texts_data, numbers_data};
 ghost use Rattle.review_json.specs.Answer.{are_threads, tells_threads, cause_name, answer_data, bad_file_data, refusal_data, reply_data};
 
-use crate::shown::{call_values, change_value, joined_values, requirement_values};
+use crate::shown::{
+    call_values, change_value, joined_values, put_number, put_text, requirement_values,
+};
 use crate::threads::threads_text;
 use review_words::{
-    Answer, Bases, ChangeNo, CommentNo, CommitName, FileFault, JoinedChange, NotTaken, Refusal,
-    Reply,
+    Answer, Bases, ChangeNo, CommentNo, CommitName, FileFault, JoinedChange, NotTaken, PatchNo,
+    Refusal, Reply, ShownCall, ShownRequirement,
 };
 use serde_json::{Map, Value, json};
 use std::alloc::{AllocError, Global};
@@ -80,6 +82,50 @@ fn branch_value(alloc: Global, bases: &Bases, joined: &[JoinedChange]) -> Result
     json!(in alloc; {"bases": commits, "joined": changes})
 }
 
+fn new_change_value(alloc: Global, change: ChangeNo, patch: PatchNo) -> Result<Value, AllocError>
+    ensures { IfOk result (λ v. view v ≡ answer_data (Change change patch)) }
+{
+    json!(in alloc; {"change": change.get(), "patch_set": patch.get()})
+}
+
+fn new_patch_value(
+    alloc: Global,
+    change: ChangeNo,
+    patch: PatchNo,
+    copied: u64,
+    outdated: u64,
+) -> Result<Value, AllocError>
+    ensures { IfOk result (λ v. view v ≡ answer_data (Patch change patch copied outdated)) }
+{
+    json!(in alloc; {
+        "change": change.get(),
+        "copied": copied,
+        "outdated": outdated,
+        "patch_set": patch.get(),
+    })
+}
+
+fn reviewed_value(alloc: Global, comments: &[CommentNo]) -> Result<Value, AllocError>
+    ensures { IfOk result (λ v. view v ≡ answer_data (Reviewed comments.now)) }
+{
+    let numbers = comment_values(alloc, comments)?;
+    json!(in alloc; {"comments": numbers})
+}
+
+fn requirements_value(alloc: Global, requirements: &[ShownRequirement]) -> Result<Value, AllocError>
+    ensures { IfOk result (λ v. view v ≡ answer_data (Requirements requirements.now)) }
+{
+    let values = requirement_values(alloc, requirements)?;
+    json!(in alloc; values)
+}
+
+fn attention_value(alloc: Global, calls: &[ShownCall]) -> Result<Value, AllocError>
+    ensures { IfOk result (λ v. view v ≡ answer_data (Attention calls.now)) }
+{
+    let values = call_values(alloc, calls)?;
+    json!(in alloc; values)
+}
+
 /// The value of an answer but threads, whose text is written at once.
 fn answer_value(alloc: Global, answer: &Answer) -> Result<Value, AllocError>
     requires { are_threads answer.now ≡ false }
@@ -88,56 +134,47 @@ fn answer_value(alloc: Global, answer: &Answer) -> Result<Value, AllocError>
     match answer {
         Answer::Account(account) => json!(in alloc; {"account": account.get()}),
         Answer::Nothing => Ok(empty_object(alloc)),
-        Answer::Change { change, patch } => {
-            json!(in alloc; {"change": change.get(), "patch_set": patch.get()})
-        }
+        Answer::Change { change, patch } => new_change_value(alloc, *change, *patch),
         Answer::Patch {
             change,
             patch,
             copied,
             outdated,
-        } => json!(in alloc; {
-            "change": change.get(),
-            "copied": *copied,
-            "outdated": *outdated,
-            "patch_set": patch.get(),
-        }),
-        Answer::Reviewed(comments) => {
-            let numbers = comment_values(alloc, comments.as_slice())?;
-            json!(in alloc; {"comments": numbers})
-        }
+        } => new_patch_value(alloc, *change, *patch, *copied, *outdated),
+        Answer::Reviewed(comments) => reviewed_value(alloc, comments.as_slice()),
         Answer::Submitted(changes) => submitted_value(alloc, changes.as_slice()),
         Answer::Branch { bases, joined } => branch_value(alloc, bases, joined.as_slice()),
         Answer::Shown(change) => change_value(alloc, change),
-        Answer::Requirements(requirements) => {
-            let values = requirement_values(alloc, requirements.as_slice())?;
-            json!(in alloc; values)
-        }
+        Answer::Requirements(listed) => requirements_value(alloc, listed.as_slice()),
         Answer::Threads(_) => unreachable!(),
-        Answer::Attention(calls) => {
-            let values = call_values(alloc, calls.as_slice())?;
-            json!(in alloc; values)
-        }
+        Answer::Attention(calls) => attention_value(alloc, calls.as_slice()),
     }
+}
+
+fn put_bad_file(
+    members: &mut Map<String, Value>,
+    alloc: Global,
+    fault: FileFault,
+) -> Result<(), AllocError>
+    requires { members_view members.now.entries ≡ no_members }
+    ensures { OnOk result (object (members_view members.new.entries) ≡ bad_file_data fault) }
+{
+    put_number(members, alloc, "number", 26)?;
+    put_text(members, alloc, "reason", fault.name())?;
+    put_text(members, alloc, "refused", "BAD_FILE")?;
+    if let FileFault::Expr(expr) = fault {
+        put_text(members, alloc, "expr", expr.code.name())?;
+        put_number(members, alloc, "place", expr.place as u64)?;
+    }
+    Ok(())
 }
 
 fn bad_file_value(alloc: Global, fault: FileFault) -> Result<Value, AllocError>
     ensures { IfOk result (λ v. view v ≡ bad_file_data fault) }
 {
-    match fault {
-        FileFault::Expr(expr) => json!(in alloc; {
-            "expr": expr.code.name(),
-            "number": 26u8,
-            "place": expr.place,
-            "reason": fault.name(),
-            "refused": "BAD_FILE",
-        }),
-        _ => json!(in alloc; {
-            "number": 26u8,
-            "reason": fault.name(),
-            "refused": "BAD_FILE",
-        }),
-    }
+    let mut members = Map::new(alloc);
+    put_bad_file(&mut members, alloc, fault)?;
+    Ok(Value::Object(members))
 }
 
 fn refusal_value(alloc: Global, refusal: &Refusal) -> Result<Value, AllocError>

@@ -1,13 +1,13 @@
 //! What questions about a change or a branch are told, as JSON.
-ghost use Rattle.std.specs.Prelude.{◌≡◌, IfOk, OnOk, Some, None};
-ghost use Rattle.serde_json.specs.Data.{no_members, string, put as with_member};
+ghost use Rattle.std.specs.Prelude.{◌≡◌, IfOk, OnOk, codes};
+ghost use Rattle.serde_json.specs.Data.{boolean, no_members, object, string, put as with_member};
 ghost use Rattle.serde_json.specs.View.{view, items_view, members_view};
 ghost use Rattle.review_json.specs.Values.{number_data, numbers_data};
 ghost use Rattle.review_json.specs.Shown.{state_name, status_name, vote_data, votes_data, first_members, last_members, change_data, joined_change_data, joined_data, requirement_data, requirements_data, comment_data, call_data, calls_data};
 
 use review_words::{
-    AccountNo, CommentNo, JoinedChange, ShownCall, ShownChange, ShownComment, ShownRequirement,
-    ShownVote, State, Status,
+    AccountNo, JoinedChange, ShownCall, ShownChange, ShownComment, ShownRequirement, ShownVote,
+    State, Status,
 };
 use serde_json::{Map, Value, json, put};
 use std::alloc::{AllocError, Global};
@@ -63,7 +63,8 @@ fn vote_values(alloc: Global, votes: &[ShownVote]) -> Result<Vec<Value>, AllocEr
     Ok(values)
 }
 
-fn put_text(
+/// Puts a text at a key.
+pub(crate) fn put_text(
     members: &mut Map<String, Value>,
     alloc: Global,
     key: &str,
@@ -74,7 +75,8 @@ fn put_text(
     put(members, alloc, key, Value::try_from_str(alloc, text)?)
 }
 
-fn put_number(
+/// Puts a number at a key.
+pub(crate) fn put_number(
     members: &mut Map<String, Value>,
     alloc: Global,
     key: &str,
@@ -175,49 +177,59 @@ pub fn requirement_values(
     Ok(values)
 }
 
-fn first_comment_value(alloc: Global, comment: &ShownComment) -> Result<Value, AllocError>
-    requires { comment.now.answers ≡ None }
-    ensures { IfOk result (λ v. view v ≡ comment_data comment.now) }
-{
-    json!(in alloc; {
-        "author": comment.author.get(),
-        "id": comment.number.get(),
-        "line": comment.line,
-        "message": comment.message.as_str(),
-        "patch_set": comment.patch.get(),
-        "path": comment.path.as_str(),
-        "unresolved": comment.unresolved,
-    })
-}
-
-fn answer_comment_value(
+/// Puts where a comment stands.
+fn put_place(
+    members: &mut Map<String, Value>,
     alloc: Global,
     comment: &ShownComment,
-    answered: CommentNo,
-) -> Result<Value, AllocError>
-    requires { comment.now.answers ≡ Some answered }
-    ensures { IfOk result (λ v. view v ≡ comment_data comment.now) }
+) -> Result<(), AllocError>
+    ensures { OnOk result (members_view members.new.entries ≡ with_member (codes "path") (string comment.now.path) (with_member (codes "patch_set") (number_data comment.now.patch) (with_member (codes "line") (number_data comment.now.line) (members_view members.old.entries)))) }
 {
-    json!(in alloc; {
-        "author": comment.author.get(),
-        "id": comment.number.get(),
-        "in_reply_to": answered.get(),
-        "line": comment.line,
-        "message": comment.message.as_str(),
-        "patch_set": comment.patch.get(),
-        "path": comment.path.as_str(),
-        "unresolved": comment.unresolved,
-    })
+    put_number(members, alloc, "line", comment.line as u64)?;
+    put_number(members, alloc, "patch_set", comment.patch.get() as u64)?;
+    put_text(members, alloc, "path", comment.path.as_str())?;
+    Ok(())
+}
+
+/// Puts what a comment says, and who says it.
+fn put_words(
+    members: &mut Map<String, Value>,
+    alloc: Global,
+    comment: &ShownComment,
+) -> Result<(), AllocError>
+    ensures { OnOk result (members_view members.new.entries ≡ with_member (codes "unresolved") (boolean comment.now.unresolved) (with_member (codes "message") (string comment.now.message) (with_member (codes "author") (number_data comment.now.author) (members_view members.old.entries)))) }
+{
+    put_number(members, alloc, "author", comment.author.get() as u64)?;
+    put_text(members, alloc, "message", comment.message.as_str())?;
+    let unresolved = Value::from(comment.unresolved);
+    put(members, alloc, "unresolved", unresolved)?;
+    Ok(())
+}
+
+fn put_comment(
+    members: &mut Map<String, Value>,
+    alloc: Global,
+    comment: &ShownComment,
+) -> Result<(), AllocError>
+    requires { members_view members.now.entries ≡ no_members }
+    ensures { OnOk result (object (members_view members.new.entries) ≡ comment_data comment.now) }
+{
+    put_number(members, alloc, "id", comment.number.get() as u64)?;
+    put_place(members, alloc, comment)?;
+    put_words(members, alloc, comment)?;
+    if let Some(answered) = comment.answers {
+        put_number(members, alloc, "in_reply_to", answered.get() as u64)?;
+    }
+    Ok(())
 }
 
 /// The value of a comment.
 pub fn comment_value(alloc: Global, comment: &ShownComment) -> Result<Value, AllocError>
     ensures { IfOk result (λ v. view v ≡ comment_data comment.now) }
 {
-    match comment.answers {
-        Some(answered) => answer_comment_value(alloc, comment, answered),
-        None => first_comment_value(alloc, comment),
-    }
+    let mut members = Map::new(alloc);
+    put_comment(&mut members, alloc, comment)?;
+    Ok(Value::Object(members))
 }
 
 fn call_value(alloc: Global, call: &ShownCall) -> Result<Value, AllocError>

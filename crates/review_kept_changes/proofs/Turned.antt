@@ -1,5 +1,5 @@
 -- What an edit makes of the tables of a change, row by row.
-use Rattle.std.proofs.Common.{◌≡◌, ℕ, ℤ, Option, Some, None, refl, ap, ◌∙◌}
+use Rattle.std.proofs.Common.{◌≡◌, ℕ, ℤ, [], Option, Some, None, refl, ap, ◌∙◌}
 use Rattle.std.specs.Prelude.{option_map}
 use Rattle.std.specs.Ordering.{nat_cmp}
 use Rattle.review_table.specs.Rows.{after_change, changed, change_of, row_in, rows_of}
@@ -41,10 +41,6 @@ of_tables t = record {
   attention = row_in nat_cmp (rows_of t.attention);
 }
 
--- none
-abbrev pub no_rows : Before
-no_rows = record { patches = λ n. None; votes = λ q. None; roles = λ u. None; comments = λ n. None; attention = λ u. None }
-
 -- an edit makes these tables of the rows
 pub record Turns (e : ChangeEdit) (old : Before) (new : ChangeTables) : Type 0 where
   pub header : new.header ≡ e.header
@@ -81,16 +77,22 @@ before_is t (RoleOf u) = refl
 before_is t (CommentOf n) = refl
 before_is t (AttentionOf u) = refl
 
-none_is : (part : Part) → part_before None no_rows part ≡ None
-none_is TheHeader = refl
-none_is (PatchOf n) = refl
-none_is (VoteOf n l a) = refl
-none_is (RoleOf u) = refl
-none_is (CommentOf n) = refl
-none_is (AttentionOf u) = refl
-
 pub turned : (e : ChangeEdit) (old new : ChangeTables) → Turns e (of_tables old) new → AreEdited (part_in old) e new
 turned e old new t part = turned_by (Some (AHeader old.header)) e (of_tables old) new t part ∙ ap (after_change (part_change e part)) (before_is old part)
 
-pub begun_by : (e : ChangeEdit) (new : ChangeTables) → Turns e no_rows new → AreEdited (λ part. None) e new
-begun_by e new t part = turned_by None e no_rows new t part ∙ ap (after_change (part_change e part)) (none_is part)
+-- tables with no rows but a header
+pub record AreBare (t : ChangeTables) : Type 0 where
+  pub patches : rows_of t.patches ≡ []
+  pub votes : rows_of t.votes ≡ []
+  pub roles : rows_of t.roles ≡ []
+  pub comments : rows_of t.comments ≡ []
+  pub attention : rows_of t.attention ≡ []
+
+-- an edit makes of them what it makes of nothing, since it puts a header
+pub bare_before : (e : ChangeEdit) (t : ChangeTables) → AreBare t → (part : Part) → after_change (part_change e part) (part_in t part) ≡ after_change (part_change e part) None
+bare_before e t bare TheHeader = refl
+bare_before e t bare (PatchOf n) = λ i. after_change (part_change e (PatchOf n)) (option_map APatch (row_in nat_cmp (bare.patches i) n))
+bare_before e t bare (VoteOf n l a) = λ i. after_change (part_change e (VoteOf n l a)) (vote_row (row_in vote_cmp (bare.votes i) (record { patch = n; label = l; account = a })))
+bare_before e t bare (RoleOf u) = λ i. after_change (part_change e (RoleOf u)) (option_map ARole (row_in nat_cmp (bare.roles i) u))
+bare_before e t bare (CommentOf n) = λ i. after_change (part_change e (CommentOf n)) (option_map AComment (row_in nat_cmp (bare.comments i) n))
+bare_before e t bare (AttentionOf u) = λ i. after_change (part_change e (AttentionOf u)) (option_map ACall (row_in nat_cmp (bare.attention i) u))

@@ -1,5 +1,8 @@
 //! The tables of one change, and what an edit makes of them.
-ghost use Rattle.std.specs.Prelude.{◌≡◌, IfOk, None};
+ghost use Rattle.std.specs.Prelude.{◌≡◌, ℕ, [], IfOk, None};
+ghost use Rattle.std.specs.Ordering.{nat_cmp};
+ghost use Rattle.review_changes.specs.Seen.{vote_cmp};
+ghost use Rattle.review_changes.specs.declared.rows.VoteKey.{VoteKey};
 ghost use Rattle.review_table.specs.Rows.{changed, row_in, rows_of};
 ghost use Rattle.review_kept_changes.specs.Kept.{part_in, AreEdited};
 
@@ -21,6 +24,14 @@ pub struct ChangeTables {
     pub attention: Table<AccountNo, Called>,
 }
 
+/// The rows of a change that are kept by accounts: its votes, roles and attention set.
+#[derive(Drop)]
+pub(crate) struct Marks {
+    pub votes: Table<VoteKey, Vote>,
+    pub roles: Table<AccountNo, Role>,
+    pub attention: Table<AccountNo, Called>,
+}
+
 /// The tables of a change that an edit changes. An error where there was no memory for them.
 pub fn edited(
     alloc: Global,
@@ -29,13 +40,33 @@ pub fn edited(
 ) -> Result<ChangeTables, AllocError>
     ensures { IfOk result (AreEdited (part_in old.now) edit.now) }
 {
+    let marks = edited_marks(alloc, old, edit)?;
+    let header = copied_header(alloc, &edit.header)?;
+    let patches = changed_table(alloc, &old.patches, &edit.patches)?;
+    let comments = changed_table(alloc, &old.comments, &edit.comments)?;
     Ok(ChangeTables {
-        header: copied_header(alloc, &edit.header)?,
-        patches: changed_table(alloc, &old.patches, &edit.patches)?,
-        votes: changed_table(alloc, &old.votes, &edit.votes)?,
-        roles: changed_table(alloc, &old.roles, &edit.roles)?,
-        comments: changed_table(alloc, &old.comments, &edit.comments)?,
-        attention: changed_table(alloc, &old.attention, &edit.attention)?,
+        header,
+        patches,
+        votes: marks.votes,
+        roles: marks.roles,
+        comments,
+        attention: marks.attention,
+    })
+}
+
+// The votes, roles and attention set that an edit changes.
+fn edited_marks(alloc: Global, old: &ChangeTables, edit: &ChangeEdit) -> Result<Marks, AllocError>
+    ensures votes { IfOk result (λ m. (q : VoteKey) → row_in vote_cmp (rows_of m.votes) q ≡ changed vote_cmp edit.now.votes.items q (row_in vote_cmp (rows_of old.now.votes) q)) }
+    ensures roles { IfOk result (λ m. (u : ℕ) → row_in nat_cmp (rows_of m.roles) u ≡ changed nat_cmp edit.now.roles.items u (row_in nat_cmp (rows_of old.now.roles) u)) }
+    ensures attention { IfOk result (λ m. (u : ℕ) → row_in nat_cmp (rows_of m.attention) u ≡ changed nat_cmp edit.now.attention.items u (row_in nat_cmp (rows_of old.now.attention) u)) }
+{
+    let votes = changed_table(alloc, &old.votes, &edit.votes)?;
+    let roles = changed_table(alloc, &old.roles, &edit.roles)?;
+    let attention = changed_table(alloc, &old.attention, &edit.attention)?;
+    Ok(Marks {
+        votes,
+        roles,
+        attention,
     })
 }
 
@@ -43,13 +74,27 @@ pub fn edited(
 pub fn begun(alloc: Global, edit: &ChangeEdit) -> Result<ChangeTables, AllocError>
     ensures { IfOk result (AreEdited (λ part. None) edit.now) }
 {
+    let bare = bare_tables(alloc, edit)?;
+    edited(alloc, &bare, edit)
+}
+
+// Tables with an edit's header alone.
+fn bare_tables(alloc: Global, edit: &ChangeEdit) -> Result<ChangeTables, AllocError>
+    ensures header { IfOk result (λ t. t.header ≡ edit.now.header) }
+    ensures patches { IfOk result (λ t. rows_of t.patches ≡ []) }
+    ensures votes { IfOk result (λ t. rows_of t.votes ≡ []) }
+    ensures roles { IfOk result (λ t. rows_of t.roles ≡ []) }
+    ensures comments { IfOk result (λ t. rows_of t.comments ≡ []) }
+    ensures attention { IfOk result (λ t. rows_of t.attention ≡ []) }
+{
+    let header = copied_header(alloc, &edit.header)?;
     Ok(ChangeTables {
-        header: copied_header(alloc, &edit.header)?,
-        patches: changed_table(alloc, &Table::new(alloc), &edit.patches)?,
-        votes: changed_table(alloc, &Table::new(alloc), &edit.votes)?,
-        roles: changed_table(alloc, &Table::new(alloc), &edit.roles)?,
-        comments: changed_table(alloc, &Table::new(alloc), &edit.comments)?,
-        attention: changed_table(alloc, &Table::new(alloc), &edit.attention)?,
+        header,
+        patches: Table::new(alloc),
+        votes: Table::new(alloc),
+        roles: Table::new(alloc),
+        comments: Table::new(alloc),
+        attention: Table::new(alloc),
     })
 }
 

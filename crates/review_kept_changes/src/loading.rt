@@ -1,10 +1,12 @@
 //! A change from its tables.
-ghost use Rattle.std.specs.Prelude.{◌≡◌, ◌++◌, ◌∷◌, [], IfErr, IfOk, OnOk};
-ghost use Rattle.review_table.specs.Rows.{rows_of};
-ghost use Rattle.review_changes.specs.Seen.{seen};
+ghost use Rattle.std.specs.Prelude.{◌≡◌, ◌++◌, ◌∷◌, ℕ, [], IfErr, IfOk, OnOk};
+ghost use Rattle.std.specs.Ordering.{nat_cmp};
+ghost use Rattle.review_table.specs.Rows.{row_in, rows_of};
+ghost use Rattle.review_changes.specs.Seen.{seen, vote_cmp};
+ghost use Rattle.review_changes.specs.declared.rows.VoteKey.{VoteKey};
 ghost use Rattle.review_kept_changes.specs.Loads.{AreInOrder, HaveFault, IsGap, Show};
 
-use crate::edits::ChangeTables;
+use crate::edits::{ChangeTables, Marks};
 use review_change_rows::{Copied, copied_header, copied_table};
 use review_changes::{ChangeRows, CommentRow, PatchRow};
 use review_rows::ShelfFault;
@@ -52,13 +54,31 @@ pub fn change_rows(alloc: Global, tables: &ChangeTables) -> Result<ChangeRows, C
 {
     let patches = patches_in_order(alloc, &tables.patches)?;
     let comments = comments_in_order(alloc, &tables.comments)?;
+    let marks = copied_marks(alloc, tables)?;
+    let header = copied_header(alloc, &tables.header)?;
     Ok(ChangeRows {
-        header: copied_header(alloc, &tables.header)?,
+        header,
         patches,
-        votes: copied_table(alloc, &tables.votes)?,
-        roles: copied_table(alloc, &tables.roles)?,
+        votes: marks.votes,
+        roles: marks.roles,
         comments,
-        attention: copied_table(alloc, &tables.attention)?,
+        attention: marks.attention,
+    })
+}
+
+// The votes, roles and attention set once more.
+fn copied_marks(alloc: Global, tables: &ChangeTables) -> Result<Marks, AllocError>
+    ensures votes { IfOk result (λ m. (q : VoteKey) → row_in vote_cmp (rows_of m.votes) q ≡ row_in vote_cmp (rows_of tables.now.votes) q) }
+    ensures roles { IfOk result (λ m. (u : ℕ) → row_in nat_cmp (rows_of m.roles) u ≡ row_in nat_cmp (rows_of tables.now.roles) u) }
+    ensures attention { IfOk result (λ m. (u : ℕ) → row_in nat_cmp (rows_of m.attention) u ≡ row_in nat_cmp (rows_of tables.now.attention) u) }
+{
+    let votes = copied_table(alloc, &tables.votes)?;
+    let roles = copied_table(alloc, &tables.roles)?;
+    let attention = copied_table(alloc, &tables.attention)?;
+    Ok(Marks {
+        votes,
+        roles,
+        attention,
     })
 }
 

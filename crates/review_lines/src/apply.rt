@@ -89,6 +89,15 @@ fn reply_line(alloc: Global, reply: &Reply) -> Result<String, AllocError>
     Ok(text)
 }
 
+/// Adds a reply to the output as a line, or nothing where there is no memory.
+fn add_reply(alloc: Global, output: &mut Output, reply: &Reply) -> Result<(), AllocError>
+    ensures added { OnOk result (output.new.waiting.items ≡ output.old.waiting.items ++ reply_line reply.now) }
+    ensures kept { OnErr result (output.new.waiting.items ≡ output.old.waiting.items) }
+{
+    let line = reply_line(alloc, reply)?;
+    output.add(line.as_str())
+}
+
 fn outcome_of(reply: Reply) -> Outcome
     ensures { is_complete result ≡ is_taken reply }
 {
@@ -121,8 +130,7 @@ fn answer<S: Shelf, D: Rules>(
         }
         Asked::Asks(delivery) => {
             let reply = reply_to(alloc, shelf, rules, delivery);
-            let line = reply_line(alloc, &reply)?;
-            output.add(line.as_str())?;
+            add_reply(alloc, output, &reply)?;
             Ok(outcome_of(reply))
         }
     }

@@ -1,4 +1,5 @@
 //! The decisions as rules.
+use review_chain::Walked;
 use review_decisions::{decide, show};
 use review_deliveries::Rules;
 use review_file::{FileMemo, ReadText};
@@ -31,8 +32,9 @@ impl Rules for DeskRules {
         rows: &Rows,
         caller: AccountNo,
         matter: Matter<'_>,
+        walked: &mut Option<Walked>,
     ) -> Result<Option<Need>, AllocError> {
-        next_need(alloc, read.map(|r| r.file()), rows, caller, matter)
+        next_need(alloc, read.map(|r| r.file()), rows, caller, matter, walked)
     }
 
     fn read(

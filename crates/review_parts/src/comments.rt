@@ -1,5 +1,5 @@
 //! The comments of a change.
-ghost use Rattle.std.specs.Prelude.{◌≡◌, ◌++◌, List, map, IfOk, OnOk, option_copied};
+ghost use Rattle.std.specs.Prelude.{◌≡◌, ◌++◌, ◌∷◌, [], List, map, IfOk, OnOk, option_copied};
 ghost use Rattle.review_changes.specs.Change as change;
 ghost use Rattle.review_changes.specs.Change.{answered, message_of, said, stored_as};
 
@@ -58,6 +58,21 @@ fn stored_as(
     })
 }
 
+/// Stores a new comment after those that stand in the rows.
+fn store_one(
+    alloc: Global,
+    stored: &[CommentRow],
+    origin: &Origin,
+    rows: &mut Vec<CommentRow>,
+    new: &NewComment,
+) -> Result<(), AllocError>
+    ensures { OnOk result (rows.new.items ≡ rows.old.items ++ (stored_as stored.now origin.now.patch origin.now.author origin.now.request new.now ∷ [])) }
+{
+    let row = stored_as(alloc, stored, origin, new)?;
+    rows.push(row)?;
+    Ok(())
+}
+
 fn store_all(
     alloc: Global,
     stored: &[CommentRow],
@@ -68,7 +83,7 @@ fn store_all(
     ensures { OnOk result (rows.new.items ≡ rows.old.items ++ map (stored_as stored.now origin.now.patch origin.now.author origin.now.request) new.now) }
 {
     for comment in new {
-        rows.push(stored_as(alloc, stored, origin, comment)?)?;
+        store_one(alloc, stored, origin, rows, comment)?;
     }
     Ok(())
 }

@@ -1,5 +1,5 @@
 -- What the rows of a question about a change tell of the history.
-use Rattle.std.proofs.Common.{◌≡◌, ◌⊎◌, ℕ, List, [], Option, Some, None, true, false, refl, sym, ap, ◌∙◌, subst, ⊎_elim, unwrap_or}
+use Rattle.std.proofs.Common.{◌≡◌, ◌⊎◌, inl, inr, ℕ, List, [], Option, Some, None, true, false, refl, sym, ap, ◌∙◌, subst, ⊎_elim, unwrap_or}
 use Rattle.std.specs.Prelude.{is_some, option_map, IfErr, Result}
 use Rattle.std.specs.Result.{IsErr, IsErrAnd}
 use Rattle.std.proofs.lemmas.Result.{err_from_is_err_and}
@@ -85,6 +85,13 @@ pub missing_unshown : (caller n : ℕ) (query : ChangeQuery) (had : Option File)
 missing_unshown caller n query had rows c e found =
     ⊎_elim (λ m. subst (λ x. IsUnshown caller (asked.OnChange n query) had rows x) (sym m) tt)
     (λ d. subst (λ x. IsUnshown caller (asked.OnChange n query) had rows x) (sym d.0) (lacks_file caller n query had rows c found d.1))
+
+-- and so is a question that is told nothing for either
+pub untold : ChangesAreSound → (caller n : ℕ) (query : ChangeQuery) (had : Option File) (rows : Rows) (c : Change) (e : Cause) → change_in (known rows (want.Change n)) ≡ Some c →
+    (e ≡ Memory) ⊎ ((e ≡ Damaged) × ((IsSound c → ⊥) ⊎ LacksFile had query)) → IsUnshown caller (asked.OnChange n query) had rows e
+untold law caller n query had rows c e found =
+    ⊎_elim (λ m. unsound_unshown law caller n query had rows c e found (inl m))
+    (λ d. ⊎_elim (λ u. unsound_unshown law caller n query had rows c e found (inr (d.0, u))) (λ l. missing_unshown caller n query had rows c e found (inr (d.0, l))) d.1)
 
 -- the file that was read has the trees of the one that is read
 pub same_trees : OneFile → (reading : Reading) (h : List Entry) (project : List ℕ) (file : File) → Reads reading h → HasFile (file_text h project) (Some file) → file_trees file ≡ file_trees (file_of reading h project)

@@ -7,9 +7,8 @@ ghost use Rattle.review_words.specs.declared.reply.NotTaken.TheVariants.{Damaged
 ghost use Rattle.review_changes.specs.Seen.{seen};
 ghost use Rattle.review_changes.specs.Shown.{IsToldOf};
 ghost use Rattle.review_changes.specs.Sound.{IsSound};
-ghost use Rattle.review_rows.specs.Answer.{IsHistory};
 ghost use Rattle.review_rows.specs.Changes.{Reading};
-ghost use Rattle.review_rows.specs.Decisions.{IsDoneOrRefused, IsUnshown};
+ghost use Rattle.review_rows.specs.Decisions.{IsDoneOrRefused, IsUnshown, RestsOn};
 ghost use Rattle.review_rows.specs.Questions.{IsQueryAnswerBy};
 ghost use Rattle.review_rows.specs.Steps.{OfQuery};
 ghost use Rattle.review_rows.specs.View.{AreEnough};
@@ -42,7 +41,7 @@ pub fn show(
     caller: AccountNo,
     query: &Query,
 ) -> Result<Reply, NotTaken>
-    ensures shown { IfOk result (λ r. (reading : Reading) (h : List Entry) → IsHistory h → AreEnough reading h caller (OfQuery query.now) (option_copied had.entry) rows.now → IsQueryAnswerBy reading h caller query.now r) }
+    ensures shown { IfOk result (λ r. (reading : Reading) (h : List Entry) → RestsOn (OfQuery query.now) h → AreEnough reading h caller (OfQuery query.now) (option_copied had.entry) rows.now → IsQueryAnswerBy reading h caller query.now r) }
     ensures answered { IfOk result IsDoneOrRefused }
     ensures cause { IfErr result (IsUnshown caller query.now (option_copied had.entry) rows.now) }
 {
@@ -74,7 +73,7 @@ fn show_on(
     change: ChangeNo,
     query: ChangeQuery,
 ) -> Result<Reply, NotTaken>
-    ensures shown { IfOk result (λ r. (reading : Reading) (h : List Entry) → IsHistory h → AreEnough reading h caller (OfQuery (OnChange change query)) (option_copied had.entry) rows.now → IsQueryAnswerBy reading h caller (OnChange change query) r) }
+    ensures shown { IfOk result (λ r. (reading : Reading) (h : List Entry) → AreEnough reading h caller (OfQuery (OnChange change query)) (option_copied had.entry) rows.now → IsQueryAnswerBy reading h caller (OnChange change query) r) }
     ensures answered { IfOk result IsDoneOrRefused }
     ensures cause { IfErr result (IsUnshown caller (OnChange change query) (option_copied had.entry) rows.now) }
 {
@@ -88,9 +87,24 @@ fn show_on(
     let Some(found) = rows.change(change) else {
         return Ok(Reply::Refused(Refusal::NoChange));
     };
-    let file = fitting(alloc, found)?;
-    let told = told(alloc, had, &rows.groups, change, &file, query)?;
+    let told = told_of(alloc, had, rows, change, found, query)?;
     Ok(Reply::Done(told))
+}
+
+/// What a question about a change is told, by the change's rows. Damaged only where they don't fit together, or there is no file to judge by.
+fn told_of(
+    alloc: Global,
+    had: Option<&ProjectFile>,
+    rows: &Rows,
+    change: ChangeNo,
+    found: &ChangeRows,
+    query: ChangeQuery,
+) -> Result<Answer, NotTaken>
+    ensures told { IfOk result (IsToldBy (option_copied had.entry) rows.now.groups change query (seen found.now)) }
+    ensures cause { IfErr result (λ e. (e ≡ Memory) ⊎ ((e ≡ Damaged) × ((IsSound (seen found.now) → ⊥) ⊎ LacksFile (option_copied had.entry) query))) }
+{
+    let file = fitting(alloc, found)?;
+    told(alloc, had, &rows.groups, change, &file, query)
 }
 
 /// What a question about a change is told.

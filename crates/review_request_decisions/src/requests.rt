@@ -3,30 +3,29 @@ ghost use Rattle.std.specs.Prelude.{◌≡◌, ◌⊎◌, ◌<◌, List, IfOk, I
 ghost use Rattle.review_words.specs.Texts.{IsStored};
 ghost use Rattle.review_words.specs.History.{Entry, is_account};
 ghost use Rattle.review_words.specs.declared.command.Command.TheVariants.{OnChange};
-ghost use Rattle.review_table.specs.Rows.{after_change};
 ghost use Rattle.review_changes.specs.Change.{after_plain};
-ghost use Rattle.review_changes.specs.Parts.{Part, part_row};
 ghost use Rattle.review_changes.specs.Seen.{seen};
-ghost use Rattle.review_changes.specs.Sound.{fits};
-ghost use Rattle.review_rows.specs.Answer.{most_requests};
+ghost use Rattle.review_changes.specs.Sound.{IsSound, fits};
+ghost use Rattle.review_rows.specs.Answer.{first_refusal, most_requests};
 ghost use Rattle.review_rows.specs.Changes.{Reading};
-ghost use Rattle.review_rows.specs.Decisions.{IsUndecided, NamesEachOnce, NamesRowsOnce};
-ghost use Rattle.review_rows.specs.Rows.{HasNoEffect, part_change};
+ghost use Rattle.review_rows.specs.Decisions.{IsUndecided, NamesEachOnce};
+ghost use Rattle.review_rows.specs.Rows.{HasNoEffect};
 ghost use Rattle.review_rows.specs.Steps.{OfCommand};
 ghost use Rattle.review_rows.specs.View.{AreEnough, IsDecided};
-ghost use Rattle.review_request_decisions.specs.Requests.{IsPlainlyDone, is_plain, lacks_file, needs_file};
+ghost use Rattle.review_request_decisions.specs.Requests.{IsPlainlyDone, is_plain, lacks_file, needs_file, plain_list};
+ghost use Rattle.review_change_decisions.specs.Facts.{IsChecked, MakesChange};
+ghost use Rattle.review_words.specs.declared.reply.NotTaken.TheVariants.{Damaged, Memory};
 
 use crate::refusing::plain_refusal;
 use review_account_decisions::refused;
-use review_change_decisions::edits::{change_file, edited};
+use review_change_decisions::edits::{Checked, change_file, checked_by, turned};
 use review_change_decisions::{review, upload};
 use review_change_laws::changes_are_sound;
-use review_change_rows::edit_of;
 use review_changes::ChangeRows;
 use review_core::ChangeFile;
 use review_file::ProjectFile;
 use review_project_laws::one_file;
-use review_rows::{ChangeEdit, Delta, Rows};
+use review_rows::{Delta, Rows};
 use review_words::{AccountNo, Answer, ChangeCommand, ChangeNo, NotTaken, Refusal, Reply};
 use std::alloc::{AllocError, Global};
 
@@ -94,12 +93,28 @@ fn request(
     if lacks_file(had, command) {
         return Err(NotTaken::Damaged);
     }
+    let checked = plain_checked(alloc, had, rows, caller, command, found)?;
+    match checked {
+        Checked::Passes(file) => Ok(done(alloc, rows, caller, change, found, file, command)?),
+        Checked::Fails(refusal) => Ok(refused(alloc, refusal)),
+    }
+}
+
+/// What the checks of a request on a change come to. Damaged only where the change isn't sound.
+fn plain_checked(
+    alloc: Global,
+    had: Option<&ProjectFile>,
+    rows: &Rows,
+    caller: AccountNo,
+    command: &ChangeCommand,
+    found: &ChangeRows,
+) -> Result<Checked, NotTaken>
+    ensures checked { IfOk result (IsChecked (first_refusal (plain_list (option_copied had.entry) rows.now caller command.now (seen found.now))) (seen found.now)) }
+    ensures cause { IfErr result (λ e. (e ≡ Memory) ⊎ ((e ≡ Damaged) × (IsSound (seen found.now) → ⊥))) }
+{
     let file = change_file(alloc, found)?;
     let refusal = plain_refusal(alloc, had, rows, caller, command, &file)?;
-    if let Some(refusal) = refusal {
-        return Ok(refused(alloc, refusal));
-    }
-    Ok(done(alloc, rows, caller, change, found, file, command)?)
+    Ok(checked_by(file, refusal))
 }
 
 /// What a request makes of a change.
@@ -136,8 +151,8 @@ fn applied(
     }
 }
 
-/// What a request makes of a change, row by row.
-fn edit_by(
+/// The delta of what a request makes of a change.
+fn delta_by(
     alloc: Global,
     change: ChangeNo,
     found: &ChangeRows,
@@ -145,16 +160,15 @@ fn edit_by(
     command: &ChangeCommand,
     caller: AccountNo,
     request: u64,
-) -> Result<ChangeEdit, AllocError>
+) -> Result<Delta, AllocError>
     requires same { seen file.rows ≡ seen found.now }
     requires plain { is_plain command.now ≡ true }
     requires fits { fits command.now (seen found.now) ≡ true }
-    ensures change { IfOk result (λ e. e.change ≡ change) }
-    ensures becomes { IfOk result (λ e. (part : Part) → after_change (part_change e part) (part_row (seen found.now) part) ≡ part_row (after_plain command.now caller request (seen found.now)) part) }
-    ensures once { IfOk result NamesRowsOnce }
+    ensures made { IfOk result (MakesChange change (seen found.now) (after_plain command.now caller request (seen found.now))) }
+    ensures once { IfOk result NamesEachOnce }
 {
     let new = applied(alloc, file, command, caller, request)?;
-    edit_of(alloc, change, found, new.rows())
+    turned(alloc, change, found, new)
 }
 
 /// The answer to a request that no check refuses, and what it changes.
@@ -176,7 +190,6 @@ fn done(
     ensures once { IfOk result (λ r. NamesEachOnce r.0) }
 {
     let request = rows.requests().saturating_add(1);
-    let edit = edit_by(alloc, change, found, file, command, caller, request)?;
-    let delta = edited(alloc, edit)?;
+    let delta = delta_by(alloc, change, found, file, command, caller, request)?;
     Ok((delta, Reply::Done(Answer::Nothing)))
 }

@@ -19,13 +19,14 @@ use Rattle.review_table.specs.Rows.{row_in, rows_of}
 use Rattle.review_changes.specs.Change.{Change, is_open}
 use Rattle.review_chain.specs.declared.links.Link.{Link}
 use Rattle.review_chain.specs.declared.links.Standing.{Standing}
+use Rattle.review_chain.specs.declared.walks.Walked.{Walked}
 use Rattle.review_chain.specs.Branches.{Branch}
 use Rattle.review_chain.specs.Parts.{Want as ChainWant, TheChange, TheCommit, IsPart, Knows}
 use Rattle.review_chain.specs.Steps.{wanted, left as left_in_chain}
 use Rattle.review_chain.proofs.LookingUp.{fewer_left, most_left}
-use Rattle.review_chain.proofs.Wanting.{Says, still_wanted, wanted_says}
+use Rattle.review_chain.proofs.Wanting.{Says, still_wanted, walked_kept, wanted_says}
 use Rattle.review_rows.specs.Links.{link_for, links_in}
-use Rattle.review_rows.specs.Steps.{Topic, OfCommand, OfQuery, first_wants, change_wants, file_wants, question_wants, request_wants, submit_wants, wants_by, wanted_for, chain_wants, chain_left, last_of, last_wants, look_up, steps, unknown, or_next, next, next_of, left, left_before, left_if, left_of, left_where, AskingLowers}
+use Rattle.review_rows.specs.Steps.{Topic, OfCommand, OfQuery, first_wants, change_wants, file_wants, question_wants, request_wants, submit_wants, wants_by, wanted_for, chain_wants, chain_left, last_of, last_wants, look_up, steps, unknown, or_next, next, next_of, left, left_before, left_if, left_of, left_where, AskingLowers, HasComeTo, IsWalkTo}
 
 -- what a look-up that was made found in tables that agree
 pub found_of : (t : Tables) (rows : Rows) (w : Want) → Agrees t rows → IsKnown rows w → (f : Found) × (known rows w ≡ Some f) × IsFound t w f
@@ -320,6 +321,10 @@ before_less a zero last later less below = absurd (omega arith)
 before_less zero (suc b) last later less below = omega arith
 before_less (suc a) (suc b) last later less below = omega arith
 
+-- a step asks the same where more is known, once those before it were made
+steps_stay : (file : Option File) (rows more both : Rows) (caller : ℕ) (topic : Topic) → AreAdded rows more both → AreSteps rows (steps file rows caller topic) (steps file both caller topic)
+steps_stay file rows more both caller topic added = (refl, refl, λ none. (sym (same_wants rows more both caller topic added none), refl, λ made. (refl, refl, λ asked. tt)))
+
 -- each step asks for what was not known, and lowers what is left
 pub asking_lowers : AskingLowers
 asking_lowers file rows more both caller topic w ws is all added = at (next_of rows (steps file rows caller topic)) refl
@@ -328,7 +333,7 @@ asking_lowers file rows more both caller topic w ws is all added = at (next_of r
     made = by_recursion (IsKnown more) (w ∷ ws) all
 
     are : AreSteps rows (steps file rows caller topic) (steps file both caller topic)
-    are = (refl, refl, λ none. (sym (same_wants rows more both caller topic added none), refl, λ made. (refl, refl, λ asked. tt)))
+    are = steps_stay file rows more both caller topic added
 
     at : (us : List Want) → next_of rows (steps file rows caller topic) ≡ us → left file both caller topic < left file rows caller topic
     at [] none =
@@ -359,3 +364,40 @@ requests_are t file rows caller command agree none =
     let r = found_of t rows want.Requests agree (all_asked file rows caller (OfCommand command) none).0 in
     let x = r.2 in
     ap number_of (r.1 ∙ ap Some x.1) ∙ x.2
+
+-- where nothing is left of the steps, nothing is left of them in what is known later
+none_left_later : (rows more both : Rows) → AreAdded rows more both → (xs ys : List (List Want)) → AreSteps rows xs ys → next_of rows xs ≡ [] → next_of both ys ≡ []
+none_left_later rows more both added [] [] are none = refl
+none_left_later rows more both added [] (y ∷ ys) are none = absurd are
+none_left_later rows more both added (x ∷ xs) [] are none = absurd are
+none_left_later rows more both added (x ∷ xs) (y ∷ ys) are none =
+    let p = none_in (unknown rows x) (next_of rows xs) none in
+    let later = none_left_later rows more both added xs ys (are.2 p.0) p.1 in
+    let here = none_left rows more both x added (subst (AllByRecursion (IsKnown more)) (sym p.0) tt) in
+    ap (λ s. or_next (unknown both s) (next_of both ys)) (sym are.0) ∙ (ap (λ l. or_next l (next_of both ys)) here ∙ later)
+
+-- a walk stays one where more is known
+walk_stays : (rows more both : Rows) (n : ℕ) (w : Walked) → AreAdded rows more both → IsKnown rows (want.Change n) → IsWalkTo rows n w → IsWalkTo both n w
+walk_stays rows more both n w added there h = record {
+  change_is = h.change_is;
+  change = h.change;
+  found = ap change_in (known_stays rows more both (want.Change n) added there) ∙ h.found;
+  is_ready = h.is_ready;
+  walks = walked_kept (links_in rows h.change.project h.change.branch) (links_in both h.change.project h.change.branch) (links_grow rows more both h.change.project h.change.branch added) w h.walks;
+}
+
+-- where a look for a chain has come to, it has come to where more is known
+pub come_stays : (file : Option File) (rows more both : Rows) (caller : ℕ) (topic : Topic) (w : Option Walked) → AreAdded rows more both → HasComeTo file rows caller topic w → HasComeTo file both caller topic w
+come_stays file rows more both caller topic None added h = tt
+come_stays file rows more both caller (OfQuery query) (Some w) added h = h
+come_stays file rows more both caller (OfCommand (CreateAccount name)) (Some w) added h = h
+come_stays file rows more both caller (OfCommand (PutGroup group members)) (Some w) added h = h
+come_stays file rows more both caller (OfCommand (PutProject project text)) (Some w) added h = h
+come_stays file rows more both caller (OfCommand (RecordBase project branch commit)) (Some w) added h = h
+come_stays file rows more both caller (OfCommand (CreateChange new)) (Some w) added h = h
+come_stays file rows more both caller (OfCommand (OnChange change command)) (Some w) added h = h
+come_stays file rows more both caller (OfCommand (Submit n)) (Some w) added h =
+    let topic : Topic = OfCommand (Submit n) in (
+      none_left_later rows more both added (steps file rows caller topic) (steps file both caller topic) (steps_stay file rows more both caller topic added) h.0,
+      walk_stays rows more both n w added (submit_known rows caller n (none_of_steps rows (steps file rows caller topic) h.0).0) h.1,
+    )

@@ -1,5 +1,5 @@
 -- What a command or a question asks of the tables, in steps.
-use Rattle.std.specs.Prelude.{ℕ, zero, suc, ◌+◌, ◌<◌, ◌≡◌, ◌&&◌, Option, Some, None, List, [], ◌∷◌, ◌++◌, map, flat_map, option_map, option_to_list, not, is_some, length, if◌then◌else◌}
+use Rattle.std.specs.Prelude.{ℕ, zero, suc, true, ◌+◌, ◌<◌, ◌≡◌, ◌&&◌, Option, Some, None, List, [], ◌∷◌, ◌++◌, map, flat_map, option_map, option_to_list, not, is_some, length, if◌then◌else◌}
 use Rattle.std.specs.List.{All, filter}
 use Rattle.review_names.specs.Names.{administrators}
 use Rattle.review_words.specs.declared.command.Command.{Command}
@@ -11,7 +11,8 @@ use Rattle.review_words.specs.declared.command.ChangeQuery.{ChangeQuery}
 use Rattle.review_words.specs.declared.command.ChangeQuery.TheVariants.{Requirements}
 use Rattle.review_group_names.specs.Named.{copy_groups, required_groups}
 use Rattle.review_project.specs.Rights.{grants_of}
-use Rattle.review_chain.specs.Parts.{Want as ChainWant, TheChange, TheCommit}
+use Rattle.review_chain.specs.declared.walks.Walked.{Walked}
+use Rattle.review_chain.specs.Parts.{HasWalked, Want as ChainWant, TheChange, TheCommit}
 use Rattle.review_chain.specs.Steps.{wanted, left as left_in_chain}
 use Rattle.review_changes.specs.Change.{Change, is_open}
 use Rattle.review_rows.specs.Files.{File, IsRead}
@@ -261,3 +262,22 @@ left file rows caller topic = left_before (left_of rows (steps file rows caller 
 abbrev pub AskingLowers : Type 0
 AskingLowers = (file : Option File) (rows more both : Rows) (caller : ℕ) (topic : Topic) (w : Want) (ws : List Want) →
     next file rows caller topic ≡ w ∷ ws → All (IsKnown more) (w ∷ ws) → AreAdded rows more both → left file both caller topic < left file rows caller topic
+
+-- a walk to the change of this number, which is open and not in work in progress, in its branch
+pub record IsWalkTo (rows : Rows) (n : ℕ) (w : Walked) : Type 0 where
+  pub change_is : w.change ≡ n
+  pub change : Change
+  pub found : change_in (known rows (want.Change n)) ≡ Some change
+  pub is_ready : is_open change.state && not change.wip ≡ true
+  pub walks : HasWalked (links_in rows change.project change.branch) w
+
+-- the walk that a look for a chain has come to, if it was begun
+abbrev pub MayGoOn : Rows → ℕ → Option Walked → Type 0
+MayGoOn rows n None = Unit {0}
+MayGoOn rows n (Some w) = IsWalkTo rows n w
+
+-- Where a submit's look for its chain has come to, if it was begun: all is known that is asked before, and there is such a walk.
+abbrev pub HasComeTo : Option File → Rows → ℕ → Topic → Option Walked → Type 0
+HasComeTo file rows caller topic None = Unit {0}
+HasComeTo file rows caller (OfCommand (Submit n)) (Some w) = (next_of rows (steps file rows caller (OfCommand (Submit n))) ≡ []) × IsWalkTo rows n w
+HasComeTo file rows caller topic (Some w) = ⊥

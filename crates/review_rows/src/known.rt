@@ -16,6 +16,7 @@ use review_words::{
     AccountName, AccountNo, Bases, ChangeNo, FileText, GroupName, JoinedChange, Listed, ProjectName,
 };
 use std::alloc::{AllocError, Global};
+use std::mem;
 
 impl Rows {
     /// Rows that know nothing.
@@ -76,25 +77,33 @@ impl Rows {
     pub fn add(&mut self, alloc: Global, more: Rows) -> Result<(), AllocError>
         ensures { OnOk result (AreAdded self.old more self.new) }
     {
+        let mut more = more;
+        self.take_from(alloc, &mut more)
+    }
+
+    // Adds what other rows know. Their tables go over, and what is left of the rows means nothing.
+    fn take_from(&mut self, alloc: Global, more: &mut Rows) -> Result<(), AllocError>
+        ensures { OnOk result (AreAdded self.old more.old self.new) }
+    {
         self.requests = self.requests.or(more.requests);
         self.last_account = self.last_account.or(more.last_account);
         self.room_for_projects = self.room_for_projects.or(more.room_for_projects);
         self.last_change = self.last_change.or(more.last_change);
-        add_all(alloc, &mut self.accounts, more.accounts)?;
-        add_all(alloc, &mut self.named, more.named)?;
-        add_all(alloc, &mut self.members, more.members)?;
-        add_all(alloc, &mut self.groups, more.groups)?;
-        add_all(alloc, &mut self.files, more.files)?;
-        add_all(alloc, &mut self.projects, more.projects)?;
-        add_all(alloc, &mut self.room_for_bases, more.room_for_bases)?;
-        add_all(alloc, &mut self.known_bases, more.known_bases)?;
-        add_all(alloc, &mut self.last_places, more.last_places)?;
-        add_all(alloc, &mut self.bases, more.bases)?;
-        add_all(alloc, &mut self.changes, more.changes)?;
-        add_all(alloc, &mut self.senders, more.senders)?;
-        add_all(alloc, &mut self.last_joined, more.last_joined)?;
-        add_all(alloc, &mut self.standings, more.standings)?;
-        add_all(alloc, &mut self.joined, more.joined)?;
+        add_all(alloc, &mut self.accounts, &mut more.accounts)?;
+        add_all(alloc, &mut self.named, &mut more.named)?;
+        add_all(alloc, &mut self.members, &mut more.members)?;
+        add_all(alloc, &mut self.groups, &mut more.groups)?;
+        add_all(alloc, &mut self.files, &mut more.files)?;
+        add_all(alloc, &mut self.projects, &mut more.projects)?;
+        add_all(alloc, &mut self.room_for_bases, &mut more.room_for_bases)?;
+        add_all(alloc, &mut self.known_bases, &mut more.known_bases)?;
+        add_all(alloc, &mut self.last_places, &mut more.last_places)?;
+        add_all(alloc, &mut self.bases, &mut more.bases)?;
+        add_all(alloc, &mut self.changes, &mut more.changes)?;
+        add_all(alloc, &mut self.senders, &mut more.senders)?;
+        add_all(alloc, &mut self.last_joined, &mut more.last_joined)?;
+        add_all(alloc, &mut self.standings, &mut more.standings)?;
+        add_all(alloc, &mut self.joined, &mut more.joined)?;
         Ok(())
     }
 
@@ -260,19 +269,21 @@ fn is_known(found: Option<&bool>) -> bool
     }
 }
 
-// Adds the rows of a table whose keys have none in another one. It is taken whole where the other has no row.
+// Adds the rows of a table whose keys have none in another one, and leaves it empty. It is taken whole where the other has no row.
 fn add_all<K: Key, V: Drop>(
     alloc: Global,
     rows: &mut Table<K, V>,
-    more: Table<K, V>,
+    more: &mut Table<K, V>,
 ) -> Result<(), AllocError>
-    ensures { OnOk result ((q : K) → row_in K.cmp (rows_of rows.new) q ≡ option_or (row_in K.cmp (rows_of rows.old) q) (row_in K.cmp (rows_of more) q)) }
+    ensures rows { OnOk result ((q : K) → row_in K.cmp (rows_of rows.new) q ≡ option_or (row_in K.cmp (rows_of rows.old) q) (row_in K.cmp (rows_of more.old) q)) }
+    ensures left { more.new ≡ [] }
 {
+    let taken = mem::replace(more, Table::new(alloc));
     if rows.last_key().is_none() {
-        *rows = more;
+        *rows = taken;
         return Ok(());
     }
-    add_each(alloc, rows, more)
+    add_each(alloc, rows, taken)
 }
 
 fn add_each<K: Key, V: Drop>(

@@ -3,3 +3,4 @@ pub mod Desk
 pub mod Fits
 pub mod Faults
 pub mod Loads
+pub mod First

@@ -1,5 +1,5 @@
 //! The bases of branches in memory.
-ghost use Rattle.std.specs.Prelude.{◌≡◌, ◌-◌, ◌^◌, ◌<◌, ◌↔◌, [], Some, None, IsTrue, IfOk, IfErr, OnOk, OnErr, option_map, if◌then◌else◌};
+ghost use Rattle.std.specs.Prelude.{◌≡◌, ◌∷◌, ◌-◌, ◌^◌, ◌<◌, ◌↔◌, [], Some, None, IsTrue, IfOk, IfErr, OnOk, OnErr, option_map, if◌then◌else◌};
 ghost use Rattle.std.specs.Ordering.{nat_cmp};
 ghost use Rattle.std.specs.Cmp.Lexicographic.{slice_cmp};
 ghost use Rattle.review_table.specs.Rows.{rows_of, row_in, HasNoEmptyPlace, HavePlaces};
@@ -243,36 +243,74 @@ fn changes_of(
 ) -> Result<BaseChanges, AllocError>
     ensures { IfOk result (PutsBase base.now branch last total) }
 {
-    let placed = vec![in alloc;
-        Change {
-            key: place_of(alloc, base)?,
-            row: Some(base.commit.copy(alloc)?),
-        },
-    ]?;
-    let listed = vec![in alloc;
-        Change {
-            key: listed_of(alloc, base)?,
-            row: Some(()),
-        },
-    ]?;
-    let ended = vec![in alloc;
-        Change {
-            key: branch,
-            row: Some(last),
-        },
-    ]?;
-    let counted = vec![in alloc;
-        Change {
-            key: base.project.copy(alloc)?,
-            row: Some(total),
-        },
-    ]?;
+    let ended = ended_change(alloc, branch, last)?;
+    let placed = placed_change(alloc, base)?;
+    let listed = listed_change(alloc, base)?;
+    let counted = counted_change(alloc, &base.project, total)?;
     Ok(BaseChanges {
         placed,
         listed,
         ended,
         counted,
     })
+}
+
+// The change that puts a base at its place.
+fn placed_change(
+    alloc: Global,
+    base: &BaseRow,
+) -> Result<Vec<Change<PlaceKey, CommitName>>, AllocError>
+    ensures { IfOk result (λ changes. changes.items ≡ record { key = place_of base.now; row = Some base.now.commit } ∷ []) }
+{
+    let key = place_of(alloc, base)?;
+    let row = Some(base.commit.copy(alloc)?);
+    Ok(vec![in alloc; Change { key, row }]?)
+}
+
+// The change that puts it into the index.
+fn listed_change(alloc: Global, base: &BaseRow) -> Result<Vec<Change<CommitKey, ()>>, AllocError>
+    ensures { IfOk result (λ changes. changes.items ≡ record { key = commit_at (place_of base.now) base.now.commit; row = Some tt } ∷ []) }
+{
+    let key = listed_of(alloc, base)?;
+    Ok(vec![in alloc;
+        Change {
+            key,
+            row: Some(()),
+        },
+    ]?)
+}
+
+// The change of a branch's last place.
+fn ended_change(
+    alloc: Global,
+    branch: BranchKey,
+    last: u64,
+) -> Result<Vec<Change<BranchKey, u64>>, AllocError>
+    ensures { IfOk result (λ changes. changes.items ≡ record { key = branch; row = Some last } ∷ []) }
+{
+    Ok(vec![in alloc;
+        Change {
+            key: branch,
+            row: Some(last),
+        },
+    ]?)
+}
+
+// The change of the number of a project's bases.
+fn counted_change(
+    alloc: Global,
+    project: &ProjectName,
+    total: u64,
+) -> Result<Vec<Change<ProjectName, u64>>, AllocError>
+    ensures { IfOk result (λ changes. changes.items ≡ record { key = project.now; row = Some total } ∷ []) }
+{
+    let key = project.copy(alloc)?;
+    Ok(vec![in alloc;
+        Change {
+            key,
+            row: Some(total),
+        },
+    ]?)
 }
 
 // Makes room for changes, which changes no row.

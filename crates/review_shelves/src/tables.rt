@@ -4,12 +4,13 @@ ghost use Rattle.std.specs.List.{All};
 ghost use Rattle.std.specs.Ordering.{nat_cmp};
 ghost use Rattle.std.specs.Cmp.Lexicographic.{slice_cmp};
 ghost use Rattle.review_table.specs.Rows.{row_in, rows_of, is_named, HasEmptyOnly, HasNoEmptyPlace};
-ghost use Rattle.review_rows.specs.Rows.{projects_after, kept_row};
+ghost use Rattle.review_rows.specs.Rows.{projects_after, kept_row, member_cmp};
 ghost use Rattle.review_rows.specs.declared.rows.Kept.{Kept};
 ghost use Rattle.review_shelves.specs.declared.changes.Changes.{Changes};
 ghost use Rattle.review_rows.specs.Shelf.{IsRecalled, IsCommitted};
 ghost use Rattle.review_rows.specs.View.{IsView};
 ghost use Rattle.review_shelves.specs.Desk.{tables_of, desk_of, row_of, name_cmp, file_changes, IsIndexed, IsBounded, IsSound, AddsNames, AreChangesOf, AreIndexed, KeepsNames, HasNoSpareRoom, HasRoom, HasRoomOnlyFor, AreApplied, IsWithBase, with_branches, with_changes};
+ghost use Rattle.review_shelves.specs.First.{HasAccount, HasName, HasMember};
 ghost use Rattle.review_kept_changes.specs.Kept.{IsFull, IsFullBut, IsReady};
 
 use crate::branches::Branches;
@@ -45,20 +46,9 @@ impl MemoryTables {
         ensures sound { IfOk result IsSound }
         ensures view { IfOk result (λ t. IsView [] (tables_of (desk_of t))) }
     {
-        let mut accounts = Table::new(alloc);
-        accounts.put(AccountNo::first(), admin_name(alloc)?)?;
-        let mut names = Table::new(alloc);
-        let key = NameKey {
-            name: admin_name(alloc)?,
-            account: AccountNo::first(),
-        };
-        names.put(key, ())?;
-        let mut members = Table::new(alloc);
-        let key = MemberKey {
-            group: administrators(alloc)?,
-            account: AccountNo::first(),
-        };
-        members.put(key, ())?;
+        let accounts = first_accounts(alloc)?;
+        let names = first_names(alloc)?;
+        let members = first_members(alloc)?;
         Ok(MemoryTables {
             accounts,
             names,
@@ -320,6 +310,47 @@ impl MemoryTables {
             None => false,
         }
     }
+}
+
+// The table of the first account.
+fn first_accounts(alloc: Global) -> Result<Table<AccountNo, AccountName>, AllocError>
+    ensures account { IfOk result (λ t. HasAccount (rows_of t)) }
+    ensures filled { IfOk result (λ t. HasNoEmptyPlace nat_cmp t) }
+{
+    let name = admin_name(alloc)?;
+    let mut accounts = Table::new(alloc);
+    accounts.put(AccountNo::first(), name)?;
+    Ok(accounts)
+}
+
+// The index of its name.
+fn first_names(alloc: Global) -> Result<Table<NameKey, ()>, AllocError>
+    ensures name { IfOk result (λ t. HasName (rows_of t)) }
+    ensures filled { IfOk result (λ t. HasNoEmptyPlace name_cmp t) }
+{
+    let name = admin_name(alloc)?;
+    let key = NameKey {
+        name,
+        account: AccountNo::first(),
+    };
+    let mut names = Table::new(alloc);
+    names.put(key, ())?;
+    Ok(names)
+}
+
+// The table of the group that it is in.
+fn first_members(alloc: Global) -> Result<Table<MemberKey, ()>, AllocError>
+    ensures member { IfOk result (λ t. HasMember (rows_of t)) }
+    ensures filled { IfOk result (λ t. HasNoEmptyPlace member_cmp t) }
+{
+    let group = administrators(alloc)?;
+    let key = MemberKey {
+        group,
+        account: AccountNo::first(),
+    };
+    let mut members = Table::new(alloc);
+    members.put(key, ())?;
+    Ok(members)
 }
 
 // Drops the place of a project's file, where it holds none.

@@ -1,6 +1,8 @@
 //! Values that stand in words: numbers, votes, kinds of change.
-ghost use Rattle.std.specs.Prelude.{◌≡◌, ◌≤◌, ◌∷◌, [], ℕ, pos, IfSome};
-ghost use Rattle.review_spelling.specs.Values.{comparison_in, digits_in, is_met_by_zero, negative, number_in, vote_in};
+ghost use Rattle.std.specs.Prelude.{◌≡◌, ◌≤◌, ◌∷◌, [], ℕ, None, codes, option_map, pos, IfSome};
+ghost use Rattle.review_spelling.specs.Cuts.{behind};
+ghost use Rattle.review_spelling.specs.Values.{by_front, comparison_in, digits_in, equal_to, is_met_by_zero, negative, number_in, vote_in};
+ghost use Rattle.review_terms.specs.declared.terms.Comparison.TheVariants.{AtMost, Below};
 
 use crate::cuts::behind;
 use review_terms::{Comparison, VoteValue};
@@ -69,6 +71,32 @@ pub fn read_vote(text: &str) -> Option<VoteValue>
     }
 }
 
+/// `+D` and `-D`, which are `=D` and `=-D`.
+fn read_signed(text: &str) -> Option<Comparison>
+    ensures { result ≡ by_front (behind (codes "+") text.now) (λ rest. option_map (λ n. equal_to (pos n)) (digits_in rest)) (by_front (behind (codes "-") text.now) (λ rest. option_map (λ n. equal_to (negative n)) (digits_in rest)) None) }
+{
+    if let Some(digits) = behind(text, "+") {
+        let number = read_digits(digits)?;
+        return Some(Comparison::Is(VoteValue::Exactly(number as i8)));
+    }
+    let digits = behind(text, "-")?;
+    let number = read_digits(digits)?;
+    Some(Comparison::Is(VoteValue::Exactly(-(number as i8))))
+}
+
+/// `<=N`, `<N`, `+D` and `-D`.
+fn read_upper(text: &str) -> Option<Comparison>
+    ensures { result ≡ by_front (behind (codes "<=") text.now) (λ rest. option_map AtMost (number_in rest)) (by_front (behind (codes "<") text.now) (λ rest. option_map Below (number_in rest)) (by_front (behind (codes "+") text.now) (λ rest. option_map (λ n. equal_to (pos n)) (digits_in rest)) (by_front (behind (codes "-") text.now) (λ rest. option_map (λ n. equal_to (negative n)) (digits_in rest)) None))) }
+{
+    if let Some(number) = behind(text, "<=") {
+        return Some(Comparison::AtMost(read_number(number)?));
+    }
+    if let Some(number) = behind(text, "<") {
+        return Some(Comparison::Below(read_number(number)?));
+    }
+    read_signed(text)
+}
+
 /// A comparison with a value or a number. `+1` is `=1`, and `-1` is `=-1`.
 #[tactic(auto, unfolding(crate::specs::Values::comparison_in))]
 pub fn read_comparison(text: &str) -> Option<Comparison>
@@ -83,19 +111,7 @@ pub fn read_comparison(text: &str) -> Option<Comparison>
     if let Some(number) = behind(text, ">") {
         return Some(Comparison::Above(read_number(number)?));
     }
-    if let Some(number) = behind(text, "<=") {
-        return Some(Comparison::AtMost(read_number(number)?));
-    }
-    if let Some(number) = behind(text, "<") {
-        return Some(Comparison::Below(read_number(number)?));
-    }
-    if let Some(digits) = behind(text, "+") {
-        let number = read_digits(digits)?;
-        return Some(Comparison::Is(VoteValue::Exactly(number as i8)));
-    }
-    let digits = behind(text, "-")?;
-    let number = read_digits(digits)?;
-    Some(Comparison::Is(VoteValue::Exactly(-(number as i8))))
+    read_upper(text)
 }
 
 /// Whether 0 meets a comparison with a number. MAX, MIN and ANY are not compared with it.

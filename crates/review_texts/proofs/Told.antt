@@ -1,8 +1,6 @@
 -- A stored reply is what its fields are read as.
 use Rattle.std.proofs.Common.{◌≡◌, ℕ, ◌<◌, ◌≤◌, ◌+◌, List, [], ◌∷◌, length, refl, sym, ap, ◌∙◌, subst, arith, cond, Option, Some, None, Bool, true, false}
 use Rattle.std.specs.Prelude.{option_map, nat_le, ◌&&◌, if◌then◌else◌, codes, map, Result, Ok, Err, IfOk}
-use Rattle.std.specs.Str.{bytes_eq}
-use Rattle.std.proofs.lemmas.Slice.Eq.{bytes_eq-Decides}
 use Rattle.std.proofs.lemmas.Bool.Decides.{nat_tests}
 use Rattle.std.specs.Int.Digits.{digits_of}
 use Rattle.std.proofs.lemmas.Int.Digits.{length-digits_of-le}
@@ -12,9 +10,8 @@ use Rattle.review_names.specs.Forms.{is_label, is_within, most_changes, most_com
 use Rattle.review_words.specs.Faults.{code_number, file_fault_number}
 use Rattle.review_words.specs.Refusals.{refusal_number}
 use Rattle.review_names.specs.Numerals.{shown_digits, numeral}
-use Rattle.review_words.specs.Texts.{expr_fields, fault_fields, most_joined, refusal_fields, reply_fields, reply_text, IsPlaced, IsRefusalOf, IsStored}
+use Rattle.review_words.specs.Texts.{expr_fields, fault_fields, most_joined, refusal_fields, reply_fields, IsPlaced, IsRefusalOf, IsStored}
 use Rattle.review_texts.specs.declared.reading.BadReply.{BadReply}
-use Rattle.review_texts.specs.declared.reading.BadReply.TheVariants.{Form, Memory}
 use Rattle.review_texts.specs.Cutting.{AreShort}
 use Rattle.review_names.specs.Numerals.{◌>>=◌, number_of}
 use Rattle.review_texts.specs.Reading.{expr_fault_of, file_fault_of, label_of, list_of, new_change_of, new_patch_of, number_within, numbers_in, plain_answer_of, refusal_of, reply_of, unsatisfied_of, Gives}
@@ -305,22 +302,6 @@ never_uncut view o fs none e = let some : None ≡ Some fs = ap (option_map view
 pub cut_to : {A : Type 0} (view : A → List (List ℕ)) (o : Option A) (x : A) (fs : List (List ℕ)) → o ≡ Some x → option_map view o ≡ Some fs → view x ≡ fs
 cut_to view o x fs some e = let same : Some (view x) ≡ Some fs = ap (option_map view) (sym some) ∙ e in cc
 
-pub gives_none : (e : BadReply) (told : Option Reply) → e ≡ Form → Gives (Err e) told → told ≡ None
-gives_none Form told is gives = gives
-gives_none Memory told is gives = absurd (cc)
-
-pub never_unread : (r : Reply) (fs : List (List ℕ)) → IsStored r → fs ≡ reply_fields r → reply_of fs ≡ None → ⊥
-never_unread r fs s same none =
-    let some : Some r ≡ None = sym (reply_back r s) ∙ (ap reply_of (sym same) ∙ none) in
-    cc
-
-read_as : (r q : Reply) (fs : List (List ℕ)) → IsStored r → fs ≡ reply_fields r → reply_of fs ≡ Some q → q ≡ r
-read_as r q fs s same read =
-    let some : Some q ≡ Some r = sym read ∙ (ap reply_of same ∙ reply_back r s) in
-    cc
-
-pub never_changed : (r q : Reply) (fs : List (List ℕ)) (again text : List ℕ) → IsStored r → fs ≡ reply_fields r → reply_of fs ≡ Some q → again ≡ reply_text q → reply_text r ≡ text → bytes_eq again text ≡ false → ⊥
-never_changed r q fs again text s same read written e differs =
-    let back : again ≡ text = written ∙ (ap reply_text (read_as r q fs s same read) ∙ e) in
-    let equal : bytes_eq again text ≡ true = (bytes_eq-Decides again text).1 back in
-    cc
+-- what the fields of a stored reply are read as is that reply
+pub told_of : (r : Reply) (fs : List (List ℕ)) (o : Result Reply BadReply) → IsStored r → fs ≡ reply_fields r → Gives o (reply_of fs) → Gives o (Some r)
+told_of r fs o s same gives = subst (Gives o) (ap reply_of same ∙ reply_back r s) gives

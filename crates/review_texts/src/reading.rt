@@ -1,5 +1,5 @@
 //! Texts of replies, read.
-ghost use Rattle.std.specs.Prelude.{◌≡◌, ◌≤◌, drop, map, option_map, true, IfOk, IfErr, IfSome};
+ghost use Rattle.std.specs.Prelude.{◌≡◌, ◌≤◌, ◌↔◌, Some, drop, map, option_map, true, IfOk, IfErr, IfSome};
 ghost use Rattle.std.specs.Str.{bytes_eq};
 ghost use Rattle.review_names.specs.Forms.{is_label, most_changes, most_comments, most_patches};
 ghost use Rattle.review_words.specs.Texts.{most_joined, reply_text, IsCommentNumber, IsRefusalOf, IsStored, IsStoredAnswer};
@@ -298,6 +298,26 @@ fn read_fields(alloc: Global, fields: &[&[u8]]) -> Result<Reply, BadReply>
     }
 }
 
+/// The reply that a text is read as, of stored replies the one whose text it is. The readers let through more than is ever written, as a
+/// length with leading zeros.
+fn read_text(alloc: Global, text: &str) -> Result<Reply, BadReply>
+    ensures reply { (r : Reply) → IsStored r → reply_text r ≡ text.now → Gives result (Some r) }
+    ensures stored { IfOk result IsStored }
+{
+    let Some(fields) = cut(alloc, text.as_bytes())? else {
+        return Err(BadReply::Form);
+    };
+    read_fields(alloc, &fields)
+}
+
+/// Whether a text is that of a reply.
+fn is_text_of(alloc: Global, reply: &Reply, text: &str) -> Result<bool, AllocError>
+    ensures { IfOk result (λ same. (same ≡ true) ↔ (reply_text reply.now ≡ text.now)) }
+{
+    let again = reply_text(alloc, reply)?;
+    Ok(again.as_str() == text)
+}
+
 /// The stored reply whose text this is. Form exactly where it is the text of none, as the empty
 /// text is; Memory where there was no memory to read it.
 pub fn read_reply(alloc: Global, text: &str) -> Result<Reply, BadReply>
@@ -305,13 +325,8 @@ pub fn read_reply(alloc: Global, text: &str) -> Result<Reply, BadReply>
     ensures form { IfErr result (λ e. e ≡ Form → (r : Reply) → IsStored r → reply_text r ≡ text.now → ⊥) }
     ensures back { (r : Reply) → IsStored r → reply_text r ≡ text.now → IfOk result (λ s. s ≡ r) }
 {
-    let Some(fields) = cut(alloc, text.as_bytes())? else {
-        return Err(BadReply::Form);
-    };
-    let reply = read_fields(alloc, &fields)?;
-    // The readers let through more than is ever written, as a length with leading zeros.
-    let again = reply_text(alloc, &reply)?;
-    if again.as_str() == text {
+    let reply = read_text(alloc, text)?;
+    if is_text_of(alloc, &reply, text)? {
         Ok(reply)
     } else {
         Err(BadReply::Form)

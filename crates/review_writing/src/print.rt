@@ -2,7 +2,7 @@
 ghost use Rattle.std.specs.Prelude.{◌≡◌, ◌++◌, ℕ, List, codes, OnErr, OnOk, string_bytes};
 ghost use Rattle.std.specs.List.{list_any};
 ghost use Rattle.review_names.specs.Numerals.{numeral};
-ghost use Rattle.review_grammar.specs.Lexemes.{is_end};
+ghost use Rattle.review_grammar.specs.Lexemes.{is_blank, is_end};
 ghost use Rattle.review_writing.specs.Printed.{comparison_text, copy_word, count_text, label_text, number_text, quoted, requirement_word, truth_text, vote_text, voters_text, word_of};
 
 use review_terms::{
@@ -10,10 +10,16 @@ use review_terms::{
 };
 use std::alloc::AllocError;
 
+fn is_blank(byte: u8) -> bool
+    ensures { result ≡ is_blank byte }
+{
+    byte == b' ' || byte == b'\t' || byte == b'\n' || byte == b'\r'
+}
+
 fn is_end(byte: u8) -> bool
     ensures { result ≡ is_end byte }
 {
-    matches!(byte, b' ' | b'\t' | b'\n' | b'\r' | b'(' | b')')
+    is_blank(byte) || byte == b'(' || byte == b')'
 }
 
 /// Whether a value has white space or a parenthesis.

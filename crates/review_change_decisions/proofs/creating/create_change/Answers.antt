@@ -3,8 +3,6 @@ use Rattle.std.specs.Option.{option_copied}
 use Rattle.review_names.specs.Forms.{is_within, most_changes}
 use Rattle.review_words.specs.declared.command.Command.TheVariants.{CreateChange}
 use Rattle.review_changes.specs.Change.{begun}
-use Rattle.review_changes.specs.Parts.{part_row}
-use Rattle.review_changes.specs.Seen.{seen}
 use Rattle.review_rows.specs.View.{view}
 use Rattle.review_rows.proofs.Asked.{requests_are}
 use Rattle.review_account_decisions.proofs.Decided.{asked_beside, refused_pair}
@@ -34,9 +32,8 @@ returns-clause-decided c = λ reading h room known l.
     let many : c.requests.result ≡ length h = c.requests.ensures ∙ requests_are (view reading h) (option_copied a.had) a.rows.now a.caller command l.agree l.nothing_left in
     let request : c.saturating_add-request.result ≡ length h + 1 = let e = c.saturating_add-request.ensures in omega arith in
     let m = c.in_ok-delta.ensures.edits in
-    create_decided reading h a.caller a.new.now c.next_change-change.result c.patch_of-patch.result (seen c.in_ok-file.file.rows) c.in_ok-edit.edit c.in_ok-delta.delta
-    passes number c.patch_of-patch.ensures (c.in_ok-file.ensures ∙ (λ i. begun (c.in_ok-new.ensures i) a.caller (request i))) c.in_ok-edit.ensures.change
-    (λ part. c.in_ok-edit.ensures.becomes part ∙ ap (λ r. part_row (seen r) part) c.rows.ensures.same)
+    create_decided reading h a.caller a.new.now c.next_change-change.result c.patch_of-patch.result (begun a.new.now a.caller c.saturating_add-request.result) c.in_ok-edit.edit c.in_ok-delta.delta
+    passes number c.patch_of-patch.ensures (λ i. begun a.new.now a.caller (request i)) c.in_ok-edit.ensures.change c.in_ok-edit.ensures.becomes
     m.accounts m.members m.file m.base m.changes
 
 pub returns-clause-once : goal.returns-clause-once

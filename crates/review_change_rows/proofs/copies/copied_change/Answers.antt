@@ -13,8 +13,8 @@ returns c = λ i. record {
   place = (c.in_ok-header.ensures i).place;
   updated = (c.in_ok-header.ensures i).updated;
   patches = (c.in_ok-patches.ensures ∙ c.deref.ensures.value) i;
-  vote = λ n l a. value_of (c.in_ok-votes.ensures (record { patch = n; label = l; account = a }) i);
-  role = λ u. c.in_ok-roles.ensures u i;
+  vote = λ n l a. value_of (c.in_ok-marks.ensures.votes (record { patch = n; label = l; account = a }) i);
+  role = λ u. c.in_ok-marks.ensures.roles u i;
   comments = (c.in_ok-comments.ensures ∙ c.deref-2.ensures.value) i;
-  attention = λ u. c.in_ok-attention.ensures u i;
+  attention = λ u. c.in_ok-marks.ensures.attention u i;
 }

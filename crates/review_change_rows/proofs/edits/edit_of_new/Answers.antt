@@ -1,17 +1,31 @@
-use Rattle.std.proofs.Common.{◌∙◌, sym, ap}
-use Rattle.std.specs.Ordering.{nat_cmp}
-use Rattle.review_table.specs.Rows.{changed, row_in, rows_of}
-use Rattle.review_changes.specs.Change.{of_number}
-use Rattle.review_changes.specs.Seen.{of_account, vote_cmp}
-use Rattle.review_change_rows.proofs.Edited.{begun_by}
+use Rattle.std.proofs.Common.{◌≡◌, ◌∙◌, None, sym, subst}
+use Rattle.std.proofs.lemmas.Result.{IfOk-weaker}
+use Rattle.review_names.specs.Forms.{most_comments, most_patches}
+use Rattle.review_table.specs.Rows.{after_change}
+use Rattle.review_changes.specs.Parts.{Part, part_row}
+use Rattle.review_changes.specs.Seen.{seen}
+use Rattle.review_rows.specs.Rows.{part_change}
+use Rattle.review_change_rows.specs.Edits.{GoesOn}
+use Rattle.review_change_rows.proofs.Edited.{bare_before}
 use Rattle.review_change_rows.proofs.edits.edit_of_new.Goals as goal
 
+pub edit_of-requires-clause-patches : goal.edit_of-requires-clause-patches
+edit_of-requires-clause-patches c = subst (λ old. GoesOn most_patches old c.args.new.now.patches.items) (sym c.in_ok-bare.ensures.patches) c.requires.patches
+
+pub edit_of-requires-clause-comments : goal.edit_of-requires-clause-comments
+edit_of-requires-clause-comments c = subst (λ old. GoesOn most_comments old c.args.new.now.comments.items) (sym c.in_ok-bare.ensures.comments) c.requires.comments
+
 pub returns-clause-becomes : goal.returns-clause-becomes
-returns-clause-becomes c = begun_by (record { change = c.args.change; header = c.in_ok-copied_header.field-0; patches = c.in_ok-more_patches.field-0; votes = c.in_ok-difference.field-0; roles = c.in_ok-difference-2.field-0; comments = c.in_ok-more_comments.field-0; attention = c.in_ok-difference-3.field-0 }) c.args.new.now (record {
-  header = c.in_ok-copied_header.ensures;
-  patches = λ n. c.in_ok-more_patches.ensures.becomes n ∙ ap (λ l. of_number l n) c.deref.ensures.value;
-  votes = λ q. (λ i. changed vote_cmp c.in_ok-difference.field-0.items q (row_in vote_cmp (rows_of (sym c.new.ensures i)) q)) ∙ c.in_ok-difference.ensures.becomes q;
-  roles = λ u. (λ i. changed nat_cmp c.in_ok-difference-2.field-0.items u (of_account (sym c.new-2.ensures i) u)) ∙ c.in_ok-difference-2.ensures.becomes u;
-  comments = λ n. c.in_ok-more_comments.ensures.becomes n ∙ ap (λ l. of_number l n) c.deref-2.ensures.value;
-  attention = λ u. (λ i. changed nat_cmp c.in_ok-difference-3.field-0.items u (of_account (sym c.new-3.ensures i) u)) ∙ c.in_ok-difference-3.ensures.becomes u;
-})
+returns-clause-becomes c =
+    let new = c.args.new.now in
+    let bare = c.in_ok-bare.bare in
+    IfOk-weaker c.edit_of.result (λ e. (part : Part) → after_change (part_change e part) (part_row (seen bare) part) ≡ part_row (seen new) part)
+    (λ e. (part : Part) → after_change (part_change e part) None ≡ part_row (seen new) part)
+    (λ e becomes part. sym (bare_before e bare (record {
+      patches = c.in_ok-bare.ensures.patches;
+      votes = c.in_ok-bare.ensures.votes;
+      roles = c.in_ok-bare.ensures.roles;
+      comments = c.in_ok-bare.ensures.comments;
+      attention = c.in_ok-bare.ensures.attention;
+    }) part) ∙ becomes part)
+    c.edit_of.ensures.becomes

@@ -5,7 +5,8 @@ use Rattle.review_words.specs.declared.command.Command.{Command}
 use Rattle.review_words.specs.declared.reply.NotTaken.{NotTaken}
 use Rattle.review_words.specs.declared.reply.Refusal.TheVariants.{UnknownCaller}
 use Rattle.review_words.specs.declared.reply.Reply.{Reply}
-use Rattle.review_rows.specs.Answer.{IsHistory, most_requests}
+use Rattle.review_rows.specs.Answer.{most_requests}
+use Rattle.review_rows.specs.Decisions.{RestsOn}
 use Rattle.review_rows.specs.Changes.{Reading}
 use Rattle.review_rows.specs.Files.{File}
 use Rattle.review_rows.specs.Steps.{OfCommand}
@@ -18,8 +19,8 @@ use Rattle.review_decisions.proofs.decisions.decide_by.Goals as goal
 -- what is decided for an account is decided, where rows know that the caller is one
 for_account : (result : Result (Delta × Reply) NotTaken) (caller : ℕ) (command : Command) (had : Option File) (rows : Rows) →
     ((reading : Reading) (h : List Entry) → AreEnough reading h caller (OfCommand command) had rows → is_account h caller ≡ true) →
-    IfOk result (λ r. (reading : Reading) (h : List Entry) → length h < most_requests → IsHistory h → is_account h caller ≡ true → AreEnough reading h caller (OfCommand command) had rows → IsDecided reading h caller command r.0 r.1) →
-    IfOk result (λ r. (reading : Reading) (h : List Entry) → length h < most_requests → IsHistory h → AreEnough reading h caller (OfCommand command) had rows → IsDecided reading h caller command r.0 r.1)
+    IfOk result (λ r. (reading : Reading) (h : List Entry) → length h < most_requests → RestsOn (OfCommand command) h → is_account h caller ≡ true → AreEnough reading h caller (OfCommand command) had rows → IsDecided reading h caller command r.0 r.1) →
+    IfOk result (λ r. (reading : Reading) (h : List Entry) → length h < most_requests → RestsOn (OfCommand command) h → AreEnough reading h caller (OfCommand command) had rows → IsDecided reading h caller command r.0 r.1)
 for_account (Ok r) caller command had rows known decided = λ reading h room history l. decided reading h room history (known reading h l) l
 for_account (Err e) caller command had rows known decided = tt
 

@@ -5,7 +5,8 @@ use Rattle.review_words.specs.declared.command.Command.{Command}
 use Rattle.review_words.specs.declared.command.Command.TheVariants.{CreateAccount, PutGroup, PutProject, RecordBase, CreateChange, OnChange}
 use Rattle.review_words.specs.declared.reply.NotTaken.{NotTaken}
 use Rattle.review_words.specs.declared.reply.Reply.{Reply}
-use Rattle.review_rows.specs.Answer.{IsHistory, most_requests}
+use Rattle.review_rows.specs.Answer.{most_requests}
+use Rattle.review_rows.specs.Decisions.{RestsOn}
 use Rattle.review_rows.specs.Changes.{Reading}
 use Rattle.review_rows.specs.Files.{File}
 use Rattle.review_rows.specs.Steps.{OfCommand}
@@ -17,7 +18,7 @@ use Rattle.review_decisions.proofs.decisions.decide_for.Goals as goal
 -- a command of an account is decided, where this file was read
 abbrev Decides : ℕ → Option File → Rows → Command → Delta × Reply → Type 0
 Decides caller had rows command r =
-    (reading : Reading) (h : List Entry) → length h < most_requests → IsHistory h → is_account h caller ≡ true → AreEnough reading h caller (OfCommand command) had rows → IsDecided reading h caller command r.0 r.1
+    (reading : Reading) (h : List Entry) → length h < most_requests → RestsOn (OfCommand command) h → is_account h caller ≡ true → AreEnough reading h caller (OfCommand command) had rows → IsDecided reading h caller command r.0 r.1
 
 -- one that asks for no number
 of_history : (result : Result (Delta × Reply) NotTaken) (caller : ℕ) (had : Option File) (rows : Rows) (command : Command) →
@@ -75,3 +76,8 @@ returns-in-OnChange-clause-decided c =
     let a = c.args in
     subst (λ k. IfOk c.on_change.result (Decides a.caller (option_copied a.had) a.rows.now k)) (sym c.in-OnChange.is)
     (of_room c.on_change.result a.caller (option_copied a.had) a.rows.now (OnChange c.in-OnChange.change c.in-OnChange.command) c.on_change.ensures.decided)
+
+pub returns-in-Submit-clause-decided : goal.returns-in-Submit-clause-decided
+returns-in-Submit-clause-decided c =
+    let a = c.args in
+    subst (λ k. IfOk c.submit.result (Decides a.caller (option_copied a.had) a.rows.now k)) (sym c.in-Submit.is) c.submit.ensures.decided

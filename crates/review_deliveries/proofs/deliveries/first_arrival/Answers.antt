@@ -1,9 +1,10 @@
-use Rattle.std.proofs.Common.{◌≡◌, ◌∙◌, ◌+◌, ◌<◌, ◌≤◌, ap, subst, arith, length, inl, inr, ⊎_elim}
-use Rattle.std.specs.String.{string_bytes}
+use Rattle.std.proofs.Common.{◌≡◌, ◌∙◌, ◌+◌, ◌<◌, ap, subst, arith, length, inl, inr, ⊎_elim}
+use Rattle.review_words.specs.Texts.{reply_text}
 use Rattle.review_words.specs.declared.command.Delivery.TheVariants.{Write}
-use Rattle.review_words.specs.declared.reply.NotTaken.TheVariants.{Memory, Full}
 use Rattle.review_rows.specs.Answer.{most_requests}
+use Rattle.std.specs.Prelude.{string_bytes}
 use Rattle.review_rows.specs.Rows.{AnswerRow}
+use Rattle.review_deliveries.specs.Kept.{row_for}
 use Rattle.review_rows.specs.View.{IsDecided, answer_row}
 use Rattle.review_rows.specs.Changes.{Reading, Reads}
 use Rattle.review_file.specs.Texts.{file_read}
@@ -11,208 +12,161 @@ use Rattle.review_rows.specs.Steps.{OfCommand}
 use Rattle.review_rows.specs.Shelf.{IsCommitted, IsCounted, Shows, cause_of}
 use Rattle.review_words.specs.declared.reply.Reply.TheVariants.{NotTaken}
 use Rattle.review_deliveries.specs.Replies.{entry_of, IsServed, KeepsUntaken, CountsReply}
-use Rattle.review_deliveries.proofs.Histories.{history_length, enough_shown, requests_told}
-use Rattle.review_deliveries.proofs.Served.{undecided_lawful, undecided_keeps, undecided_counts, first_served, not_taken_served, fault_served, ungathered_served, ungathered_keeps, after_read, views_stay, effect, err_reply}
+use Rattle.review_deliveries.proofs.Histories.{enough_shown, requests_told}
+use Rattle.review_deliveries.proofs.Resting.{rests_on}
+use Rattle.review_deliveries.proofs.Unstored.{unstored_lawful, unstored_keeps, unstored_counts}
+use Rattle.review_deliveries.proofs.Served.{first_served, not_taken_served, fault_served, ungathered_served, ungathered_keeps, after_read, views_stay, effect, err_reply}
 use Rattle.review_words.specs.History.{Identity}
-use Rattle.review_deliveries.proofs.Effects.{stores_once, stored_shown, full_keeps, decided_keeps, fault_keeps, fault_counts, stored_counts}
+use Rattle.review_deliveries.proofs.Effects.{stores_once, stored_shown, decided_keeps, fault_keeps, fault_counts, stored_counts}
 use Rattle.review_deliveries.proofs.Asking.{left_before}
 use Rattle.review_deliveries.proofs.deliveries.first_arrival.Goals as goal
 
-pub returns-then-requests-ge-MOST_REQUESTS-clause-served : goal.returns-then-requests-ge-MOST_REQUESTS-clause-served
-returns-then-requests-ge-MOST_REQUESTS-clause-served g c = λ honest h hist v fresh.
-    let x = c.in_ok-rows.ensures in
-    let old = g.S.Shelf.state c.args.shelf.now in
-    let new = g.S.Shelf.state c.gathered.new.shelf in
-    let many : c.requests-requests.result ≡ length h =
-    c.requests-requests.ensures ∙ requests_told h old.tables c.args.caller c.args.command.now (file_read c.in_ok-rows.read) c.in_ok-rows.rows hist v (x.found honest) x.enough in
-    let long : length h ≡ most_requests = let a = history_length h hist in let b = many in omega arith in
-    not_taken_served h (Write c.args.caller c.args.id.now c.args.command.now) Full old new hist (views_stay h old.tables new.tables (x.tables honest) v) (fresh, long, x.counted) (λ t y. inl (x.stops honest t y))
-
 pub returns-clause-served : goal.returns-clause-served
 returns-clause-served g c = λ honest h hist v fresh.
-    let x = c.in_ok-rows.ensures in
-    let y = c.in_ok-commit.ensures in
+    let x = c.in_ok-read.ensures in
+    let y = c.in_ok-store.ensures in
     let a = c.args in
     let old = g.S.Shelf.state a.shelf.now in
     let mid = g.S.Shelf.state c.gathered.new.shelf in
-    let new = g.S.Shelf.state c.commit.new.self in
+    let new = g.S.Shelf.state c.store.new.shelf in
     let between = y.honest honest in
-    let file = file_read c.in_ok-rows.read in
-    let many : c.requests-requests.result ≡ length h = c.requests-requests.ensures ∙ requests_told h old.tables a.caller a.command.now file c.in_ok-rows.rows hist v (x.found between) x.enough in
-    let room : length h < most_requests = let p = c.if-requests-ge-MOST_REQUESTS.false in let q = many in omega arith in
-    let d : (reading : Reading) → Reads reading h → IsDecided reading h a.caller a.command.now c.in_ok-delta.delta c.in_ok-delta.reply = λ reading reads.
-    c.in_ok-delta.ensures.decided reading h room hist (enough_shown reading h old.tables a.caller (OfCommand a.command.now) file c.in_ok-rows.rows reads v (x.found between) x.enough) in
-    let number : c.requests-requests.result + 1 ≡ length h + 1 = ap (λ n. n + 1) many in
-    let row : AnswerRow = record { identity = record { caller = a.caller; id = c.in_ok-id.id }; request = c.requests-requests.result + 1; content = string_bytes a.content; reply = string_bytes c.in_ok-text.text } in
-    let is : row ≡ answer_row (entry_of a.caller a.id.now a.command.now c.in_ok-delta.reply) (length h + 1) =
-    λ i. record { identity = record { caller = a.caller; id = c.in_ok-id.ensures i }; request = number i; content = c.requires i; reply = c.in_ok-text.ensures i } in
+    let file = file_read c.in_ok-read.read in
+    let number : c.in_ok-decided.decided.request ≡ length h + 1 = c.in_ok-decided.ensures.request.0 ∙ ap (λ n. n + 1) (requests_told h old.tables a.caller a.command.now file c.gathered.new.rows hist v (x.found between (inl c.requires.nothing)) x.enough) in
+    let room : length h < most_requests = let p = c.in_ok-decided.ensures.request.1 in let q = number in omega arith in
+    let d : (reading : Reading) → Reads reading h → IsDecided reading h a.caller a.command.now c.in_ok-decided.decided.delta c.in_ok-decided.decided.reply = λ reading reads.
+    c.in_ok-decided.ensures.decided reading h room (rests_on h (OfCommand a.command.now) hist) (enough_shown reading h old.tables a.caller (OfCommand a.command.now) file c.gathered.new.rows reads v (x.found between (inl c.requires.nothing)) x.enough) in
+    let row : AnswerRow = row_for a.caller a.id.now c.in_ok-decided.decided (string_bytes a.content) in
+    let is : row ≡ answer_row (entry_of a.caller a.id.now a.command.now c.in_ok-decided.decided.reply) (length h + 1) =
+    λ i. record { identity = record { caller = a.caller; id = a.id.now }; request = number i; content = c.requires.content i; reply = reply_text c.in_ok-decided.decided.reply } in
     let view = views_stay h old.tables mid.tables (x.tables between) v in
-    after_read h (Write a.caller a.id.now a.command.now) c.in_ok-delta.reply old mid new x.counted (x.stops between)
-    (first_served h c.in_ok-delta.delta row a.caller a.id.now a.command.now c.in_ok-delta.reply mid new hist view fresh room d is (y.done honest) (y.alone honest) y.counted
+    after_read h (Write a.caller a.id.now a.command.now) c.in_ok-decided.decided.reply old mid new x.counted (x.stops between)
+    (first_served h c.in_ok-decided.decided.delta row a.caller a.id.now a.command.now c.in_ok-decided.decided.reply mid new hist view fresh room d is (y.done honest) (y.alone honest) y.counted
     (λ t s. ⊎_elim (λ (k : mid.stops t). inl k)
-    (λ (k : Shows mid.tables (λ was. IsCommitted was c.in_ok-delta.delta row t)). inr (effect h mid.tables t c.in_ok-delta.delta row a.caller a.id.now a.command.now c.in_ok-delta.reply hist view fresh room d is k))
+    (λ (k : Shows mid.tables (λ was. IsCommitted was c.in_ok-decided.decided.delta row t)). inr (effect h mid.tables t c.in_ok-decided.decided.delta row a.caller a.id.now a.command.now c.in_ok-decided.decided.reply hist view fresh room d is k))
     (y.stops honest t s)))
 
 pub returns-clause-counted : goal.returns-clause-counted
 returns-clause-counted g c =
-    stored_counts c.in_ok-delta.reply (g.S.Shelf.state c.args.shelf.now).faults (g.S.Shelf.state c.commit.new.self).faults c.in_ok-delta.ensures.stored (c.in_ok-commit.ensures.counted ∙ c.in_ok-rows.ensures.counted)
+    stored_counts c.in_ok-decided.decided.reply (g.S.Shelf.state c.args.shelf.now).faults (g.S.Shelf.state c.store.new.shelf).faults c.in_ok-decided.ensures.stored (c.in_ok-store.ensures.counted ∙ c.in_ok-read.ensures.counted)
 
-pub returns-in_err-commit-clause-served : goal.returns-in_err-commit-clause-served
-returns-in_err-commit-clause-served g c = λ honest h hist v fresh.
-    let x = c.in_ok-rows.ensures in
-    let y = c.in_err-commit.ensures in
+pub returns-in_err-store-clause-served : goal.returns-in_err-store-clause-served
+returns-in_err-store-clause-served g c = λ honest h hist v fresh.
+    let x = c.in_ok-read.ensures in
+    let y = c.in_err-store.ensures in
     let a = c.args in
-    let fault = c.in_err-commit.field-0.0 in
+    let fault = c.in_err-store.field-0.0 in
     let old = g.S.Shelf.state a.shelf.now in
     let mid = g.S.Shelf.state c.gathered.new.shelf in
-    let new = g.S.Shelf.state c.commit.new.self in
+    let new = g.S.Shelf.state c.store.new.shelf in
     let between = y.honest honest in
-    let file = file_read c.in_ok-rows.read in
-    let many : c.requests-requests.result ≡ length h = c.requests-requests.ensures ∙ requests_told h old.tables a.caller a.command.now file c.in_ok-rows.rows hist v (x.found between) x.enough in
-    let room : length h < most_requests = let p = c.if-requests-ge-MOST_REQUESTS.false in let q = many in omega arith in
-    let d : (reading : Reading) → Reads reading h → IsDecided reading h a.caller a.command.now c.in_ok-delta.delta c.in_ok-delta.reply = λ reading reads.
-    c.in_ok-delta.ensures.decided reading h room hist (enough_shown reading h old.tables a.caller (OfCommand a.command.now) file c.in_ok-rows.rows reads v (x.found between) x.enough) in
-    let number : c.requests-requests.result + 1 ≡ length h + 1 = ap (λ n. n + 1) many in
-    let row : AnswerRow = record { identity = record { caller = a.caller; id = c.in_ok-id.id }; request = c.requests-requests.result + 1; content = string_bytes a.content; reply = string_bytes c.in_ok-text.text } in
-    let is : row ≡ answer_row (entry_of a.caller a.id.now a.command.now c.in_ok-delta.reply) (length h + 1) =
-    λ i. record { identity = record { caller = a.caller; id = c.in_ok-id.ensures i }; request = number i; content = c.requires i; reply = c.in_ok-text.ensures i } in
+    let file = file_read c.in_ok-read.read in
+    let number : c.in_ok-decided.decided.request ≡ length h + 1 = c.in_ok-decided.ensures.request.0 ∙ ap (λ n. n + 1) (requests_told h old.tables a.caller a.command.now file c.gathered.new.rows hist v (x.found between (inl c.requires.nothing)) x.enough) in
+    let room : length h < most_requests = let p = c.in_ok-decided.ensures.request.1 in let q = number in omega arith in
+    let d : (reading : Reading) → Reads reading h → IsDecided reading h a.caller a.command.now c.in_ok-decided.decided.delta c.in_ok-decided.decided.reply = λ reading reads.
+    c.in_ok-decided.ensures.decided reading h room (rests_on h (OfCommand a.command.now) hist) (enough_shown reading h old.tables a.caller (OfCommand a.command.now) file c.gathered.new.rows reads v (x.found between (inl c.requires.nothing)) x.enough) in
+    let row : AnswerRow = row_for a.caller a.id.now c.in_ok-decided.decided (string_bytes a.content) in
+    let is : row ≡ answer_row (entry_of a.caller a.id.now a.command.now c.in_ok-decided.decided.reply) (length h + 1) =
+    λ i. record { identity = record { caller = a.caller; id = a.id.now }; request = number i; content = c.requires.content i; reply = reply_text c.in_ok-decided.decided.reply } in
     let view = views_stay h old.tables mid.tables (x.tables between) v in
-    subst (λ r. IsServed h (Write a.caller a.id.now a.command.now) r old new) (err_reply c.from_residual-in_err-commit.result (cause_of fault) c.from_residual-in_err-commit.ensures)
+    subst (λ r. IsServed h (Write a.caller a.id.now a.command.now) r old new) (err_reply c.from_residual-in_err-store.result (cause_of fault) c.from_residual-in_err-store.ensures)
     (after_read h (Write a.caller a.id.now a.command.now) (NotTaken (cause_of fault)) old mid new x.counted (x.stops between)
     (fault_served h (Write a.caller a.id.now a.command.now) fault mid new hist view (y.undone honest) (y.damaged honest) y.counted
     (λ t s. ⊎_elim (λ (k : mid.stops t). inl k)
-    (λ (k : Shows mid.tables (λ was. IsCommitted was c.in_ok-delta.delta row t)). inr (effect h mid.tables t c.in_ok-delta.delta row a.caller a.id.now a.command.now c.in_ok-delta.reply hist view fresh room d is k))
+    (λ (k : Shows mid.tables (λ was. IsCommitted was c.in_ok-decided.decided.delta row t)). inr (effect h mid.tables t c.in_ok-decided.decided.delta row a.caller a.id.now a.command.now c.in_ok-decided.decided.reply hist view fresh room d is k))
     (y.stops honest t s))))
 
 pub returns-clause-once : goal.returns-clause-once
 returns-clause-once g c = λ honest none.
-    let y = c.in_ok-commit.ensures in
+    let y = c.in_ok-store.ensures in
     let a = c.args in
     let i : Identity = record { caller = a.caller; id = a.id.now } in
-    stores_once a.caller a.id.now a.command.now c.in_ok-delta.reply (g.S.Shelf.state a.shelf.now).tables (g.S.Shelf.state c.commit.new.self).tables
-    (stored_shown i a.command.now c.in_ok-delta.reply c.in_ok-delta.delta (file_read c.in_ok-rows.read) c.in_ok-rows.rows _
-    (g.S.Shelf.state a.shelf.now).tables (g.S.Shelf.state c.gathered.new.shelf).tables (g.S.Shelf.state c.commit.new.self).tables
-    (c.in_ok-rows.ensures.tables (y.honest honest)) none (c.in_ok-rows.ensures.found (y.honest honest)) c.in_ok-rows.ensures.enough.0 c.in_ok-delta.ensures.refused (y.done honest)
-    (λ n e k. record { identity = record { caller = a.caller; id = c.in_ok-id.ensures k }; request = (c.requests-requests.ensures ∙ e) k + 1; content = c.requires k; reply = c.in_ok-text.ensures k }))
+    stores_once a.caller a.id.now a.command.now c.in_ok-decided.decided.reply (g.S.Shelf.state a.shelf.now).tables (g.S.Shelf.state c.store.new.shelf).tables
+    (stored_shown i a.command.now c.in_ok-decided.decided.reply c.in_ok-decided.decided.delta (file_read c.in_ok-read.read) c.gathered.new.rows _
+    (g.S.Shelf.state a.shelf.now).tables (g.S.Shelf.state c.gathered.new.shelf).tables (g.S.Shelf.state c.store.new.shelf).tables
+    (c.in_ok-read.ensures.tables (y.honest honest)) none (c.in_ok-read.ensures.found (y.honest honest) (inl c.requires.nothing)) c.in_ok-read.ensures.enough.0 c.in_ok-decided.ensures.refused (y.done honest)
+    (λ n e k. record { identity = record { caller = a.caller; id = a.id.now }; request = (c.in_ok-decided.ensures.request.0 ∙ ap (λ m. m + 1) e) k; content = c.requires.content k; reply = reply_text c.in_ok-decided.decided.reply }))
 
-pub returns-in_err-delta-clause-served : goal.returns-in_err-delta-clause-served
-returns-in_err-delta-clause-served g c = λ honest h hist v fresh.
-    let x = c.in_ok-rows.ensures in
+pub returns-in_err-decided-clause-served : goal.returns-in_err-decided-clause-served
+returns-in_err-decided-clause-served g c = λ honest h hist v fresh.
+    let x = c.in_ok-read.ensures in
     let a = c.args in
-    let cause = c.in_err-delta.field-0.0 in
+    let cause = c.in_err-decided.field-0.0 in
     let old = g.S.Shelf.state a.shelf.now in
     let new = g.S.Shelf.state c.gathered.new.shelf in
-    let file = file_read c.in_ok-rows.read in
+    let file = file_read c.in_ok-read.read in
     let has = λ (reading : Reading) (reads : Reads reading h).
-    enough_shown reading h old.tables a.caller (OfCommand a.command.now) file c.in_ok-rows.rows reads v (x.found honest) x.enough in
-    subst (λ r. IsServed h (Write a.caller a.id.now a.command.now) r old new) (err_reply c.from_residual-in_err-delta.result cause c.from_residual-in_err-delta.ensures)
+    enough_shown reading h old.tables a.caller (OfCommand a.command.now) file c.gathered.new.rows reads v (x.found honest (inl c.requires.nothing)) x.enough in
+    subst (λ r. IsServed h (Write a.caller a.id.now a.command.now) r old new) (err_reply c.from_residual-in_err-decided.result cause c.from_residual-in_err-decided.ensures)
     (not_taken_served h (Write a.caller a.id.now a.command.now) cause old new hist (views_stay h old.tables new.tables (x.tables honest) v)
-    (undecided_lawful h a.caller a.id.now a.command.now file c.in_ok-rows.rows cause old.faults new.faults hist has fresh c.in_err-delta.ensures.cause x.counted)
+    (unstored_lawful h a.caller a.id.now a.command.now file c.gathered.new.rows cause old.faults new.faults hist has
+    (requests_told h old.tables a.caller a.command.now file c.gathered.new.rows hist v (x.found honest (inl c.requires.nothing)) x.enough) fresh c.in_err-decided.ensures.cause x.counted)
     (λ t y. inl (x.stops honest t y)))
 
-pub returns-in_err-delta-clause-unchanged : goal.returns-in_err-delta-clause-unchanged
-returns-in_err-delta-clause-unchanged g c = λ honest none.
+pub returns-in_err-decided-clause-unchanged : goal.returns-in_err-decided-clause-unchanged
+returns-in_err-decided-clause-unchanged g c = λ honest none.
     let a = c.args in
-    let cause = c.in_err-delta.field-0.0 in
+    let cause = c.in_err-decided.field-0.0 in
     let old = (g.S.Shelf.state a.shelf.now).tables in
     let new = (g.S.Shelf.state c.gathered.new.shelf).tables in
-    subst (λ r. KeepsUntaken (Write a.caller a.id.now a.command.now) r old new) (err_reply c.from_residual-in_err-delta.result cause c.from_residual-in_err-delta.ensures)
-    (undecided_keeps a.caller a.id.now a.command.now (file_read c.in_ok-rows.read) c.in_ok-rows.rows cause old new c.in_err-delta.ensures.cause (c.in_ok-rows.ensures.tables honest))
+    subst (λ r. KeepsUntaken (Write a.caller a.id.now a.command.now) r old new) (err_reply c.from_residual-in_err-decided.result cause c.from_residual-in_err-decided.ensures)
+    (unstored_keeps a.caller a.id.now a.command.now (file_read c.in_ok-read.read) c.gathered.new.rows cause old new none (c.in_ok-read.ensures.found honest (inl c.requires.nothing)) c.in_ok-read.ensures.enough.0
+    c.in_err-decided.ensures.cause (c.in_ok-read.ensures.tables honest))
 
-pub returns-in_err-delta-clause-counted : goal.returns-in_err-delta-clause-counted
-returns-in_err-delta-clause-counted g c =
+pub returns-in_err-decided-clause-counted : goal.returns-in_err-decided-clause-counted
+returns-in_err-decided-clause-counted g c =
     let a = c.args in
-    let cause = c.in_err-delta.field-0.0 in
+    let cause = c.in_err-decided.field-0.0 in
     let before = (g.S.Shelf.state a.shelf.now).faults in
     let after = (g.S.Shelf.state c.gathered.new.shelf).faults in
-    subst (λ r. CountsReply r before after) (err_reply c.from_residual-in_err-delta.result cause c.from_residual-in_err-delta.ensures)
-    (undecided_counts a.caller a.command.now (file_read c.in_ok-rows.read) c.in_ok-rows.rows cause before after c.in_err-delta.ensures.cause c.in_ok-rows.ensures.counted)
+    subst (λ r. CountsReply r before after) (err_reply c.from_residual-in_err-decided.result cause c.from_residual-in_err-decided.ensures)
+    (unstored_counts a.caller a.command.now (file_read c.in_ok-read.read) c.gathered.new.rows cause before after c.in_err-decided.ensures.cause c.in_ok-read.ensures.counted)
 
-pub returns-in_err-text-clause-served : goal.returns-in_err-text-clause-served
-returns-in_err-text-clause-served g c = λ honest h hist v fresh.
-    let x = c.in_ok-rows.ensures in
+pub returns-in_err-read-clause-served : goal.returns-in_err-read-clause-served
+returns-in_err-read-clause-served g c = λ honest h hist v fresh.
+    let x = c.in_err-read.ensures in
     let a = c.args in
-    let old = g.S.Shelf.state a.shelf.now in
-    let new = g.S.Shelf.state c.gathered.new.shelf in
-    subst (λ r. IsServed h (Write a.caller a.id.now a.command.now) r old new) (err_reply c.from_residual-in_err-text.result Memory c.from_residual-in_err-text.ensures)
-    (not_taken_served h (Write a.caller a.id.now a.command.now) Memory old new hist (views_stay h old.tables new.tables (x.tables honest) v) x.counted (λ t y. inl (x.stops honest t y)))
-
-pub returns-in_err-id-clause-served : goal.returns-in_err-id-clause-served
-returns-in_err-id-clause-served g c = λ honest h hist v fresh.
-    let x = c.in_ok-rows.ensures in
-    let a = c.args in
-    let old = g.S.Shelf.state a.shelf.now in
-    let new = g.S.Shelf.state c.gathered.new.shelf in
-    subst (λ r. IsServed h (Write a.caller a.id.now a.command.now) r old new) (err_reply c.from_residual-in_err-id.result Memory c.from_residual-in_err-id.ensures)
-    (not_taken_served h (Write a.caller a.id.now a.command.now) Memory old new hist (views_stay h old.tables new.tables (x.tables honest) v) x.counted (λ t y. inl (x.stops honest t y)))
-
-pub returns-then-requests-ge-MOST_REQUESTS-clause-unchanged : goal.returns-then-requests-ge-MOST_REQUESTS-clause-unchanged
-returns-then-requests-ge-MOST_REQUESTS-clause-unchanged g c = λ honest none.
-    let x = c.in_ok-rows.ensures in
-    let a = c.args in
-    full_keeps a.caller a.id.now a.command.now (file_read c.in_ok-rows.read) c.in_ok-rows.rows (g.S.Shelf.state a.shelf.now).tables (g.S.Shelf.state c.gathered.new.shelf).tables
-    none (x.found honest) x.enough.0 (subst (λ n. most_requests ≤ n) c.requests-requests.ensures c.if-requests-ge-MOST_REQUESTS.true) (x.tables honest)
-
-pub returns-in_err-rows-clause-served : goal.returns-in_err-rows-clause-served
-returns-in_err-rows-clause-served g c = λ honest h hist v fresh.
-    let x = c.in_err-rows.ensures in
-    let a = c.args in
-    let cause = c.in_err-rows.field-0.0 in
+    let cause = c.in_err-read.field-0.0 in
     let old = g.S.Shelf.state a.shelf.now in
     let new = g.S.Shelf.state c.gathered.new.shelf in
     subst (λ r. IsServed h (Write a.caller a.id.now a.command.now) r old new) (err_reply c.from_residual.result cause c.from_residual.ensures)
-    (ungathered_served h a.caller a.id.now a.command.now cause old new hist v fresh (x.cause honest) (x.tables honest) x.counted (x.stops honest))
+    (ungathered_served h a.caller a.id.now a.command.now cause old new hist v fresh (x.cause honest (inl c.requires.nothing)) (x.tables honest) x.counted (x.stops honest))
 
-pub returns-in_err-rows-clause-unchanged : goal.returns-in_err-rows-clause-unchanged
-returns-in_err-rows-clause-unchanged g c = λ honest none.
+pub returns-in_err-read-clause-unchanged : goal.returns-in_err-read-clause-unchanged
+returns-in_err-read-clause-unchanged g c = λ honest none.
     let a = c.args in
-    let cause = c.in_err-rows.field-0.0 in
+    let cause = c.in_err-read.field-0.0 in
     let old = (g.S.Shelf.state a.shelf.now).tables in
     let new = (g.S.Shelf.state c.gathered.new.shelf).tables in
     subst (λ r. KeepsUntaken (Write a.caller a.id.now a.command.now) r old new) (err_reply c.from_residual.result cause c.from_residual.ensures)
-    (ungathered_keeps a.caller a.id.now a.command.now cause old new (c.in_err-rows.ensures.cause honest) (c.in_err-rows.ensures.tables honest))
+    (ungathered_keeps a.caller a.id.now a.command.now cause old new (c.in_err-read.ensures.cause honest (inl c.requires.nothing)) (c.in_err-read.ensures.tables honest))
 
-pub returns-in_err-rows-clause-counted : goal.returns-in_err-rows-clause-counted
-returns-in_err-rows-clause-counted g c =
+pub returns-in_err-read-clause-counted : goal.returns-in_err-read-clause-counted
+returns-in_err-read-clause-counted g c =
     let before = (g.S.Shelf.state c.args.shelf.now).faults in
     let after = (g.S.Shelf.state c.gathered.new.shelf).faults in
-    subst (λ r. CountsReply r before after) (err_reply c.from_residual.result c.in_err-rows.field-0.0 c.from_residual.ensures)
-    c.in_err-rows.ensures.counted
+    subst (λ r. CountsReply r before after) (err_reply c.from_residual.result c.in_err-read.field-0.0 c.from_residual.ensures)
+    c.in_err-read.ensures.counted
 
-pub returns-in_err-text-clause-unchanged : goal.returns-in_err-text-clause-unchanged
-returns-in_err-text-clause-unchanged g c = λ honest none.
+pub returns-in_err-store-clause-unchanged : goal.returns-in_err-store-clause-unchanged
+returns-in_err-store-clause-unchanged g c = λ honest none.
     let a = c.args in
-    let old = (g.S.Shelf.state a.shelf.now).tables in
-    let new = (g.S.Shelf.state c.gathered.new.shelf).tables in
-    subst (λ r. KeepsUntaken (Write a.caller a.id.now a.command.now) r old new) (err_reply c.from_residual-in_err-text.result Memory c.from_residual-in_err-text.ensures)
-    (tt, c.in_ok-rows.ensures.tables honest)
-
-pub returns-in_err-text-clause-counted : goal.returns-in_err-text-clause-counted
-returns-in_err-text-clause-counted g c =
-    let before = (g.S.Shelf.state c.args.shelf.now).faults in
-    let after = (g.S.Shelf.state c.gathered.new.shelf).faults in
-    subst (λ r. CountsReply r before after) (err_reply c.from_residual-in_err-text.result Memory c.from_residual-in_err-text.ensures) c.in_ok-rows.ensures.counted
-
-pub returns-in_err-commit-clause-unchanged : goal.returns-in_err-commit-clause-unchanged
-returns-in_err-commit-clause-unchanged g c = λ honest none.
-    let a = c.args in
-    let y = c.in_err-commit.ensures in
-    let fault = c.in_err-commit.field-0.0 in
+    let y = c.in_err-store.ensures in
+    let fault = c.in_err-store.field-0.0 in
     let old = (g.S.Shelf.state a.shelf.now).tables in
     let mid = (g.S.Shelf.state c.gathered.new.shelf).tables in
-    let new = (g.S.Shelf.state c.commit.new.self).tables in
-    subst (λ r. KeepsUntaken (Write a.caller a.id.now a.command.now) r old new) (err_reply c.from_residual-in_err-commit.result (cause_of fault) c.from_residual-in_err-commit.ensures)
-    (fault_keeps a.caller a.id.now a.command.now fault old new (left_before fault old mid new (c.in_ok-rows.ensures.tables (y.honest honest)) (y.undone honest)))
+    let new = (g.S.Shelf.state c.store.new.shelf).tables in
+    subst (λ r. KeepsUntaken (Write a.caller a.id.now a.command.now) r old new) (err_reply c.from_residual-in_err-store.result (cause_of fault) c.from_residual-in_err-store.ensures)
+    (fault_keeps a.caller a.id.now a.command.now fault old new (left_before fault old mid new (c.in_ok-read.ensures.tables (y.honest honest)) (y.undone honest)))
 
-pub returns-in_err-commit-clause-counted : goal.returns-in_err-commit-clause-counted
-returns-in_err-commit-clause-counted g c =
-    let fault = c.in_err-commit.field-0.0 in
+pub returns-in_err-store-clause-counted : goal.returns-in_err-store-clause-counted
+returns-in_err-store-clause-counted g c =
+    let fault = c.in_err-store.field-0.0 in
     let before = (g.S.Shelf.state c.args.shelf.now).faults in
-    let after = (g.S.Shelf.state c.commit.new.self).faults in
-    subst (λ r. CountsReply r before after) (err_reply c.from_residual-in_err-commit.result (cause_of fault) c.from_residual-in_err-commit.ensures)
-    (fault_counts fault before after (subst (λ n. IsCounted fault n after) c.in_ok-rows.ensures.counted c.in_err-commit.ensures.counted))
+    let after = (g.S.Shelf.state c.store.new.shelf).faults in
+    subst (λ r. CountsReply r before after) (err_reply c.from_residual-in_err-store.result (cause_of fault) c.from_residual-in_err-store.ensures)
+    (fault_counts fault before after (subst (λ n. IsCounted fault n after) c.in_ok-read.ensures.counted c.in_err-store.ensures.counted))
 
 pub returns-clause-unchanged : goal.returns-clause-unchanged
 returns-clause-unchanged g c = λ honest none.
     let a = c.args in
-    decided_keeps a.caller a.id.now a.command.now c.in_ok-delta.reply (g.S.Shelf.state a.shelf.now).tables (g.S.Shelf.state c.commit.new.self).tables c.in_ok-delta.ensures.stored
+    decided_keeps a.caller a.id.now a.command.now c.in_ok-decided.decided.reply (g.S.Shelf.state a.shelf.now).tables (g.S.Shelf.state c.store.new.shelf).tables c.in_ok-decided.ensures.stored

@@ -1,16 +1,19 @@
-use Rattle.std.proofs.Common.{◌∙◌}
-use Rattle.std.specs.Ordering.{nat_cmp}
-use Rattle.review_table.specs.Rows.{changed, row_in, rows_of}
-use Rattle.review_changes.specs.Seen.{vote_cmp}
-use Rattle.review_kept_changes.proofs.Turned.{begun_by}
+use Rattle.std.proofs.Common.{◌∙◌, None}
+use Rattle.std.proofs.lemmas.Result.{IfOk-weaker}
+use Rattle.review_kept_changes.specs.Kept.{part_in, AreEdited}
+use Rattle.review_kept_changes.proofs.Turned.{bare_before}
 use Rattle.review_kept_changes.proofs.edits.begun.Goals as goal
 
 pub returns : goal.returns
-returns c = begun_by c.args.edit.now (record { header = c.in_ok-copied_header.field-0; patches = c.in_ok-changed_table.field-0; votes = c.in_ok-changed_table-2.field-0; roles = c.in_ok-changed_table-3.field-0; comments = c.in_ok-changed_table-4.field-0; attention = c.in_ok-changed_table-5.field-0 }) (record {
-  header = c.in_ok-copied_header.ensures;
-  patches = λ q. c.in_ok-changed_table.ensures q ∙ (λ i. changed nat_cmp (c.deref.ensures.value i) q (row_in nat_cmp (rows_of (c.new.ensures i)) q));
-  votes = λ q. c.in_ok-changed_table-2.ensures q ∙ (λ i. changed vote_cmp (c.deref-2.ensures.value i) q (row_in vote_cmp (rows_of (c.new-2.ensures i)) q));
-  roles = λ q. c.in_ok-changed_table-3.ensures q ∙ (λ i. changed nat_cmp (c.deref-3.ensures.value i) q (row_in nat_cmp (rows_of (c.new-3.ensures i)) q));
-  comments = λ q. c.in_ok-changed_table-4.ensures q ∙ (λ i. changed nat_cmp (c.deref-4.ensures.value i) q (row_in nat_cmp (rows_of (c.new-4.ensures i)) q));
-  attention = λ q. c.in_ok-changed_table-5.ensures q ∙ (λ i. changed nat_cmp (c.deref-5.ensures.value i) q (row_in nat_cmp (rows_of (c.new-5.ensures i)) q));
-})
+returns c =
+    let edit = c.args.edit.now in
+    let bare = c.in_ok-bare.bare in
+    IfOk-weaker c.edited.result (AreEdited (part_in bare) edit) (AreEdited (λ part. None) edit)
+    (λ tables becomes part. becomes part ∙ bare_before edit bare (record {
+      patches = c.in_ok-bare.ensures.patches;
+      votes = c.in_ok-bare.ensures.votes;
+      roles = c.in_ok-bare.ensures.roles;
+      comments = c.in_ok-bare.ensures.comments;
+      attention = c.in_ok-bare.ensures.attention;
+    }) part)
+    c.edited.ensures

@@ -12,11 +12,13 @@ returns-in_err-comments-clause-fault c =
     (comments_fault c.args.tables.now c.in_err-comments.field-0.0 c.in_err-comments.ensures.fault)
 
 pub returns-clause-shown : goal.returns-clause-shown
-returns-clause-shown c = shown c.args.tables.now (record { header = c.in_ok-copied_header.field-0; patches = c.in_ok-patches.patches; votes = c.in_ok-copied_table.field-0; roles = c.in_ok-copied_table-2.field-0; comments = c.in_ok-comments.comments; attention = c.in_ok-copied_table-3.field-0 }) (record {
-  header = c.in_ok-copied_header.ensures;
-  patches = c.in_ok-patches.ensures.rows;
-  votes = c.in_ok-copied_table.ensures;
-  roles = c.in_ok-copied_table-2.ensures;
-  comments = c.in_ok-comments.ensures.rows;
-  attention = c.in_ok-copied_table-3.ensures;
-})
+returns-clause-shown c =
+    let m = c.in_ok-marks.marks in
+    shown c.args.tables.now (record { header = c.in_ok-header.header; patches = c.in_ok-patches.patches; votes = m.votes; roles = m.roles; comments = c.in_ok-comments.comments; attention = m.attention }) (record {
+      header = c.in_ok-header.ensures;
+      patches = c.in_ok-patches.ensures.rows;
+      votes = c.in_ok-marks.ensures.votes;
+      roles = c.in_ok-marks.ensures.roles;
+      comments = c.in_ok-comments.ensures.rows;
+      attention = c.in_ok-marks.ensures.attention;
+    })

@@ -7,11 +7,8 @@ pub returns-in_err-add-in-Unreadable-clause-answered :
     goal.returns-in_err-add-in-Unreadable-clause-answered
 returns-in_err-add-in-Unreadable-clause-answered g c = did_nothing _ _ _ _ (sym c.in-Unreadable.is) refl (search rules)
 
-pub returns-in_err-line-in-Asks-clause-answered : goal.returns-in_err-line-in-Asks-clause-answered
-returns-in_err-line-in-Asks-clause-answered g c = did_one _ _ _ _ _ _ (sym c.in-Asks.is) c.reply_to-reply.ensures.ran (search rules)
-
-pub returns-in_err-add-in-Asks-clause-answered : goal.returns-in_err-add-in-Asks-clause-answered
-returns-in_err-add-in-Asks-clause-answered g c = did_one _ _ _ _ _ _ (sym c.in-Asks.is) c.reply_to-reply.ensures.ran (search rules)
+pub returns-in_err-add_reply-in-Asks-clause-answered : goal.returns-in_err-add_reply-in-Asks-clause-answered
+returns-in_err-add_reply-in-Asks-clause-answered g c = did_one _ _ _ _ _ _ (sym c.in-Asks.is) c.reply_to-reply.ensures.ran (search rules)
 
 pub returns-in-Nothing-clause-answered : goal.returns-in-Nothing-clause-answered
 returns-in-Nothing-clause-answered g c = did_nothing _ _ _ _ (sym c.in-Nothing.is) refl (search rules)
@@ -25,10 +22,9 @@ returns-in_ok-add-in-Unreadable-clause-answered g c =
       ap (λ x. is_done x [] (all_done [])) (sym c.in-Unreadable.is),
     )
 
-pub returns-in_ok-add-in-Asks-clause-answered : goal.returns-in_ok-add-in-Asks-clause-answered
-returns-in_ok-add-in-Asks-clause-answered g c =
-    let line = c.as_str.ensures.value ∙ c.in_ok-line-in-Asks.ensures in
+pub returns-in_ok-add_reply-in-Asks-clause-answered : goal.returns-in_ok-add_reply-in-Asks-clause-answered
+returns-in_ok-add_reply-in-Asks-clause-answered g c =
     did_one _ _ _ _ _ _ (sym c.in-Asks.is) c.reply_to-reply.ensures.ran (
-      c.in_ok-add-in-Asks.ensures.added ∙ ap (λ l. c.args.output.now.waiting.items ++ l) (sym (told_reply c.args.asked c.in-Asks.delivery c.reply_to-reply.result _ c.in-Asks.is line)),
+      c.in_ok-add_reply-in-Asks.ensures.added ∙ ap (λ l. c.args.output.now.waiting.items ++ l) (sym (told_reply c.args.asked c.in-Asks.delivery c.reply_to-reply.result _ c.in-Asks.is refl)),
       c.outcome_of.ensures ∙ sym (done_reply c.args.asked c.in-Asks.delivery c.reply_to-reply.result c.in-Asks.is),
     )

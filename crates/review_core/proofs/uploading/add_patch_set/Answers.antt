@@ -13,11 +13,11 @@ use Rattle.review_parts.specs.Tables.{put_in}
 use Rattle.review_parts.specs.declared.attention.Who.{Who}
 use Rattle.review_parts.proofs.Copied.{votes_carried, lost_is}
 use Rattle.review_parts.proofs.Counted.{many_copied, many_lost}
-use Rattle.review_core.proofs.uploading.with_patch_set.Goals as goal
+use Rattle.review_core.proofs.uploading.add_patch_set.Goals as goal
 
 pub returns : goal.returns
 returns c =
-    let rows = c.args.rows in
+    let rows = c.args.rows.now in
     let owner = rows.header.owner in
     let caller = c.args.caller in
     let p = c.args.patch in

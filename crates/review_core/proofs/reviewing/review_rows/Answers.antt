@@ -3,11 +3,11 @@ use Rattle.std.specs.Prelude.{if◌then◌else◌, unwrap_or, is_some}
 use Rattle.review_changes.specs.Change.{last_uploader, reviewed, given_or, stored_as, said, new_comments, posts, kept_or, why_replied, why_commented, writer_role, is_open}
 use Rattle.review_changes.specs.Seen.{seen, vote_in, of_account}
 use Rattle.review_parts.specs.declared.attention.Who.{Who}
-use Rattle.review_core.proofs.reviewing.with_review.Goals as goal
+use Rattle.review_core.proofs.reviewing.review_rows.Goals as goal
 
 pub returns : goal.returns
 returns c =
-    let rows = c.args.rows in
+    let rows = c.args.rows.now in
     let r = c.args.review.now in
     let caller = c.args.caller in
     let n : c.reviewed_patch-patch.result ≡ reviewed r (seen rows) = c.reviewed_patch-patch.ensures ∙ ap (λ ps. unwrap_or r.patch (length ps)) c.deref-2.ensures.value in

@@ -1,17 +1,17 @@
-use Rattle.std.proofs.Common.{◌≡◌, ◌&&◌, ◌∙◌, ap, sym, length, true, false}
+use Rattle.std.proofs.Common.{◌≡◌, ◌&&◌, ◌∙◌, ap, sym, length, true}
 use Rattle.std.specs.List.{list_all}
 use Rattle.std.proofs.lemmas.Bool.{and_parts}
 use Rattle.review_table.specs.Rows.{rows_of}
-use Rattle.review_changes.specs.Seen.{of_account}
+use Rattle.review_changes.specs.Seen.{of_account, seen}
 use Rattle.review_changes.specs.Change.{last_uploader}
-use Rattle.review_changes.specs.Sound.{are_in_order}
+use Rattle.review_changes.specs.Sound.{IsSound, are_in_order}
 use Rattle.review_core.specs.Tests.{are_counted, is_called_in_place, is_in_place}
 use Rattle.review_core.proofs.Fitting.{call_test, fitting, passing, place_test}
-use Rattle.review_core.proofs.file.ChangeFile.from_rows.Goals as goal
+use Rattle.review_core.proofs.file.fit_together.Goals as goal
 
-pub returns-then-not-are_all : goal.returns-then-not-are_all
-returns-then-not-are_all c =
-    let rows = c.args.rows in
+pub returns : goal.returns
+returns c =
+    let rows = c.args.rows.now in
     let owner = rows.header.owner in
     let current : c.len-current.result ≡ length rows.patches.items = c.len-current.ensures ∙ rows.patches.ok.0 in
     let counted : c.are_counted-counted.result ≡ are_counted (length rows.patches.items) (length rows.comments.items) =
@@ -24,25 +24,11 @@ returns-then-not-are_all c =
     let called : c.in_ok-called.called ≡ list_all (call_test rows) (rows_of rows.attention) =
     c.in_ok-called.ensures ∙ (λ i. list_all (is_called_in_place (c.owner_of-owner.ensures i) (uploader i) (of_account rows.roles)) (rows_of rows.attention)) in
     let whole = c.are_all.ensures ∙ (λ i. counted i && (ordered i && (votes i && called i))) in
-    λ s. let f : true ≡ false = sym (passing rows c.once.ensures.sorted c.once-2.ensures.sorted s) ∙ (sym whole ∙ c.if-not-are_all.true) in absurd (cc)
-
-pub invariant_of-result : goal.invariant_of-result
-invariant_of-result c =
-    let rows = c.args.rows in
-    let owner = rows.header.owner in
-    let current : c.len-current.result ≡ length rows.patches.items = c.len-current.ensures ∙ rows.patches.ok.0 in
-    let counted : c.are_counted-counted.result ≡ are_counted (length rows.patches.items) (length rows.comments.items) =
-    c.are_counted-counted.ensures ∙ (λ i. are_counted (length (c.deref-2.ensures.value i)) (length (c.deref-3.ensures.value i))) in
-    let ordered : c.are_in_order-ordered.result ≡ are_in_order (length rows.patches.items) 0 rows.comments.items =
-    c.are_in_order-ordered.ensures ∙ (λ i. are_in_order (current i) 0 (c.deref-4.ensures.value i)) in
-    let votes : c.in_ok-votes.votes ≡ list_all (place_test rows) (rows_of rows.votes) =
-    c.in_ok-votes.ensures ∙ (λ i. list_all (is_in_place (current i) (of_account rows.roles)) (rows_of rows.votes)) in
-    let uploader : c.uploader_of-uploader.result ≡ last_uploader owner rows.patches.items = c.uploader_of-uploader.ensures ∙ ap (last_uploader owner) c.deref.ensures.value in
-    let called : c.in_ok-called.called ≡ list_all (call_test rows) (rows_of rows.attention) =
-    c.in_ok-called.ensures ∙ (λ i. list_all (is_called_in_place (c.owner_of-owner.ensures i) (uploader i) (of_account rows.roles)) (rows_of rows.attention)) in
-    let whole = c.are_all.ensures ∙ (λ i. counted i && (ordered i && (votes i && called i))) in
+    let fits : c.are_all.result ≡ true → IsSound (seen rows) =
+    λ is.
     let p = and_parts (are_counted (length rows.patches.items) (length rows.comments.items)) (are_in_order (length rows.patches.items) 0 rows.comments.items && (list_all (place_test rows) (rows_of rows.votes) && list_all (call_test rows) (rows_of rows.attention)))
-    (sym whole ∙ c.if-not-are_all.false) in
+    (sym whole ∙ is) in
     let q = and_parts (are_in_order (length rows.patches.items) 0 rows.comments.items) (list_all (place_test rows) (rows_of rows.votes) && list_all (call_test rows) (rows_of rows.attention)) p.1 in
     let r = and_parts (list_all (place_test rows) (rows_of rows.votes)) (list_all (call_test rows) (rows_of rows.attention)) q.1 in
-    record { sound = fitting rows p.0 q.0 r.0 r.1 }
+    fitting rows p.0 q.0 r.0 r.1 in
+    (fits, λ s. whole ∙ passing rows c.once.ensures.sorted c.once-2.ensures.sorted s)
