@@ -262,9 +262,14 @@ call_form = record {
 abbrev pub change_numbers : Search (Unit {0}) ℕ
 change_numbers = record { tree = 9; at = λ u. []; shown = λ r. column r 0 ∷ []; read = λ r. number_in (column r 0) }
 
--- the places of a branch's changes
-abbrev pub change_places : Search BranchKey ℕ
-change_places = record { tree = 9; at = λ b. (2, Text b.project) ∷ (3, Text b.branch) ∷ []; shown = λ r. column r 8 ∷ []; read = λ r. number_in (column r 0) }
+-- the changes for a branch, each with its place
+abbrev pub change_places : Search BranchKey (ℕ × ℕ)
+change_places = record {
+  tree = 9;
+  at = λ b. (2, Text b.project) ∷ (3, Text b.branch) ∷ [];
+  shown = λ r. column r 0 ∷ column r 8 ∷ [];
+  read = λ r. both (where_is (is_within most_changes) (number_in (column r 0))) (where_is is_small (number_in (column r 1)));
+}
 
 -- the patch sets that have a commit
 abbrev pub sent : Search (List ℕ) (ℕ × ℕ)

@@ -1,6 +1,8 @@
 //! The headers of changes.
 
-use crate::values::{account_number, flag_at, flag_number, small, small_at, state_at, state_name};
+use crate::values::{
+    account_number, change_at, flag_at, flag_number, small, small_at, state_at, state_name,
+};
 use review_changes::Header;
 use review_records::names::{account_at, name_at};
 use review_records::numbers::to_sql;
@@ -120,7 +122,7 @@ impl Greatest for LastChange {
     }
 }
 
-/// The greatest place of a change in a branch.
+/// The change with the greatest place of a branch, and its place.
 pub struct LastJoined;
 
 impl Greatest for LastJoined {
@@ -128,7 +130,7 @@ impl Greatest for LastJoined {
 
     type Key = BranchKey;
 
-    type Item = u64;
+    type Item = (ChangeNo, u32);
 
     ghost search = { change_places };
 
@@ -141,7 +143,10 @@ impl Greatest for LastJoined {
         )
     }
 
-    fn read(_alloc: Global, row: &Row) -> Result<Option<u64>, AllocError> {
-        Ok(number_at(row, 0))
+    fn read(_alloc: Global, row: &Row) -> Result<Option<(ChangeNo, u32)>, AllocError> {
+        let (Some(change), Some(place)) = (change_at(row, 0), small_at(row, 1)) else {
+            return Ok(None);
+        };
+        Ok(Some((change, place)))
     }
 }

@@ -222,7 +222,7 @@ bases_damaged db key (Some s) t is have gap h history view =
 
 -- ---- greatest numbers
 
-greater : (n m : ℕ) → m < n → is_gt (int_cmp (pos n) (pos m)) ≡ true
+pub greater : (n m : ℕ) → m < n → is_gt (int_cmp (pos n) (pos m)) ≡ true
 greater n m less =
     let after : int_lt (pos m) (pos n) ≡ true = lt-ltb m n less in
     let before : int_lt (pos n) (pos m) ≡ false = elim (leb_tells (suc n) m) [ inl few ↦ absurd (omega (arith, few.1, less)) | inr many ↦ many.0 ] in

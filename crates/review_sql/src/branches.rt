@@ -12,7 +12,9 @@ ghost use Rattle.review_tables.specs.Fronts.{HaveRows, Knows};
 ghost use Rattle.review_tables.specs.Greatest.{HasGreatest};
 ghost use Rattle.review_tables.specs.Ran.{Looks};
 ghost use Rattle.review_tables.specs.Search.{row_at, rows_at};
+ghost use Rattle.review_rows.specs.Known.{IsBaseOrNot};
 ghost use Rattle.review_sql.specs.Loads.{HasLearnt, Sees, IsOrdered};
+ghost use Rattle.review_sql.specs.Tables.{tables_at};
 
 use crate::learning::{
     learn_base, learn_bases, learn_file, learn_last_place, learn_project, learn_room_for_bases,
@@ -259,29 +261,21 @@ fn stands(found: &Option<Option<CommitName>>, commit: &CommitName) -> bool
     }
 }
 
-#[tactic(auto, using(crate::proofs::Telling::has_learnt))]
-fn tell_base(
-    alloc: Global,
-    base: &Base,
-    place: u64,
-    found: Option<Option<CommitName>>,
-    rows: &mut Rows,
-) -> Sight
-    ensures told { (db : Trees) → found ≡ row_at bases db (record { project = base.now.project; branch = base.now.branch; place = place }) → Sees (want.Base base.now) rows.old rows.new db result }
-    ensures learnt { result ≡ Sight.Learnt → HasLearnt (want.Base base.now) rows.old rows.new }
+fn stands_at(base: &Base, place: u64, found: Option<Option<CommitName>>) -> Option<bool>
+    ensures { (db : Trees) → found ≡ row_at bases db (record { project = base.now.project; branch = base.now.branch; place = place }) → Knows result (IsBaseOrNot (tables_at db).row base.now) }
 {
-    if !stands(&found, &base.commit) {
-        return Sight::Odd;
+    let _place = place;
+    if stands(&found, &base.commit) {
+        return Some(true);
     }
-    learnt(learn_base(alloc, base, true, rows))
+    None
 }
 
-#[tactic(auto, using(crate::proofs::Telling::has_learnt))]
-fn tell_no_base(alloc: Global, base: &Base, rows: &mut Rows) -> Sight
-    ensures told { (db : Trees) → None ≡ row_at base_commits db base.now → Sees (want.Base base.now) rows.old rows.new db result }
-    ensures learnt { result ≡ Sight.Learnt → HasLearnt (want.Base base.now) rows.old rows.new }
+fn stands_nowhere(base: &Base) -> Option<bool>
+    ensures { (db : Trees) → None ≡ row_at base_commits db base.now → Knows result (IsBaseOrNot (tables_at db).row base.now) }
 {
-    learnt(learn_base(alloc, base, false, rows))
+    let _base = base;
+    Some(false)
 }
 
 fn place_key(alloc: Global, base: &Base, place: u64) -> Result<PlaceKey, AllocError>
@@ -294,7 +288,39 @@ fn place_key(alloc: Global, base: &Base, place: u64) -> Result<PlaceKey, AllocEr
     })
 }
 
-/// Whether a commit is a base of a branch. The commit is looked up first, and then the place that it has.
+/// Whether a commit is a base of a branch; none where a row of it is odd. The commit is looked up first, and then the place that it has.
+pub fn is_base<S: Alter>(
+    tx: &mut Transaction<'_, S>,
+    alloc: Global,
+    base: &Base,
+) -> Result<Option<bool>, Error>
+    ensures same_reference { tx.new.conn.ghost_name ≡ tx.old.conn.ghost_name }
+    ensures looks { Looks (λ db is. Knows is (IsBaseOrNot (tables_at db).row base.now)) (state S.Store tx.old.conn.now) (state S.Store tx.new.conn.now) result }
+{
+    let found = find::<BaseCommits, S>(tx, alloc, base)?;
+    match found {
+        Some(Some(place)) => {
+            let key = place_key(alloc, base, place)?;
+            let stored = find::<Bases, S>(tx, alloc, &key)?;
+            Ok(stands_at(base, place, stored))
+        }
+        Some(None) => Ok(None),
+        None => Ok(stands_nowhere(base)),
+    }
+}
+
+#[tactic(auto, using(crate::proofs::Telling::has_learnt))]
+fn tell_base(alloc: Global, base: &Base, is: Option<bool>, rows: &mut Rows) -> Sight
+    ensures told { (db : Trees) → Knows is (IsBaseOrNot (tables_at db).row base.now) → Sees (want.Base base.now) rows.old rows.new db result }
+    ensures learnt { result ≡ Sight.Learnt → HasLearnt (want.Base base.now) rows.old rows.new }
+{
+    match is {
+        Some(is) => learnt(learn_base(alloc, base, is, rows)),
+        None => Sight::Odd,
+    }
+}
+
+/// Whether a commit is a base of a branch.
 pub fn find_base<S: Alter>(
     tx: &mut Transaction<'_, S>,
     alloc: Global,
@@ -305,14 +331,6 @@ pub fn find_base<S: Alter>(
     ensures looks { Looks (Sees (want.Base base.now) rows.old rows.new) (state S.Store tx.old.conn.now) (state S.Store tx.new.conn.now) result }
     ensures learnt { IfOk result (λ s. s ≡ Sight.Learnt → HasLearnt (want.Base base.now) rows.old rows.new) }
 {
-    let found = find::<BaseCommits, S>(tx, alloc, base)?;
-    match found {
-        Some(Some(place)) => {
-            let key = place_key(alloc, base, place)?;
-            let stored = find::<Bases, S>(tx, alloc, &key)?;
-            Ok(tell_base(alloc, base, place, stored, rows))
-        }
-        Some(None) => Ok(Sight::Odd),
-        None => Ok(tell_no_base(alloc, base, rows)),
-    }
+    let is = is_base(tx, alloc, base)?;
+    Ok(tell_base(alloc, base, is, rows))
 }

@@ -3,10 +3,11 @@ ghost use Rattle.std.specs.Prelude.{◌≡◌, Some, None, IfOk, IfErr, IfSome, 
 ghost use Rattle.review_table.specs.Rows.{rows_of};
 ghost use Rattle.review_rows.specs.declared.rows.Want.TheVariants as want;
 ghost use Rattle.review_rows.specs.declared.rows.Counted.TheVariants as counted;
-ghost use Rattle.review_rows.specs.Known.{Number, Holder, IsSo, Members, Text, Commits, Learns};
+ghost use Rattle.review_rows.specs.Known.{Number, Holder, IsSo, Members, Stands, Text, Commits, Learns};
 ghost use Rattle.review_sql.specs.Loads.{last_of, learnt_by};
 
 use crate::loading::Sight;
+use review_chain::Standing;
 use review_rows::{Base, BranchKey, MemberKey, Rows};
 use review_table::{Key, Table};
 use review_words::{AccountName, AccountNo, Bases, ChangeNo, FileText, GroupName, ProjectName};
@@ -148,4 +149,26 @@ pub fn learn_change_of(
     ensures { OnOk result (Learns (want.ChangeOf base.now) (Holder change) rows.old rows.new) }
 {
     rows.learn_change_of(base.copy(alloc)?, change)
+}
+
+pub fn learn_standing(
+    alloc: Global,
+    base: &Base,
+    standing: Standing,
+    rows: &mut Rows,
+) -> Result<(), AllocError>
+    ensures { OnOk result (Learns (want.Standing base.now) (Stands standing) rows.old rows.new) }
+{
+    rows.learn_standing(base.copy(alloc)?, standing)
+}
+
+pub fn learn_last_joined(
+    alloc: Global,
+    branch: &BranchKey,
+    last: u32,
+    rows: &mut Rows,
+) -> Result<(), AllocError>
+    ensures { OnOk result (Learns (want.LastJoined branch.now) (Number last) rows.old rows.new) }
+{
+    rows.learn_last_joined(branch.copy(alloc)?, last)
 }

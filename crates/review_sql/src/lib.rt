@@ -1,7 +1,6 @@
 //! The tables of a desk in SQLite, as a shelf.
 //!
-//! It keeps all tables of a desk. Three look-ups are not answered yet, and refused as store faults: what a commit is to a branch, the last
-//! place that a change joined a branch at, and the changes that joined it. So no change can be submitted.
+//! It keeps all tables of a desk. One look-up is not answered yet, and refused as a store fault: the changes that joined a branch.
 #![tactic(auto)]
 
 mod branches;
@@ -11,6 +10,7 @@ mod learning;
 mod loading;
 mod opening;
 mod people;
+mod places;
 mod reviews;
 mod seen;
 mod senders;

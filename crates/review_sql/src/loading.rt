@@ -4,7 +4,7 @@ ghost use Rattle.sqlite.specs.Held.{state};
 ghost use Rattle.review_tables.specs.Ran.{Looks, Serves};
 ghost use Rattle.review_sql.specs.Loads.{Sees, AreLoaded, HasLearnt, WereAsked};
 
-use crate::{branches, people, reviews, senders};
+use crate::{branches, people, places, reviews, senders};
 use review_records::desk::Desk;
 use review_rows::{Counted, Rows, Want};
 use review_tables::reads::find as find_row;
@@ -61,9 +61,10 @@ fn find<S: Alter>(
         Want::Bases(branch) => branches::find_bases(tx, alloc, branch, rows),
         Want::Change(number) => reviews::find_change(tx, alloc, *number, rows),
         Want::LastChange => reviews::find_last_change(tx, alloc, rows),
-        Want::ChangeOf(_) | Want::LastJoined(_) | Want::Standing(_) | Want::Joined(_) => Err(
-            Error::InvalidQuery,
-        ),
+        Want::ChangeOf(base) => senders::find_change_of(tx, alloc, base, rows),
+        Want::Standing(base) => senders::find_standing(tx, alloc, base, rows),
+        Want::LastJoined(branch) => places::find_last_joined(tx, alloc, branch, rows),
+        Want::Joined(_) => Err(Error::InvalidQuery),
     }
 }
 

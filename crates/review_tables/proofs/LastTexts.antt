@@ -93,7 +93,7 @@ last_joined_tests = text_is 2 0 ∷ text_is 3 1 ∷ []
 last_joined_has : (project : List ℕ) (branch : List ℕ) (row : Row) → passes (Text project ∷ Text branch ∷ []) last_joined_tests row ≡ has_key ((2, Text project) ∷ (3, Text branch) ∷ []) row
 last_joined_has project branch row = λ i. (tested_text (Text project ∷ Text branch ∷ []) row 2 0 project refl i && (tested_text (Text project ∷ Text branch ∷ []) row 3 1 branch refl i && true))
 
-last_joined_is : command_of (understood desk_schema FIND_LAST_JOINED.now) ≡ Select (record { lets = []; body = last_of 9 last_joined_tests (col 1 8 ∷ []) 8 }) (codes "place" ∷ [])
+last_joined_is : command_of (understood desk_schema FIND_LAST_JOINED.now) ≡ Select (record { lets = []; body = last_of 9 last_joined_tests (col 1 0 ∷ col 1 8 ∷ []) 8 }) (codes "number" ∷ codes "place" ∷ [])
 unfolding understood everything
 last_joined_is = refl
 
@@ -105,8 +105,8 @@ last_joined_unlisted : reads_listing desk_schema FIND_LAST_JOINED.now ≡ false
 unfolding understood everything
 last_joined_unlisted = refl
 
-pub last_joined_found : (old new : State) (project : List ℕ) (branch : List ℕ) (rows : List Row) → old.now.schema ≡ desk_schema → Shown FIND_LAST_JOINED.now (Text project ∷ Text branch ∷ []) old new rows → ShowsGreatest (λ r. column r 8 ∷ []) 8 (filter (has_key ((2, Text project) ∷ (3, Text branch) ∷ [])) (old.now.trees 9)) rows
-last_joined_found old new project branch rows has h = finds_last FIND_LAST_JOINED.now (Text project ∷ Text branch ∷ []) old new has 9 last_joined_tests (col 1 8 ∷ []) 8 (codes "place" ∷ []) last_joined_is last_joined_plain last_joined_unlisted ((2, Text project) ∷ (3, Text branch) ∷ []) (last_joined_has project branch) refl rows h
+pub last_joined_found : (old new : State) (project : List ℕ) (branch : List ℕ) (rows : List Row) → old.now.schema ≡ desk_schema → Shown FIND_LAST_JOINED.now (Text project ∷ Text branch ∷ []) old new rows → ShowsGreatest (λ r. column r 0 ∷ column r 8 ∷ []) 8 (filter (has_key ((2, Text project) ∷ (3, Text branch) ∷ [])) (old.now.trees 9)) rows
+last_joined_found old new project branch rows has h = finds_last FIND_LAST_JOINED.now (Text project ∷ Text branch ∷ []) old new has 9 last_joined_tests (col 1 0 ∷ col 1 8 ∷ []) 8 (codes "number" ∷ codes "place" ∷ []) last_joined_is last_joined_plain last_joined_unlisted ((2, Text project) ∷ (3, Text branch) ∷ []) (last_joined_has project branch) refl rows h
 
 -- ---- last patch
 

@@ -193,7 +193,7 @@ pub const FIND_LAST_PLACE: &str =
 pub const FIND_LAST_CHANGE: &str = "SELECT number FROM changes ORDER BY number DESC LIMIT 1";
 
 pub const FIND_LAST_JOINED: &str =
-    "SELECT place FROM changes WHERE project = ?1 AND branch = ?2 ORDER BY place DESC LIMIT 1";
+    "SELECT number, place FROM changes WHERE project = ?1 AND branch = ?2 ORDER BY place DESC LIMIT 1";
 
 pub const FIND_LAST_PATCH: &str =
     "SELECT patch, commit_name FROM patches WHERE change = ?1 ORDER BY patch DESC LIMIT 1";
