@@ -11,7 +11,7 @@ use std::test::Fail;
 
 type Desk = SqlShelf<MemStore>;
 
-fn made(alloc: Global) -> Result<Desk, Fail> {
+pub fn made(alloc: Global) -> Result<Desk, Fail> {
     match Desk::create(alloc, Connection::open_in_memory(alloc)?) {
         Ok(desk) => Ok(desk),
         Err(_) => Err(Fail::new("not made")),
@@ -25,7 +25,7 @@ fn id(alloc: Global, text: &str) -> Result<RequestId, Fail> {
     }
 }
 
-fn kept(alloc: Global, text: &str, request: u64) -> Result<Kept, Fail> {
+pub fn kept(alloc: Global, text: &str, request: u64) -> Result<Kept, Fail> {
     Ok(Kept {
         caller: AccountNo::first(),
         id: id(alloc, text)?,
