@@ -5,8 +5,9 @@
 //! to 100 changes. The first link that isn't so is the change's bad link.
 //!
 //! [`Links`] say what is known of a branch, which may be a part: [`chain`] answers the chain or the name of the bad link, or that something
-//! isn't known, and [`wanted`] what has to be looked up next, [`wanted_on`] the same from where an earlier look has come to. [`joins`] gives the changes of a chain their places. The laws say that there is
-//! one chain or one bad link, and that a part in which nothing is wanted decides for the whole branch.
+//! isn't known, and [`wanted`] what has to be looked up next, [`wanted_on`] the same from where an earlier look has come to. [`joins`] gives
+//! the changes of a chain their places. The laws say that there is one chain or one bad link, and that a part in which nothing is wanted
+//! decides for the whole branch.
 #![tactic(auto)]
 
 pub mod laws;

@@ -189,8 +189,9 @@ impl Walked {
     }
 }
 
-/// What has to be looked up next to find the chain of a change, going on from a walk to it; what [`wanted`] answers. The walk is then the
-/// longest that is known. An error is want of memory, and leaves a walk too.
+/// What has to be looked up next to find the chain of a change, going on from a walk to it; what [`wanted`] answers, wherever the walk begins.
+/// It leaves a walk to the change, from which the next look may go on. An error is want of memory, and leaves one too. How long the walk is
+/// is not promised: only speed depends on it.
 pub fn wanted_on<L: Links>(
     alloc: Global,
     links: &L,
