@@ -1,0 +1,12 @@
+use Rattle.std.proofs.Common.{pos}
+use Rattle.sqlite.specs.Held.{state}
+use Rattle.review_tables.proofs.AnswerTexts.{find_plain, found}
+use Rattle.review_tables.proofs.Sequences.{look}
+use Rattle.review_records.proofs.answers.AnswersLookup.select.Goals as goal
+
+pub returns-clause-looks : goal.returns-clause-looks
+returns-clause-looks g c =
+    let old = state g.S.Store c.args.tx.now.conn.now in
+    let new = state g.S.Store c.query_all.new.self.conn.now in
+    look (λ v. v.items) _ _ old new c.query_all.result _ find_plain (λ x has h. found old new (pos c.args.key.now.caller) c.args.key.now.id x.items has h)
+    (λ clean. rw (c.params-to_sql.ensures, c.params-to_sql-2.ensures, c.get.ensures.value, c.as_str.ensures.text) at (c.query_all.ensures.ok clean)) (λ clean. rw (c.params-to_sql.ensures, c.params-to_sql-2.ensures, c.get.ensures.value, c.as_str.ensures.text) at (c.query_all.ensures.err clean)) c.query_all.ensures.survives

@@ -1,0 +1,12 @@
+//! The records of a desk in SQLite: how the rows of each table are stored, looked up and read.
+#![tactic(auto)]
+
+pub mod accounts;
+pub mod answers;
+pub mod bases;
+pub mod desk;
+pub mod members;
+pub mod names;
+pub mod numbers;
+pub mod projects;
+pub mod rows;

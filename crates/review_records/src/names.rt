@@ -1,0 +1,40 @@
+//! Names and numbers, as they are read from columns.
+ghost use Rattle.std.specs.Prelude.{◌≡◌, Some, IfOk, nat_le, option_map, pos};
+ghost use Rattle.sqlite_value.specs.Order.{column};
+ghost use Rattle.review_names.specs.Names.{is_account_number};
+ghost use Rattle.review_tables.specs.Columns.{number_in, text_in};
+ghost use Rattle.review_records.specs.Forms.{where_is};
+
+use crate::rows::PlaceNo;
+use review_tables::columns::{number_at, text_at};
+use review_words::{AccountNo, BadName, Form, Name};
+use sqlite::Row;
+use std::alloc::{AllocError, Global};
+
+/// The name in a column; none where it is no name of the form.
+pub fn name_at<F: Form>(alloc: Global, row: &Row, at: usize) -> Result<Option<Name<F>>, AllocError>
+    ensures { IfOk result (λ name. name ≡ where_is F.is_form (text_in (column row.now at))) }
+{
+    let Some(text) = text_at(row, at) else {
+        return Ok(None);
+    };
+    match Name::read(alloc, text) {
+        Ok(name) => Ok(Some(name)),
+        Err(BadName::Form) => Ok(None),
+        Err(BadName::Memory) => Err(AllocError),
+    }
+}
+
+/// The account whose number is in a column; none where it is no such number.
+pub fn account_at(row: &Row, at: usize) -> Option<AccountNo>
+    ensures { result ≡ where_is is_account_number (number_in (column row.now at)) }
+{
+    AccountNo::from_number(number_at(row, at)?)
+}
+
+/// The place whose number is in a column; none where it is no such number.
+pub fn place_at(row: &Row, at: usize) -> Option<PlaceNo>
+    ensures { result ≡ where_is (nat_le 1) (number_in (column row.now at)) }
+{
+    PlaceNo::from_number(number_at(row, at)?)
+}

@@ -1,0 +1,277 @@
+-- What the statements of a commit do together.
+use Rattle.std.proofs.Common.{◌≡◌, ◌≢◌, ◌∙◌, ◌+◌, ◌≤◌, ◌==◌, ◌&&◌, ℕ, List, [], ◌∷◌, Option, Some, None, option_map, Bool, cond, Ordering, Less, Equal, Greater, true, false, is_some, refl, sym, ap, subst, arith, inl, inr, length, filter, eqb-true, eq-eqb}
+use Rattle.std.specs.Str.{bytes_eq}
+use Rattle.std.specs.Ordering.{nat_cmp, is_eq, ordering_then}
+use Rattle.std.specs.Cmp.Lexicographic.{slice_cmp}
+use Rattle.std.proofs.lemmas.Bool.{cases_Bool, and_parts, and_from, both_ways}
+use Rattle.std.proofs.lemmas.Cmp.{nat_cmp_total, tied_itself, nat_list_cmp_total}
+use Rattle.std.proofs.lemmas.Map.Lookups.{exact_unsigned, exact_bytes}
+use Rattle.sqlite_value.specs.declared.value.Value.TheVariants.{Text}
+use Rattle.sqlite_value.specs.Order.{Row as Raw, column}
+use Rattle.sqlite_trees.specs.Tree.{Trees}
+use Rattle.sqlite.specs.Effect.{Database}
+use Rattle.review_table.specs.Rows.{change_of, after_change}
+use Rattle.review_words.specs.History.{Identity, is_same}
+use Rattle.review_rows.specs.declared.rows.Delta.{Delta}
+use Rattle.review_rows.specs.declared.rows.Kept.{Kept}
+use Rattle.review_rows.specs.declared.rows.MemberKey.{MemberKey as Member}
+use Rattle.review_rows.specs.declared.rows.ProjectRow.{ProjectRow}
+use Rattle.review_rows.specs.declared.rows.BaseRow.{BaseRow as PlacedBase}
+use Rattle.review_rows.specs.Rows.{Key, AccountKey, MemberKey, FileKey, BaseKey, PartKey, OddKey, Row, AccountRow, MemberRow, FileRow, BaseRow, APart, edited, Count, Projects, BasesOf, Answered, member_cmp, member_change, account_change, file_after, base_after, kept_row, after, count_after, projects_after, bases_after}
+use Rattle.review_rows.specs.Shelf.{IsCommitted}
+use Rattle.review_records.specs.declared.rows.PlaceKey.{PlaceKey}
+use Rattle.review_tables.specs.Content.{Then, has_key}
+use Rattle.review_tables.specs.Desk.{is_tree}
+use Rattle.review_tables.specs.Ran.{OnDesk}
+use Rattle.review_tables.specs.Search.{row_at, rows_at, only, reads, SetsAny}
+use Rattle.review_tables.specs.Fronts.{IsExact}
+use Rattle.review_tables.proofs.Changed.{rows_changed, rows_spare, any_spares}
+use Rattle.review_tables.proofs.Keys.{equal_is, same_text}
+use Rattle.review_sql.specs.Changes.{SetsDelta, SetsKept, SetsDesk, place_of}
+use Rattle.review_records.specs.Forms.{accounts, members, projects, bases, answers}
+use Rattle.review_sql.specs.Tables.{told, row_in, count_in, answer_in, stored_as, number_of, tables_at, Commits, IsDesk, AreSingle}
+use Rattle.review_sql.proofs.Edits.{edits_spare, is_part_tree, part_same, parts_edited}
+use Rattle.review_sql.proofs.Begin.{same_bytes, own_bytes}
+
+-- ---- keys
+
+numbers_exact : IsExact nat_cmp
+numbers_exact = record { same = λ a b is. exact_unsigned a b (equal_is _ is); itself = λ a. ap is_eq (tied_itself nat_cmp_total a) }
+
+both_equal : (o p : Ordering) → is_eq (ordering_then o p) ≡ true → (is_eq o ≡ true) × (is_eq p ≡ true)
+both_equal Less p is = absurd (cc)
+both_equal Equal p is = (refl, is)
+both_equal Greater p is = absurd (cc)
+
+then_equal : (o p : Ordering) → o ≡ Equal → p ≡ Equal → is_eq (ordering_then o p) ≡ true
+then_equal o p a b = rw (a, b) refl
+
+members_exact : IsExact member_cmp
+members_exact = record {
+  same = λ a b is.
+      let parts = both_equal (slice_cmp nat_cmp a.group b.group) (nat_cmp a.account b.account) is in
+      let group : a.group ≡ b.group = exact_bytes a.group b.group (equal_is _ parts.0) in
+      let account : a.account ≡ b.account = exact_unsigned a.account b.account (equal_is _ parts.1) in
+      (λ i. record { group = group i; account = account i });
+  itself = λ a. then_equal (slice_cmp nat_cmp a.group a.group) (nat_cmp a.account a.account) (tied_itself nat_list_cmp_total a.group) (tied_itself nat_cmp_total a.account);
+}
+
+-- ---- rows
+
+told_account : (c : Option (Option (List ℕ))) (was : Option (Option (List ℕ))) → told AccountRow (after_change (option_map (option_map Some) c) was) ≡ after_change (account_change c) (told AccountRow was)
+told_account None was = refl
+told_account (Some None) was = refl
+told_account (Some (Some name)) was = refl
+
+told_member : (c : Option (Option (Unit {0}))) (was : Option (Option (Unit {0}))) → told (λ u. MemberRow) (after_change (option_map (option_map Some) c) was) ≡ after_change (member_change c) (told (λ u. MemberRow) was)
+told_member None was = refl
+told_member (Some None) was = refl
+told_member (Some (Some u)) was = refl
+
+abbrev File : Option ProjectRow → Trees → Trees → Type 0
+File = SetsAny projects (λ (r : ProjectRow). r.project) (λ r. r.file)
+
+abbrev Base : Option PlacedBase → Trees → Trees → Type 0
+Base = SetsAny bases place_of (λ r. r.commit)
+
+file_row : (o : Option ProjectRow) (old new : Trees) → File o old new → (p : List ℕ) → told FileRow (row_at projects new p) ≡ file_after o p (told FileRow (row_at projects old p))
+file_row None old new h p = ap (λ (t : Trees). told FileRow (row_at projects t p)) h
+file_row (Some put) old new h p = elim (cases_Bool (bytes_eq put.project p)) [
+  | inl is ↦ rw is (subst (λ k. told FileRow (row_at projects new k) ≡ Some (FileRow put.file)) (same_bytes put.project p is) (ap (told FileRow) h.here))
+  | inr other ↦ rw other (ap (told FileRow) (h.there p (λ same. both_ways _ other (own_bytes put.project p (sym same)))))
+]
+
+abbrev at_base : PlacedBase → List ℕ → List ℕ → ℕ → Bool
+at_base b project branch place = bytes_eq b.project project && (bytes_eq b.branch branch && (b.place == place))
+
+base_row : (o : Option PlacedBase) (old new : Trees) → Base o old new → (project branch : List ℕ) (place : ℕ)
+    → told BaseRow (row_at bases new (record { project = project; branch = branch; place = place })) ≡ base_after o project branch place (told BaseRow (row_at bases old (record { project = project; branch = branch; place = place })))
+base_row None old new h project branch place = ap (λ (t : Trees). told BaseRow (row_at bases t (record { project = project; branch = branch; place = place }))) h
+base_row (Some b) old new h project branch place = elim (cases_Bool (at_base b project branch place)) [
+  | inl is ↦
+      let one = and_parts _ _ is in
+      let two = and_parts _ _ one.1 in
+      rw is (subst (λ k. told BaseRow (row_at bases new k) ≡ Some (BaseRow b.commit)) (λ i. record { project = same_bytes b.project project one.0 i; branch = same_bytes b.branch branch two.0 i; place = eqb-true b.place place two.1 i }) (ap (told BaseRow) h.here))
+  | inr other ↦ rw other (ap (told BaseRow) (h.there (record { project = project; branch = branch; place = place })
+      (λ same. both_ways (at_base b project branch place) other (and_from _ _ (own_bytes b.project project (sym (ap (λ k. k.project) same))) (and_from _ _ (own_bytes b.branch branch (sym (ap (λ k. k.branch) same))) (eq-eqb b.place place (sym (ap (λ k. k.place) same))))))))
+]
+
+-- ---- counts
+
+all_pass : (rows : List Raw) → filter (λ r. true) rows ≡ rows
+all_pass [] = refl
+all_pass (r ∷ rows) = ap (λ l. r ∷ l) (all_pass rows)
+
+-- a count of projects after a file was put, where the rows of projects were these
+abbrev count_after_file : Option ProjectRow → (List ℕ → Option Row) → ℕ → ℕ
+count_after_file None row n = n
+count_after_file (Some put) row n = cond (is_some (row put.project)) n (n + 1)
+
+file_counts : (o : Option ProjectRow) (row : Key → Option Row) (n : ℕ) → count_after_file o (λ p. row (FileKey p)) n ≡ projects_after o row n
+file_counts None row n = refl
+file_counts (Some put) row n = refl
+
+-- a count of bases after one was put
+abbrev count_after_base : Option PlacedBase → (PlaceKey → Option Row) → List ℕ → ℕ → ℕ
+count_after_base None row project n = n
+count_after_base (Some b) row project n = cond (bytes_eq b.project project) (cond (is_some (row (place_of b))) n (n + 1)) n
+
+base_counts : (o : Option PlacedBase) (row : Key → Option Row) (project : List ℕ) (n : ℕ) → count_after_base o (λ k. row (BaseKey k.project k.branch k.place)) project n ≡ bases_after o row project n
+base_counts None row project n = refl
+base_counts (Some b) row project n = refl
+
+-- one more where the key had no row, and as many where it had one
+counted_as : {X : Type 0} (kind : X → Row) (read : Raw → Option X) (rows : List Raw) (n m : ℕ) → length rows ≤ 1 → m + length rows ≡ n + 1 → m ≡ cond (is_some (told kind (only read rows))) n (n + 1)
+counted_as kind read [] n m single more = omega (arith, more)
+counted_as {X} kind read (r ∷ []) n m single more = go (read r) (omega (arith, more))
+  where
+    go : (o : Option X) → m ≡ n → m ≡ cond (is_some (told kind (Some o))) n (n + 1)
+    go None same = same
+    go (Some x) same = same
+counted_as kind read (r ∷ s ∷ rows) n m single more = absurd (omega (arith, single))
+
+file_count : (o : Option ProjectRow) (old new : Trees) → File o old new → ((p : List ℕ) → length (rows_at (projects.at p) (old 4)) ≤ 1) → length (new 4) ≡ count_after_file o (λ p. told FileRow (row_at projects old p)) (length (old 4))
+file_count None old new h single = ap (λ (t : Trees). length (t 4)) h
+file_count (Some put) old new h single =
+    counted_as FileRow (reads projects) (rows_at (projects.at put.project) (old 4)) (length (old 4)) (length (new 4)) (single put.project)
+    (let e = h.counted (λ r. true) (λ r has. refl) in rw (all_pass (new 4), all_pass (old 4)) at e)
+
+base_count : (o : Option PlacedBase) (old new : Trees) → Base o old new → ((k : PlaceKey) → length (rows_at (bases.at k) (old 6)) ≤ 1) → (project : List ℕ)
+    → length (rows_at ((1, Text project) ∷ []) (new 6)) ≡ count_after_base o (λ k. told BaseRow (row_at bases old k)) project (length (rows_at ((1, Text project) ∷ []) (old 6)))
+base_count None old new h single project = ap (λ (t : Trees). length (rows_at ((1, Text project) ∷ []) (t 6))) h
+base_count (Some b) old new h single project = elim (cases_Bool (bytes_eq b.project project)) [
+  | inl is ↦ rw is (counted_as BaseRow (reads bases) (rows_at (bases.at (place_of b)) (old 6)) (length (rows_at ((1, Text project) ∷ []) (old 6))) (length (rows_at ((1, Text project) ∷ []) (new 6))) (single (place_of b))
+      (h.counted (has_key ((1, Text project) ∷ [])) (λ r has. subst (λ p. has_key ((1, Text p) ∷ []) r ≡ true) (same_bytes b.project project is) (and_from _ _ (and_parts _ _ has).0 refl))))
+  | inr other ↦ rw other (ap length (h.apart (has_key ((1, Text project) ∷ [])) (λ r has. elim (cases_Bool (has_key ((1, Text project) ∷ []) r)) [
+    | inl too ↦ absurd (both_ways _ other (own_bytes b.project project (same_text (column r 1) b.project project (and_parts _ _ has).0 (and_parts _ _ too).0)))
+    | inr apart ↦ apart
+  ])))
+]
+
+-- ---- stored requests
+
+answer_row : (kept : Kept) (old new : Trees) → SetsKept kept old new → (i : Identity) → answer_in new i ≡ cond (is_same (kept_row kept).identity i) (Some (Answered (kept_row kept))) (answer_in old i)
+answer_row kept old new h i = elim (cases_Bool (is_same (kept_row kept).identity i)) [
+  | inl same ↦
+      let parts = and_parts _ _ same in
+      let one : (kept_row kept).identity ≡ i = (λ k. record { caller = eqb-true kept.caller i.caller parts.0 k; id = same_bytes kept.id i.id parts.1 k }) in
+      rw same (subst (λ j. answer_in new j ≡ Some (Answered (kept_row kept))) one (ap (stored_as (kept_row kept).identity) h.here))
+  | inr other ↦ rw other (ap (stored_as i) (h.there (record { caller = i.caller; id = i.id })
+      (λ same. both_ways (is_same (kept_row kept).identity i) other (and_from _ _ (eq-eqb kept.caller i.caller (sym (ap (λ k. k.caller) same))) (own_bytes kept.id i.id (sym (ap (λ k. k.id) same)))))))
+]
+
+-- ---- all of it
+
+module _ (delta : Delta) (kept : Kept) (n : ℕ) (a b : Trees) (single : AreSingle a) (was : IsDesk n a) (h : Then (Then (SetsDelta delta) (SetsKept kept)) (SetsDesk (n + 1)) a b) where
+  abbrev t2 : Trees
+  t2 = h.0
+
+  abbrev t1 : Trees
+  t1 = h.1.0
+
+  abbrev u : Trees
+  u = h.1.1.0
+
+  abbrev d3 : Trees
+  d3 = h.1.1.1.0
+
+  abbrev d2 : Trees
+  d2 = h.1.1.1.1.0
+
+  abbrev d1 : Trees
+  d1 = h.1.1.1.1.1.0
+
+  last : (t : ℕ) → is_tree t ≡ true → t ≢ 22 → t ≢ 25 → b t ≡ t1 t
+  last t is p q = h.2.others t is q ∙ h.1.2.others t is p
+
+  late : (t : ℕ) → is_tree t ≡ true → is_part_tree t ≡ false → t ≢ 22 → t ≢ 25 → b t ≡ u t
+  late t is other p q = last t is p q ∙ edits_spare [] delta.changes.items u t1 h.1.1.2 t is other
+
+  base_spares : (t : ℕ) → is_tree t ≡ true → t ≢ 6 → u t ≡ d3 t
+  base_spares t is p = any_spares bases place_of (λ r. r.commit) delta.base d3 u h.1.1.1.2 t is p
+
+  file_spares : (t : ℕ) → is_tree t ≡ true → t ≢ 4 → d3 t ≡ d2 t
+  file_spares t is p = any_spares projects (λ r. r.project) (λ r. r.file) delta.file d2 d3 h.1.1.1.1.2 t is p
+
+  member_spares : (t : ℕ) → is_tree t ≡ true → t ≢ 2 → d2 t ≡ d1 t
+  member_spares t is p = rows_spare members delta.members.items d1 d2 h.1.1.1.1.1.2 t is p
+
+  account_spares : (t : ℕ) → is_tree t ≡ true → t ≢ 0 → d1 t ≡ a t
+  account_spares t is p = rows_spare accounts delta.accounts.items a d1 h.1.1.1.1.1.1 t is p
+
+  at_0 : b 0 ≡ d1 0
+  at_0 = late 0 refl refl (λ e. omega (arith, e)) (λ e. omega (arith, e)) ∙ (base_spares 0 refl (λ e. omega (arith, e)) ∙ (file_spares 0 refl (λ e. omega (arith, e)) ∙ member_spares 0 refl (λ e. omega (arith, e))))
+
+  at_2 : b 2 ≡ d2 2
+  at_2 = late 2 refl refl (λ e. omega (arith, e)) (λ e. omega (arith, e)) ∙ (base_spares 2 refl (λ e. omega (arith, e)) ∙ file_spares 2 refl (λ e. omega (arith, e)))
+
+  was_2 : d1 2 ≡ a 2
+  was_2 = account_spares 2 refl (λ e. omega (arith, e))
+
+  at_4 : b 4 ≡ d3 4
+  at_4 = late 4 refl refl (λ e. omega (arith, e)) (λ e. omega (arith, e)) ∙ base_spares 4 refl (λ e. omega (arith, e))
+
+  was_4 : d2 4 ≡ a 4
+  was_4 = member_spares 4 refl (λ e. omega (arith, e)) ∙ account_spares 4 refl (λ e. omega (arith, e))
+
+  at_6 : b 6 ≡ u 6
+  at_6 = late 6 refl refl (λ e. omega (arith, e)) (λ e. omega (arith, e))
+
+  was_6 : d3 6 ≡ a 6
+  was_6 = file_spares 6 refl (λ e. omega (arith, e)) ∙ (member_spares 6 refl (λ e. omega (arith, e)) ∙ account_spares 6 refl (λ e. omega (arith, e)))
+
+  was_22 : t1 22 ≡ a 22
+  was_22 = edits_spare [] delta.changes.items u t1 h.1.1.2 22 refl refl ∙ (base_spares 22 refl (λ e. omega (arith, e)) ∙ (file_spares 22 refl (λ e. omega (arith, e)) ∙ (member_spares 22 refl (λ e. omega (arith, e)) ∙ account_spares 22 refl (λ e. omega (arith, e)))))
+
+  -- the trees of changes before edits
+  early : (t : ℕ) → is_tree t ≡ true → is_part_tree t ≡ true → u t ≡ a t
+  early t is part = base_spares t is (other 6 t refl part) ∙ (file_spares t is (other 4 t refl part) ∙ (member_spares t is (other 2 t refl part) ∙ account_spares t is (other 0 t refl part)))
+    where
+      other : (n t : ℕ) → is_part_tree n ≡ false → is_part_tree t ≡ true → t ≢ n
+      other n t not_one one same = both_ways (is_part_tree n) not_one (subst (λ m. is_part_tree m ≡ true) same one)
+
+  rows : (k : Key) → row_in b k ≡ after delta k (row_in a k)
+  rows (AccountKey number) =
+      ap (λ l. told AccountRow (only (reads accounts) (rows_at (accounts.at number) l))) at_0
+      ∙ (ap (told AccountRow) (rows_changed accounts nat_cmp numbers_exact delta.accounts.items a d1 h.1.1.1.1.1.1 number) ∙ told_account (change_of nat_cmp delta.accounts.items number) (row_at accounts a number))
+  rows (MemberKey group account) =
+      let k : Member = record { group = group; account = account } in
+      ap (λ l. told (λ u. MemberRow) (only (reads members) (rows_at (members.at k) l))) at_2
+      ∙ (ap (told (λ u. MemberRow)) (rows_changed members member_cmp members_exact delta.members.items d1 d2 h.1.1.1.1.1.2 k) ∙ (told_member (change_of member_cmp delta.members.items k) (row_at members d1 k)
+      ∙ ap (λ l. after_change (member_change (change_of member_cmp delta.members.items k)) (told (λ u. MemberRow) (only (reads members) (rows_at (members.at k) l)))) was_2))
+  rows (FileKey project) =
+      ap (λ l. told FileRow (only (reads projects) (rows_at (projects.at project) l))) at_4
+      ∙ (file_row delta.file d2 d3 h.1.1.1.1.2 project ∙ ap (λ l. file_after delta.file project (told FileRow (only (reads projects) (rows_at (projects.at project) l)))) was_4)
+  rows (BaseKey project branch place) =
+      let k : PlaceKey = record { project = project; branch = branch; place = place } in
+      ap (λ l. told BaseRow (only (reads bases) (rows_at (bases.at k) l))) at_6
+      ∙ (base_row delta.base d3 u h.1.1.1.2 project branch place ∙ ap (λ l. base_after delta.base project branch place (told BaseRow (only (reads bases) (rows_at (bases.at k) l)))) was_6)
+  rows (PartKey n part) =
+      part_same t1 b (last 9 refl (λ e. omega (arith, e)) (λ e. omega (arith, e))) (last 11 refl (λ e. omega (arith, e)) (λ e. omega (arith, e))) (last 14 refl (λ e. omega (arith, e)) (λ e. omega (arith, e)))
+      (last 16 refl (λ e. omega (arith, e)) (λ e. omega (arith, e))) (last 18 refl (λ e. omega (arith, e)) (λ e. omega (arith, e))) (last 20 refl (λ e. omega (arith, e)) (λ e. omega (arith, e))) n part
+      ∙ (parts_edited [] delta.changes.items u t1 h.1.1.2 n part
+      ∙ ap (λ r. after_change (option_map (option_map APart) (edited delta.changes.items n part)) r) (part_same a u (early 9 refl refl) (early 11 refl refl) (early 14 refl refl) (early 16 refl refl) (early 18 refl refl) (early 20 refl refl) n part))
+  rows (OddKey o) = refl
+
+  counts : (c : Count) → count_in b c ≡ count_after delta (row_in a) c (count_in a c)
+  counts Projects =
+      ap length at_4 ∙ (file_count delta.file d2 d3 h.1.1.1.1.2 (λ p. subst (λ l. length (rows_at (projects.at p) l) ≤ 1) (sym was_4) (single.projects_are p))
+      ∙ (ap (λ l. count_after_file delta.file (λ p. told FileRow (only (reads projects) (rows_at (projects.at p) l))) (length l)) was_4 ∙ file_counts delta.file (row_in a) (length (a 4))))
+  counts (BasesOf project) =
+      ap (λ l. length (rows_at ((1, Text project) ∷ []) l)) at_6
+      ∙ (base_count delta.base d3 u h.1.1.1.2 (λ k. subst (λ l. length (rows_at (bases.at k) l) ≤ 1) (sym was_6) (single.bases_are k)) project
+      ∙ (ap (λ l. count_after_base delta.base (λ k. told BaseRow (only (reads bases) (rows_at (bases.at k) l))) project (length (rows_at ((1, Text project) ∷ []) l))) was_6
+      ∙ base_counts delta.base (row_in a) project (length (rows_at ((1, Text project) ∷ []) (a 6)))))
+
+  pub committed : IsCommitted (tables_at a) delta (kept_row kept) (tables_at b)
+  committed = record {
+    row_is = rows;
+    count_is = counts;
+    answer_is = λ i. ap (λ l. stored_as i (only (reads answers) (rows_at (answers.at (record { caller = i.caller; id = i.id })) l))) (h.2.others 22 refl (λ e. omega (arith, e)))
+        ∙ (answer_row kept t1 t2 h.1.2 i ∙ ap (λ l. cond (is_same (kept_row kept).identity i) (Some (Answered (kept_row kept))) (stored_as i (only (reads answers) (rows_at (answers.at (record { caller = i.caller; id = i.id })) l)))) was_22);
+    version = ap (number_of (λ d. d.version)) h.2.here ∙ sym (ap (number_of (λ d. d.version)) was);
+    requests = ap (number_of (λ d. d.requests)) h.2.here ∙ sym (ap (λ o. number_of (λ d. d.requests) o + 1) was);
+  }
+
+pub commits : (delta : Delta) (kept : Kept) (n : ℕ) (old new : Database) → OnDesk (Then (Then (SetsDelta delta) (SetsKept kept)) (SetsDesk (n + 1))) old new → Commits delta kept n old new
+commits delta kept n old new h = record { ready = h.ready; committed = λ ready single was. committed delta kept n old.trees new.trees single was (h.changes ready); desk = λ ready. (h.changes ready).2.here }

@@ -1,0 +1,13 @@
+pub mod Edits
+pub mod Commit
+pub mod Begin
+pub mod Staying
+pub mod Made
+pub mod Peeking
+pub mod Singles
+pub mod Telling
+pub mod Asking
+pub mod Reviewing
+pub mod Sending
+pub mod Joining
+pub mod Shown

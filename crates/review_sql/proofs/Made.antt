@@ -1,0 +1,54 @@
+-- A shelf that was made.
+use Rattle.std.proofs.Common.{◌≡◌, ◌∙◌, Bool, false, Ok, IsTrue, refl, sym, ap, subst}
+use Rattle.std.specs.Bool.{Decides}
+use Rattle.sqlite_trees.specs.declared.store.Store.{Ghosts}
+use Rattle.sqlite.specs.Effect.{Database}
+use Rattle.sqlite.specs.State.{HasCleanDisk}
+use Rattle.sqlite.specs.Held.{Held, state}
+use Rattle.sqlite.proofs.StateLemmas.{survives_then}
+use Rattle.review_tables.specs.Desk.{schema_0}
+use Rattle.review_tables.specs.Made.{IsBlank}
+use Rattle.review_tables.specs.Ran.{Transacts}
+use Rattle.review_sql.specs.First.{MakesDesk}
+use Rattle.review_sql.specs.Shelf.{Holds, Stays}
+use Rattle.review_sql.specs.Created.{IsCreated}
+use Rattle.review_tables.specs.Ran.{IsReady}
+use Rattle.review_sql.specs.declared.seen.Seen.{Seen}
+use Rattle.review_sql.specs.Opened.{IsOpened, IsSeen}
+use Rattle.review_sql.specs.Tables.{IsDesk}
+
+module _ {S : Type 0} (g : Ghosts S) (c0 c1 c2 : Held S) (is_ours : Bool) (decided : Decides is_ours (c1.schema ≡ schema_0)) (x : Unit {0}) (acts : Transacts MakesDesk (state g c1) (state g c2) (Ok x)) where
+  blank : c1.schema ≡ schema_0 → IsBlank schema_0 (state g c1).now
+  blank is = record { schema_is = is; empty = tt }
+
+  pub holds_made : c2.in_transaction ≡ false → (IsTrue (state g c2).is_open → HasCleanDisk (state g c2)) → Holds g c2 is_ours 0
+  holds_made mode clean = record {
+    autocommit = mode;
+    ready = λ ours is_open.
+        let made = (acts.done (clean is_open)).2 in
+        let b = blank (decided.0 ours) in
+        (made.ready b, made.desk b);
+  }
+
+  pub is_created : Stays (state g c0) (state g c1) → IsCreated g c0 (record { conn = c2; is_ours = is_ours; requests = 0; faults = 0 })
+  is_created stays = record {
+    faults = refl;
+    ours = λ clean none. decided.1 (ap (λ (d : Database). d.schema) (stays.kept (acts.done clean).0).1 ∙ none);
+    view = λ clean none.
+        let d = acts.done clean in
+        (d.1, d.2.view (blank (ap (λ (d : Database). d.schema) (stays.kept d.0).1 ∙ none)));
+    survives = survives_then (state g c0) (state g c1) (state g c2) _ _ _ (λ _ db h. absurd h)
+        (λ clean db h. let was = stays.kept h.0 in (was.0, (h.1.0, h.1.1, subst (λ (d : Database). MakesDesk d h.1.0) was.1 h.1.2))) stays.survives acts.survives;
+  }
+
+module _ {S : Type 0} (g : Ghosts S) (c0 c1 : Held S) (seen : Seen) where
+  pub holds_opened : c1.in_transaction ≡ false → Stays (state g c0) (state g c1) → (IsTrue (state g c1).is_open → IsSeen (state g c0) seen) → Holds g c1 seen.is_ours seen.requests
+  holds_opened mode stays it = record {
+    autocommit = mode;
+    ready = λ ours is_open.
+        let same = (stays.kept is_open).1 in
+        subst (λ (d : Database). IsReady d × IsDesk seen.requests d.trees) (sym same) ((it is_open).ready ours);
+  }
+
+  pub is_opened : Stays (state g c0) (state g c1) → (IsTrue (state g c1).is_open → IsSeen (state g c0) seen) → IsOpened g c0 (record { conn = c1; is_ours = seen.is_ours; requests = seen.requests; faults = 0 })
+  is_opened stays it = record { faults = refl; stays = stays; ours = λ is_open has all. (it is_open).ours has all }

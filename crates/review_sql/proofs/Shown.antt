@@ -1,0 +1,112 @@
+-- What a connection shows as a shelf.
+use Rattle.std.proofs.Common.{◌≡◌, ◌≢◌, ◌∙◌, ◌⊎◌, inl, inr, ℕ, ◌+◌, List, [], ◌∷◌, Bool, Option, Some, None, true, false, Ok, Err, Result, OnOk, IsTrue, refl, sym, ap, subst}
+use Rattle.std.proofs.lemmas.Bool.{cases_Bool}
+use Rattle.sqlite_trees.specs.declared.store.Store.{Ghosts}
+use Rattle.sqlite_trees.specs.Tree.{Trees}
+use Rattle.sqlite.specs.Effect.{Database}
+use Rattle.sqlite.specs.State.{HasCleanDisk}
+use Rattle.sqlite.specs.Held.{Held, state}
+use Rattle.sqlite.specs.declared.error.Error.{Error}
+use Rattle.review_words.specs.History.{Entry, Identity, is_same}
+use Rattle.review_rows.specs.Rows.{Tables, OddAnswer, kept_row}
+use Rattle.review_rows.specs.declared.rows.Delta.{Delta}
+use Rattle.review_rows.specs.declared.rows.Kept.{Kept as Request}
+use Rattle.review_rows.specs.View.{stored_answer}
+use Rattle.review_rows.proofs.Readings.{reading_of}
+use Rattle.review_rows.specs.Shelf.{StaysOrShuts, Shows, IsCommitted, IsDamaged}
+use Rattle.review_tables.specs.Ran.{IsReady, IsDeskIfOpen, Serves, Transacts}
+use Rattle.review_sql.specs.Tables.{tables_at, IsDesk, AreSingle, Commits}
+use Rattle.review_sql.specs.Shelf.{Holds, tables_of, stops_of}
+
+-- a stored request that is odd is one of no history
+not_odd : (h : List Entry) (i : Identity) → stored_answer h i ≡ Some OddAnswer → ⊥
+not_odd [] i is = cc
+not_odd (e ∷ h) i is = elim (cases_Bool (is_same e.identity i)) [ inl same ↦ (let it = rw same at is in cc) | inr other ↦ not_odd h i (rw other at is) ]
+
+pub odd_is_damage : (t : Tables) (i : Identity) → t.answer i ≡ Some OddAnswer → IsDamaged t
+odd_is_damage t i odd h history view = let read = reading_of h history in not_odd h i (sym ((view read.0 read.1).answer_is i) ∙ odd)
+
+module _ {S : Type 0} (g : Ghosts S) (old new : Held S) where
+  pub stays : (IsTrue (state g new).is_open → IsTrue (state g old).is_open × ((state g new).now ≡ (state g old).now)) → StaysOrShuts (tables_of g old) (tables_of g new)
+  stays undone = elim (cases_Bool (state g new).is_open) [
+    | inl is ↦ let it = undone is in let was = it.0 in inl (rw (is, was) (ap (λ (d : Database). Some (tables_at d.trees)) it.1))
+    | inr shut ↦ inr (rw shut refl)
+  ]
+
+  pub same_shown : IsTrue (state g old).is_open → IsTrue (state g new).is_open → (state g new).now ≡ (state g old).now → tables_of g new ≡ tables_of g old
+  same_shown was is same = rw (was, is) (ap (λ (d : Database). Some (tables_at d.trees)) same)
+
+  pub shown_now : (P : Tables → Type 0) → IsTrue (state g old).is_open → P (tables_at (state g old).now.trees) → Shows (tables_of g old) P
+  shown_now P was p = rw was p
+
+  module _ (is_ours : Bool) (requests : ℕ) (holds : Holds g old is_ours requests) where
+    pub desk_if_open : IsTrue is_ours → IsDeskIfOpen (state g old)
+    desk_if_open ours is_open = (holds.ready ours is_open).0.schema
+
+    ready_as : (state g new).now ≡ (state g old).now → IsReady (state g old).now × IsDesk requests (state g old).now.trees → IsReady (state g new).now × IsDesk requests (state g new).now.trees
+    ready_as same it = subst (λ (d : Database). IsReady d × IsDesk requests d.trees) (sym same) it
+
+    -- a call that read leaves a shelf a shelf
+    pub holds_read : {X : Type 0} (Found : Trees → X → Type 0) (r : Result X Error) → new.in_transaction ≡ false → (IsTrue (state g new).is_open → HasCleanDisk (state g new)) → Serves Found (state g old) (state g new) r → Holds g new is_ours requests
+    holds_read Found (Ok x) mode clean it = record {
+      autocommit = mode;
+      ready = λ ours is_open. let f = it.found (clean is_open) (desk_if_open ours) in ready_as f.2 (holds.ready ours f.0);
+    }
+    holds_read Found (Err e) mode clean it = record {
+      autocommit = mode;
+      ready = λ ours is_open. let f = it.undone (desk_if_open ours) is_open in ready_as f.1 (holds.ready ours f.0);
+    }
+
+    pub stops_read : {X : Type 0} (Found : Trees → X → Type 0) (r : Result X Error) → (IsTrue (state g old).is_open → (state g old).now ≡ (state g old).committed) → (IsTrue (state g old).is_open → (state g old).may_leave (state g old).committed.trees)
+        → Serves Found (state g old) (state g new) r → IsTrue is_ours → HasCleanDisk (state g new) → (t : Tables) → stops_of g new t → stops_of g old t
+    stops_read Found r settled kept it ours clean t left = elim ((it.survives (desk_if_open ours)).crash clean left.0 left.1) [
+      | inl was ↦ (left.0, was, left.2)
+      | inr same ↦ (left.0, subst (state g old).may_leave (sym (same.1 ∙ ap (λ (d : Database). d.trees) (settled same.0))) (kept same.0), left.2)
+    ]
+
+    -- what a call that read found
+    pub served : {X : Type 0} {Found : Trees → X → Type 0} → IsTrue is_ours → HasCleanDisk (state g new) → (x : X) → Serves Found (state g old) (state g new) (Ok x) → IsTrue (state g old).is_open × Found (state g old).now.trees x
+    served ours clean x it = let f = it.found clean (desk_if_open ours) in (f.0, f.3)
+
+    module _ (delta : Delta) (kept : Request) (r : Result (Unit {0}) Error) (acts : Transacts (Commits delta kept requests) (state g old) (state g new) r)
+        (single : IsTrue is_ours → IsTrue (state g old).is_open → AreSingle (state g old).now.trees) where
+      committed_from : IsTrue is_ours → IsTrue (state g old).is_open → (after : Database) → Commits delta kept requests (state g old).now after → IsCommitted (tables_at (state g old).now.trees) delta (kept_row kept) (tables_at after.trees)
+      committed_from ours was after c = let it = holds.ready ours was in c.committed it.0 (single ours was) it.1
+
+      pub stops_committed : IsTrue is_ours → HasCleanDisk (state g new) → (t : Tables) → stops_of g new t → stops_of g old t ⊎ Shows (tables_of g old) (λ was. IsCommitted was delta (kept_row kept) t)
+      stops_committed ours clean t left = elim (acts.survives.crash clean left.0 left.1) [
+        | inl was ↦ inl (left.0, was, left.2)
+        | inr made ↦
+            let all = committed_from ours made.0 made.1.0 made.1.2 in
+            inr (shown_now (λ x. IsCommitted x delta (kept_row kept) t) made.0 (subst (λ x. IsCommitted (tables_at (state g old).now.trees) delta (kept_row kept) x) (sym (left.2 ∙ ap tables_at made.1.1)) all))
+      ]
+
+      done_as : r ≡ Ok (tt {0}) → HasCleanDisk (state g new) → IsTrue (state g old).is_open × IsTrue (state g new).is_open × Commits delta kept requests (state g old).now (state g new).now
+      done_as is clean = subst (λ q. OnOk q (IsTrue (state g old).is_open × IsTrue (state g new).is_open × Commits delta kept requests (state g old).now (state g new).now)) is (acts.done clean)
+
+      pub holds_committed : r ≡ Ok (tt {0}) → new.in_transaction ≡ false → (IsTrue (state g new).is_open → HasCleanDisk (state g new)) → Holds g new is_ours (requests + 1)
+      holds_committed is mode clean = record {
+        autocommit = mode;
+        ready = λ ours is_open.
+            let d = done_as is (clean is_open) in
+            let it = (holds.ready ours d.0).0 in
+            (d.2.ready it, d.2.desk it);
+      }
+
+      pub committed_shown : r ≡ Ok (tt {0}) → IsTrue is_ours → HasCleanDisk (state g new) → Shows (tables_of g old) (λ t. Shows (tables_of g new) (IsCommitted t delta (kept_row kept)))
+      committed_shown is ours clean = let d = done_as is clean in let was = d.0 in let now = d.1 in rw (was, now) (committed_from ours d.0 (state g new).now d.2)
+
+      pub alone : r ≡ Ok (tt {0}) → HasCleanDisk (state g new) → (IsTrue (state g new).is_open → (state g new).now ≡ (state g new).committed)
+          → ((db : Trees) → IsTrue (state g new).is_open → (state g new).may_leave db → db ≡ (state g new).committed.trees) → (t : Tables) → stops_of g new t → tables_of g new ≡ Some t
+      alone is clean settled law t left =
+          let d = done_as is clean in
+          let is_open = d.1 in
+          rw is_open (ap (λ (t : Trees). Some (tables_at t)) (ap (λ (d : Database). d.trees) (settled d.1) ∙ sym (law left.0 d.1 left.1)) ∙ ap Some (sym left.2))
+
+      pub holds_undone : {e : Error} → r ≡ Err e → new.in_transaction ≡ false → Holds g new is_ours requests
+      holds_undone {e} is mode = record {
+        autocommit = mode;
+        ready = λ ours is_open.
+            let it = subst (λ q. Rattle.std.proofs.Common.OnErr q (IsTrue (state g old).is_open × ((state g new).now ≡ (state g old).now))) is (acts.undone is_open) in
+            ready_as it.1 (holds.ready ours it.0);
+      }

@@ -1,0 +1,49 @@
+-- The tables whose rows are counted have one row at each key, since their keys are UNIQUE.
+use Rattle.std.proofs.Common.{◌≤◌, ◌&&◌, ℕ, pos, List, [], ◌∷◌, length, refl, subst, inl, inr}
+use Rattle.std.proofs.lemmas.Bool.{and_parts, and_from}
+use Rattle.sqlite_value.specs.declared.value.Value.TheVariants.{Int, Text}
+use Rattle.sqlite_value.specs.Keys.{plain, first_key}
+use Rattle.sqlite_trees.specs.Tree.{Trees, rowid}
+use Rattle.sqlite_value.specs.Order.{column}
+use Rattle.sqlite_schema.specs.Rules.{agree, differ}
+use Rattle.sqlite_catalog.specs.Listing.{IsSound}
+use Rattle.sqlite_catalog.proofs.AlterLemmas.{keys_are_unique}
+use Rattle.sqlite.specs.Effect.{Database}
+use Rattle.review_tables.specs.Content.{has_key, AreApart}
+use Rattle.review_tables.specs.Desk.{desk_schema, projects as project_table, bases as base_table}
+use Rattle.review_tables.specs.Ran.{IsReady}
+use Rattle.review_tables.specs.Search.{rows_at}
+use Rattle.review_tables.proofs.Single.{equal_values, differ_ids, one_passes}
+use Rattle.review_records.specs.declared.rows.PlaceKey.{PlaceKey}
+use Rattle.review_records.specs.Forms.{projects, bases}
+use Rattle.review_sql.specs.Tables.{AreSingle}
+
+module _ (db : Trees) (sound : IsSound desk_schema db) where
+  project_single : (p : List ℕ) → AreApart (db 4) → length (rows_at (projects.at p) (db 4)) ≤ 1
+  unfolding first_key
+  project_single p apart =
+      one_passes (has_key (projects.at p)) (λ other row. agree plain (1 ∷ []) other (1 ∷ []) row && differ (rowid other) (rowid row)) (db 4)
+      (λ row has. keys_are_unique desk_schema db project_table 0 (1 ∷ []) row sound (inr (inr (inl refl))) refl has)
+      (λ r s keyed too other is it. and_from _ _ (and_from _ _ (equal_values (Text p) (column s 1) (column r 1) refl (and_parts _ _ it).0 (and_parts _ _ is).0) refl) (differ_ids s r too keyed other))
+      (db 4) (λ x h. h) apart
+
+  base_single : (k : PlaceKey) → AreApart (db 6) → length (rows_at (bases.at k) (db 6)) ≤ 1
+  unfolding first_key
+  base_single k apart =
+      one_passes (has_key (bases.at k)) (λ other row. agree plain (1 ∷ 2 ∷ 3 ∷ []) other (1 ∷ 2 ∷ 3 ∷ []) row && differ (rowid other) (rowid row)) (db 6)
+      (λ row has. keys_are_unique desk_schema db base_table 0 (1 ∷ 2 ∷ 3 ∷ []) row sound (inr (inr (inr (inl refl)))) refl has)
+      (λ r s keyed too other is it.
+      let a = and_parts _ _ is in
+      let b = and_parts _ _ it in
+      let c = and_parts _ _ a.1 in
+      let d = and_parts _ _ b.1 in
+      let e = and_parts _ _ c.1 in
+      let f = and_parts _ _ d.1 in
+      and_from _ _ (and_from _ _ (equal_values (Text k.project) (column s 1) (column r 1) refl b.0 a.0) (and_from _ _ (equal_values (Text k.branch) (column s 2) (column r 2) refl d.0 c.0) (and_from _ _ (equal_values (Int (pos k.place)) (column s 3) (column r 3) refl f.0 e.0) refl)))
+      (differ_ids s r too keyed other))
+      (db 6) (λ x h. h) apart
+
+pub are_single : (db : Database) → IsReady db → IsSound db.schema db.trees → AreSingle db.trees
+are_single db ready sound =
+    let ours = subst (λ s. IsSound s db.trees) ready.schema sound in
+    record { projects_are = λ p. project_single db.trees ours p (ready.apart 4 refl); bases_are = λ k. base_single db.trees ours k (ready.apart 6 refl) }

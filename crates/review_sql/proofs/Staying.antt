@@ -1,0 +1,39 @@
+-- Calls that write nothing.
+use Rattle.std.proofs.Common.{◌≡◌, ◌∙◌, inl, inr, List, ℕ, [], IsTrue, Ok, Err, Result, IfOk, IfErr, refl, sym, arith}
+use Rattle.sqlite_value.specs.Order.{Row}
+use Rattle.sqlite.specs.State.{State, HasCleanDisk, Survives, IsUnchanged, IsRolledBack, IsNotRun}
+use Rattle.sqlite.specs.declared.error.Error.{Error}
+use Rattle.sqlite.proofs.StateLemmas.{survives_then}
+use Rattle.review_sql.specs.Shelf.{Stays}
+
+module _ (old new : State) (settled : IsTrue old.is_open → old.now ≡ old.committed) where
+  unchanged_stays : IsUnchanged old new → IsTrue old.is_open × (new.now ≡ old.now)
+  unchanged_stays it = (it.0.was_open, it.0.now_is)
+
+  undone_stays : IsRolledBack old new → IsTrue new.is_open → IsTrue old.is_open × (new.now ≡ old.now)
+  undone_stays it is_open = let was = it.was_open is_open in (was, (it.undone is_open).0 ∙ sym (settled was))
+
+  not_run : (sql : List ℕ) (params : Row) (e : Error) → IsNotRun old new sql params e → IsTrue new.is_open → IsTrue old.is_open × (new.now ≡ old.now)
+  unfolding IsNotRun
+  not_run sql params e (inl none) is_open = unchanged_stays none.1
+  not_run sql params e (inr fails) is_open = undone_stays fails.3 is_open
+
+  pub stays_prepared : {X : Type 0} (Q : X → Type 0) (sql : List ℕ) (r : Result X Error) → (IsTrue new.is_open → HasCleanDisk new) → (HasCleanDisk new → IfOk r (λ s. Q s × IsUnchanged old new))
+      → (HasCleanDisk new → IfErr r (λ e. (params : Row) → IsNotRun old new sql params e)) → Survives old new (λ _. ⊥) → Stays old new
+  stays_prepared {X} Q sql r clean ok err survives = record { kept = λ is_open. by_result r (ok (clean is_open)) (err (clean is_open)) is_open; survives = survives }
+    where
+      by_result : (r : Result X Error) → IfOk r (λ s. Q s × IsUnchanged old new) → IfErr r (λ e. (params : Row) → IsNotRun old new sql params e) → IsTrue new.is_open → IsTrue old.is_open × (new.now ≡ old.now)
+      by_result (Ok x) good bad is_open = unchanged_stays good.1
+      by_result (Err e) good bad is_open = not_run sql [] e (bad []) is_open
+
+pub stays_then : (a b c : State) → Stays a b → Stays b c → Stays a c
+stays_then a b c p q = record {
+  kept = λ is_open. let more = q.kept is_open in let first = p.kept more.0 in (first.0, more.1 ∙ first.1);
+  survives = survives_then a b c _ _ _ (λ _ db h. h) (λ _ db h. h) p.survives q.survives;
+}
+
+pub stays_still : (s : State) → Stays s s
+stays_still s = record {
+  kept = λ is_open. (is_open, refl);
+  survives = record { clean = omega arith; shield = λ h. h; counts = omega arith; limit = refl; closes = λ clean h. inl h; crash = λ clean db h. inl h };
+}

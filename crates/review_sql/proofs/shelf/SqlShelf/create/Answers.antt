@@ -1,0 +1,17 @@
+use Rattle.sqlite.proofs.StateLemmas.{clean_if_open}
+use Rattle.review_sql.proofs.Made.{holds_made, is_created}
+use Rattle.review_sql.proofs.shelf.SqlShelf.create.Goals as goal
+
+pub returns-in-Ok-true-clause-not_empty : goal.returns-in-Ok-true-clause-not_empty
+returns-in-Ok-true-clause-not_empty g c same is_open =
+    let last = c.is_any_there.new.conn in
+    c.in-Ok-true.ensures.is (clean_if_open (g.S.Store.view last.store) (g.met.S.Store.shut_if_dirty last.store) is_open) c.in-Ok-true.field-0-test is_open
+
+pub invariant_of-result : goal.invariant_of-result
+invariant_of-result g c =
+    let last = c.make_desk.new.conn in
+    holds_made g.S.Store c.args.conn c.is_any_there.new.conn last c.is_blank-is_ours.result (rw c.schema.ensures.value at c.is_blank-is_ours.ensures) _ c.in-Ok.ensures.acts c.make_desk.ensures.mode (λ is_open. clean_if_open (g.S.Store.view last.store) (g.met.S.Store.shut_if_dirty last.store) is_open)
+
+pub returns-in-Ok-clause-created : goal.returns-in-Ok-clause-created
+returns-in-Ok-clause-created g c =
+    is_created g.S.Store c.args.conn c.is_any_there.new.conn c.make_desk.new.conn c.is_blank-is_ours.result (rw c.schema.ensures.value at c.is_blank-is_ours.ensures) _ c.in-Ok.ensures.acts c.in-Ok-false.ensures.stays

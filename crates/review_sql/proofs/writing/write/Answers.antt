@@ -1,0 +1,14 @@
+use Rattle.sqlite.specs.Held.{state}
+use Rattle.review_tables.proofs.Sequences.{next, retold}
+use Rattle.review_sql.specs.Tables.{Commits}
+use Rattle.review_sql.proofs.Commit.{commits}
+use Rattle.review_sql.proofs.writing.write.Goals as goal
+
+pub returns-clause-ran : goal.returns-clause-ran
+returns-clause-ran g c =
+    let s0 = state g.S.Store c.args.tx.now.conn.now in
+    let s1 = state g.S.Store c.write_delta.new.tx.conn.now in
+    let s2 = state g.S.Store c.put.new.tx.conn.now in
+    let s3 = state g.S.Store c.put-2.new.tx.conn.now in
+    let both = next _ _ s0 s1 s2 _ _ c.in_ok-write_delta.ensures.ran c.in_ok-put.ensures.ran in
+    retold _ (Commits c.args.delta.now c.args.kept.now c.args.requests) s0 s3 c.put-2.result (commits c.args.delta.now c.args.kept.now c.args.requests) (next _ _ s0 s2 s3 _ c.put-2.result both c.put-2.ensures.ran)

@@ -1,0 +1,58 @@
+-- What a delta does to the trees, table by table.
+use Rattle.std.specs.Prelude.{ℕ, ◌≡◌, ◌==◌, ◌++◌, Bool, true, false, List, [], ◌∷◌, Some}
+use Rattle.std.specs.List.{list_any}
+use Rattle.sqlite_trees.specs.Tree.{Trees}
+use Rattle.review_rows.specs.declared.rows.ChangeEdit.{ChangeEdit}
+use Rattle.review_rows.specs.declared.rows.Delta.{Delta}
+use Rattle.review_rows.specs.declared.rows.Kept.{Kept}
+use Rattle.review_rows.specs.declared.rows.ProjectRow.{ProjectRow}
+use Rattle.review_rows.specs.declared.rows.BaseRow.{BaseRow}
+use Rattle.std.specs.Prelude.{string_bytes}
+use Rattle.review_tables.specs.Content.{Then}
+use Rattle.review_tables.specs.Fronts.{SetsParts}
+use Rattle.review_tables.specs.Search.{SetsRow, SetsRows, SetsAny}
+use Rattle.review_records.specs.declared.rows.PlaceKey.{PlaceKey}
+use Rattle.review_change_records.specs.Forms.{headers, patches, votes, roles, comments, calls}
+use Rattle.review_records.specs.Forms.{accounts, members, projects, bases, answers, desk}
+
+-- the key of a base
+abbrev pub place_of : BaseRow → PlaceKey
+place_of r = record { project = r.project; branch = r.branch; place = r.place }
+
+-- the rows of accounts, members, projects and bases of a delta are put or taken away
+abbrev pub SetsFour : Delta → Trees → Trees → Type 0
+SetsFour delta =
+    Then (Then (Then (SetsRows accounts delta.accounts.items) (SetsRows members delta.members.items)) (SetsAny projects (λ (r : ProjectRow). r.project) (λ r. r.file) delta.file))
+    (SetsAny bases place_of (λ r. r.commit) delta.base)
+
+-- the rows of a change are put or taken away
+abbrev pub SetsEdit : ChangeEdit → Trees → Trees → Type 0
+SetsEdit e =
+    Then (Then (Then (Then (Then (SetsRow headers e.change (Some e.header)) (SetsParts patches e.change e.patches.items)) (SetsParts votes e.change e.votes.items)) (SetsParts roles e.change e.roles.items)) (SetsParts comments e.change e.comments.items))
+    (SetsParts calls e.change e.attention.items)
+
+-- whether one of the edits is of a change
+abbrev pub is_named : List ChangeEdit → ℕ → Bool
+is_named edits n = list_any (λ e. e.change == n) edits
+
+-- an edit is made, unless one before it is of the same change
+abbrev pub SetsUnless : Bool → ChangeEdit → Trees → Trees → Type 0
+SetsUnless true e old new = new ≡ old
+SetsUnless false e old new = SetsEdit e old new
+
+-- edits are made that stand after others, the last first; the first of a change decides
+abbrev pub SetsEdits : List ChangeEdit → List ChangeEdit → Trees → Trees → Type 0
+SetsEdits before [] old new = new ≡ old
+SetsEdits before (e ∷ es) old new = (mid : Trees) × SetsEdits (before ++ e ∷ []) es old mid × SetsUnless (is_named before e.change) e mid new
+
+-- the rows of a delta are put or taken away
+abbrev pub SetsDelta : Delta → Trees → Trees → Type 0
+SetsDelta delta = Then (SetsFour delta) (SetsEdits [] delta.changes.items)
+
+-- the request is stored
+abbrev pub SetsKept : Kept → Trees → Trees → Type 0
+SetsKept kept = SetsRow answers (record { caller = kept.caller; id = kept.id }) (Some (record { request = kept.request; content = string_bytes kept.content; reply = string_bytes kept.reply }))
+
+-- the desk has version 1 and so many requests
+abbrev pub SetsDesk : ℕ → Trees → Trees → Type 0
+SetsDesk requests = SetsRow desk tt (Some (record { version = 1; requests = requests }))

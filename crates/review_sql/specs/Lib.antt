@@ -1,0 +1,9 @@
+pub mod Tables
+pub mod Changes
+pub mod First
+pub mod Shelf
+pub mod Loads
+pub mod Reviews
+pub mod Senders
+pub mod Created
+pub mod Opened

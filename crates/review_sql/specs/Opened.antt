@@ -1,0 +1,60 @@
+-- What is seen of tables before a desk is opened.
+use Rattle.std.specs.Prelude.{◌≡◌, ◌≢◌, ◌⊎◌, true, Bool, Option, Some, None, Result, IsTrue, IfOk}
+use Rattle.std.specs.Bool.{Decides}
+use Rattle.std.specs.List.{AllByRecursion}
+use Rattle.sqlite_trees.specs.Tree.{Trees}
+use Rattle.sqlite_trees.specs.declared.store.Store.{Ghosts}
+use Rattle.sqlite.specs.State.{State, HasCleanDisk}
+use Rattle.sqlite.specs.Held.{Held, state}
+use Rattle.sqlite.specs.declared.error.Error.{Error}
+use Rattle.review_tables.specs.Content.{AreApart}
+use Rattle.review_tables.specs.Desk.{desk_schema}
+use Rattle.review_tables.specs.Ran.{IsDeskIfOpen, IsReady}
+use Rattle.review_tables.specs.Search.{row_at}
+use Rattle.review_records.specs.declared.rows.DeskRow.{DeskRow}
+use Rattle.review_sql.specs.declared.seen.Peeked.{Peeked}
+use Rattle.review_sql.specs.declared.seen.Seen.{Seen}
+use Rattle.review_sql.specs.declared.faults.DeskFault.{DeskFault}
+use Rattle.review_sql.specs.declared.faults.DeskFault.TheVariants.{NotADesk, WrongVersion, NotEmpty}
+use Rattle.review_records.specs.Forms.{desk}
+use Rattle.review_sql.specs.Tables.{IsDesk}
+use Rattle.review_sql.specs.Shelf.{Kept, Stays}
+
+-- the rows of each table have rowids of their own
+abbrev pub AreAllApart : Trees → Type 0
+AreAllApart db = AllByRecursion (λ t. AreApart (db t.tree)) desk_schema.tables
+
+-- what is seen of these trees; the rowids are looked at where the tables are ours
+pub record IsPeeked (is_ours : Bool) (db : Trees) (p : Peeked) : Type 0 where
+  pub desk_is : p.desk ≡ row_at desk db tt
+  pub apart : is_ours ≡ true → Decides p.is_apart (AreAllApart db)
+
+-- a call that only looked at the tables of a desk, and left them
+pub record Peeks {X : Type 0} (Found : Trees → X → Type 0) (old new : State) (result : Result X Error) : Type 0 where
+  pub found : HasCleanDisk new → IsDeskIfOpen old → IfOk result (λ x. IsTrue new.is_open → Found old.now.trees x)
+  pub stays : Stays old new
+
+-- Nothing is written. Of tables that `create` made, whose rows have rowids of their own, the shelf is honest as long as its disk is.
+pub record IsOpened {S : Type 0} (g : Ghosts S) (conn : Held S) (shelf : Kept S) : Type 0 where
+  pub faults : shelf.faults ≡ 0
+  pub stays : Stays (state g conn) (state g shelf.conn)
+  pub ours : IsTrue (state g shelf.conn).is_open → conn.schema ≡ desk_schema → AreAllApart (state g conn).now.trees → shelf.is_ours ≡ true
+
+-- the tables have the form of a desk's, and their row of the desk is of another version
+abbrev pub IsOtherVersion : Option (Option DeskRow) → Type 0
+IsOtherVersion row = (d : DeskRow) × (row ≡ Some (Some d)) × (d.version ≢ 1)
+
+-- there is no row of the desk, or it is odd
+abbrev pub IsNoDesk : Option (Option DeskRow) → Type 0
+IsNoDesk row = (row ≡ None) ⊎ (row ≡ Some None)
+
+-- the tables are ours only where they are those of a desk with so many requests, and wherever they have the form and their rows rowids of their own
+pub record IsSeen (s : State) (seen : Seen) : Type 0 where
+  pub ready : seen.is_ours ≡ true → IsReady s.now × IsDesk seen.requests s.now.trees
+  pub ours : s.now.schema ≡ desk_schema → AreAllApart s.now.trees → seen.is_ours ≡ true
+
+-- why tables of the form of a desk's are refused
+pub record IsRefused (s : State) (fault : DeskFault) : Type 0 where
+  pub no_desk : s.now.schema ≡ desk_schema → fault ≡ NotADesk → IsNoDesk (row_at desk s.now.trees tt)
+  pub other_version : s.now.schema ≡ desk_schema → fault ≡ WrongVersion → IsOtherVersion (row_at desk s.now.trees tt)
+  pub not_empty : fault ≢ NotEmpty

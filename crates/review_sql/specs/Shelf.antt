@@ -1,0 +1,71 @@
+-- What proofs see of a shelf in SQLite.
+use Rattle.std.specs.Prelude.{ℕ, ◌≡◌, ◌≤◌, map, false, Bool, List, Option, Some, None, Ok, IsTrue, if◌then◌else◌, refl, min}
+use Rattle.std.proofs.Math.Nat.{min-le_right}
+use Rattle.std.specs.List.{Contains}
+use Rattle.review_tables.specs.declared.texts.TheConstants.{ANY_ROW}
+use Rattle.std.specs.Coded.{Coded, code_by, coded×, coded_ℕ, coded_bool}
+use Rattle.sqlite_trees.specs.declared.store.Store.{Ghosts}
+use Rattle.sqlite_trees.specs.Tree.{Trees}
+use Rattle.sqlite_schema.specs.declared.schema.Schema.{Schema}
+use Rattle.sqlite_resolve.specs.declared.compiled.Compiled.{Compiled}
+use Rattle.sqlite.specs.Effect.{Database}
+use Rattle.sqlite.specs.Listing.{understood}
+use Rattle.sqlite.specs.State.{State, HasCleanDisk, Survives}
+use Rattle.sqlite.specs.Held.{Held, held_code, state}
+use Rattle.review_rows.specs.Count.{greatest_count}
+use Rattle.review_rows.specs.Rows.{Tables}
+use Rattle.review_rows.specs.Shelf.{Shown}
+use Rattle.review_tables.specs.Ran.{IsReady}
+use Rattle.review_sql.specs.First.{MakesDesk}
+use Rattle.review_sql.specs.Tables.{tables_at, IsDesk}
+
+-- the connection, whether its tables are those that `create` makes, how many requests are stored, and how many calls were refused
+pub record Kept (S : Type 0) : Type 0 where
+  pub conn : Held S
+  pub is_ours : Bool
+  pub requests : ℕ
+  pub faults : ℕ
+
+abbrev pub kept_code : {S : Type 0} → Coded S → Coded (Kept S)
+kept_code {S} store =
+    code_by (Held S × (Bool × (ℕ × ℕ))) (coded× (held_code store) (coded× coded_bool (coded× coded_ℕ coded_ℕ))) (λ k. (k.conn, (k.is_ours, (k.requests, k.faults))))
+    (λ p. record { conn = p.0; is_ours = p.1.0; requests = p.1.1.0; faults = p.1.1.1 }) (λ _. refl)
+
+-- Between calls no transaction is open, and an open connection whose tables are ours has the tables of a desk.
+pub record Holds {S : Type 0} (g : Ghosts S) (conn : Held S) (is_ours : Bool) (requests : ℕ) : Type 0 where
+  pub autocommit : conn.in_transaction ≡ false
+  pub ready : IsTrue is_ours → IsTrue (state g conn).is_open → IsReady (state g conn).now × IsDesk requests (state g conn).now.trees
+
+-- the tables in use, where no fault has shut the connection
+abbrev pub tables_of : {S : Type 0} → Ghosts S → Held S → Option Tables
+tables_of g conn = if (state g conn).is_open then Some (tables_at (state g conn).now.trees) else None
+
+-- the tables that a stop may leave
+abbrev pub stops_of : {S : Type 0} → Ghosts S → Held S → Tables → Type 0
+stops_of g conn t = (db : Trees) × (state g conn).may_leave db × (t ≡ tables_at db)
+
+-- Honest is a shelf whose tables are those that `create` makes, over a disk that returned what was written.
+abbrev pub shown : {S : Type 0} → Ghosts S → Kept S → Shown
+shown g k = record { tables = tables_of g k.conn; is_honest = HasCleanDisk (state g k.conn) × IsTrue k.is_ours; faults = min k.faults greatest_count; stops = stops_of g k.conn }
+
+-- the count fits its type
+pub count_fits : (n : ℕ) → min n greatest_count ≤ greatest_count
+count_fits n = min-le_right n greatest_count
+
+-- a call that wrote nothing, and may have shut the connection
+pub record Stays (old new : State) : Type 0 where
+  pub kept : IsTrue new.is_open → IsTrue old.is_open × (new.now ≡ old.now)
+  pub survives : Survives old new (λ _. ⊥)
+
+-- a text is understood over a schema
+abbrev pub IsUnderstood : Schema → List ℕ → Type 0
+IsUnderstood schema sql = (c : Compiled) × (understood schema sql ≡ Ok c)
+
+-- a refusal leaves what was, and a stop within it that or a whole desk
+pub record IsUnmade (old new : State) : Type 0 where
+  pub undone : IsTrue new.is_open → IsTrue old.is_open × (new.now ≡ old.now)
+  pub survives : Survives old new (λ db. IsTrue old.is_open × ((after : Database) × (db ≡ after.trees) × MakesDesk old.now after))
+
+-- a text that reads no column of a table of one of the twelve names is understood
+abbrev pub IsAnyThere : Schema → Type 0
+IsAnyThere schema = (sql : List ℕ) × Contains (map (λ t. t.now) ANY_ROW) sql × IsUnderstood schema sql

@@ -1,0 +1,31 @@
+//! Why a desk is not made or opened.
+ghost use Rattle.std.specs.Prelude.{◌≢◌};
+
+use sqlite::{Error, ErrorCode};
+
+/// Why a desk was not made or opened.
+#[derive(Clone, Copy, Debug, PartialEq, Eq)]
+pub enum DeskFault {
+    /// The tables are not those of a desk.
+    NotADesk,
+    /// They are those of another version.
+    WrongVersion,
+    /// The store failed.
+    Store,
+    /// A table of one of the twelve names is there.
+    NotEmpty,
+    /// There was no memory for it.
+    Memory,
+}
+
+impl DeskFault {
+    /// The fault of an error of the store.
+    pub fn of(error: Error) -> DeskFault
+        ensures store { (result ≢ DeskFault.NotADesk) × (result ≢ DeskFault.WrongVersion) × (result ≢ DeskFault.NotEmpty) }
+    {
+        match error {
+            Error::SqliteFailure(ErrorCode::OutOfMemory) => DeskFault::Memory,
+            _ => DeskFault::Store,
+        }
+    }
+}

@@ -1,0 +1,224 @@
+//! A shelf in SQLite.
+ghost use Rattle.std.specs.Prelude.{◌≡◌, ◌≢◌, ◌≤◌, true, false, IfOk, IfErr, IsTrue, min};
+ghost use Rattle.std.specs.Bool.{Decides};
+ghost use Rattle.sqlite.specs.Held.{state};
+ghost use Rattle.sqlite.specs.State.{HasCleanDisk};
+ghost use Rattle.review_rows.specs.Rows.{kept_row};
+ghost use Rattle.review_rows.specs.Shelf.{IsCounted, greatest_count};
+ghost use Rattle.review_tables.specs.Desk.{schema_0};
+
+use crate::creating::make_desk;
+use crate::faults::DeskFault;
+use crate::loading::{Loaded, load};
+use crate::opening::see;
+use crate::serving::find_stored;
+use crate::there::is_any_there;
+use crate::writing::transact;
+use review_records::rows::{Answered, RequestKey};
+use review_rows::{Delta, Kept, Need, Rows, Shelf, ShelfFault};
+use review_words::{AccountNo, RequestId};
+use sqlite::{Alter, Connection};
+use sqlite_schema::schema::Schema;
+use std::alloc::Global;
+use std::marker::Model;
+
+/// A desk in the tables of a connection.
+pub struct SqlShelf<S: Alter> {
+    conn: Connection<S>,
+    is_ours: bool,
+    requests: u64,
+    faults: u64,
+}
+
+impl<S: Alter + Drop> Drop for SqlShelf<S> {
+    fn drop(self) {
+        let SqlShelf {
+            conn: _,
+            is_ours: _,
+            requests: _,
+            faults: _,
+        } = self;
+    }
+}
+
+impl<S: Alter> Model for SqlShelf<S> {
+    ghost use Rattle.review_sql.specs.Shelf.{Kept, kept_code, Holds};
+
+    ghost Value = { Kept S };
+
+    ghost coded = { kept_code S.code };
+
+    ghost view = { λ s. record { conn = s.conn; is_ours = s.is_ours; requests = s.requests; faults = s.faults } };
+
+    ghost invariant = { λ s. Holds S.Store s.conn s.is_ours s.requests };
+}
+
+// Whether a schema has nothing.
+fn is_blank(schema: &Schema) -> bool
+    ensures { Decides result (schema.now ≡ schema_0) }
+{
+    schema.tables.is_empty() && schema.indexes.is_empty() && schema.views.is_empty()
+}
+
+impl<S: Alter + Drop> SqlShelf<S> {
+    ghost use Rattle.review_sql.specs.Shelf.{IsAnyThere, IsUnmade, Stays};
+    ghost use Rattle.review_sql.specs.Created.{IsCreated};
+    ghost use Rattle.review_sql.specs.Opened.{IsOpened, IsRefused};
+
+    /// Makes an empty desk, in one transaction. A refusal hands the connection back with its tables as they were.
+    pub fn create(
+        alloc: Global,
+        conn: Connection<S>,
+    ) -> Result<SqlShelf<S>, (Connection<S>, DeskFault)>
+        requires mode { conn.in_transaction ≡ false }
+        ensures created { IfOk result (IsCreated S.Store conn) }
+        ensures mode { IfErr result (λ e. e.0.in_transaction ≡ false) }
+        ensures refused { IfErr result (λ e. IsUnmade (state S.Store conn) (state S.Store e.0)) }
+        ensures not_empty { IfErr result (λ e. e.1 ≡ DeskFault.NotEmpty → IsTrue (state S.Store e.0).is_open → IsAnyThere conn.schema) }
+        ensures kinds { IfErr result (λ e. (e.1 ≢ DeskFault.NotADesk) × (e.1 ≢ DeskFault.WrongVersion)) }
+    {
+        let mut conn = conn;
+        match is_any_there(&mut conn) {
+            Ok(false) => {}
+            Ok(true) => return Err((conn, DeskFault::NotEmpty)),
+            Err(error) => return Err((conn, DeskFault::of(error))),
+        }
+        let is_ours = is_blank(conn.schema());
+        match make_desk(&mut conn, alloc) {
+            Ok(()) => Ok(SqlShelf {
+                conn,
+                is_ours,
+                requests: 0,
+                faults: 0,
+            }),
+            Err(error) => Err((conn, DeskFault::of(error))),
+        }
+    }
+
+    /// Opens a desk. Nothing is written, and a refusal hands the connection back with its tables as they were. Of tables that `create` did
+    /// not make nothing is claimed.
+    pub fn open(
+        alloc: Global,
+        conn: Connection<S>,
+    ) -> Result<SqlShelf<S>, (Connection<S>, DeskFault)>
+        requires mode { conn.in_transaction ≡ false }
+        ensures opened { IfOk result (IsOpened S.Store conn) }
+        ensures mode { IfErr result (λ e. e.0.in_transaction ≡ false) }
+        ensures refused { IfErr result (λ e. Stays (state S.Store conn) (state S.Store e.0)) }
+        ensures cause { IfErr result (λ e. IsTrue (state S.Store e.0).is_open → IsRefused (state S.Store conn) e.1) }
+    {
+        let mut conn = conn;
+        match see(&mut conn, alloc) {
+            Ok(seen) => Ok(SqlShelf {
+                conn,
+                is_ours: seen.is_ours,
+                requests: seen.requests,
+                faults: 0,
+            }),
+            Err(fault) => Err((conn, fault)),
+        }
+    }
+
+    /// The connection of the shelf.
+    pub fn close(self) -> Connection<S>
+        ensures same { result ≡ self.conn }
+        ensures mode { result.in_transaction ≡ false }
+    {
+        let SqlShelf {
+            conn,
+            is_ours: _,
+            requests: _,
+            faults: _,
+        } = self;
+        conn
+    }
+}
+
+// Counts a call that the store refused.
+fn refuse(faults: &mut u64) -> ShelfFault
+    ensures counted { IsCounted result (min faults.old greatest_count) (min faults.new greatest_count) }
+    ensures store { result ≡ ShelfFault.Store }
+{
+    *faults = faults.saturating_add(1);
+    ShelfFault::Store
+}
+
+impl<S: Alter> Shelf for SqlShelf<S> {
+    ghost use Rattle.review_sql.specs.Shelf.{shown, count_fits};
+
+    ghost state = { shown S.Store };
+
+    fn recall(
+        &mut self,
+        alloc: Global,
+        caller: AccountNo,
+        id: &RequestId,
+    ) -> Result<Option<Kept>, ShelfFault> {
+        let key = RequestKey {
+            caller,
+            id: id.copy(alloc)?,
+        };
+        let _settled = self.conn.is_autocommit();
+        let found = match find_stored(&mut self.conn, alloc, &key) {
+            Ok(found) => found,
+            Err(_) => return Err(refuse(&mut self.faults)),
+        };
+        match found {
+            Some(Some(row)) => Ok(Some(kept_of(key, row))),
+            Some(None) => Err(ShelfFault::Damaged),
+            None => Ok(None),
+        }
+    }
+
+    fn load(&mut self, alloc: Global, need: &Need) -> Result<Rows, ShelfFault> {
+        let _settled = self.conn.is_autocommit();
+        match load(&mut self.conn, alloc, &need.wants) {
+            Ok(Loaded::Rows(rows)) => Ok(rows),
+            Ok(Loaded::NoMemory) => Err(ShelfFault::Memory),
+            Ok(Loaded::Damaged) => Err(ShelfFault::Damaged),
+            Ok(Loaded::Odd) => Err(refuse(&mut self.faults)),
+            Err(_) => Err(refuse(&mut self.faults)),
+        }
+    }
+
+    fn commit(&mut self, alloc: Global, delta: &Delta, kept: &Kept) -> Result<(), ShelfFault> {
+        let requests = self.requests;
+        let Some(more) = requests.checked_add(1) else {
+            return Err(refuse(&mut self.faults));
+        };
+        let _live = self.conn.schema();
+        match transact(&mut self.conn, alloc, delta, kept, requests) {
+            Ok(()) => {
+                let _settled = self.conn.is_autocommit();
+                self.requests = more;
+                Ok(())
+            }
+            Err(_) => Err(refuse(&mut self.faults)),
+        }
+    }
+
+    fn faults(&self) -> u64 {
+        self.faults
+    }
+
+    ghost fits = { λ k. count_fits k.faults };
+}
+
+// A stored request with its identity.
+fn kept_of(key: RequestKey, row: Answered) -> Kept
+    ensures { kept_row result ≡ record { identity = record { caller = key.caller; id = key.id }; request = row.request; content = row.content; reply = row.reply } }
+{
+    let RequestKey { caller, id } = key;
+    let Answered {
+        request,
+        content,
+        reply,
+    } = row;
+    Kept {
+        caller,
+        id,
+        request,
+        content: content.into_string(),
+        reply: reply.into_string(),
+    }
+}

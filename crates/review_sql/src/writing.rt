@@ -1,0 +1,144 @@
+//! What a delivery changes is written, all of it or nothing.
+ghost use Rattle.std.specs.Prelude.{◌≡◌, [], ◌+◌, ◌<◌, ◌^◌, false};
+ghost use Rattle.sqlite.specs.Held.{state};
+ghost use Rattle.review_tables.specs.Ran.{Inside, Within, Opens, Transacts};
+ghost use Rattle.review_sql.specs.Changes.{SetsDelta, SetsEdit, SetsEdits, SetsFour, SetsUnless, is_named};
+ghost use Rattle.review_sql.specs.Tables.{Commits};
+
+use review_change_records::calls::Calls;
+use review_change_records::comments::Comments;
+use review_change_records::headers::Headers;
+use review_change_records::patches::Patches;
+use review_change_records::roles::Roles;
+use review_change_records::votes::Votes;
+use review_records::accounts::Accounts;
+use review_records::answers::Answers;
+use review_records::bases::Bases;
+use review_records::desk::Desk;
+use review_records::members::Members;
+use review_records::projects::Projects;
+use review_records::rows::DeskRow;
+use review_rows::{ChangeEdit, Delta, Kept};
+use review_tables::changes::{change_all, put, put_any, set};
+use review_tables::fronts::change_parts;
+use review_words::ChangeNo;
+use sqlite::{Alter, Connection, Error, Transaction};
+use std::alloc::Global;
+
+fn write_four<S: Alter>(tx: &mut Transaction<'_, S>, delta: &Delta) -> Result<(), Error>
+    ensures same_reference { tx.new.conn.ghost_name ≡ tx.old.conn.ghost_name }
+    ensures ran { Inside (SetsFour delta.now) (state S.Store tx.old.conn.now) (state S.Store tx.new.conn.now) result }
+{
+    change_all::<Accounts, S>(tx, &delta.accounts)?;
+    change_all::<Members, S>(tx, &delta.members)?;
+    put_any::<Projects, S>(tx, &delta.file)?;
+    put_any::<Bases, S>(tx, &delta.base)
+}
+
+fn write_edit<S: Alter>(
+    tx: &mut Transaction<'_, S>,
+    alloc: Global,
+    edit: &ChangeEdit,
+) -> Result<(), Error>
+    ensures same_reference { tx.new.conn.ghost_name ≡ tx.old.conn.ghost_name }
+    ensures ran { Inside (SetsEdit edit.now) (state S.Store tx.old.conn.now) (state S.Store tx.new.conn.now) result }
+{
+    set::<Headers, S>(tx, &edit.change, &edit.header)?;
+    change_parts::<Patches, S>(tx, alloc, &edit.change, &edit.patches)?;
+    change_parts::<Votes, S>(tx, alloc, &edit.change, &edit.votes)?;
+    change_parts::<Roles, S>(tx, alloc, &edit.change, &edit.roles)?;
+    change_parts::<Comments, S>(tx, alloc, &edit.change, &edit.comments)?;
+    change_parts::<Calls, S>(tx, alloc, &edit.change, &edit.attention)
+}
+
+// Whether one of the edits is of a change.
+fn is_named(edits: &[ChangeEdit], change: ChangeNo) -> bool
+    ensures { result ≡ is_named edits.now change }
+{
+    edits.iter().any(|edit| edit.change == change)
+}
+
+// Makes an edit, unless one before it is of the same change.
+fn write_unless<S: Alter>(
+    tx: &mut Transaction<'_, S>,
+    alloc: Global,
+    before: &[ChangeEdit],
+    edit: &ChangeEdit,
+) -> Result<(), Error>
+    ensures same_reference { tx.new.conn.ghost_name ≡ tx.old.conn.ghost_name }
+    ensures ran { Inside (SetsUnless (is_named before.now edit.now.change) edit.now) (state S.Store tx.old.conn.now) (state S.Store tx.new.conn.now) result }
+{
+    if is_named(before, edit.change) {
+        return Ok(());
+    }
+    write_edit(tx, alloc, edit)
+}
+
+// Makes the edits, the last first.
+fn write_edits<S: Alter>(
+    tx: &mut Transaction<'_, S>,
+    alloc: Global,
+    edits: &[ChangeEdit],
+) -> Result<(), Error>
+    ensures same_reference { tx.new.conn.ghost_name ≡ tx.old.conn.ghost_name }
+    ensures ran { Inside (SetsEdits [] edits.now) (state S.Store tx.old.conn.now) (state S.Store tx.new.conn.now) result }
+{
+    let mut left = edits.len();
+    while left > 0 {
+        left -= 1;
+        write_unless(tx, alloc, &edits[..left], &edits[left])?;
+    }
+    Ok(())
+}
+
+fn write_delta<S: Alter>(
+    tx: &mut Transaction<'_, S>,
+    alloc: Global,
+    delta: &Delta,
+) -> Result<(), Error>
+    ensures same_reference { tx.new.conn.ghost_name ≡ tx.old.conn.ghost_name }
+    ensures ran { Inside (SetsDelta delta.now) (state S.Store tx.old.conn.now) (state S.Store tx.new.conn.now) result }
+{
+    write_four(tx, delta)?;
+    write_edits(tx, alloc, &delta.changes)
+}
+
+fn write<S: Alter>(
+    tx: &mut Transaction<'_, S>,
+    alloc: Global,
+    delta: &Delta,
+    kept: &Kept,
+    requests: u64,
+) -> Result<(), Error>
+    requires { requests + 1 < 2 ^ 64 }
+    ensures same_reference { tx.new.conn.ghost_name ≡ tx.old.conn.ghost_name }
+    ensures ran { Within (Commits delta.now kept.now requests) (state S.Store tx.old.conn.now) (state S.Store tx.new.conn.now) result }
+    ensures open { Opens (state S.Store tx.old.conn.now) (state S.Store tx.new.conn.now) result }
+{
+    write_delta(tx, alloc, delta)?;
+    put::<Answers, S>(tx, kept)?;
+    let row = DeskRow {
+        version: 1,
+        requests: requests + 1,
+    };
+    put::<Desk, S>(tx, &row)
+}
+
+/// Writes a delta and a request in one transaction, where so many requests were stored.
+pub fn transact<S: Alter>(
+    conn: &mut Connection<S>,
+    alloc: Global,
+    delta: &Delta,
+    kept: &Kept,
+    requests: u64,
+) -> Result<(), Error>
+    requires mode { conn.old.in_transaction ≡ false }
+    requires fits { requests + 1 < 2 ^ 64 }
+    ensures mode { conn.new.in_transaction ≡ false }
+    ensures acts { Transacts (Commits delta.now kept.now requests) (state S.Store conn.old) (state S.Store conn.new) result }
+{
+    let _settled = conn.is_autocommit();
+    let mut tx = conn.transaction();
+    write(&mut tx, alloc, delta, kept, requests)?;
+    tx.commit()
+}

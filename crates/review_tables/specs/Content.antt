@@ -1,0 +1,54 @@
+-- What the rows of a table have at a key.
+use Rattle.std.specs.Prelude.{ℕ, ℤ, ◌≡◌, ◌≢◌, ◌+◌, Bool, true, false, not, List, [], ◌∷◌, filter, length, IsTrue}
+use Rattle.std.specs.List.{list_all}
+use Rattle.std.specs.Ordering.{is_eq}
+use Rattle.sqlite_value.specs.declared.value.Value.{Value}
+use Rattle.sqlite_value.specs.declared.value.Value.TheVariants.{Int}
+use Rattle.review_tables.specs.Desk.{is_tree}
+use Rattle.sqlite_value.specs.Order.{Row, column, value_cmp}
+use Rattle.sqlite_trees.specs.Tree.{Trees, rowid}
+use Rattle.sqlite_rules.specs.Edit.{is_taken}
+use Rattle.sqlite_trees.specs.View.{is_int}
+
+-- whether the row has these values at these places, as SQL orders values
+abbrev pub has_key : List (ℕ × Value) → Row → Bool
+has_key key row = list_all (λ c. is_eq (value_cmp (column row c.0) c.1)) key
+
+-- the rows have rowids, which are integers, and no two have one
+abbrev pub AreApart : List Row → Type 0
+AreApart [] = Unit {0}
+AreApart (r ∷ rows) = IsTrue (is_int (rowid r)) × (is_taken rows r ≡ false) × AreApart rows
+
+-- one row came to others, among which a test finds it
+pub record IsAdded (row : Row) (old new : List Row) : Type 0 where
+  pub other : (p : Row → Bool) → p row ≡ false → filter p new ≡ filter p old
+  pub first : (p : Row → Bool) → p row ≡ true → filter p old ≡ [] → filter p new ≡ row ∷ []
+  pub count : (p : Row → Bool) → p row ≡ true → length (filter p new) ≡ length (filter p old) + 1
+
+-- the other tables have their rows
+abbrev pub SparesOthers : ℕ → Trees → Trees → Type 0
+SparesOthers tree old new = (t : ℕ) → is_tree t ≡ true → t ≢ tree → new t ≡ old t
+
+-- a table has one row more
+pub record Adds (tree : ℕ) (row : Row) (old new : Trees) : Type 0 where
+  pub rows : IsAdded row (old tree) (new tree)
+  pub others : SparesOthers tree old new
+
+-- a table has no more the rows of a key
+pub record Removes (tree : ℕ) (key : List (ℕ × Value)) (old new : Trees) : Type 0 where
+  pub rows : new tree ≡ filter (λ r. not (has_key key r)) (old tree)
+  pub others : SparesOthers tree old new
+
+-- a row whose rowid SQLite chose
+abbrev pub AddsValues : ℕ → Row → Trees → Trees → Type 0
+AddsValues tree values old new = (id : ℤ) × Adds tree (Int id ∷ values) old new
+
+-- one after the other
+abbrev pub Then : (Trees → Trees → Type 0) → (Trees → Trees → Type 0) → Trees → Trees → Type 0
+Then First Next old new = (mid : Trees) × First old mid × Next mid new
+
+-- the rows of a key are these, and those of any key that no row has together with it are as they were
+pub record Sets (tree : ℕ) (key : List (ℕ × Value)) (rows : List Row) (old new : Trees) : Type 0 where
+  pub here : filter (has_key key) (new tree) ≡ rows
+  pub there : (p : Row → Bool) → ((r : Row) → has_key key r ≡ true → p r ≡ false) → filter p (new tree) ≡ filter p (old tree)
+  pub others : SparesOthers tree old new

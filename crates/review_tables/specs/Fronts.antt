@@ -1,0 +1,48 @@
+-- Rows that are looked up by the front of their keys: those of an owner.
+use Rattle.std.specs.Prelude.{◌≡◌, true, List, [], ◌∷◌, map, filter, Option, Some, None, option_map, option_to_list}
+use Rattle.std.specs.declared.cmp.Ordering.{Ordering}
+use Rattle.std.specs.BTreeMap.{is_at}
+use Rattle.sqlite_value.specs.Order.{Row as Raw}
+use Rattle.sqlite_trees.specs.Tree.{Trees}
+use Rattle.review_table.specs.declared.table.Change.{Change}
+use Rattle.review_table.specs.Rows.{row_in}
+use Rattle.review_tables.specs.Content.{has_key}
+use Rattle.review_tables.specs.Search.{Search, reads, row_at, SetsRow}
+
+-- the order of keys tells them apart
+pub record IsExact {A : Type 0} (cmp : A → A → Ordering) : Type 0 where
+  pub same : (a b : A) → is_at (cmp a) b ≡ true → a ≡ b
+  pub itself : (a : A) → is_at (cmp a) a ≡ true
+
+-- A look-up finds the rows of an owner, each with the rest of its key: they are those of the keys that begin with the owner, and read as such.
+pub record IsFront {O K X : Type 0} (cmp : K → K → Ordering) (front : Search O (K × X)) (whole : Search (O × K) X) : Type 0 where
+  pub tree : front.tree ≡ whole.tree
+  pub exact : IsExact cmp
+  pub within : (o : O) (k : K) (r : Raw) → has_key (whole.at (o, k)) r ≡ true → has_key (front.at o) r ≡ true
+  pub keyed : (o : O) (k : K) (x : X) (r : Raw) → has_key (front.at o) r ≡ true → reads front r ≡ Some (k, x) → has_key (whole.at (o, k)) r ≡ true
+  pub shows : (o : O) (k : K) (x : X) (r : Raw) → reads front r ≡ Some (k, x) → reads whole r ≡ Some x
+  pub alone : (o : O) (j k : K) (x : X) (r : Raw) → reads front r ≡ Some (j, x) → has_key (whole.at (o, k)) r ≡ true → j ≡ k
+
+-- the items of a key
+abbrev pub at_key : {K X : Type 0} → (K → K → Ordering) → K → List (K × X) → List (K × X)
+at_key cmp k items = filter (λ e. is_at (cmp e.0) k) items
+
+-- rows as they read, each key once, and what each key has
+pub record WereApart {K X : Type 0} (cmp : K → K → Ordering) (read : Raw → Option (K × X)) (rows : List Raw) (entries : List (K × X)) : Type 0 where
+  pub items : List (K × X)
+  pub read_as : map read rows ≡ map Some items
+  pub each : (k : K) → map (λ e. e.1) (at_key cmp k items) ≡ option_to_list (row_in cmp entries k)
+
+-- the rows of an owner are these, by the rest of their keys
+abbrev pub HaveRows : {O K X : Type 0} → (K → K → Ordering) → Search (O × K) X → O → Trees → List (K × X) → Type 0
+HaveRows {K = K} cmp s o db entries = (k : K) → row_at s db (o, k) ≡ option_map Some (row_in cmp entries k)
+
+-- something holds, where it is known
+abbrev pub Knows : {X : Type 0} → Option X → (X → Type 0) → Type 0
+Knows None IsSo = Unit {0}
+Knows (Some x) IsSo = IsSo x
+
+-- changes of an owner's rows are made, the last first
+abbrev pub SetsParts : {O K X : Type 0} → Search (O × K) X → O → List (Change K X) → Trees → Trees → Type 0
+SetsParts s o [] old new = new ≡ old
+SetsParts s o (c ∷ cs) old new = (mid : Trees) × SetsParts s o cs old mid × SetsRow s (o, c.key) c.row mid new

@@ -1,0 +1,35 @@
+-- Tables that are made one after the other.
+use Rattle.std.specs.Prelude.{ℕ, ◌≡◌, false, Ok, List, []}
+use Rattle.std.specs.List.{AllByRecursion}
+use Rattle.sqlite_schema.specs.declared.schema.Table.{Table}
+use Rattle.sqlite_schema.specs.declared.schema.Schema.{Schema}
+use Rattle.sqlite_schema.specs.declared.command.Command.TheVariants.{CreateTable}
+use Rattle.sqlite_resolve.specs.Compile.{table_defined_by}
+use Rattle.sqlite_catalog.specs.Change.{created}
+use Rattle.sqlite.specs.Effect.{Database}
+use Rattle.sqlite.specs.Does.{lacks_sequence}
+use Rattle.sqlite.specs.Given.{IsPlain}
+use Rattle.sqlite.specs.Listing.{understood}
+use Rattle.sqlite.proofs.Callers.{command_of, statement_of}
+
+-- a text makes this table, and this schema of that one
+pub record MakesText (sql : List ℕ) (schema : Schema) (table : Table) (after : Schema) : Type 0 where
+  pub command : command_of (understood schema sql) ≡ CreateTable
+  pub text : statement_of sql (understood schema sql) ≡ sql
+  pub plain : IsPlain (understood schema sql)
+  pub defines : table_defined_by sql ≡ Ok (record table { tree = 0 })
+  pub uncounted : lacks_sequence (created schema (record table { tree = 0 })) ≡ false
+  pub leaves : created schema (record table { tree = 0 }) ≡ after
+
+-- the tables are these, and empty
+pub record IsBlank (schema : Schema) (db : Database) : Type 0 where
+  pub schema_is : db.schema ≡ schema
+  pub empty : AllByRecursion (λ t. db.trees t.tree ≡ []) schema.tables
+
+-- one empty table comes to others
+abbrev pub MakesBy : List ℕ → Database → Database → Type 0
+MakesBy sql old new = (schema : Schema) (table : Table) (after : Schema) → MakesText sql schema table after → IsBlank schema old → IsBlank after new
+
+-- of these empty tables those are made
+abbrev pub Grows : Schema → Schema → Database → Database → Type 0
+Grows before after old new = IsBlank before old → IsBlank after new

@@ -1,0 +1,89 @@
+//! The tables are made.
+ghost use Rattle.std.specs.Prelude.{◌≡◌, false, IfOk};
+ghost use Rattle.std.specs.Bool.{Decides};
+ghost use Rattle.sqlite.specs.Held.{state};
+ghost use Rattle.review_tables.specs.Desk.{schema_0, schema_4, schema_8, desk_schema};
+ghost use Rattle.review_tables.specs.Made.{MakesBy, Grows};
+ghost use Rattle.review_tables.specs.Ran.{Within, Opens, Transacts};
+
+use crate::schemas::is_same_schema;
+use crate::texts;
+use sqlite::{Alter, Connection, Error, Transaction};
+use sqlite_schema::schema::Schema;
+use std::alloc::Global;
+
+fn make<S: Alter>(tx: &mut Transaction<'_, S>, sql: &str) -> Result<usize, Error>
+    ensures same_reference { tx.new.conn.ghost_name ≡ tx.old.conn.ghost_name }
+    ensures ran { Within (MakesBy sql.now) (state S.Store tx.old.conn.now) (state S.Store tx.new.conn.now) result }
+    ensures open { Opens (state S.Store tx.old.conn.now) (state S.Store tx.new.conn.now) result }
+{
+    tx.execute(sql, &[])
+}
+
+// The tables of accounts and groups, projects and bases.
+fn create_people<S: Alter>(tx: &mut Transaction<'_, S>) -> Result<(), Error>
+    ensures same_reference { tx.new.conn.ghost_name ≡ tx.old.conn.ghost_name }
+    ensures ran { Within (Grows schema_0 schema_4) (state S.Store tx.old.conn.now) (state S.Store tx.new.conn.now) result }
+{
+    make(tx, texts::CREATE_ACCOUNTS)?;
+    make(tx, texts::CREATE_MEMBERS)?;
+    make(tx, texts::CREATE_PROJECTS)?;
+    make(tx, texts::CREATE_BASES)?;
+    Ok(())
+}
+
+// The tables of changes and what belongs to them.
+fn create_reviews<S: Alter>(tx: &mut Transaction<'_, S>) -> Result<(), Error>
+    ensures same_reference { tx.new.conn.ghost_name ≡ tx.old.conn.ghost_name }
+    ensures ran { Within (Grows schema_4 schema_8) (state S.Store tx.old.conn.now) (state S.Store tx.new.conn.now) result }
+{
+    make(tx, texts::CREATE_CHANGES)?;
+    make(tx, texts::CREATE_PATCHES)?;
+    make(tx, texts::CREATE_VOTES)?;
+    make(tx, texts::CREATE_REVIEWERS)?;
+    Ok(())
+}
+
+// The tables of the rest.
+fn create_rest<S: Alter>(tx: &mut Transaction<'_, S>) -> Result<(), Error>
+    ensures same_reference { tx.new.conn.ghost_name ≡ tx.old.conn.ghost_name }
+    ensures ran { Within (Grows schema_8 desk_schema) (state S.Store tx.old.conn.now) (state S.Store tx.new.conn.now) result }
+    ensures open { Opens (state S.Store tx.old.conn.now) (state S.Store tx.new.conn.now) result }
+{
+    make(tx, texts::CREATE_COMMENTS)?;
+    make(tx, texts::CREATE_ATTENTION)?;
+    make(tx, texts::CREATE_ANSWERS)?;
+    make(tx, texts::CREATE_DESK)?;
+    Ok(())
+}
+
+/// Makes the twelve tables, where there is none.
+pub fn create_tables<S: Alter>(tx: &mut Transaction<'_, S>) -> Result<(), Error>
+    ensures same_reference { tx.new.conn.ghost_name ≡ tx.old.conn.ghost_name }
+    ensures ran { Within (Grows schema_0 desk_schema) (state S.Store tx.old.conn.now) (state S.Store tx.new.conn.now) result }
+    ensures open { Opens (state S.Store tx.old.conn.now) (state S.Store tx.new.conn.now) result }
+{
+    create_people(tx)?;
+    create_reviews(tx)?;
+    create_rest(tx)
+}
+
+fn create_all<S: Alter>(conn: &mut Connection<S>) -> Result<(), Error>
+    requires mode { conn.old.in_transaction ≡ false }
+    ensures mode { conn.new.in_transaction ≡ false }
+    ensures acts { Transacts (Grows schema_0 desk_schema) (state S.Store conn.old) (state S.Store conn.new) result }
+{
+    let _settled = conn.is_autocommit();
+    let mut tx = conn.transaction();
+    create_tables(&mut tx)?;
+    tx.commit()
+}
+
+/// Whether a schema is that of a desk whose tables were made here. It makes such tables in memory and compares.
+pub fn is_desk(alloc: Global, schema: &Schema) -> Result<bool, Error>
+    ensures { IfOk result (λ is. Decides is (schema.now ≡ desk_schema)) }
+{
+    let mut plain = Connection::open_in_memory(alloc)?;
+    create_all(&mut plain)?;
+    Ok(is_same_schema(schema, plain.schema()))
+}

@@ -1,0 +1,61 @@
+//! The row with the greatest value of a column is looked up, and whether there are more than so many rows.
+ghost use Rattle.std.specs.Prelude.{◌≡◌, IfOk};
+ghost use Rattle.sqlite.specs.Held.{state};
+ghost use Rattle.review_tables.specs.Greatest.{first_as, FindsGreatest, HasGreatest};
+ghost use Rattle.review_tables.specs.Ran.{Looks};
+
+use sqlite::{Alter, Error, Row, Transaction};
+use std::alloc::{AllocError, Global};
+
+/// A look-up of the row with the greatest value of a column.
+pub trait Greatest {
+    ghost use Rattle.std.specs.Prelude.{ℕ};
+    ghost use Rattle.review_tables.specs.Search.{Search};
+
+    /// The values that are asked for.
+    type Key;
+
+    /// What the row reads as.
+    type Item: Drop;
+
+    /// The table, its columns, and how the row is read.
+    ghost search: { Search Self.Key Self.Item };
+
+    /// The column.
+    ghost place: { ℕ };
+
+    /// The row, as the store has it, or none.
+    fn select<S: Alter>(tx: &mut Transaction<'_, S>, key: &Self::Key) -> Result<Vec<Row>, Error>
+        ensures same_reference { tx.new.conn.ghost_name ≡ tx.old.conn.ghost_name }
+        ensures looks { Looks (λ db rows. FindsGreatest search place key.now db rows.items) (state S.Store tx.old.conn.now) (state S.Store tx.new.conn.now) result };
+
+    /// The row as it reads; none where it is no row of the table.
+    fn read(alloc: Global, row: &Row) -> Result<Option<Self::Item>, AllocError>
+        ensures { IfOk result (λ item. item ≡ search.read row.now) };
+}
+
+// The first row as it reads, if there is one.
+fn read_first<G: Greatest>(
+    alloc: Global,
+    rows: &[Row],
+) -> Result<Option<Option<G::Item>>, AllocError>
+    ensures { IfOk result (λ found. found ≡ first_as G.search.read rows.now) }
+{
+    match rows.first() {
+        Some(row) => Ok(Some(G::read(alloc, row)?)),
+        None => Ok(None),
+    }
+}
+
+/// The row with the greatest value of the column, or that there is no row; none for it where it is odd.
+pub fn find_greatest<G: Greatest, S: Alter>(
+    tx: &mut Transaction<'_, S>,
+    alloc: Global,
+    key: &G::Key,
+) -> Result<Option<Option<G::Item>>, Error>
+    ensures same_reference { tx.new.conn.ghost_name ≡ tx.old.conn.ghost_name }
+    ensures looks { Looks (λ db found. HasGreatest G.search G.place key.now db found) (state S.Store tx.old.conn.now) (state S.Store tx.new.conn.now) result }
+{
+    let rows = G::select(tx, key)?;
+    Ok(read_first::<G>(alloc, &rows)?)
+}
