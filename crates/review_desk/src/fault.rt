@@ -41,12 +41,22 @@ impl ProgramFault {
 }
 
 impl From<AllocError> for ProgramFault {
+    ghost use Rattle.std.specs.Prelude.{◌≡◌};
+    ghost use Rattle.review_desk.specs.declared.fault.ProgramFault.TheVariants.{Memory};
+
+    ghost from_gives = { λ _ e. e ≡ Memory };
+
     fn from(_error: AllocError) -> ProgramFault {
         ProgramFault::Memory
     }
 }
 
 impl From<DeskFault> for ProgramFault {
+    ghost use Rattle.std.specs.Prelude.{◌≡◌};
+    ghost use Rattle.review_desk.specs.Faults.{desk_fault};
+
+    ghost from_gives = { λ fault e. e ≡ desk_fault fault };
+
     fn from(fault: DeskFault) -> ProgramFault {
         match fault {
             DeskFault::NotADesk => ProgramFault::NotADesk,
@@ -59,6 +69,11 @@ impl From<DeskFault> for ProgramFault {
 }
 
 impl From<Fault> for ProgramFault {
+    ghost use Rattle.std.specs.Prelude.{◌≡◌};
+    ghost use Rattle.review_desk.specs.Faults.{line_fault};
+
+    ghost from_gives = { λ fault e. e ≡ line_fault fault };
+
     fn from(fault: Fault) -> ProgramFault {
         match fault {
             Fault::Memory => ProgramFault::Memory,
@@ -69,6 +84,11 @@ impl From<Fault> for ProgramFault {
 }
 
 impl From<ShowFault> for ProgramFault {
+    ghost use Rattle.std.specs.Prelude.{◌≡◌};
+    ghost use Rattle.review_desk.specs.Faults.{show_fault};
+
+    ghost from_gives = { λ fault e. e ≡ show_fault fault };
+
     fn from(fault: ShowFault) -> ProgramFault {
         match fault {
             ShowFault::Memory => ProgramFault::Memory,

@@ -15,8 +15,9 @@ use review_jobs::{Job, WordsFault, job_of};
 use review_machine::{Outcome, apply_lines};
 use review_shelves::MemoryShelf;
 use sqlite::Unknown;
+use std::env;
+use std::io::ErrorKind;
 use std::process::ExitCode;
-use std::{env, io};
 
 const USAGE: &str = "usage: review_desk COMMAND FILE ..
 
@@ -49,10 +50,13 @@ fn run(rt: &HostRuntime, job: &Job<'_>) -> Result<Outcome, ProgramFault> {
     }
 }
 
-/// The words after the program's name.
-fn words(rt: &HostRuntime) -> io::Result<Vec<String>> {
-    let words = env::args(rt)?.skip(1).collect(rt.alloc())?;
-    Ok(words)
+/// The words after the program's name. A word that isn't UTF-8 asks for nothing.
+fn words(rt: &HostRuntime) -> Result<Vec<String>, WordsFault> {
+    match env::args(rt) {
+        Ok(words) => Ok(words.skip(1).collect(rt.alloc())?),
+        Err(error) if error.kind() == ErrorKind::OutOfMemory => Err(WordsFault::Memory),
+        Err(_) => Err(WordsFault::Usage),
+    }
 }
 
 fn status_of(rt: &HostRuntime, ended: Result<Outcome, ProgramFault>) -> ExitCode {
@@ -66,16 +70,24 @@ fn status_of(rt: &HostRuntime, ended: Result<Outcome, ProgramFault>) -> ExitCode
     }
 }
 
-fn main(rt: HostRuntime) -> ExitCode {
-    let Ok(words) = words(&rt) else {
-        return status_of(&rt, Err(ProgramFault::Memory));
-    };
-    match job_of(rt.alloc(), &words) {
-        Ok(job) => status_of(&rt, run(&rt, &job)),
-        Err(WordsFault::Memory) => status_of(&rt, Err(ProgramFault::Memory)),
-        Err(WordsFault::Usage) => {
+/// What words that ask for no job end with.
+fn refuse_words(rt: &HostRuntime, fault: WordsFault) -> ExitCode {
+    match fault {
+        WordsFault::Memory => status_of(rt, Err(ProgramFault::Memory)),
+        WordsFault::Usage => {
             let _ = eprintln!(rt; "{USAGE}");
             ExitCode::from(2)
         }
+    }
+}
+
+fn main(rt: HostRuntime) -> ExitCode {
+    let words = match words(&rt) {
+        Ok(words) => words,
+        Err(fault) => return refuse_words(&rt, fault),
+    };
+    match job_of(rt.alloc(), &words) {
+        Ok(job) => status_of(&rt, run(&rt, &job)),
+        Err(fault) => refuse_words(&rt, fault),
     }
 }

@@ -1,10 +1,13 @@
 //! Jobs on the tables of a connection. Each hands the connection back, in no transaction.
-ghost use Rattle.std.specs.Prelude.{◌≡◌, false};
+ghost use Rattle.std.specs.Prelude.{◌≡◌, ◌⊎◌, false};
+ghost use Rattle.review_showing.specs.Told.{branch_questions, change_page, change_questions, joined_page};
+ghost use Rattle.review_desk.specs.Faults.{lines_outcome, shown_outcome};
+ghost use Rattle.review_desk.specs.Worked.{EndsShown, IsRefusedDesk, Made, OnShelf, TookLines};
 
 use crate::fault::ProgramFault;
-use review_machine::{Outcome, apply_lines};
+use review_machine::{Fault, Outcome, apply_lines};
 use review_names::{BranchName, ChangeNo, ProjectName};
-use review_showing::{joined_lines, show_lines};
+use review_showing::{ShowFault, joined_lines, show_lines};
 use review_sql::shelf::SqlShelf;
 use sqlite::{Alter, Connection};
 use std::alloc::Global;
@@ -17,6 +20,7 @@ pub fn create<S: Alter + Drop>(
 ) -> (Connection<S>, Result<(), ProgramFault>)
     requires mode { conn.in_transaction ≡ false }
     ensures mode { result.0.in_transaction ≡ false }
+    ensures made { Made S.Store conn result.0 result.1 }
 {
     match SqlShelf::create(alloc, conn) {
         Ok(shelf) => (shelf.close(), Ok(())),
@@ -33,16 +37,20 @@ pub fn apply<R: Read, W: Write, S: Alter + Drop>(
 ) -> (Connection<S>, Result<Outcome, ProgramFault>)
     requires mode { conn.in_transaction ≡ false }
     ensures mode { result.0.in_transaction ≡ false }
+    ensures applied { OnShelf S.Store (TookLines (R.remaining reader.old) (W.contents writer.old) (W.contents writer.new) result.1) conn result.0
+        ⊎ IsRefusedDesk S.Store (W.contents writer.old) (W.contents writer.new) conn result.0 result.1 }
 {
     let mut shelf = match SqlShelf::open(alloc, conn) {
         Ok(shelf) => shelf,
         Err((conn, fault)) => return (conn, Err(ProgramFault::from(fault))),
     };
     let ended = apply_lines(alloc, reader, writer, &mut shelf);
-    (shelf.close(), outcome_of(ended))
+    (shelf.close(), lines_outcome(ended))
 }
 
-fn outcome_of(ended: Result<Outcome, review_machine::Fault>) -> Result<Outcome, ProgramFault> {
+fn lines_outcome(ended: Result<Outcome, Fault>) -> Result<Outcome, ProgramFault>
+    ensures { result ≡ lines_outcome ended }
+{
     match ended {
         Ok(outcome) => Ok(outcome),
         Err(fault) => Err(ProgramFault::from(fault)),
@@ -58,6 +66,8 @@ pub fn show<W: Write, S: Alter + Drop>(
 ) -> (Connection<S>, Result<Outcome, ProgramFault>)
     requires mode { conn.in_transaction ≡ false }
     ensures mode { result.0.in_transaction ≡ false }
+    ensures shown { OnShelf S.Store (EndsShown (change_questions change) change_page (W.contents writer.old) (W.contents writer.new) result.1) conn result.0
+        ⊎ IsRefusedDesk S.Store (W.contents writer.old) (W.contents writer.new) conn result.0 result.1 }
 {
     let mut shelf = match SqlShelf::open(alloc, conn) {
         Ok(shelf) => shelf,
@@ -77,6 +87,8 @@ pub fn joined<W: Write, S: Alter + Drop>(
 ) -> (Connection<S>, Result<Outcome, ProgramFault>)
     requires mode { conn.in_transaction ≡ false }
     ensures mode { result.0.in_transaction ≡ false }
+    ensures shown { OnShelf S.Store (EndsShown (branch_questions project.now branch.now) joined_page (W.contents writer.old) (W.contents writer.new) result.1) conn result.0
+        ⊎ IsRefusedDesk S.Store (W.contents writer.old) (W.contents writer.new) conn result.0 result.1 }
 {
     let mut shelf = match SqlShelf::open(alloc, conn) {
         Ok(shelf) => shelf,
@@ -86,7 +98,9 @@ pub fn joined<W: Write, S: Alter + Drop>(
     (shelf.close(), shown_outcome(shown))
 }
 
-fn shown_outcome(shown: Result<(), review_showing::ShowFault>) -> Result<Outcome, ProgramFault> {
+fn shown_outcome(shown: Result<(), ShowFault>) -> Result<Outcome, ProgramFault>
+    ensures { result ≡ shown_outcome shown }
+{
     match shown {
         Ok(()) => Ok(Outcome::Complete),
         Err(fault) => Err(ProgramFault::from(fault)),
