@@ -74,13 +74,13 @@ abbrev pub about_lines : ShownChange → List ℕ
 about_lines c = state_line c ++ (subject_line c ++ (branch_line c ++ (role_line (codes "owner") c.owner ++ (patch_line c ++ wip_line c))))
 
 -- the lines of its votes and of those who review it
-abbrev pub review_lines : ShownChange → List ℕ
-review_lines c = flat_map vote_line c.votes ++ (flat_map (role_line (codes "reviewer")) c.reviewers ++ flat_map (role_line (codes "cc")) c.ccs)
+abbrev pub reviewing_lines : ShownChange → List ℕ
+reviewing_lines c = flat_map vote_line c.votes ++ (flat_map (role_line (codes "reviewer")) c.reviewers ++ flat_map (role_line (codes "cc")) c.ccs)
 
 -- the page of a change: what it is, who reviews it, how its requirements stand, and who has to act
 abbrev pub change_text : ShownChange → List ShownRequirement → List ShownCall → List ℕ
 change_text c requirements calls =
-    about_lines c ++ (review_lines c ++ (flat_map requirement_line requirements ++ flat_map attention_line calls))
+    about_lines c ++ (reviewing_lines c ++ (flat_map requirement_line requirements ++ flat_map attention_line calls))
 
 -- `1 1 COMMIT`: the place of a change that joined its branch, the change, and the commit by which it joined
 abbrev pub joined_line : ℕ → JoinedChange → List ℕ

@@ -1,6 +1,6 @@
 //! The pages of a change and of a branch. Each call fails for want of memory alone.
 ghost use Rattle.std.specs.Prelude.{◌≡◌, ◌++◌, IfOk, OnOk, flat_map, string_bytes};
-ghost use Rattle.review_showing.specs.Pages.{about_lines, attention_line, change_text, joined_text, requirement_line, review_lines, role_line, state_line, subject_line, branch_line, vote_line, patch_line, wip_line};
+ghost use Rattle.review_showing.specs.Pages.{about_lines, attention_line, change_text, joined_text, requirement_line, reviewing_lines, role_line, state_line, subject_line, branch_line, vote_line, patch_line, wip_line};
 
 use crate::lines::{
     push_attention, push_joined, push_pair, push_patch, push_requirement, push_role, push_state,
@@ -51,7 +51,7 @@ fn push_accounts(text: &mut String, role: &str, accounts: &[AccountNo]) -> Resul
 
 /// Adds the lines of votes and of those who review.
 fn push_review(alloc: Global, text: &mut String, change: &ShownChange) -> Result<(), AllocError>
-    ensures { OnOk result (string_bytes text.new ≡ string_bytes text.old ++ review_lines change.now) }
+    ensures { OnOk result (string_bytes text.new ≡ string_bytes text.old ++ reviewing_lines change.now) }
 {
     push_votes(alloc, text, change.votes.as_slice())?;
     push_accounts(text, "reviewer", change.reviewers.as_slice())?;
@@ -81,7 +81,7 @@ fn push_calls(text: &mut String, calls: &[ShownCall]) -> Result<(), AllocError>
 
 /// The lines of a change itself.
 fn change_lines(alloc: Global, change: &ShownChange) -> Result<String, AllocError>
-    ensures { IfOk result (λ text. string_bytes text ≡ about_lines change.now ++ review_lines change.now) }
+    ensures { IfOk result (λ text. string_bytes text ≡ about_lines change.now ++ reviewing_lines change.now) }
 {
     let mut text = String::new(alloc);
     push_about(&mut text, change)?;
