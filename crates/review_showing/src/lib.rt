@@ -7,9 +7,7 @@
 
 mod asking;
 mod fault;
-mod lines;
 mod output;
-mod pages;
 mod showing;
 
 pub use fault::ShowFault;

@@ -3,7 +3,7 @@ ghost use Rattle.std.specs.Prelude.{◌≡◌, ◌++◌, ◌∷◌, [], codes, I
 ghost use Rattle.review_names.specs.Numerals.{numeral};
 ghost use Rattle.review_words.specs.Texts.{signed};
 ghost use Rattle.review_json.specs.Shown.{state_name, status_name};
-ghost use Rattle.review_showing.specs.Pages.{attention_line, joined_line, line, patch_line, plus, requirement_line, role_line, state_line, vote_line, vote_value, yes_or_no};
+ghost use Rattle.review_pages.specs.Pages.{attention_line, joined_line, line, patch_line, plus, requirement_line, role_line, state_line, vote_line, vote_value, yes_or_no};
 
 use review_words::{
     AccountNo, JoinedChange, ShownCall, ShownChange, ShownRequirement, ShownVote, State, Status,
