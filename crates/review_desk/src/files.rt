@@ -9,11 +9,7 @@ use sqlite::{Connection, FileFrom, FileStore, Start};
 
 type FileConnection<S> = Connection<FileStore<FileFrom<S>>>;
 
-fn open<S: Start>(
-    rt: &HostRuntime,
-    file: &str,
-    start: S,
-) -> Result<FileConnection<S>, ProgramFault>
+fn open<S: Start>(rt: &HostRuntime, file: &str, start: S) -> Result<FileConnection<S>, ProgramFault>
     ensures { IfOk result (λ conn. conn.in_transaction ≡ false) }
 {
     match Connection::open_from(rt, file, false, start) {
@@ -45,11 +41,7 @@ fn close_after<S: Start, T: Drop>(
 }
 
 /// Makes an empty desk in a new file, and says so once the file is closed.
-pub fn init<S: Start>(
-    rt: &HostRuntime,
-    file: &str,
-    start: S,
-) -> Result<Outcome, ProgramFault> {
+pub fn init<S: Start>(rt: &HostRuntime, file: &str, start: S) -> Result<Outcome, ProgramFault> {
     let conn = open(rt, file, start)?;
     let (conn, made) = working::create(rt.alloc(), conn);
     close_after(conn, made)?;
@@ -60,11 +52,7 @@ pub fn init<S: Start>(
 }
 
 /// Takes the deliveries of standard input.
-pub fn apply<S: Start>(
-    rt: &HostRuntime,
-    file: &str,
-    start: S,
-) -> Result<Outcome, ProgramFault> {
+pub fn apply<S: Start>(rt: &HostRuntime, file: &str, start: S) -> Result<Outcome, ProgramFault> {
     let conn = open(rt, file, start)?;
     let (conn, ended) = working::apply(rt.alloc(), &mut rt.stdin(), &mut rt.stdout(), conn);
     close_after(conn, ended)

@@ -1,5 +1,6 @@
 -- The change whose number a text is.
-use Rattle.std.proofs.Common.{◌≡◌, ◌<◌, ℕ, List, Bool, true, false, Option, Some, None, arith, refl, subst, nat_tests}
+use Rattle.std.proofs.Common.{◌≡◌, ◌<◌, ℕ, List, Bool, true, false, Option, Some, None, arith, refl, subst}
+use Rattle.std.proofs.lemmas.Bool.Decides.{nat_tests}
 use Rattle.std.specs.Prelude.{option_and_then, if◌then◌else◌}
 use Rattle.review_names.specs.Forms.{is_within, most_changes}
 use Rattle.review_names.specs.Numerals.{number_of, numeral}

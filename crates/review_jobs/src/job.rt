@@ -6,11 +6,18 @@ use std::alloc::AllocError;
 #[derive(Debug, Drop)]
 pub enum Job<'a> {
     /// Makes an empty desk.
-    Init { file: &'a str },
+    Init {
+        file: &'a str,
+    },
     /// Takes the deliveries of its input.
-    Apply { file: &'a str },
+    Apply {
+        file: &'a str,
+    },
     /// Shows a change.
-    Show { file: &'a str, change: ChangeNo },
+    Show {
+        file: &'a str,
+        change: ChangeNo,
+    },
     /// Shows which changes joined a branch.
     Joined {
         file: &'a str,

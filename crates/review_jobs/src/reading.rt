@@ -20,7 +20,10 @@ fn text_at<'a>(matches: &ArgMatches<'a>, id: &str) -> Option<&'a str>
 fn change_of(text: &str) -> Option<ChangeNo>
     ensures { result ≡ change_of text.now }
 {
-    ChangeNo::read(text).ok()
+    match ChangeNo::read(text) {
+        Ok(change) => Some(change),
+        Err(_) => None,
+    }
 }
 
 fn project_of(alloc: Global, text: &str) -> Result<ProjectName, WordsFault>
@@ -112,11 +115,7 @@ fn job_on<'a>(
     Err(WordsFault::Usage)
 }
 
-fn job_with<'a>(
-    alloc: Global,
-    name: &str,
-    matches: &ArgMatches<'a>,
-) -> Result<Job<'a>, WordsFault>
+fn job_with<'a>(alloc: Global, name: &str, matches: &ArgMatches<'a>) -> Result<Job<'a>, WordsFault>
     ensures { Gives spelled result (job_from (name.now, rows_of (found_of matches.now))) }
 {
     match text_at(matches, "file") {

@@ -150,10 +150,7 @@ pub fn push_vote(alloc: Global, text: &mut String, vote: &ShownVote) -> Result<(
 }
 
 /// Adds the line of a submit requirement.
-pub fn push_requirement(
-    text: &mut String,
-    requirement: &ShownRequirement,
-) -> Result<(), AllocError>
+pub fn push_requirement(text: &mut String, requirement: &ShownRequirement) -> Result<(), AllocError>
     ensures { OnOk result (string_bytes text.new ≡ string_bytes text.old ++ requirement_line requirement.now) }
 {
     let status = status_name(requirement.status);

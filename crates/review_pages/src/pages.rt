@@ -6,9 +6,7 @@ use crate::lines::{
     push_attention, push_joined, push_pair, push_patch, push_requirement, push_role, push_state,
     push_three, push_vote, yes_or_no,
 };
-use review_words::{
-    AccountNo, JoinedChange, ShownCall, ShownChange, ShownRequirement, ShownVote,
-};
+use review_words::{AccountNo, JoinedChange, ShownCall, ShownChange, ShownRequirement, ShownVote};
 use std::alloc::{AllocError, Global};
 
 /// Adds the lines of where a change stands, of its subject and its branch.
@@ -58,10 +56,7 @@ fn push_review(alloc: Global, text: &mut String, change: &ShownChange) -> Result
     push_accounts(text, "cc", change.ccs.as_slice())
 }
 
-fn push_requirements(
-    text: &mut String,
-    requirements: &[ShownRequirement],
-) -> Result<(), AllocError>
+fn push_requirements(text: &mut String, requirements: &[ShownRequirement]) -> Result<(), AllocError>
     ensures { OnOk result (string_bytes text.new ≡ string_bytes text.old ++ flat_map requirement_line requirements.now) }
 {
     for requirement in requirements {

@@ -43,11 +43,7 @@ pub fn show_lines<S: Shelf, W: Write>(
     write_change(alloc, &replies, writer)
 }
 
-fn write_change<W: Write>(
-    alloc: Global,
-    replies: &[Reply],
-    writer: &mut W,
-) -> Result<(), ShowFault>
+fn write_change<W: Write>(alloc: Global, replies: &[Reply], writer: &mut W) -> Result<(), ShowFault>
     ensures { (text : List ℕ) × Appends (W.contents writer.old) (W.contents writer.new) text × IsWritten (change_page replies.now) text result }
 {
     match change_page(alloc, replies) {
@@ -91,11 +87,7 @@ pub fn joined_lines<S: Shelf, W: Write>(
     write_joined(alloc, &replies, writer)
 }
 
-fn write_joined<W: Write>(
-    alloc: Global,
-    replies: &[Reply],
-    writer: &mut W,
-) -> Result<(), ShowFault>
+fn write_joined<W: Write>(alloc: Global, replies: &[Reply], writer: &mut W) -> Result<(), ShowFault>
     ensures { (text : List ℕ) × Appends (W.contents writer.old) (W.contents writer.new) text × IsWritten (joined_page replies.now) text result }
 {
     match joined_page(alloc, replies) {

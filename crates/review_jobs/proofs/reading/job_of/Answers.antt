@@ -1,4 +1,4 @@
-use Rattle.std.proofs.Common.{◌≡◌, ◌∙◌}
+use Rattle.std.proofs.Common.{◌∙◌}
 use Rattle.review_jobs.proofs.Usage.{no_job}
 use Rattle.review_jobs.proofs.reading.job_of.Goals as goal
 
