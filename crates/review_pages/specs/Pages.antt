@@ -62,11 +62,11 @@ abbrev pub vote_line : ShownVote → List ℕ
 vote_line v = line (codes "vote" ∷ v.label ∷ vote_value v.value ∷ codes "by" ∷ numeral v.account ∷ [])
 
 -- `requirement Code-Review SATISFIED`: how a submit requirement stands
-abbrev pub requirement_line : ShownRequirement → List ℕ
+unfoldable pub requirement_line : ShownRequirement → List ℕ
 requirement_line r = line (codes "requirement" ∷ r.name ∷ status_name r.status ∷ [])
 
 -- `attention 2 since 10: account 3 replied on the change`: who has to act, since which request, and why
-abbrev pub attention_line : ShownCall → List ℕ
+unfoldable pub attention_line : ShownCall → List ℕ
 attention_line call = line (codes "attention" ∷ numeral call.account ∷ codes "since" ∷ (numeral call.request ++ codes ":") ∷ call.reason ∷ [])
 
 -- the lines of what a change is

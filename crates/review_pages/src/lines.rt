@@ -106,7 +106,6 @@ pub fn push_patch(text: &mut String, change: &ShownChange) -> Result<(), AllocEr
     push_patch_words(text, patch, change.commit.as_str(), uploader)
 }
 
-#[tactic(auto, using(crate::proofs::Signs::plus_if))]
 fn plus(value: i8) -> &'static str
     ensures { result.now ≡ plus value }
 {
@@ -150,6 +149,7 @@ pub fn push_vote(alloc: Global, text: &mut String, vote: &ShownVote) -> Result<(
 }
 
 /// Adds the line of a submit requirement.
+#[tactic(auto, unfolding(crate::specs::Pages::requirement_line))]
 pub fn push_requirement(text: &mut String, requirement: &ShownRequirement) -> Result<(), AllocError>
     ensures { OnOk result (string_bytes text.new ≡ string_bytes text.old ++ requirement_line requirement.now) }
 {
@@ -170,6 +170,7 @@ fn push_attention_words(
 }
 
 /// Adds the line of an account in the attention set.
+#[tactic(auto, unfolding(crate::specs::Pages::attention_line))]
 pub fn push_attention(text: &mut String, call: &ShownCall) -> Result<(), AllocError>
     ensures { OnOk result (string_bytes text.new ≡ string_bytes text.old ++ attention_line call.now) }
 {
