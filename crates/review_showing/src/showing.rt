@@ -82,7 +82,9 @@ pub fn joined_lines<S: Shelf, W: Write>(
     ensures shown { (replies : List Reply) × WereAsked (branch_questions project.now branch.now) replies (S.state shelf.old) (S.state shelf.new)
         × (text : List ℕ) × Appends (W.contents writer.old) (W.contents writer.new) text × IsWritten (joined_page replies) text result }
 {
-    let question = branch_question(alloc, project, branch)?;
+    let Ok(question) = branch_question(alloc, project, branch) else {
+        return Err(ShowFault::Memory);
+    };
     let replies = replies_to(alloc, shelf, &[question]);
     write_joined(alloc, &replies, writer)
 }
