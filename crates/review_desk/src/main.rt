@@ -1,43 +1,65 @@
-//! The program of the desk: `review_desk apply :memory:` takes the deliveries of its input, each a line of JSON, on an
-//! empty desk in memory, and writes a line with the answer to each.
+//! The program of the desk: `review_desk init FILE` makes an empty desk in a file, `apply FILE` takes the deliveries of its input, each a
+//! line of JSON, and writes a line with the answer to each, `show FILE --change N` and `joined FILE --project P --branch B` show a
+//! change and what joined a branch. With `apply :memory:` the desk is an empty one in memory.
 //!
 //! It ends with status 0; with 1 where a line was no delivery or wasn't taken, or where a fault ended it early, which
 //! standard error names; and with 2 where its words ask for something else.
 #![tactic(auto)]
 
-use review_machine::{Fault, Outcome, apply_lines};
+mod fault;
+mod files;
+mod working;
+
+use fault::ProgramFault;
+use review_jobs::{Job, WordsFault, job_of};
+use review_machine::{Outcome, apply_lines};
 use review_shelves::MemoryShelf;
+use sqlite::Unknown;
+use std::env;
+use std::io::ErrorKind;
 use std::process::ExitCode;
-use std::{env, io};
 
-const USAGE: &str = "usage: review_desk apply :memory:
+const USAGE: &str = "usage: review_desk COMMAND FILE ..
 
-Reads deliveries from standard input, each a line of JSON, and answers each by a line, on an empty desk in memory.";
+  init FILE                            makes an empty desk in a new file
+  apply FILE                           takes deliveries from standard input, each a line of JSON, and answers each by a line
+  show FILE --change N                 shows a change
+  joined FILE --project P --branch B   shows the changes that joined a branch
 
-fn apply_in_memory(rt: &HostRuntime) -> Result<Outcome, Fault> {
+FILE of apply may be :memory:, an empty desk in memory.";
+
+fn apply_in_memory(rt: &HostRuntime) -> Result<Outcome, ProgramFault> {
     let mut shelf = MemoryShelf::new(rt.alloc())?;
-    apply_lines(rt.alloc(), &mut rt.stdin(), &mut rt.stdout(), &mut shelf)
+    match apply_lines(rt.alloc(), &mut rt.stdin(), &mut rt.stdout(), &mut shelf) {
+        Ok(outcome) => Ok(outcome),
+        Err(fault) => Err(ProgramFault::from(fault)),
+    }
 }
 
-/// Whether the words after the program's name are `apply :memory:`.
-fn asks_to_apply(rt: &HostRuntime) -> io::Result<bool> {
-    let mut words = env::args(rt)?.skip(1);
-    let command = words.next();
-    let file = words.next();
-    let is_right = command.is_some_and(|word| word.as_str() == "apply")
-        && file.is_some_and(|word| word.as_str() == ":memory:");
-    Ok(is_right && words.next().is_none())
+fn run(rt: &HostRuntime, job: &Job<'_>) -> Result<Outcome, ProgramFault> {
+    match job {
+        Job::Init { file } => files::init(rt, file, Unknown),
+        Job::Apply { file } if *file == ":memory:" => apply_in_memory(rt),
+        Job::Apply { file } => files::apply(rt, file, Unknown),
+        Job::Show { file, change } => files::show(rt, file, Unknown, *change),
+        Job::Joined {
+            file,
+            project,
+            branch,
+        } => files::joined(rt, file, Unknown, project, branch),
+    }
 }
 
-fn main(rt: HostRuntime) -> ExitCode {
-    let ended = match asks_to_apply(&rt) {
-        Ok(true) => apply_in_memory(&rt),
-        Ok(false) => {
-            let _ = eprintln!(rt; "{USAGE}");
-            return ExitCode::from(2);
-        }
-        Err(_) => Err(Fault::Memory),
-    };
+/// The words after the program's name. A word that isn't UTF-8 asks for nothing.
+fn words(rt: &HostRuntime) -> Result<Vec<String>, WordsFault> {
+    match env::args(rt) {
+        Ok(words) => Ok(words.skip(1).collect(rt.alloc())?),
+        Err(error) if error.kind() == ErrorKind::OutOfMemory => Err(WordsFault::Memory),
+        Err(_) => Err(WordsFault::Usage),
+    }
+}
+
+fn status_of(rt: &HostRuntime, ended: Result<Outcome, ProgramFault>) -> ExitCode {
     match ended {
         Ok(Outcome::Complete) => ExitCode::SUCCESS,
         Ok(Outcome::Incomplete) => ExitCode::FAILURE,
@@ -45,5 +67,27 @@ fn main(rt: HostRuntime) -> ExitCode {
             let _ = eprintln!(rt; "review_desk: {fault}");
             ExitCode::FAILURE
         }
+    }
+}
+
+/// What words that ask for no job end with.
+fn refuse_words(rt: &HostRuntime, fault: WordsFault) -> ExitCode {
+    match fault {
+        WordsFault::Memory => status_of(rt, Err(ProgramFault::Memory)),
+        WordsFault::Usage => {
+            let _ = eprintln!(rt; "{USAGE}");
+            ExitCode::from(2)
+        }
+    }
+}
+
+fn main(rt: HostRuntime) -> ExitCode {
+    let words = match words(&rt) {
+        Ok(words) => words,
+        Err(fault) => return refuse_words(&rt, fault),
+    };
+    match job_of(rt.alloc(), &words) {
+        Ok(job) => status_of(&rt, run(&rt, &job)),
+        Err(fault) => refuse_words(&rt, fault),
     }
 }

@@ -1,0 +1,54 @@
+-- What a job on the tables of a connection did.
+use Rattle.std.specs.Prelude.{◌≡◌, ◌⊎◌, ℕ, List, [], Option, Result, Err, IsTrue, IfOk, IfErr, length}
+use Rattle.std.specs.Io.KnownBytes.{Appends}
+use Rattle.sqlite_trees.specs.declared.store.Store.{Ghosts}
+use Rattle.sqlite.specs.Held.{Held, state}
+use Rattle.review_words.specs.declared.command.Delivery.{Delivery}
+use Rattle.review_words.specs.declared.reply.Reply.{Reply}
+use Rattle.review_rows.specs.Shelf.{Shown}
+use Rattle.review_lines.specs.Answers.{answers, deliveries, HasLines, HasFirst, all_done, is_complete, IsRunOf, IsLeftBy}
+use Rattle.review_lines.specs.declared.fault.Fault.{Fault}
+use Rattle.review_lines.specs.declared.fault.Outcome.{Outcome}
+use Rattle.review_showing.specs.declared.fault.ShowFault.{ShowFault}
+use Rattle.review_showing.specs.Shown.{IsWritten, WereAsked}
+use Rattle.review_sql.specs.Shelf.{Kept, Stays, shown, IsUnmade}
+use Rattle.review_sql.specs.Opened.{IsOpened, IsRefused}
+use Rattle.review_sql.specs.Created.{IsCreated}
+use Rattle.review_sql.specs.declared.faults.DeskFault.{DeskFault}
+use Rattle.review_desk.specs.Faults.{desk_fault, lines_outcome, shown_outcome}
+use Rattle.review_desk.specs.declared.fault.ProgramFault.{ProgramFault}
+
+-- A shelf was opened over the connection, this was done on it, and its connection is given back.
+abbrev pub OnShelf : {S : Type 0} → Ghosts S → (Shown → Shown → Type 0) → Held S → Held S → Type 0
+OnShelf {S} g Did old new = (opened : Kept S) × (left : Kept S) × IsOpened g old opened × Did (shown g opened) (shown g left) × (new ≡ left.conn)
+
+-- No desk was opened: the tables are as they were, and nothing was written.
+abbrev pub IsRefusedDesk : {S : Type 0} → Ghosts S → Option (List ℕ) → Option (List ℕ) → Held S → Held S → Result Outcome ProgramFault → Type 0
+IsRefusedDesk g before after old new ended =
+    (fault : DeskFault) × (ended ≡ Err (desk_fault fault)) × Stays (state g old) (state g new) × (IsTrue (state g new).is_open → IsRefused (state g old) fault) × Appends before after []
+
+-- lines of an input were taken and answered, as `apply_lines` says
+abbrev pub TookLines : Option (List ℕ) → Option (List ℕ) → Option (List ℕ) → Result Outcome ProgramFault → Shown → Shown → Type 0
+TookLines input before after ended s t =
+    (told : Result Outcome Fault) × (ended ≡ lines_outcome told) × (t.is_honest → s.is_honest)
+    × ((lines : List (List ℕ)) × (replies : List Reply) × HasFirst input lines × (length replies ≡ length (deliveries lines)) × IsRunOf lines replies s t
+    × (text : List ℕ) × Appends before after text
+    × IfOk told (λ outcome. HasLines input lines × (text ≡ answers lines replies) × (is_complete outcome ≡ all_done lines replies))
+    × IfErr told (λ fault. IsLeftBy fault lines replies text))
+
+-- questions were asked, and the page of their replies was written, as `show_lines` and `joined_lines` say
+abbrev pub Showed : {X : Type 0} → List Delivery → (List Reply → Result (List ℕ) ShowFault) → Option (List ℕ) → Option (List ℕ) → Result X ShowFault → Shown → Shown → Type 0
+Showed questions page before after told s t =
+    (t.is_honest → s.is_honest)
+    × ((replies : List Reply) × WereAsked questions replies s t × (text : List ℕ) × Appends before after text × IsWritten (page replies) text told)
+
+-- what was shown on a shelf, and how it ended
+abbrev pub EndsShown : List Delivery → (List Reply → Result (List ℕ) ShowFault) → Option (List ℕ) → Option (List ℕ) → Result Outcome ProgramFault → Shown → Shown → Type 0
+EndsShown questions page before after ended s t =
+    (told : Result (Unit {0}) ShowFault) × (ended ≡ shown_outcome told) × Showed questions page before after told s t
+
+-- A desk was made as `create` says, or refused with the tables as they were.
+abbrev pub Made : {S X : Type 0} → Ghosts S → Held S → Held S → Result X ProgramFault → Type 0
+Made {S} g old new made =
+    IfOk made (λ done. (shelf : Kept S) × IsCreated g old shelf × (new ≡ shelf.conn))
+    × IfErr made (λ fault. IsUnmade (state g old) (state g new) × ((cause : DeskFault) × (fault ≡ desk_fault cause)))

@@ -1,0 +1,54 @@
+-- The command line of the program, as `clap` takes it.
+use Rattle.std.specs.Prelude.{◌≡◌, true, false, Some, codes}
+use Rattle.clap.specs.Words.{App, Rule, new_app, new_rule, with_rule, with_subcommand}
+use Rattle.clap.specs.declared.builder.action.ArgAction.TheVariants.{Set}
+use Rattle.clap.specs.declared.builder.command.Command.{Command}
+use Rattle.clap.specs.declared.builder.command.Command.TheViews.{out-Command}
+
+-- FILE
+abbrev pub file : Rule
+file = record (new_rule (codes "file")) { required = true; action = Some Set }
+
+-- --change N
+abbrev pub change : Rule
+change = record (new_rule (codes "change")) { long = Some (codes "change"); required = true; action = Some Set }
+
+-- --project P
+abbrev pub project : Rule
+project = record (new_rule (codes "project")) { long = Some (codes "project"); required = true; action = Some Set }
+
+-- --branch B
+abbrev pub branch : Rule
+branch = record (new_rule (codes "branch")) { long = Some (codes "branch"); required = true; action = Some Set }
+
+-- init FILE
+abbrev pub init : App
+init = with_rule (new_app (codes "init")) file
+
+-- apply FILE
+abbrev pub apply : App
+apply = with_rule (new_app (codes "apply")) file
+
+-- show FILE --change N
+abbrev pub show : App
+show = with_rule (with_rule (new_app (codes "show")) file) change
+
+-- joined FILE --project P --branch B
+abbrev pub joined : App
+joined = with_rule (with_rule (with_rule (new_app (codes "joined")) file) project) branch
+
+-- the program's own words: it wants a command
+abbrev pub top : App
+top = record (new_app (codes "review_desk")) { top = record (new_app (codes "review_desk")).top { no_binary_name = true; subcommand_required = true } }
+
+-- the program with the commands that may change a desk
+abbrev pub changing : App
+changing = with_subcommand (with_subcommand top init.top) apply.top
+
+-- the program with all its commands
+abbrev pub desk : App
+desk = with_subcommand (with_subcommand changing show.top) joined.top
+
+-- a command with no argument that goes to those below it
+abbrev pub IsLocal : Command → Type 0
+IsLocal c = (out-Command c).has_globals ≡ false

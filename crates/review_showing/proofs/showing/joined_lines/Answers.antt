@@ -1,0 +1,8 @@
+use Rattle.std.proofs.Common.{[], refl}
+use Rattle.std.proofs.KnownBytes.{Appends-nil}
+use Rattle.review_showing.specs.Told.{branch_questions}
+use Rattle.review_showing.proofs.Replies.{none_asked}
+use Rattle.review_showing.proofs.showing.joined_lines.Goals as goal
+
+pub returns-in_default-clause-shown : goal.returns-in_default-clause-shown
+returns-in_default-clause-shown g c = ([], none_asked (branch_questions c.args.project.now c.args.branch.now) _, [], Appends-nil _, refl)
