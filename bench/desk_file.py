@@ -117,7 +117,7 @@ FIRST = "0" * 40
 
 
 def change(id, commit, parent=FIRST, caller=2):
-    body = {"project": "tools", "branch": "main", "subject": "Fix", "commit": commit * 40, "parent": parent, "paths": ["src/a.rs", "src/b.rs"]}
+    body = {"project": "tools", "branch": "main", "subject": "Fix", "commit": commit, "parent": parent, "paths": ["src/a.rs", "src/b.rs"]}
     return line("CreateChange", id, caller, body)
 
 
@@ -128,9 +128,9 @@ TEN = [
     line("PutGroup", "g1", body={"members": [2, 3]}, group="Core"),
     line("PutProject", "p1", body={"file": FILE}, project="tools"),
     line("RecordBase", "b1", body={"commit": FIRST}, project="tools", branch="main"),
-    change("c1", "a"),
+    change("c1", "a" * 40),
     line("Review", "v1", 3, {"labels": {"Code-Review": 1}, "comments": {"src/a.rs": [{"line": 4, "message": "why", "unresolved": True}]}}, change=1, patch_set="current"),
     line("Submit", "s1", 3, change=1),
-    change("c2", "b", "a" * 40),
+    change("c2", "b" * 40, "a" * 40),
     line("Review", "v2", 3, {"labels": {"Code-Review": 1}, "message": "so"}, change=2, patch_set="current"),
 ]
