@@ -39,10 +39,7 @@ impl Front for BranchChanges {
 
     ghost front = { branch_changes };
 
-    fn select<S: Alter>(
-        tx: &mut Transaction<'_, S>,
-        owner: &BranchKey,
-    ) -> Result<Vec<Row>, Error> {
+    fn select<S: Alter>(tx: &mut Transaction<'_, S>, owner: &BranchKey) -> Result<Vec<Row>, Error> {
         tx.query_all(
             texts::FIND_BRANCH_CHANGES,
             params![owner.project.as_str(), owner.branch.as_str()],
