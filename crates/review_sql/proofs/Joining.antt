@@ -37,8 +37,8 @@ headed_at (Some a) (Some b) (Some s) (Some o) (Some t) (Some w) (Some p) None h 
 headed_at (Some a) (Some b) (Some s) (Some o) (Some t) (Some w) (Some p) (Some u) h is =
     let e = same_Some _ _ is in (ap (λ (h : Header). Some h.project) e, ap (λ (h : Header). Some h.branch) e, ap (λ (h : Header). Some h.place) e)
 
--- a change at a place of the branch has its row among those of the branch, with the place
-among : (db : Trees) (key : BranchKey) (place n : ℕ) → IsAtPlace (tables_at db).row key place n → (r : Raw) × Has (rows_at (change_places.at key) (db 9)) r × (column r 8 ≡ Int (pos place))
+-- a change at a place of the branch has its row among those of the branch, with the place and its number
+pub among : (db : Trees) (key : BranchKey) (place n : ℕ) → IsAtPlace (tables_at db).row key place n → (r : Raw) × Has (rows_at (change_places.at key) (db 9)) r × (column r 8 ≡ Int (pos place)) × (has_key (headers.at n) r ≡ true)
 among db key place n at =
     let found = part_found AHeader (row_at headers db n) (AHeader at.header) at.stands in
     let stands : row_at headers db n ≡ Some (Some at.header) = found.2 ∙ ap (λ x. Some (Some x)) (header_from found.0 at.header found.1) in
@@ -50,6 +50,7 @@ among db key place n at =
       row.0,
       in_has (has_key (change_places.at key)) (db 9) row.0 stored.0 (and_from _ _ project (and_from _ _ branch refl)),
       number_is (column row.0 8) at.header.place (passed is_small _ at.header.place parts.2) ∙ ap (λ p. Int (pos p)) at.placed,
+      stored.1,
     )
 
 -- the place of the row that was found

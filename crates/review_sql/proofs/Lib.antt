@@ -10,4 +10,6 @@ pub mod Asking
 pub mod Reviewing
 pub mod Sending
 pub mod Joining
+pub mod Joined
 pub mod Shown
+pub mod Again

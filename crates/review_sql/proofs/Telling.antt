@@ -106,7 +106,7 @@ has_in p (y ∷ xs) x has = elim (cases_Bool (p y)) [
     by_first passes later (inl same) = (inl same, subst (λ z. p z ≡ true) (sym same) passes)
     by_first passes later (inr more) = let it = later more in (inr it.0, it.1)
 
-only_none : {X : Type 0} (read : Raw → Option X) (rows : List Raw) → None ≡ only read rows → rows ≡ []
+pub only_none : {X : Type 0} (read : Raw → Option X) (rows : List Raw) → None ≡ only read rows → rows ≡ []
 only_none read [] is = refl
 only_none read (r ∷ []) is = absurd (cc)
 only_none read (r ∷ s ∷ rows) is = absurd (cc)

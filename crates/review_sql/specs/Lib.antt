@@ -5,5 +5,7 @@ pub mod Shelf
 pub mod Loads
 pub mod Reviews
 pub mod Senders
+pub mod Joins
 pub mod Created
 pub mod Opened
+pub mod Reopened

@@ -38,7 +38,7 @@ part_in db n (RoleOf u) = told (λ x. APart (ARole x)) (row_at roles db (n, u))
 part_in db n (CommentOf k) = told (λ x. APart (AComment x)) (row_at comments db (n, k))
 part_in db n (AttentionOf u) = told (λ x. APart (ACall x)) (row_at calls db (n, u))
 
--- TODO: the rows that have no key of their table
+-- What stands at a key. Nothing is claimed of rows that no key of their table names, as one of an account with a negative number: no look-up finds them.
 abbrev pub row_in : Trees → Key → Option Row
 row_in db (AccountKey number) = told AccountRow (row_at accounts db number)
 row_in db (MemberKey group account) = told (λ u. MemberRow) (row_at members db (record { group = group; account = account }))

@@ -3,14 +3,16 @@ ghost use Rattle.std.specs.Prelude.{◌≡◌, Some, None, IfOk, IfErr, IfSome, 
 ghost use Rattle.review_table.specs.Rows.{rows_of};
 ghost use Rattle.review_rows.specs.declared.rows.Want.TheVariants as want;
 ghost use Rattle.review_rows.specs.declared.rows.Counted.TheVariants as counted;
-ghost use Rattle.review_rows.specs.Known.{Number, Holder, IsSo, Members, Stands, Text, Commits, Learns};
+ghost use Rattle.review_rows.specs.Known.{Number, Holder, IsSo, Members, Stands, Text, Commits, Joins, Learns};
 ghost use Rattle.review_sql.specs.Loads.{last_of, learnt_by};
 
 use crate::loading::Sight;
 use review_chain::Standing;
 use review_rows::{Base, BranchKey, MemberKey, Rows};
 use review_table::{Key, Table};
-use review_words::{AccountName, AccountNo, Bases, ChangeNo, FileText, GroupName, ProjectName};
+use review_words::{
+    AccountName, AccountNo, Bases, ChangeNo, FileText, GroupName, JoinedChange, Listed, ProjectName,
+};
 use std::alloc::{AllocError, Global};
 
 /// That rows learnt, or that there was no memory for it.
@@ -171,4 +173,15 @@ pub fn learn_last_joined(
     ensures { OnOk result (Learns (want.LastJoined branch.now) (Number last) rows.old rows.new) }
 {
     rows.learn_last_joined(branch.copy(alloc)?, last)
+}
+
+pub fn learn_joined(
+    alloc: Global,
+    branch: &BranchKey,
+    joined: Listed<JoinedChange>,
+    rows: &mut Rows,
+) -> Result<(), AllocError>
+    ensures { OnOk result (Learns (want.Joined branch.now) (Joins joined) rows.old rows.new) }
+{
+    rows.learn_joined(branch.copy(alloc)?, joined)
 }

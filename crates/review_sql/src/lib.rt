@@ -1,11 +1,12 @@
 //! The tables of a desk in SQLite, as a shelf.
 //!
-//! It keeps all tables of a desk. One look-up is not answered yet, and refused as a store fault: the changes that joined a branch.
+//! It keeps all tables of a desk, and answers all look-ups.
 #![tactic(auto)]
 
 mod branches;
 mod creating;
 pub mod faults;
+mod joins;
 mod learning;
 mod loading;
 mod opening;

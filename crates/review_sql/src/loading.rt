@@ -4,7 +4,7 @@ ghost use Rattle.sqlite.specs.Held.{state};
 ghost use Rattle.review_tables.specs.Ran.{Looks, Serves};
 ghost use Rattle.review_sql.specs.Loads.{Sees, AreLoaded, HasLearnt, WereAsked};
 
-use crate::{branches, people, places, reviews, senders};
+use crate::{branches, joins, people, places, reviews, senders};
 use review_records::desk::Desk;
 use review_rows::{Counted, Rows, Want};
 use review_tables::reads::find as find_row;
@@ -20,7 +20,7 @@ pub enum Sight {
     NoMemory,
     /// It shows that the tables are those of no history.
     Damaged,
-    /// A row that it found doesn't read as one of its table.
+    /// A row that it found doesn't read as one of its table, or doesn't fit the others.
     Odd,
 }
 
@@ -64,7 +64,7 @@ fn find<S: Alter>(
         Want::ChangeOf(base) => senders::find_change_of(tx, alloc, base, rows),
         Want::Standing(base) => senders::find_standing(tx, alloc, base, rows),
         Want::LastJoined(branch) => places::find_last_joined(tx, alloc, branch, rows),
-        Want::Joined(_) => Err(Error::InvalidQuery),
+        Want::Joined(branch) => joins::find_joined(tx, alloc, branch, rows),
     }
 }
 

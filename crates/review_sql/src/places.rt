@@ -20,8 +20,8 @@ use review_words::ChangeNo;
 use sqlite::{Alter, Error, Transaction};
 use std::alloc::Global;
 
-// Whether a header is that of a change for the branch, at the place in it.
-fn is_placed(branch: &BranchKey, place: u32, header: &Header) -> bool
+/// Whether a header is that of a change for the branch, at the place in it.
+pub fn is_placed(branch: &BranchKey, place: u32, header: &Header) -> bool
     ensures project { result ≡ true → header.now.project ≡ branch.now.project }
     ensures branch { result ≡ true → header.now.branch ≡ branch.now.branch }
     ensures place { result ≡ true → header.now.place ≡ place }

@@ -61,9 +61,10 @@ fn is_blank(schema: &Schema) -> bool
 }
 
 impl<S: Alter + Drop> SqlShelf<S> {
-    ghost use Rattle.review_sql.specs.Shelf.{IsAnyThere, IsUnmade, Stays};
+    ghost use Rattle.review_sql.specs.Shelf.{Holds, IsAnyThere, IsUnmade, Stays};
     ghost use Rattle.review_sql.specs.Created.{IsCreated};
     ghost use Rattle.review_sql.specs.Opened.{IsOpened, IsRefused};
+    ghost use Rattle.review_sql.specs.Reopened.{IsNotReopened, IsReopened};
 
     /// Makes an empty desk, in one transaction. A refusal hands the connection back with its tables as they were.
     pub fn create(
@@ -123,6 +124,7 @@ impl<S: Alter + Drop> SqlShelf<S> {
     pub fn close(self) -> Connection<S>
         ensures same { result ≡ self.conn }
         ensures mode { result.in_transaction ≡ false }
+        ensures holds { Holds S.Store self.conn self.is_ours self.requests }
     {
         let SqlShelf {
             conn,
@@ -131,6 +133,17 @@ impl<S: Alter + Drop> SqlShelf<S> {
             faults: _,
         } = self;
         conn
+    }
+
+    /// Closes the shelf and opens it again, which changes nothing: it shows the tables that it showed, and a stop leaves nothing that it
+    /// could not leave before. Calls that were refused are counted from 0. A refusal hands the connection back with its tables as they were;
+    /// the tables of an honest shelf are refused only for want of memory or a fault of the store.
+    pub fn reopen(self, alloc: Global) -> Result<SqlShelf<S>, (Connection<S>, DeskFault)>
+        ensures reopened { IfOk result (IsReopened S.Store self) }
+        ensures mode { IfErr result (λ e. e.0.in_transaction ≡ false) }
+        ensures refused { IfErr result (λ e. IsNotReopened S.Store self e.0 e.1) }
+    {
+        SqlShelf::open(alloc, self.close())
     }
 }
 

@@ -1,0 +1,69 @@
+-- A shelf that was closed and opened again.
+use Rattle.std.proofs.Common.{◌≡◌, ◌≢◌, ◌⊎◌, inl, inr, ℕ, Option, Some, None, Ok, Err, Result, IfOk, IfErr, IsTrue, refl, sym, ap, subst}
+use Rattle.std.proofs.lemmas.Option.{same_Some}
+use Rattle.sqlite_trees.specs.declared.store.Store.{Ghosts}
+use Rattle.sqlite.specs.Effect.{Database}
+use Rattle.sqlite.specs.State.{State}
+use Rattle.sqlite.specs.Held.{Held, state}
+use Rattle.review_tables.specs.Ran.{IsReady}
+use Rattle.review_tables.specs.Search.{row_at}
+use Rattle.review_records.specs.declared.rows.DeskRow.{DeskRow}
+use Rattle.review_records.specs.Forms.{desk}
+use Rattle.review_sql.specs.declared.faults.DeskFault.{DeskFault}
+use Rattle.review_sql.specs.declared.faults.DeskFault.TheVariants.{NotADesk, WrongVersion, Store, NotEmpty, Memory}
+use Rattle.review_sql.specs.Opened.{AreAllApart, IsNoDesk, IsOpened, IsOtherVersion, IsRefused}
+use Rattle.review_sql.specs.Reopened.{IsNotReopened, IsReopened}
+use Rattle.review_sql.specs.Shelf.{Holds, Kept, Stays}
+use Rattle.review_sql.specs.Tables.{IsDesk}
+use Rattle.review_sql.proofs.Shown.{stays}
+
+-- the rows of each table of a desk have rowids of their own
+all_apart : (db : Database) → IsReady db → AreAllApart db.trees
+all_apart db ready = (ready.apart 0 refl, (ready.apart 2 refl, (ready.apart 4 refl, (ready.apart 6 refl, (ready.apart 9 refl, (ready.apart 11 refl, (ready.apart 14 refl, (ready.apart 16 refl, (ready.apart 18 refl, (ready.apart 20 refl, (ready.apart 22 refl, (ready.apart 25 refl, tt))))))))))))
+
+has_row : (row : Option (Option DeskRow)) (d : DeskRow) → row ≡ Some (Some d) → IsNoDesk row → ⊥
+has_row row d is (inl none) = let e = sym is in cc
+has_row row d is (inr odd) = let e = same_Some (Some d) None (subst (λ o. Some (Some d) ≡ o) odd (sym is)) in cc
+
+has_version : (row : Option (Option DeskRow)) (requests : ℕ) → row ≡ Some (Some (record { version = 1; requests = requests })) → IsOtherVersion row → ⊥
+has_version row requests is other =
+    let d = other.0 in
+    let same : d ≡ record { version = 1; requests = requests } = same_Some _ _ (same_Some _ _ (subst (λ o. o ≡ Some (Some (record { version = 1; requests = requests }))) other.1 is)) in
+    other.2 (ap (λ (d : DeskRow). d.version) same)
+
+-- the faults that are left
+store_or_memory : (fault : DeskFault) → (fault ≡ NotADesk → ⊥) → (fault ≡ WrongVersion → ⊥) → fault ≢ NotEmpty → (fault ≡ Memory) ⊎ (fault ≡ Store)
+store_or_memory NotADesk a b c = absurd (a refl)
+store_or_memory WrongVersion a b c = absurd (b refl)
+store_or_memory Store a b c = inr refl
+store_or_memory NotEmpty a b c = absurd (c refl)
+store_or_memory Memory a b c = inl refl
+
+cause_left : (s : State) (requests : ℕ) (fault : DeskFault) → IsReady s.now → IsDesk requests s.now.trees → IsRefused s fault → (fault ≡ Memory) ⊎ (fault ≡ Store)
+cause_left s requests fault ready is refused =
+    store_or_memory fault (λ none. has_row (row_at desk s.now.trees tt) (record { version = 1; requests = requests }) is (refused.no_desk ready.schema none))
+    (λ other. has_version (row_at desk s.now.trees tt) requests is (refused.other_version ready.schema other)) refused.not_empty
+
+module _ {S : Type 0} (g : Ghosts S) (old : Kept S) (holds : Holds g old.conn old.is_ours old.requests) where
+  reopened : (new : Kept S) → IsOpened g old.conn new → IsReopened g old new
+  reopened new it = record {
+    tables = stays g old.conn new.conn it.stays.kept;
+    honest = λ was clean is_open.
+        let ready = (holds.ready was.1 (it.stays.kept is_open).0).0 in
+        (clean, it.ours is_open ready.schema (all_apart (state g old.conn).now ready));
+    stops = λ honest t left. elim (it.stays.survives.crash honest.0 left.0 left.1) [ inl was ↦ (left.0, was, left.2) | inr none ↦ absurd none ];
+    faults = it.faults;
+  }
+
+  pub reopened_as : (r : Result (Kept S) (Held S × DeskFault)) → IfOk r (IsOpened g old.conn) → IfOk r (IsReopened g old)
+  reopened_as (Ok new) it = reopened new it
+  reopened_as (Err e) it = tt
+
+  pub refused_as : (r : Result (Kept S) (Held S × DeskFault)) → IfErr r (λ e. Stays (state g old.conn) (state g e.0)) → IfErr r (λ e. IsTrue (state g e.0).is_open → IsRefused (state g old.conn) e.1) → IfErr r (λ e. IsNotReopened g old e.0 e.1)
+  refused_as (Ok new) same why = tt
+  refused_as (Err e) same why = record {
+    stays = same;
+    cause = λ honest is_open.
+        let it = holds.ready honest.1 (same.kept is_open).0 in
+        cause_left (state g old.conn) old.requests e.1 it.0 it.1 (why is_open);
+  }
