@@ -1,6 +1,7 @@
 //! Laws over all runs, as contracts of calls that do nothing.
-ghost use Rattle.review_deliveries.specs.Restart.{OneAnswer, RunsCompose, RestartAfterStop, RestartCompletes, RestartIsRun, RestartKeepsHistory, RepliesFollowHistory};
+ghost use Rattle.review_deliveries.specs.Restart.{OneAnswer, RunsCompose, RunsGoOn, RestartAfterStop, RestartCompletes, RestartIsRun, RestartKeepsHistory, RepliesFollowHistory};
 
+use review_rows::Shelf;
 use review_statuses::one_standing;
 
 /// A command has one answer, unless a pattern in the file that it puts nests deeper than the engine reads: of two different
@@ -15,6 +16,11 @@ pub fn one_answer()
 /// A run of one list followed by a run of another is the run of both.
 pub fn runs_compose()
     ensures { RunsCompose }
+{}
+
+/// Runs with the shelf closed and opened between them are one run of the deliveries of both.
+pub fn runs_go_on<S: Shelf>()
+    ensures { RunsGoOn S.state }
 {}
 
 /// A run that is begun again after a stop, all of it taken, completes what the first one began: it gives the replies to

@@ -1,5 +1,5 @@
 -- What a job on the tables of a connection did.
-use Rattle.std.specs.Prelude.{◌≡◌, ◌⊎◌, ℕ, List, [], Option, Result, Err, IsTrue, IfOk, IfErr, length}
+use Rattle.std.specs.Prelude.{◌≡◌, ◌≢◌, ◌⊎◌, ℕ, List, [], Option, Result, Err, IsTrue, IfOk, IfErr, length}
 use Rattle.std.specs.Io.KnownBytes.{Appends}
 use Rattle.sqlite_trees.specs.declared.store.Store.{Ghosts}
 use Rattle.sqlite.specs.Held.{Held, state}
@@ -11,16 +11,18 @@ use Rattle.review_lines.specs.declared.fault.Fault.{Fault}
 use Rattle.review_lines.specs.declared.fault.Outcome.{Outcome}
 use Rattle.review_showing.specs.declared.fault.ShowFault.{ShowFault}
 use Rattle.review_showing.specs.Shown.{IsWritten, WereAsked}
-use Rattle.review_sql.specs.Shelf.{Kept, Stays, shown, IsUnmade}
+use Rattle.review_sql.specs.Shelf.{Kept, Stays, shown, IsAnyThere, IsClosed, IsUnmade}
+use Rattle.review_sql.specs.Reopened.{GoesOn}
 use Rattle.review_sql.specs.Opened.{IsOpened, IsRefused}
 use Rattle.review_sql.specs.Created.{IsCreated}
 use Rattle.review_sql.specs.declared.faults.DeskFault.{DeskFault}
+use Rattle.review_sql.specs.declared.faults.DeskFault.TheVariants.{NotADesk, WrongVersion, NotEmpty}
 use Rattle.review_desk.specs.Faults.{desk_fault, lines_outcome, shown_outcome}
 use Rattle.review_desk.specs.declared.fault.ProgramFault.{ProgramFault}
 
--- A shelf was opened over the connection, this was done on it, and its connection is given back.
+-- A shelf was opened over the connection, where that was left by one which was closed as that shelf again; this was done on it, and it was closed.
 abbrev pub OnShelf : {S : Type 0} → Ghosts S → (Shown → Shown → Type 0) → Held S → Held S → Type 0
-OnShelf {S} g Did old new = (opened : Kept S) × (left : Kept S) × IsOpened g old opened × Did (shown g opened) (shown g left) × (new ≡ left.conn)
+OnShelf {S} g Did old new = (opened : Kept S) × (left : Kept S) × IsOpened g old opened × GoesOn g old opened × Did (shown g opened) (shown g left) × IsClosed g left new
 
 -- No desk was opened: the tables are as they were, and nothing was written.
 abbrev pub IsRefusedDesk : {S : Type 0} → Ghosts S → Option (List ℕ) → Option (List ℕ) → Held S → Held S → Result Outcome ProgramFault → Type 0
@@ -47,8 +49,13 @@ abbrev pub EndsShown : List Delivery → (List Reply → Result (List ℕ) ShowF
 EndsShown questions page before after ended s t =
     (told : Result (Unit {0}) ShowFault) × (ended ≡ shown_outcome told) × Showed questions page before after told s t
 
--- A desk was made as `create` says, or refused with the tables as they were.
+-- Why no desk was made: not for what stands there as a desk; where it was for tables that are there, nothing was touched.
+abbrev pub IsCauseOf : {S : Type 0} → Ghosts S → Held S → Held S → DeskFault → Type 0
+IsCauseOf g old new cause =
+    (cause ≢ NotADesk) × (cause ≢ WrongVersion) × (cause ≡ NotEmpty → Stays (state g old) (state g new) × (IsTrue (state g new).is_open → IsAnyThere old.schema))
+
+-- A desk was made as `create` says, and closed, or refused with the tables as they were.
 abbrev pub Made : {S X : Type 0} → Ghosts S → Held S → Held S → Result X ProgramFault → Type 0
 Made {S} g old new made =
-    IfOk made (λ done. (shelf : Kept S) × IsCreated g old shelf × (new ≡ shelf.conn))
-    × IfErr made (λ fault. IsUnmade (state g old) (state g new) × ((cause : DeskFault) × (fault ≡ desk_fault cause)))
+    IfOk made (λ done. (shelf : Kept S) × IsCreated g old shelf × IsClosed g shelf new)
+    × IfErr made (λ fault. IsUnmade (state g old) (state g new) × ((cause : DeskFault) × (fault ≡ desk_fault cause) × IsCauseOf g old new cause))

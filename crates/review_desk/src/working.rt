@@ -5,7 +5,7 @@ ghost use Rattle.review_desk.specs.Faults.{lines_outcome, shown_outcome};
 ghost use Rattle.review_desk.specs.Worked.{EndsShown, IsRefusedDesk, Made, OnShelf, TookLines};
 
 use crate::fault::ProgramFault;
-use review_machine::{Fault, Outcome, apply_lines};
+use review_machine::{Fault, Outcome, apply_lines, runs_go_on};
 use review_names::{BranchName, ChangeNo, ProjectName};
 use review_showing::{ShowFault, joined_lines, show_lines};
 use review_sql::shelf::SqlShelf;
@@ -28,7 +28,8 @@ pub fn create<S: Alter + Drop>(
     }
 }
 
-/// Takes the deliveries of the lines of a reader, and writes the answers.
+/// Takes the deliveries of the lines of a reader, and writes the answers. What was taken over this connection before, each time closed and
+/// opened again, is with it one run (`runs_go_on`).
 pub fn apply<R: Read, W: Write, S: Alter + Drop>(
     alloc: Global,
     reader: &mut R,
@@ -45,6 +46,8 @@ pub fn apply<R: Read, W: Write, S: Alter + Drop>(
         Err((conn, fault)) => return (conn, Err(ProgramFault::from(fault))),
     };
     let ended = apply_lines(alloc, reader, writer, &mut shelf);
+    // By this law it is one run with those before it, from when the desk was made.
+    runs_go_on::<SqlShelf<S>>();
     (shelf.close(), lines_outcome(ended))
 }
 

@@ -1,5 +1,5 @@
--- A shelf that was closed and opened again.
-use Rattle.std.proofs.Common.{◌≡◌, ◌≢◌, ◌⊎◌, inl, inr, ℕ, Option, Some, None, Ok, Err, Result, IfOk, IfErr, IsTrue, refl, sym, ap, subst}
+-- A shelf over a connection that one which was closed has left.
+use Rattle.std.proofs.Common.{◌≡◌, ◌≢◌, ◌⊎◌, inl, inr, ℕ, Option, Some, None, IsTrue, refl, sym, ap, subst}
 use Rattle.std.proofs.lemmas.Option.{same_Some}
 use Rattle.sqlite_trees.specs.declared.store.Store.{Ghosts}
 use Rattle.sqlite.specs.Effect.{Database}
@@ -12,9 +12,9 @@ use Rattle.review_records.specs.Forms.{desk}
 use Rattle.review_sql.specs.declared.faults.DeskFault.{DeskFault}
 use Rattle.review_sql.specs.declared.faults.DeskFault.TheVariants.{NotADesk, WrongVersion, Store, NotEmpty, Memory}
 use Rattle.review_sql.specs.Opened.{AreAllApart, IsNoDesk, IsOpened, IsOtherVersion, IsRefused}
-use Rattle.review_sql.specs.Reopened.{IsNotReopened, IsReopened}
-use Rattle.review_sql.specs.Shelf.{Holds, Kept, Stays}
-use Rattle.review_sql.specs.Tables.{IsDesk}
+use Rattle.review_sql.specs.Reopened.{GoesOn, IsRefusedAgain, IsReopened}
+use Rattle.review_sql.specs.Shelf.{Holds, Kept, Stays, shown}
+use Rattle.review_lookups.specs.Tables.{IsDesk}
 use Rattle.review_sql.proofs.Shown.{stays}
 
 -- the rows of each table of a desk have rowids of their own
@@ -52,18 +52,17 @@ module _ {S : Type 0} (g : Ghosts S) (old : Kept S) (holds : Holds g old.conn ol
         let ready = (holds.ready was.1 (it.stays.kept is_open).0).0 in
         (clean, it.ours is_open ready.schema (all_apart (state g old.conn).now ready));
     stops = λ honest t left. elim (it.stays.survives.crash honest.0 left.0 left.1) [ inl was ↦ (left.0, was, left.2) | inr none ↦ absurd none ];
-    faults = it.faults;
   }
 
-  pub reopened_as : (r : Result (Kept S) (Held S × DeskFault)) → IfOk r (IsOpened g old.conn) → IfOk r (IsReopened g old)
-  reopened_as (Ok new) it = reopened new it
-  reopened_as (Err e) it = tt
+  cause_again : (conn : Held S) (fault : DeskFault) → Stays (state g old.conn) (state g conn) → (IsTrue (state g conn).is_open → IsRefused (state g old.conn) fault) → (shown g old).is_honest → IsTrue (state g conn).is_open → (fault ≡ Memory) ⊎ (fault ≡ Store)
+  cause_again conn fault same why honest is_open =
+      let it = holds.ready honest.1 (same.kept is_open).0 in
+      cause_left (state g old.conn) old.requests fault it.0 it.1 (why is_open)
 
-  pub refused_as : (r : Result (Kept S) (Held S × DeskFault)) → IfErr r (λ e. Stays (state g old.conn) (state g e.0)) → IfErr r (λ e. IsTrue (state g e.0).is_open → IsRefused (state g old.conn) e.1) → IfErr r (λ e. IsNotReopened g old e.0 e.1)
-  refused_as (Ok new) same why = tt
-  refused_as (Err e) same why = record {
-    stays = same;
-    cause = λ honest is_open.
-        let it = holds.ready honest.1 (same.kept is_open).0 in
-        cause_left (state g old.conn) old.requests e.1 it.0 it.1 (why is_open);
-  }
+module _ {S : Type 0} (g : Ghosts S) (conn : Held S) where
+  pub goes_on : (new : Kept S) → IsOpened g conn new → GoesOn g conn new
+  goes_on new it old closed = reopened g old closed.1 new (subst (λ (h : Held S). IsOpened g h new) closed.0 it)
+
+  pub refused_again : (last : Held S) (fault : DeskFault) → Stays (state g conn) (state g last) → (IsTrue (state g last).is_open → IsRefused (state g conn) fault) → IsRefusedAgain g conn last fault
+  refused_again last fault same why old closed =
+      cause_again g old closed.1 last fault (subst (λ (h : Held S). Stays (state g h) (state g last)) closed.0 same) (λ is_open. subst (λ (h : Held S). IsRefused (state g h) fault) closed.0 (why is_open))

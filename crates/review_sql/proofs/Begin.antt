@@ -2,9 +2,6 @@
 use Rattle.std.proofs.Common.{◌≡◌, ◌≢◌, ◌∙◌, ◌==◌, ℕ, List, [], ◌∷◌, Some, None, option_map, cond, true, refl, sym, ap, subst, arith, inl, inr, length, eqb-true}
 use Rattle.std.specs.Str.{bytes_eq}
 use Rattle.std.proofs.lemmas.Bool.{cases_Bool, both_ways, eqb-false}
-use Rattle.std.proofs.lemmas.Cmp.{nat_list_eq_equiv}
-use Rattle.std.proofs.lemmas.Map.Lookups.{exact_bytes}
-use Rattle.std.proofs.lemmas.Map.Text.{is_eq-slice_cmp}
 use Rattle.std.specs.Ordering.{nat_cmp}
 use Rattle.std.specs.Cmp.Lexicographic.{slice_cmp}
 use Rattle.sqlite_value.specs.declared.value.Value.TheVariants.{Text}
@@ -27,13 +24,9 @@ use Rattle.review_sql.specs.First.{SetsFirst, MakesDesk}
 use Rattle.review_changes.specs.Parts.{Part, TheHeader, PatchOf, VoteOf, RoleOf, CommentOf, AttentionOf, AHeader, APatch, ARole, AComment, ACall}
 use Rattle.review_change_records.specs.Forms.{headers, patches, votes, roles, comments, calls}
 use Rattle.review_records.specs.Forms.{accounts, members, projects, bases, answers}
-use Rattle.review_sql.specs.Tables.{part_in, vote_told, told, row_in, count_in, stored_as, number_of, tables_at}
-
-pub same_bytes : (s t : List ℕ) → bytes_eq s t ≡ true → s ≡ t
-same_bytes s t is = exact_bytes s t (equal_is (slice_cmp nat_cmp s t) (is_eq-slice_cmp s t ∙ is))
-
-pub own_bytes : (s t : List ℕ) → s ≡ t → bytes_eq s t ≡ true
-own_bytes s t same = subst (λ x. bytes_eq s x ≡ true) same (nat_list_eq_equiv.refl s)
+use Rattle.review_change_records.specs.Laws.{same_bytes}
+use Rattle.review_lookups.proofs.Telling.{own_bytes}
+use Rattle.review_lookups.specs.Tables.{part_in, vote_told, told, row_in, count_in, stored_as, number_of, tables_at}
 
 module _ (a b : Trees) (blank : (t : ℕ) → is_tree t ≡ true → a t ≡ []) (h : SetsFirst a b) where
   abbrev m1 : Trees

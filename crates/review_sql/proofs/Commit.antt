@@ -29,9 +29,11 @@ use Rattle.review_tables.proofs.Changed.{rows_changed, rows_spare, any_spares}
 use Rattle.review_tables.proofs.Keys.{equal_is, same_text}
 use Rattle.review_sql.specs.Changes.{SetsDelta, SetsKept, SetsDesk, place_of}
 use Rattle.review_records.specs.Forms.{accounts, members, projects, bases, answers}
-use Rattle.review_sql.specs.Tables.{told, row_in, count_in, answer_in, stored_as, number_of, tables_at, Commits, IsDesk, AreSingle}
+use Rattle.review_lookups.specs.Tables.{told, row_in, count_in, answer_in, stored_as, number_of, tables_at, IsDesk}
+use Rattle.review_sql.specs.Commits.{Commits, AreSingle}
 use Rattle.review_sql.proofs.Edits.{edits_spare, is_part_tree, part_same, parts_edited}
-use Rattle.review_sql.proofs.Begin.{same_bytes, own_bytes}
+use Rattle.review_change_records.specs.Laws.{same_bytes}
+use Rattle.review_lookups.proofs.Telling.{own_bytes}
 
 -- ---- keys
 

@@ -18,7 +18,7 @@ use Rattle.review_records.specs.Laws.{numbers_exact}
 use Rattle.review_change_records.specs.Forms.{headers, patches, votes, roles, comments, calls}
 use Rattle.review_change_records.specs.Laws.{votes_exact}
 use Rattle.review_sql.specs.Changes.{SetsEdit, SetsEdits, SetsUnless, is_named}
-use Rattle.review_sql.specs.Tables.{part_in, told, vote_told}
+use Rattle.review_lookups.specs.Tables.{part_in, told, vote_told}
 
 -- ---- rows as they are told
 

@@ -5,11 +5,5 @@ pub mod Staying
 pub mod Made
 pub mod Peeking
 pub mod Singles
-pub mod Telling
-pub mod Asking
-pub mod Reviewing
-pub mod Sending
-pub mod Joining
-pub mod Joined
 pub mod Shown
 pub mod Again

@@ -1,5 +1,5 @@
 -- A shelf that was made.
-use Rattle.std.proofs.Common.{◌≡◌, ◌∙◌, Bool, false, Ok, IsTrue, refl, sym, ap, subst}
+use Rattle.std.proofs.Common.{◌≡◌, ◌∙◌, Bool, Some, false, Ok, IsTrue, refl, sym, ap, subst}
 use Rattle.std.specs.Bool.{Decides}
 use Rattle.sqlite_trees.specs.declared.store.Store.{Ghosts}
 use Rattle.sqlite.specs.Effect.{Database}
@@ -15,7 +15,8 @@ use Rattle.review_sql.specs.Created.{IsCreated}
 use Rattle.review_tables.specs.Ran.{IsReady}
 use Rattle.review_sql.specs.declared.seen.Seen.{Seen}
 use Rattle.review_sql.specs.Opened.{IsOpened, IsSeen}
-use Rattle.review_sql.specs.Tables.{IsDesk}
+use Rattle.sqlite_trees.specs.Tree.{Trees}
+use Rattle.review_lookups.specs.Tables.{IsDesk, tables_at}
 
 module _ {S : Type 0} (g : Ghosts S) (c0 c1 c2 : Held S) (is_ours : Bool) (decided : Decides is_ours (c1.schema ≡ schema_0)) (x : Unit {0}) (acts : Transacts MakesDesk (state g c1) (state g c2) (Ok x)) where
   blank : c1.schema ≡ schema_0 → IsBlank schema_0 (state g c1).now
@@ -30,13 +31,17 @@ module _ {S : Type 0} (g : Ghosts S) (c0 c1 c2 : Held S) (is_ours : Bool) (decid
         (made.ready b, made.desk b);
   }
 
-  pub is_created : Stays (state g c0) (state g c1) → IsCreated g c0 (record { conn = c2; is_ours = is_ours; requests = 0; faults = 0 })
-  is_created stays = record {
+  pub is_created : Stays (state g c0) (state g c1) → (IsTrue (state g c2).is_open → (state g c2).now ≡ (state g c2).committed)
+      → ((db : Trees) → IsTrue (state g c2).is_open → (state g c2).may_leave db → db ≡ (state g c2).committed.trees) → IsCreated g c0 (record { conn = c2; is_ours = is_ours; requests = 0; faults = 0 })
+  is_created stays settled law = record {
     faults = refl;
     ours = λ clean none. decided.1 (ap (λ (d : Database). d.schema) (stays.kept (acts.done clean).0).1 ∙ none);
     view = λ clean none.
         let d = acts.done clean in
         (d.1, d.2.view (blank (ap (λ (d : Database). d.schema) (stays.kept d.0).1 ∙ none)));
+    alone = λ clean t left.
+        let d = acts.done clean in
+        rw d.1 (ap (λ (t : Trees). Some (tables_at t)) (ap (λ (d : Database). d.trees) (settled d.1) ∙ sym (law left.0 d.1 left.1)) ∙ ap Some (sym left.2));
     survives = survives_then (state g c0) (state g c1) (state g c2) _ _ _ (λ _ db h. absurd h)
         (λ clean db h. let was = stays.kept h.0 in (was.0, (h.1.0, h.1.1, subst (λ (d : Database). MakesDesk d h.1.0) was.1 h.1.2))) stays.survives acts.survives;
   }

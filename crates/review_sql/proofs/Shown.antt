@@ -15,7 +15,8 @@ use Rattle.review_rows.specs.View.{stored_answer}
 use Rattle.review_rows.proofs.Readings.{reading_of}
 use Rattle.review_rows.specs.Shelf.{StaysOrShuts, Shows, IsCommitted, IsDamaged}
 use Rattle.review_tables.specs.Ran.{IsReady, IsDeskIfOpen, Serves, Transacts}
-use Rattle.review_sql.specs.Tables.{tables_at, IsDesk, AreSingle, Commits}
+use Rattle.review_lookups.specs.Tables.{tables_at, IsDesk}
+use Rattle.review_sql.specs.Commits.{AreSingle, Commits}
 use Rattle.review_sql.specs.Shelf.{Holds, tables_of, stops_of}
 
 -- a stored request that is odd is one of no history

@@ -16,7 +16,7 @@ use Rattle.review_tables.specs.Search.{rows_at}
 use Rattle.review_tables.proofs.Single.{equal_values, differ_ids, one_passes}
 use Rattle.review_records.specs.declared.rows.PlaceKey.{PlaceKey}
 use Rattle.review_records.specs.Forms.{projects, bases}
-use Rattle.review_sql.specs.Tables.{AreSingle}
+use Rattle.review_sql.specs.Commits.{AreSingle}
 
 module _ (db : Trees) (sound : IsSound desk_schema db) where
   project_single : (p : List ℕ) → AreApart (db 4) → length (rows_at (projects.at p) (db 4)) ≤ 1

@@ -11,7 +11,7 @@ use Rattle.review_tables.specs.Ran.{IsReady}
 use Rattle.review_tables.specs.Search.{SetsRow}
 use Rattle.review_records.specs.Forms.{accounts, members}
 use Rattle.review_sql.specs.Changes.{SetsDesk}
-use Rattle.review_sql.specs.Tables.{tables_at, IsDesk}
+use Rattle.review_lookups.specs.Tables.{tables_at, IsDesk}
 
 -- the first account, which is the one administrator, and no request
 abbrev pub SetsFirst : Trees → Trees → Type 0

@@ -1,11 +1,7 @@
-pub mod Tables
+pub mod Commits
 pub mod Changes
 pub mod First
 pub mod Shelf
-pub mod Loads
-pub mod Reviews
-pub mod Senders
-pub mod Joins
 pub mod Created
 pub mod Opened
 pub mod Reopened

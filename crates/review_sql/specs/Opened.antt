@@ -17,7 +17,7 @@ use Rattle.review_sql.specs.declared.seen.Seen.{Seen}
 use Rattle.review_sql.specs.declared.faults.DeskFault.{DeskFault}
 use Rattle.review_sql.specs.declared.faults.DeskFault.TheVariants.{NotADesk, WrongVersion, NotEmpty}
 use Rattle.review_records.specs.Forms.{desk}
-use Rattle.review_sql.specs.Tables.{IsDesk}
+use Rattle.review_lookups.specs.Tables.{IsDesk}
 use Rattle.review_sql.specs.Shelf.{Kept, Stays}
 
 -- the rows of each table have rowids of their own

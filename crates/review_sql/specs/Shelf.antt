@@ -17,7 +17,7 @@ use Rattle.review_rows.specs.Rows.{Tables}
 use Rattle.review_rows.specs.Shelf.{Shown}
 use Rattle.review_tables.specs.Ran.{IsReady}
 use Rattle.review_sql.specs.First.{MakesDesk}
-use Rattle.review_sql.specs.Tables.{tables_at, IsDesk}
+use Rattle.review_lookups.specs.Tables.{tables_at, IsDesk}
 
 -- the connection, whether its tables are those that `create` makes, how many requests are stored, and how many calls were refused
 pub record Kept (S : Type 0) : Type 0 where
@@ -35,6 +35,10 @@ kept_code {S} store =
 pub record Holds {S : Type 0} (g : Ghosts S) (conn : Held S) (is_ours : Bool) (requests : ℕ) : Type 0 where
   pub autocommit : conn.in_transaction ≡ false
   pub ready : IsTrue is_ours → IsTrue (state g conn).is_open → IsReady (state g conn).now × IsDesk requests (state g conn).now.trees
+
+-- a shelf was closed, which leaves its connection
+abbrev pub IsClosed : {S : Type 0} → Ghosts S → Kept S → Held S → Type 0
+IsClosed g shelf conn = (conn ≡ shelf.conn) × Holds g shelf.conn shelf.is_ours shelf.requests
 
 -- the tables in use, where no fault has shut the connection
 abbrev pub tables_of : {S : Type 0} → Ghosts S → Held S → Option Tables

@@ -9,11 +9,11 @@ ghost use Rattle.review_tables.specs.Desk.{schema_0};
 
 use crate::creating::make_desk;
 use crate::faults::DeskFault;
-use crate::loading::{Loaded, load};
 use crate::opening::see;
 use crate::serving::find_stored;
 use crate::there::is_any_there;
 use crate::writing::transact;
+use review_lookups::loading::{Loaded, load};
 use review_records::rows::{Answered, RequestKey};
 use review_rows::{Delta, Kept, Need, Rows, Shelf, ShelfFault};
 use review_words::{AccountNo, RequestId};
@@ -61,10 +61,10 @@ fn is_blank(schema: &Schema) -> bool
 }
 
 impl<S: Alter + Drop> SqlShelf<S> {
-    ghost use Rattle.review_sql.specs.Shelf.{Holds, IsAnyThere, IsUnmade, Stays};
+    ghost use Rattle.review_sql.specs.Shelf.{IsAnyThere, IsClosed, IsUnmade, Stays};
     ghost use Rattle.review_sql.specs.Created.{IsCreated};
     ghost use Rattle.review_sql.specs.Opened.{IsOpened, IsRefused};
-    ghost use Rattle.review_sql.specs.Reopened.{IsNotReopened, IsReopened};
+    ghost use Rattle.review_sql.specs.Reopened.{GoesOn, IsRefusedAgain};
 
     /// Makes an empty desk, in one transaction. A refusal hands the connection back with its tables as they were.
     pub fn create(
@@ -76,6 +76,7 @@ impl<S: Alter + Drop> SqlShelf<S> {
         ensures mode { IfErr result (λ e. e.0.in_transaction ≡ false) }
         ensures refused { IfErr result (λ e. IsUnmade (state S.Store conn) (state S.Store e.0)) }
         ensures not_empty { IfErr result (λ e. e.1 ≡ DeskFault.NotEmpty → IsTrue (state S.Store e.0).is_open → IsAnyThere conn.schema) }
+        ensures untouched { IfErr result (λ e. e.1 ≡ DeskFault.NotEmpty → Stays (state S.Store conn) (state S.Store e.0)) }
         ensures kinds { IfErr result (λ e. (e.1 ≢ DeskFault.NotADesk) × (e.1 ≢ DeskFault.WrongVersion)) }
     {
         let mut conn = conn;
@@ -86,27 +87,34 @@ impl<S: Alter + Drop> SqlShelf<S> {
         }
         let is_ours = is_blank(conn.schema());
         match make_desk(&mut conn, alloc) {
-            Ok(()) => Ok(SqlShelf {
-                conn,
-                is_ours,
-                requests: 0,
-                faults: 0,
-            }),
+            Ok(()) => {
+                let _settled = conn.is_autocommit();
+                Ok(SqlShelf {
+                    conn,
+                    is_ours,
+                    requests: 0,
+                    faults: 0,
+                })
+            }
             Err(error) => Err((conn, DeskFault::of(error))),
         }
     }
 
     /// Opens a desk. Nothing is written, and a refusal hands the connection back with its tables as they were. Of tables that `create` did
-    /// not make nothing is claimed.
+    /// not make nothing is claimed. Over the connection of a shelf that was closed it is that shelf: it shows the tables that it showed, and a
+    /// stop leaves nothing that it could not leave before, so that runs before and after are one; what an honest shelf left is refused
+    /// only for want of memory or a fault of the store. Calls that were refused are counted from 0.
     pub fn open(
         alloc: Global,
         conn: Connection<S>,
     ) -> Result<SqlShelf<S>, (Connection<S>, DeskFault)>
         requires mode { conn.in_transaction ≡ false }
         ensures opened { IfOk result (IsOpened S.Store conn) }
+        ensures goes_on { IfOk result (GoesOn S.Store conn) }
         ensures mode { IfErr result (λ e. e.0.in_transaction ≡ false) }
         ensures refused { IfErr result (λ e. Stays (state S.Store conn) (state S.Store e.0)) }
         ensures cause { IfErr result (λ e. IsTrue (state S.Store e.0).is_open → IsRefused (state S.Store conn) e.1) }
+        ensures again { IfErr result (λ e. IsRefusedAgain S.Store conn e.0 e.1) }
     {
         let mut conn = conn;
         match see(&mut conn, alloc) {
@@ -122,9 +130,8 @@ impl<S: Alter + Drop> SqlShelf<S> {
 
     /// The connection of the shelf.
     pub fn close(self) -> Connection<S>
-        ensures same { result ≡ self.conn }
+        ensures closed { IsClosed S.Store self result }
         ensures mode { result.in_transaction ≡ false }
-        ensures holds { Holds S.Store self.conn self.is_ours self.requests }
     {
         let SqlShelf {
             conn,
@@ -133,17 +140,6 @@ impl<S: Alter + Drop> SqlShelf<S> {
             faults: _,
         } = self;
         conn
-    }
-
-    /// Closes the shelf and opens it again, which changes nothing: it shows the tables that it showed, and a stop leaves nothing that it
-    /// could not leave before. Calls that were refused are counted from 0. A refusal hands the connection back with its tables as they were;
-    /// the tables of an honest shelf are refused only for want of memory or a fault of the store.
-    pub fn reopen(self, alloc: Global) -> Result<SqlShelf<S>, (Connection<S>, DeskFault)>
-        ensures reopened { IfOk result (IsReopened S.Store self) }
-        ensures mode { IfErr result (λ e. e.0.in_transaction ≡ false) }
-        ensures refused { IfErr result (λ e. IsNotReopened S.Store self e.0 e.1) }
-    {
-        SqlShelf::open(alloc, self.close())
     }
 }
 

@@ -3,7 +3,7 @@ ghost use Rattle.std.specs.Prelude.{◌≡◌, [], ◌+◌, ◌<◌, ◌^◌, fa
 ghost use Rattle.sqlite.specs.Held.{state};
 ghost use Rattle.review_tables.specs.Ran.{Inside, Within, Opens, Transacts};
 ghost use Rattle.review_sql.specs.Changes.{SetsDelta, SetsEdit, SetsEdits, SetsFour, SetsUnless, is_named};
-ghost use Rattle.review_sql.specs.Tables.{Commits};
+ghost use Rattle.review_sql.specs.Commits.{Commits};
 
 use review_change_records::calls::Calls;
 use review_change_records::comments::Comments;

@@ -7,4 +7,4 @@ returns-in-Err-clause-applied g c = inr (c.in-Err.fault, ap Err c.from.ensures, 
 
 pub returns-clause-applied : goal.returns-clause-applied
 returns-clause-applied g c =
-    inl (c.in-Ok.shelf, c.apply_lines-ended.new.shelf, c.in-Ok.ensures.opened, (c.apply_lines-ended.result, c.lines_outcome.ensures, c.apply_lines-ended.ensures.honest, c.apply_lines-ended.ensures.ran), c.close.ensures.same)
+    inl (c.in-Ok.shelf, c.apply_lines-ended.new.shelf, c.in-Ok.ensures.opened, c.in-Ok.ensures.goes_on, (c.apply_lines-ended.result, c.lines_outcome.ensures, c.apply_lines-ended.ensures.honest, c.apply_lines-ended.ensures.ran), c.close.ensures.closed)

@@ -7,4 +7,4 @@ returns-in-Err-clause-shown g c = inr (c.in-Err.fault, ap Err c.from.ensures, c.
 
 pub returns-clause-shown : goal.returns-clause-shown
 returns-clause-shown g c =
-    inl (c.in-Ok.shelf, c.show_lines-shown.new.shelf, c.in-Ok.ensures.opened, (c.show_lines-shown.result, c.shown_outcome.ensures, (c.show_lines-shown.ensures.honest, c.show_lines-shown.ensures.shown)), c.close.ensures.same)
+    inl (c.in-Ok.shelf, c.show_lines-shown.new.shelf, c.in-Ok.ensures.opened, c.in-Ok.ensures.goes_on, (c.show_lines-shown.result, c.shown_outcome.ensures, (c.show_lines-shown.ensures.honest, c.show_lines-shown.ensures.shown)), c.close.ensures.closed)

@@ -1,7 +1,7 @@
 use Rattle.std.proofs.Common.{rules, refl, ◌≡◌, ◌∙◌, sym, ap, not, subst, IsTrue, Err}
 use Rattle.sqlite.specs.Held.{Held, state}
 use Rattle.sqlite.proofs.StateLemmas.{clean_if_open}
-use Rattle.review_sql.specs.Tables.{Commits}
+use Rattle.review_sql.specs.Commits.{Commits}
 use Rattle.review_tables.specs.Ran.{Transacts}
 use Rattle.review_tables.proofs.Sequences.{failed, ended}
 use Rattle.review_sql.proofs.writing.transact.Goals as goal

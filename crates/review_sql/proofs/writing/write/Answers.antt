@@ -1,6 +1,6 @@
 use Rattle.sqlite.specs.Held.{state}
 use Rattle.review_tables.proofs.Sequences.{next, retold}
-use Rattle.review_sql.specs.Tables.{Commits}
+use Rattle.review_sql.specs.Commits.{Commits}
 use Rattle.review_sql.proofs.Commit.{commits}
 use Rattle.review_sql.proofs.writing.write.Goals as goal
 

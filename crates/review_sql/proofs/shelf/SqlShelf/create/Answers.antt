@@ -1,3 +1,4 @@
+use Rattle.std.proofs.Common.{◌≡◌, ◌∙◌, ap, not, IsTrue}
 use Rattle.sqlite.proofs.StateLemmas.{clean_if_open}
 use Rattle.review_sql.proofs.Made.{holds_made, is_created}
 use Rattle.review_sql.proofs.shelf.SqlShelf.create.Goals as goal
@@ -14,4 +15,7 @@ invariant_of-result g c =
 
 pub returns-in-Ok-clause-created : goal.returns-in-Ok-clause-created
 returns-in-Ok-clause-created g c =
-    is_created g.S.Store c.args.conn c.is_any_there.new.conn c.make_desk.new.conn c.is_blank-is_ours.result (rw c.schema.ensures.value at c.is_blank-is_ours.ensures) _ c.in-Ok.ensures.acts c.in-Ok-false.ensures.stays
+    let last = c.make_desk.new.conn in
+    let auto : IsTrue c.is_autocommit-settled.result = c.is_autocommit-settled.ensures.value ∙ ap not c.make_desk.ensures.mode in
+    is_created g.S.Store c.args.conn c.is_any_there.new.conn last c.is_blank-is_ours.result (rw c.schema.ensures.value at c.is_blank-is_ours.ensures) _ c.in-Ok.ensures.acts c.in-Ok-false.ensures.stays
+    (λ is_open. c.is_autocommit-settled.ensures.settled auto is_open) (g.met.S.Store.settled last.store)

@@ -5,8 +5,8 @@ use Rattle.review_rows.specs.Known.{AreAsked, Agrees}
 use Rattle.review_rows.specs.Rows.{Tables}
 use Rattle.review_rows.specs.Shelf.{Shows, IsDamaged}
 use Rattle.review_tables.specs.Ran.{Serves}
-use Rattle.review_sql.specs.declared.loading.Loaded.TheVariants as loaded
-use Rattle.review_sql.specs.Loads.{AreLoaded, WereAsked}
+use Rattle.review_lookups.specs.declared.loading.Loaded.TheVariants as loaded
+use Rattle.review_lookups.specs.Loads.{AreLoaded, WereAsked}
 use Rattle.review_sql.specs.Shelf.{Kept, tables_of, stops_of}
 use Rattle.review_sql.proofs.Shown.{holds_read, served, stops_read, shown_now}
 use Rattle.review_sql.proofs.shelf.SqlShelfShelf.load.Goals as goal

@@ -5,7 +5,7 @@ use Rattle.review_words.specs.History.{Identity}
 use Rattle.review_rows.specs.Rows.{Tables, OddAnswer}
 use Rattle.review_rows.specs.Shelf.{Shows, IsDamaged}
 use Rattle.review_sql.specs.Shelf.{Kept, tables_of, stops_of}
-use Rattle.review_sql.specs.Tables.{tables_at, answer_in, stored_as}
+use Rattle.review_lookups.specs.Tables.{tables_at, answer_in, stored_as}
 use Rattle.review_sql.proofs.Shown.{holds_read, stops_read, desk_if_open, odd_is_damage, shown_now}
 use Rattle.review_sql.proofs.shelf.SqlShelfShelf.recall.Goals as goal
 

@@ -1,0 +1,13 @@
+use Rattle.std.proofs.Common.{◌≡◌, ◌∙◌, Some, refl, sym, ap, rules}
+use Rattle.review_rows.specs.declared.rows.Want.TheVariants as want
+use Rattle.review_rows.specs.Known.{Holder}
+use Rattle.review_rows.specs.Rows.{AccountRow}
+use Rattle.review_lookups.specs.Tables.{tables_at, told}
+use Rattle.review_lookups.proofs.Telling.{tells_as}
+use Rattle.review_lookups.proofs.people.tell_holder.Goals as goal
+
+pub returns-clause-told : goal.returns-clause-told
+returns-clause-told c = λ db is.
+    let named : c.args.named ≡ Some (Some c.args.name.now) = search rules in
+    tells_as (tables_at db) (want.AccountNamed c.args.name.now) (Holder (Some c.args.number)) c.args.rows.now c.learn_holder.new.rows c.learn_holder.result c.learnt.result c.learnt.ensures
+    (Some c.args.number, refl, ap (told AccountRow) (sym is ∙ named)) c.learn_holder.ensures

@@ -1,0 +1,5 @@
+pub mod Tables
+pub mod Loads
+pub mod Reviews
+pub mod Senders
+pub mod Joins

@@ -1,0 +1,74 @@
+-- A database as the tables of a desk.
+use Rattle.std.specs.Prelude.{option_map, ℤ, ℕ, ◌≡◌, List, [], ◌∷◌, length, Option, Some, None}
+use Rattle.sqlite_value.specs.declared.value.Value.TheVariants.{Text}
+use Rattle.sqlite_trees.specs.Tree.{Trees}
+use Rattle.review_words.specs.History.{Identity}
+use Rattle.review_changes.specs.Parts.{Part, TheHeader, PatchOf, VoteOf, RoleOf, CommentOf, AttentionOf, AHeader, APatch, ARole, AComment, ACall}
+use Rattle.review_rows.specs.Rows.{Key, AccountKey, MemberKey, FileKey, BaseKey, PartKey, OddKey, Row, AccountRow, MemberRow, FileRow, BaseRow, APart, OddRow, vote_row, Count, Projects, BasesOf, Stored, Answered, OddAnswer, Tables}
+use Rattle.review_tables.specs.Search.{rows_at, row_at}
+use Rattle.review_records.specs.declared.rows.DeskRow.{DeskRow}
+use Rattle.review_records.specs.declared.rows.Answered.{Answered as Rest}
+use Rattle.review_change_records.specs.Forms.{headers, patches, votes, roles, comments, calls}
+use Rattle.review_records.specs.Forms.{accounts, members, projects, bases, answers, desk}
+
+-- a row as tables tell it; an odd one is none of its table
+abbrev pub told : {X : Type 0} → (X → Row) → Option (Option X) → Option Row
+told kind None = None
+told kind (Some None) = Some OddRow
+told kind (Some (Some x)) = Some (kind x)
+
+-- the same of a vote, of which a value of 0 is none
+abbrev pub vote_told : Option (Option ℤ) → Option Row
+vote_told None = None
+vote_told (Some None) = Some OddRow
+vote_told (Some (Some v)) = option_map APart (vote_row (Some v))
+
+-- a row of a change
+abbrev pub part_in : Trees → ℕ → Part → Option Row
+part_in db n TheHeader = told (λ x. APart (AHeader x)) (row_at headers db n)
+part_in db n (PatchOf k) = told (λ x. APart (APatch x)) (row_at patches db (n, k))
+part_in db n (VoteOf k l a) = vote_told (row_at votes db (n, record { patch = k; label = l; account = a }))
+part_in db n (RoleOf u) = told (λ x. APart (ARole x)) (row_at roles db (n, u))
+part_in db n (CommentOf k) = told (λ x. APart (AComment x)) (row_at comments db (n, k))
+part_in db n (AttentionOf u) = told (λ x. APart (ACall x)) (row_at calls db (n, u))
+
+-- What stands at a key. Nothing is claimed of rows that no key of their table names, as one of an account with a negative number: no look-up finds them.
+abbrev pub row_in : Trees → Key → Option Row
+row_in db (AccountKey number) = told AccountRow (row_at accounts db number)
+row_in db (MemberKey group account) = told (λ u. MemberRow) (row_at members db (record { group = group; account = account }))
+row_in db (FileKey project) = told FileRow (row_at projects db project)
+row_in db (BaseKey project branch place) = told BaseRow (row_at bases db (record { project = project; branch = branch; place = place }))
+row_in db (PartKey n part) = part_in db n part
+row_in db (OddKey o) = None
+
+abbrev pub count_in : Trees → Count → ℕ
+count_in db Projects = length (db 4)
+count_in db (BasesOf project) = length (rows_at ((1, Text project) ∷ []) (db 6))
+
+-- a stored request as tables tell it
+abbrev pub stored_as : Identity → Option (Option Rest) → Option Stored
+stored_as i None = None
+stored_as i (Some None) = Some OddAnswer
+stored_as i (Some (Some a)) = Some (Answered (record { identity = i; request = a.request; content = a.content; reply = a.reply }))
+
+abbrev pub answer_in : Trees → Identity → Option Stored
+answer_in db i = stored_as i (row_at answers db (record { caller = i.caller; id = i.id }))
+
+-- a number of the one row; 0, which no desk has as a version, where there is none
+abbrev pub number_of : (DeskRow → ℕ) → Option (Option DeskRow) → ℕ
+number_of number None = 0
+number_of number (Some None) = 0
+number_of number (Some (Some d)) = number d
+
+abbrev pub tables_at : Trees → Tables
+tables_at db = record {
+  row = row_in db;
+  count = count_in db;
+  answer = answer_in db;
+  version = number_of (λ d. d.version) (row_at desk db tt);
+  requests = number_of (λ d. d.requests) (row_at desk db tt);
+}
+
+-- the row of the desk says version 1 and so many requests
+abbrev pub IsDesk : ℕ → Trees → Type 0
+IsDesk requests db = row_at desk db tt ≡ Some (Some (record { version = 1; requests = requests }))

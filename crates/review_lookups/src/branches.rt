@@ -1,0 +1,336 @@
+//! What is looked up of projects, of the bases of their branches, and of the desk.
+ghost use Rattle.std.specs.Prelude.{◌≡◌, ◌∷◌, [], true, Some, None, IfOk, length, nat_lt};
+ghost use Rattle.std.specs.Ordering.{nat_cmp};
+ghost use Rattle.sqlite.specs.Held.{state};
+ghost use Rattle.sqlite_trees.specs.Tree.{Trees};
+ghost use Rattle.sqlite_value.specs.declared.value.Value.TheVariants.{Text};
+ghost use Rattle.review_table.specs.Rows.{rows_of};
+ghost use Rattle.review_rows.specs.declared.rows.Want.TheVariants as want;
+ghost use Rattle.review_rows.specs.declared.rows.Counted.TheVariants as counted;
+ghost use Rattle.review_records.specs.Forms.{base_commits, base_parts, base_places, bases, desk, project_names, projects};
+ghost use Rattle.review_tables.specs.Fronts.{HaveRows, Knows};
+ghost use Rattle.review_tables.specs.Greatest.{HasGreatest};
+ghost use Rattle.review_tables.specs.Ran.{Looks};
+ghost use Rattle.review_tables.specs.Search.{row_at, rows_at};
+ghost use Rattle.review_rows.specs.Known.{IsBaseOrNot};
+ghost use Rattle.review_lookups.specs.Loads.{HasLearnt, Sees, IsOrdered};
+ghost use Rattle.review_lookups.specs.Tables.{tables_at};
+
+use crate::learning::{
+    learn_base, learn_bases, learn_file, learn_last_place, learn_project, learn_room_for_bases,
+    learnt, whole,
+};
+use crate::loading::Sight;
+use review_records::bases::{self, BaseCommits, Bases, BranchBases, LastPlace};
+use review_records::desk::Desk;
+use review_records::projects::{self, ProjectNames, Projects};
+use review_records::rows::{DeskRow, PlaceKey, PlaceNo};
+use review_rows::{Base, BranchKey, Rows};
+use review_table::{Key, Table};
+use review_tables::fronts::find_parts;
+use review_tables::greatest::find_greatest;
+use review_tables::reads::find;
+use review_words::{Bases as DeskBases, CommitName, FileText, ProjectName};
+use sqlite::{Alter, Error, Transaction};
+use std::alloc::{AllocError, Global};
+
+#[tactic(auto, using(crate::proofs::Telling::has_learnt))]
+fn tell_requests(found: Option<Option<DeskRow>>, rows: &mut Rows) -> Sight
+    ensures told { (db : Trees) → found ≡ row_at desk db tt → Sees (want.Requests) rows.old rows.new db result }
+    ensures learnt { result ≡ Sight.Learnt → HasLearnt (want.Requests) rows.old rows.new }
+{
+    match found {
+        Some(Some(row)) => {
+            rows.learn_requests(row.requests);
+            Sight::Learnt
+        }
+        Some(None) | None => Sight::Odd,
+    }
+}
+
+/// How many requests are stored.
+pub fn find_requests<S: Alter>(
+    tx: &mut Transaction<'_, S>,
+    alloc: Global,
+    rows: &mut Rows,
+) -> Result<Sight, Error>
+    ensures same_reference { tx.new.conn.ghost_name ≡ tx.old.conn.ghost_name }
+    ensures looks { Looks (Sees (want.Requests) rows.old rows.new) (state S.Store tx.old.conn.now) (state S.Store tx.new.conn.now) result }
+    ensures learnt { IfOk result (λ s. s ≡ Sight.Learnt → HasLearnt (want.Requests) rows.old rows.new) }
+{
+    let found = find::<Desk, S>(tx, alloc, &())?;
+    Ok(tell_requests(found, rows))
+}
+
+#[tactic(auto, using(crate::proofs::Telling::has_learnt))]
+fn tell_file(
+    alloc: Global,
+    project: &ProjectName,
+    found: Option<Option<FileText>>,
+    rows: &mut Rows,
+) -> Sight
+    ensures told { (db : Trees) → found ≡ row_at projects db project.now → Sees (want.File project.now) rows.old rows.new db result }
+    ensures learnt { result ≡ Sight.Learnt → HasLearnt (want.File project.now) rows.old rows.new }
+{
+    match whole(found) {
+        Ok(file) => learnt(learn_file(alloc, project, file, rows)),
+        Err(sight) => sight,
+    }
+}
+
+/// The file of a project.
+pub fn find_file<S: Alter>(
+    tx: &mut Transaction<'_, S>,
+    alloc: Global,
+    project: &ProjectName,
+    rows: &mut Rows,
+) -> Result<Sight, Error>
+    ensures same_reference { tx.new.conn.ghost_name ≡ tx.old.conn.ghost_name }
+    ensures looks { Looks (Sees (want.File project.now) rows.old rows.new) (state S.Store tx.old.conn.now) (state S.Store tx.new.conn.now) result }
+    ensures learnt { IfOk result (λ s. s ≡ Sight.Learnt → HasLearnt (want.File project.now) rows.old rows.new) }
+{
+    let found = find::<Projects, S>(tx, alloc, project)?;
+    Ok(tell_file(alloc, project, found, rows))
+}
+
+#[tactic(auto, using(crate::proofs::Telling::has_learnt))]
+fn tell_project(
+    alloc: Global,
+    project: &ProjectName,
+    found: Option<Option<()>>,
+    rows: &mut Rows,
+) -> Sight
+    ensures told { (db : Trees) → found ≡ row_at project_names db project.now → Sees (want.Project project.now) rows.old rows.new db result }
+    ensures learnt { result ≡ Sight.Learnt → HasLearnt (want.Project project.now) rows.old rows.new }
+{
+    learnt(learn_project(alloc, project, found.is_some(), rows))
+}
+
+/// Whether a project is there, without its file.
+pub fn find_project<S: Alter>(
+    tx: &mut Transaction<'_, S>,
+    alloc: Global,
+    project: &ProjectName,
+    rows: &mut Rows,
+) -> Result<Sight, Error>
+    ensures same_reference { tx.new.conn.ghost_name ≡ tx.old.conn.ghost_name }
+    ensures looks { Looks (Sees (want.Project project.now) rows.old rows.new) (state S.Store tx.old.conn.now) (state S.Store tx.new.conn.now) result }
+    ensures learnt { IfOk result (λ s. s ≡ Sight.Learnt → HasLearnt (want.Project project.now) rows.old rows.new) }
+{
+    let found = find::<ProjectNames, S>(tx, alloc, project)?;
+    Ok(tell_project(alloc, project, found, rows))
+}
+
+#[tactic(auto, using(crate::proofs::Telling::has_learnt))]
+fn tell_room_for_projects(found: bool, rows: &mut Rows) -> Sight
+    ensures told { (db : Trees) → nat_lt (length (db 4)) 1000 ≡ found → Sees (want.Room counted.Projects) rows.old rows.new db result }
+    ensures learnt { result ≡ Sight.Learnt → HasLearnt (want.Room counted.Projects) rows.old rows.new }
+{
+    rows.learn_room_for_projects(found);
+    Sight::Learnt
+}
+
+/// Whether there may be one more project.
+pub fn find_room_for_projects<S: Alter>(
+    tx: &mut Transaction<'_, S>,
+    rows: &mut Rows,
+) -> Result<Sight, Error>
+    ensures same_reference { tx.new.conn.ghost_name ≡ tx.old.conn.ghost_name }
+    ensures looks { Looks (Sees (want.Room counted.Projects) rows.old rows.new) (state S.Store tx.old.conn.now) (state S.Store tx.new.conn.now) result }
+    ensures learnt { IfOk result (λ s. s ≡ Sight.Learnt → HasLearnt (want.Room counted.Projects) rows.old rows.new) }
+{
+    let found = projects::has_room(tx)?;
+    Ok(tell_room_for_projects(found, rows))
+}
+
+#[tactic(auto, using(crate::proofs::Telling::has_learnt))]
+fn tell_room_for_bases(alloc: Global, project: &ProjectName, found: bool, rows: &mut Rows) -> Sight
+    ensures told { (db : Trees) → nat_lt (length (rows_at ((1, Text project.now) ∷ []) (db 6))) 100000 ≡ found → Sees (want.Room (counted.BasesOf project.now)) rows.old rows.new db result }
+    ensures learnt { result ≡ Sight.Learnt → HasLearnt (want.Room (counted.BasesOf project.now)) rows.old rows.new }
+{
+    learnt(learn_room_for_bases(alloc, project, found, rows))
+}
+
+/// Whether there may be one more base of a project.
+pub fn find_room_for_bases<S: Alter>(
+    tx: &mut Transaction<'_, S>,
+    alloc: Global,
+    project: &ProjectName,
+    rows: &mut Rows,
+) -> Result<Sight, Error>
+    ensures same_reference { tx.new.conn.ghost_name ≡ tx.old.conn.ghost_name }
+    ensures looks { Looks (Sees (want.Room (counted.BasesOf project.now)) rows.old rows.new) (state S.Store tx.old.conn.now) (state S.Store tx.new.conn.now) result }
+    ensures learnt { IfOk result (λ s. s ≡ Sight.Learnt → HasLearnt (want.Room (counted.BasesOf project.now)) rows.old rows.new) }
+{
+    let found = bases::has_room(tx, project)?;
+    Ok(tell_room_for_bases(alloc, project, found, rows))
+}
+
+#[tactic(auto, using(crate::proofs::Telling::has_learnt))]
+fn tell_last_place(
+    alloc: Global,
+    branch: &BranchKey,
+    found: Option<Option<u64>>,
+    rows: &mut Rows,
+) -> Sight
+    ensures told { (db : Trees) → HasGreatest base_places 3 branch.now db found → Sees (want.LastPlace branch.now) rows.old rows.new db result }
+    ensures learnt { result ≡ Sight.Learnt → HasLearnt (want.LastPlace branch.now) rows.old rows.new }
+{
+    match found {
+        Some(Some(place)) => learnt(learn_last_place(alloc, branch, place, rows)),
+        Some(None) => Sight::Odd,
+        None => learnt(learn_last_place(alloc, branch, 0, rows)),
+    }
+}
+
+/// The last place of a branch's bases.
+pub fn find_last_place<S: Alter>(
+    tx: &mut Transaction<'_, S>,
+    alloc: Global,
+    branch: &BranchKey,
+    rows: &mut Rows,
+) -> Result<Sight, Error>
+    ensures same_reference { tx.new.conn.ghost_name ≡ tx.old.conn.ghost_name }
+    ensures looks { Looks (Sees (want.LastPlace branch.now) rows.old rows.new) (state S.Store tx.old.conn.now) (state S.Store tx.new.conn.now) result }
+    ensures learnt { IfOk result (λ s. s ≡ Sight.Learnt → HasLearnt (want.LastPlace branch.now) rows.old rows.new) }
+{
+    let found = find_greatest::<LastPlace, S>(tx, alloc, branch)?;
+    Ok(tell_last_place(alloc, branch, found, rows))
+}
+
+#[tactic(auto, using(crate::proofs::Telling::has_learnt))]
+fn tell_bases(
+    alloc: Global,
+    branch: &BranchKey,
+    found: Option<Table<PlaceNo, CommitName>>,
+    rows: &mut Rows,
+) -> Sight
+    ensures told { (db : Trees) → Knows found (λ t. HaveRows nat_cmp base_parts branch.now db (rows_of t)) → Sees (want.Bases branch.now) rows.old rows.new db result }
+    ensures learnt { result ≡ Sight.Learnt → HasLearnt (want.Bases branch.now) rows.old rows.new }
+{
+    let Some(places) = found else {
+        return Sight::Odd;
+    };
+    match in_order(alloc, places) {
+        Ok(Some(bases)) => learnt(learn_bases(alloc, branch, bases, rows)),
+        Ok(None) => Sight::Damaged,
+        Err(_) => Sight::NoMemory,
+    }
+}
+
+/// The bases of a branch.
+pub fn find_bases<S: Alter>(
+    tx: &mut Transaction<'_, S>,
+    alloc: Global,
+    branch: &BranchKey,
+    rows: &mut Rows,
+) -> Result<Sight, Error>
+    ensures same_reference { tx.new.conn.ghost_name ≡ tx.old.conn.ghost_name }
+    ensures looks { Looks (Sees (want.Bases branch.now) rows.old rows.new) (state S.Store tx.old.conn.now) (state S.Store tx.new.conn.now) result }
+    ensures learnt { IfOk result (λ s. s ≡ Sight.Learnt → HasLearnt (want.Bases branch.now) rows.old rows.new) }
+{
+    let found = find_parts::<BranchBases, S>(tx, alloc, branch)?;
+    Ok(tell_bases(alloc, branch, found, rows))
+}
+
+// The commits of places in their order; none where a place before the last has none.
+fn in_order(
+    alloc: Global,
+    places: Table<PlaceNo, CommitName>,
+) -> Result<Option<DeskBases>, AllocError>
+    ensures { IfOk result (IsOrdered (rows_of places)) }
+{
+    places.once();
+    let mut bases = Vec::new(alloc);
+    for (place, commit) in places.into_rows(alloc)? {
+        if place.get() - 1 != bases.len() as u64 {
+            return Ok(None);
+        }
+        bases.push(commit)?;
+    }
+    Ok(Some(DeskBases::from_vec(bases)))
+}
+
+// Whether a commit stands at a place.
+fn stands(found: &Option<Option<CommitName>>, commit: &CommitName) -> bool
+    ensures { result ≡ true → found.now ≡ Some (Some commit.now) }
+{
+    match found {
+        Some(Some(other)) => other.as_str() == commit.as_str(),
+        _ => false,
+    }
+}
+
+fn stands_at(base: &Base, place: u64, found: Option<Option<CommitName>>) -> Option<bool>
+    ensures { (db : Trees) → found ≡ row_at bases db (record { project = base.now.project; branch = base.now.branch; place = place }) → Knows result (IsBaseOrNot (tables_at db).row base.now) }
+{
+    let _place = place;
+    if stands(&found, &base.commit) {
+        return Some(true);
+    }
+    None
+}
+
+fn stands_nowhere(base: &Base) -> Option<bool>
+    ensures { (db : Trees) → None ≡ row_at base_commits db base.now → Knows result (IsBaseOrNot (tables_at db).row base.now) }
+{
+    let _base = base;
+    Some(false)
+}
+
+fn place_key(alloc: Global, base: &Base, place: u64) -> Result<PlaceKey, AllocError>
+    ensures { IfOk result (λ k. k ≡ record { project = base.now.project; branch = base.now.branch; place = place }) }
+{
+    Ok(PlaceKey {
+        project: base.project.copy(alloc)?,
+        branch: base.branch.copy(alloc)?,
+        place,
+    })
+}
+
+/// Whether a commit is a base of a branch; none where a row of it is odd. The commit is looked up first, and then the place that it has.
+pub fn is_base<S: Alter>(
+    tx: &mut Transaction<'_, S>,
+    alloc: Global,
+    base: &Base,
+) -> Result<Option<bool>, Error>
+    ensures same_reference { tx.new.conn.ghost_name ≡ tx.old.conn.ghost_name }
+    ensures looks { Looks (λ db is. Knows is (IsBaseOrNot (tables_at db).row base.now)) (state S.Store tx.old.conn.now) (state S.Store tx.new.conn.now) result }
+{
+    let found = find::<BaseCommits, S>(tx, alloc, base)?;
+    match found {
+        Some(Some(place)) => {
+            let key = place_key(alloc, base, place)?;
+            let stored = find::<Bases, S>(tx, alloc, &key)?;
+            Ok(stands_at(base, place, stored))
+        }
+        Some(None) => Ok(None),
+        None => Ok(stands_nowhere(base)),
+    }
+}
+
+#[tactic(auto, using(crate::proofs::Telling::has_learnt))]
+fn tell_base(alloc: Global, base: &Base, is: Option<bool>, rows: &mut Rows) -> Sight
+    ensures told { (db : Trees) → Knows is (IsBaseOrNot (tables_at db).row base.now) → Sees (want.Base base.now) rows.old rows.new db result }
+    ensures learnt { result ≡ Sight.Learnt → HasLearnt (want.Base base.now) rows.old rows.new }
+{
+    match is {
+        Some(is) => learnt(learn_base(alloc, base, is, rows)),
+        None => Sight::Odd,
+    }
+}
+
+/// Whether a commit is a base of a branch.
+pub fn find_base<S: Alter>(
+    tx: &mut Transaction<'_, S>,
+    alloc: Global,
+    base: &Base,
+    rows: &mut Rows,
+) -> Result<Sight, Error>
+    ensures same_reference { tx.new.conn.ghost_name ≡ tx.old.conn.ghost_name }
+    ensures looks { Looks (Sees (want.Base base.now) rows.old rows.new) (state S.Store tx.old.conn.now) (state S.Store tx.new.conn.now) result }
+    ensures learnt { IfOk result (λ s. s ≡ Sight.Learnt → HasLearnt (want.Base base.now) rows.old rows.new) }
+{
+    let is = is_base(tx, alloc, base)?;
+    Ok(tell_base(alloc, base, is, rows))
+}

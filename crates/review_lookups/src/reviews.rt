@@ -1,0 +1,184 @@
+//! What is looked up of changes.
+ghost use Rattle.std.specs.Prelude.{◌≡◌, ◌≢◌, ℕ, [], true, IfOk, IfErr};
+ghost use Rattle.sqlite.specs.Held.{state};
+ghost use Rattle.sqlite_trees.specs.Tree.{Trees};
+ghost use Rattle.review_table.specs.Rows.{rows_of};
+ghost use Rattle.review_rows.specs.declared.rows.Want.TheVariants as want;
+ghost use Rattle.review_tables.specs.Greatest.{HasGreatest};
+ghost use Rattle.review_tables.specs.Ran.{Looks};
+ghost use Rattle.review_change_records.specs.Forms.{change_numbers};
+ghost use Rattle.review_lookups.specs.Loads.{HasLearnt, Sees};
+ghost use Rattle.review_lookups.specs.Reviews.{AreFoundRows, HaveTables, IsWhyNone};
+
+use crate::learning::{last, learnt, whole};
+use crate::loading::Sight;
+use review_change_records::calls::Calls;
+use review_change_records::comments::Comments;
+use review_change_records::headers::{Headers, LastChange};
+use review_change_records::patches::Patches;
+use review_change_records::roles::Roles;
+use review_change_records::votes::Votes;
+use review_changes::{Called, CommentRow, Header, PatchRow, Vote, VoteKey};
+use review_kept_changes::loading::change_rows;
+use review_kept_changes::{ChangeFault, ChangeTables};
+use review_rows::Rows;
+use review_table::{Key, Table};
+use review_tables::fronts::find_parts;
+use review_tables::greatest::find_greatest;
+use review_tables::reads::find;
+use review_words::{AccountNo, ChangeNo, CommentNo, PatchNo, Role};
+use sqlite::{Alter, Error, Transaction};
+use std::alloc::Global;
+
+/// The rows of a change, table by table: none for a table where one of them is odd, or two have one key.
+#[derive(Drop)]
+pub struct FoundRows {
+    pub header: Option<Option<Header>>,
+    pub patches: Option<Table<PatchNo, PatchRow>>,
+    pub votes: Option<Table<VoteKey, Vote>>,
+    pub roles: Option<Table<AccountNo, Role>>,
+    pub comments: Option<Table<CommentNo, CommentRow>>,
+    pub attention: Option<Table<AccountNo, Called>>,
+}
+
+fn find_rows<S: Alter>(
+    tx: &mut Transaction<'_, S>,
+    alloc: Global,
+    number: ChangeNo,
+) -> Result<FoundRows, Error>
+    ensures same_reference { tx.new.conn.ghost_name ≡ tx.old.conn.ghost_name }
+    ensures looks { Looks (AreFoundRows number) (state S.Store tx.old.conn.now) (state S.Store tx.new.conn.now) result }
+{
+    let header = find::<Headers, S>(tx, alloc, &number)?;
+    let patches = find_parts::<Patches, S>(tx, alloc, &number)?;
+    let votes = find_parts::<Votes, S>(tx, alloc, &number)?;
+    let roles = find_parts::<Roles, S>(tx, alloc, &number)?;
+    let comments = find_parts::<Comments, S>(tx, alloc, &number)?;
+    let attention = find_parts::<Calls, S>(tx, alloc, &number)?;
+    Ok(FoundRows {
+        header,
+        patches,
+        votes,
+        roles,
+        comments,
+        attention,
+    })
+}
+
+fn is_empty<K: Key, V: Drop>(table: &Table<K, V>) -> bool
+    ensures { result ≡ true → rows_of table.now ≡ [] }
+{
+    table.last_key().is_none()
+}
+
+// The tables of a change, or that it has no row.
+fn tables_of(found: FoundRows) -> Result<Option<ChangeTables>, Sight>
+    ensures ok { IfOk result (λ t. (n : ℕ) (db : Trees) → AreFoundRows n db found → HaveTables n db t) }
+    ensures err { IfErr result (λ s. (n : ℕ) (db : Trees) → AreFoundRows n db found → IsWhyNone n db s) }
+    ensures unlearnt { IfErr result (λ s. s ≢ Sight.Learnt) }
+{
+    let FoundRows {
+        header,
+        patches,
+        votes,
+        roles,
+        comments,
+        attention,
+    } = found;
+    let Some(patches) = patches else {
+        return Err(Sight::Odd);
+    };
+    let Some(votes) = votes else {
+        return Err(Sight::Odd);
+    };
+    let Some(roles) = roles else {
+        return Err(Sight::Odd);
+    };
+    let Some(comments) = comments else {
+        return Err(Sight::Odd);
+    };
+    let Some(attention) = attention else {
+        return Err(Sight::Odd);
+    };
+    match whole(header) {
+        Ok(Some(header)) => Ok(Some(ChangeTables {
+            header,
+            patches,
+            votes,
+            roles,
+            comments,
+            attention,
+        })),
+        Ok(None) => {
+            let none = is_empty(&patches)
+                & is_empty(&votes)
+                & is_empty(&roles)
+                & is_empty(&comments)
+                & is_empty(&attention);
+            if none { Ok(None) } else { Err(Sight::Odd) }
+        }
+        Err(sight) => Err(sight),
+    }
+}
+
+#[tactic(auto, using(crate::proofs::Telling::has_learnt))]
+fn tell_change(alloc: Global, number: ChangeNo, found: FoundRows, rows: &mut Rows) -> Sight
+    ensures told { (db : Trees) → AreFoundRows number db found → Sees (want.Change number) rows.old rows.new db result }
+    ensures learnt { result ≡ Sight.Learnt → HasLearnt (want.Change number) rows.old rows.new }
+{
+    match tables_of(found) {
+        Ok(Some(tables)) => {
+            let change = change_rows(alloc, &tables);
+            match change {
+                Ok(change) => learnt(rows.learn_change(number, Some(change))),
+                Err(ChangeFault::Memory) => Sight::NoMemory,
+                Err(ChangeFault::Gap) => Sight::Damaged,
+            }
+        }
+        Ok(None) => learnt(rows.learn_change(number, None)),
+        Err(sight) => sight,
+    }
+}
+
+/// A change with all its rows.
+pub fn find_change<S: Alter>(
+    tx: &mut Transaction<'_, S>,
+    alloc: Global,
+    number: ChangeNo,
+    rows: &mut Rows,
+) -> Result<Sight, Error>
+    ensures same_reference { tx.new.conn.ghost_name ≡ tx.old.conn.ghost_name }
+    ensures looks { Looks (Sees (want.Change number) rows.old rows.new) (state S.Store tx.old.conn.now) (state S.Store tx.new.conn.now) result }
+    ensures learnt { IfOk result (λ s. s ≡ Sight.Learnt → HasLearnt (want.Change number) rows.old rows.new) }
+{
+    let found = find_rows(tx, alloc, number)?;
+    Ok(tell_change(alloc, number, found, rows))
+}
+
+#[tactic(auto, using(crate::proofs::Telling::has_learnt))]
+fn tell_last_change(found: Option<Option<u64>>, rows: &mut Rows) -> Sight
+    ensures told { (db : Trees) → HasGreatest change_numbers 0 tt db found → Sees want.LastChange rows.old rows.new db result }
+    ensures learnt { result ≡ Sight.Learnt → HasLearnt want.LastChange rows.old rows.new }
+{
+    match last(found) {
+        Some(number) => {
+            rows.learn_last_change(number);
+            Sight::Learnt
+        }
+        None => Sight::Odd,
+    }
+}
+
+/// The greatest number of a change.
+pub fn find_last_change<S: Alter>(
+    tx: &mut Transaction<'_, S>,
+    alloc: Global,
+    rows: &mut Rows,
+) -> Result<Sight, Error>
+    ensures same_reference { tx.new.conn.ghost_name ≡ tx.old.conn.ghost_name }
+    ensures looks { Looks (Sees want.LastChange rows.old rows.new) (state S.Store tx.old.conn.now) (state S.Store tx.new.conn.now) result }
+    ensures learnt { IfOk result (λ s. s ≡ Sight.Learnt → HasLearnt want.LastChange rows.old rows.new) }
+{
+    let found = find_greatest::<LastChange, S>(tx, alloc, &())?;
+    Ok(tell_last_change(found, rows))
+}

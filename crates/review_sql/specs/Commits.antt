@@ -1,0 +1,24 @@
+-- What a commit does to the tables of a desk.
+use Rattle.std.specs.Prelude.{ℕ, ◌+◌, ◌≤◌, List, length}
+use Rattle.sqlite_trees.specs.Tree.{Trees}
+use Rattle.sqlite.specs.Effect.{Database}
+use Rattle.review_rows.specs.Rows.{kept_row}
+use Rattle.review_rows.specs.Shelf.{IsCommitted}
+use Rattle.review_rows.specs.declared.rows.Delta.{Delta}
+use Rattle.review_rows.specs.declared.rows.Kept.{Kept}
+use Rattle.review_tables.specs.Ran.{IsReady}
+use Rattle.review_tables.specs.Search.{rows_at}
+use Rattle.review_records.specs.declared.rows.PlaceKey.{PlaceKey}
+use Rattle.review_records.specs.Forms.{projects, bases}
+use Rattle.review_lookups.specs.Tables.{tables_at, IsDesk}
+
+-- no two rows of the tables whose rows are counted have one key
+pub record AreSingle (db : Trees) : Type 0 where
+  pub projects_are : (project : List ℕ) → length (rows_at (projects.at project) (db 4)) ≤ 1
+  pub bases_are : (key : PlaceKey) → length (rows_at (bases.at key) (db 6)) ≤ 1
+
+-- the delta is applied and the request is stored, where the tables are a desk's and so many requests were
+pub record Commits (delta : Delta) (kept : Kept) (requests : ℕ) (old new : Database) : Type 0 where
+  pub ready : IsReady old → IsReady new
+  pub committed : IsReady old → AreSingle old.trees → IsDesk requests old.trees → IsCommitted (tables_at old.trees) delta (kept_row kept) (tables_at new.trees)
+  pub desk : IsReady old → IsDesk (requests + 1) new.trees
