@@ -32,8 +32,8 @@ fn write_whole<W: Write>(writer: &mut W, bytes: &[u8]) -> Result<(), Fault>
     Ok(())
 }
 
-/// Writes all the bytes, or a first part of them, and flushes.
-fn write_and_flush<W: Write>(writer: &mut W, bytes: &[u8]) -> Result<(), Fault>
+/// Writes all the bytes, or a first part of them, and flushes. A writer that takes no byte has failed.
+pub fn write_and_flush<W: Write>(writer: &mut W, bytes: &[u8]) -> Result<(), Fault>
     ensures whole { OnOk result (Appends (W.contents writer.old) (W.contents writer.new) bytes.now) }
     ensures part { OnErr result ((part : List ℕ) × IsPartOf part bytes.now × Appends (W.contents writer.old) (W.contents writer.new) part) }
     ensures cause { IfErr result (λ e. e ≡ fault.Output) }

@@ -7,7 +7,7 @@ ghost use Rattle.review_showing.specs.Shown.{IsWritten, WereAsked};
 
 use crate::asking::{about, change_page, joined_page, replies_to};
 use crate::fault::ShowFault;
-use crate::output::write_and_flush;
+use crate::output::write_page;
 use review_rows::Shelf;
 use review_words::{
     AccountNo, BranchName, ChangeNo, ChangeQuery, Delivery, ProjectName, Query, Reply,
@@ -47,7 +47,7 @@ fn write_change<W: Write>(alloc: Global, replies: &[Reply], writer: &mut W) -> R
     ensures { (text : List ℕ) × Appends (W.contents writer.old) (W.contents writer.new) text × IsWritten (change_page replies.now) text result }
 {
     match change_page(alloc, replies) {
-        Ok(page) => write_and_flush(writer, page.as_bytes()),
+        Ok(page) => write_page(writer, page.as_bytes()),
         Err(fault) => Err(fault),
     }
 }
@@ -93,7 +93,7 @@ fn write_joined<W: Write>(alloc: Global, replies: &[Reply], writer: &mut W) -> R
     ensures { (text : List ℕ) × Appends (W.contents writer.old) (W.contents writer.new) text × IsWritten (joined_page replies.now) text result }
 {
     match joined_page(alloc, replies) {
-        Ok(page) => write_and_flush(writer, page.as_bytes()),
+        Ok(page) => write_page(writer, page.as_bytes()),
         Err(fault) => Err(fault),
     }
 }

@@ -40,7 +40,7 @@ pub record IsOpened {S : Type 0} (g : Ghosts S) (conn : Held S) (shelf : Kept S)
   pub stays : Stays (state g conn) (state g shelf.conn)
   pub ours : IsTrue (state g shelf.conn).is_open → conn.schema ≡ desk_schema → AreAllApart (state g conn).now.trees → shelf.is_ours ≡ true
 
--- the tables have the form of a desk's, and their row of the desk is of another version
+-- the row of the desk says another version than 1
 abbrev pub IsOtherVersion : Option (Option DeskRow) → Type 0
 IsOtherVersion row = (d : DeskRow) × (row ≡ Some (Some d)) × (d.version ≢ 1)
 
@@ -53,7 +53,7 @@ pub record IsSeen (s : State) (seen : Seen) : Type 0 where
   pub ready : seen.is_ours ≡ true → IsReady s.now × IsDesk seen.requests s.now.trees
   pub ours : s.now.schema ≡ desk_schema → AreAllApart s.now.trees → seen.is_ours ≡ true
 
--- why tables of the form of a desk's are refused
+-- Why tables are refused: those of the form that `create` makes only for their row of the desk. Of other tables no more is said than that they aren't called full.
 pub record IsRefused (s : State) (fault : DeskFault) : Type 0 where
   pub no_desk : s.now.schema ≡ desk_schema → fault ≡ NotADesk → IsNoDesk (row_at desk s.now.trees tt)
   pub other_version : s.now.schema ≡ desk_schema → fault ≡ WrongVersion → IsOtherVersion (row_at desk s.now.trees tt)

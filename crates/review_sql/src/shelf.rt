@@ -6,18 +6,19 @@ ghost use Rattle.sqlite.specs.State.{HasCleanDisk};
 ghost use Rattle.review_rows.specs.Rows.{kept_row};
 ghost use Rattle.review_rows.specs.Shelf.{IsCounted, greatest_count};
 ghost use Rattle.review_tables.specs.Desk.{schema_0};
+ghost use Rattle.review_sql.specs.Shelf.{Stays};
 
 use crate::creating::make_desk;
 use crate::faults::DeskFault;
 use crate::opening::see;
 use crate::serving::find_stored;
-use crate::there::is_any_there;
+use crate::there::{is_any_there, seen};
 use crate::writing::transact;
 use review_lookups::loading::{Loaded, load};
 use review_records::rows::{Answered, RequestKey};
 use review_rows::{Delta, Kept, Need, Rows, Shelf, ShelfFault};
 use review_words::{AccountNo, RequestId};
-use sqlite::{Alter, Connection};
+use sqlite::{Alter, Connection, Error, ErrorCode};
 use sqlite_schema::schema::Schema;
 use std::alloc::Global;
 use std::marker::Model;
@@ -61,7 +62,7 @@ fn is_blank(schema: &Schema) -> bool
 }
 
 impl<S: Alter + Drop> SqlShelf<S> {
-    ghost use Rattle.review_sql.specs.Shelf.{IsAnyThere, IsClosed, IsUnmade, Stays};
+    ghost use Rattle.review_sql.specs.Shelf.{IsAnyThere, IsClosed, IsUnmade};
     ghost use Rattle.review_sql.specs.Created.{IsCreated};
     ghost use Rattle.review_sql.specs.Opened.{IsOpened, IsRefused};
     ghost use Rattle.review_sql.specs.Reopened.{GoesOn, IsRefusedAgain};
@@ -152,6 +153,22 @@ fn refuse(faults: &mut u64) -> ShelfFault
     ShelfFault::Store
 }
 
+// What is told of an error of the store: want of memory where it is open still, and else a fault, which is counted.
+fn told<S: Alter>(conn: &mut Connection<S>, faults: &mut u64, error: Error) -> ShelfFault
+    requires mode { conn.old.in_transaction ≡ false }
+    ensures mode { conn.new.in_transaction ≡ false }
+    ensures stays { Stays (state S.Store conn.old) (state S.Store conn.new) }
+    ensures memory { result ≡ ShelfFault.Memory → HasCleanDisk (state S.Store conn.new) → IsTrue (state S.Store conn.new).is_open }
+    ensures sound { result ≢ ShelfFault.Damaged }
+    ensures counted { IsCounted result (min faults.old greatest_count) (min faults.new greatest_count) }
+{
+    let error = seen(conn, error);
+    match error {
+        Error::SqliteFailure(ErrorCode::OutOfMemory) => ShelfFault::Memory,
+        _ => refuse(faults),
+    }
+}
+
 impl<S: Alter> Shelf for SqlShelf<S> {
     ghost use Rattle.review_sql.specs.Shelf.{shown, count_fits};
 
@@ -170,7 +187,7 @@ impl<S: Alter> Shelf for SqlShelf<S> {
         let _settled = self.conn.is_autocommit();
         let found = match find_stored(&mut self.conn, alloc, &key) {
             Ok(found) => found,
-            Err(_) => return Err(refuse(&mut self.faults)),
+            Err(error) => return Err(told(&mut self.conn, &mut self.faults, error)),
         };
         match found {
             Some(Some(row)) => Ok(Some(kept_of(key, row))),
@@ -186,7 +203,7 @@ impl<S: Alter> Shelf for SqlShelf<S> {
             Ok(Loaded::NoMemory) => Err(ShelfFault::Memory),
             Ok(Loaded::Damaged) => Err(ShelfFault::Damaged),
             Ok(Loaded::Odd) => Err(refuse(&mut self.faults)),
-            Err(_) => Err(refuse(&mut self.faults)),
+            Err(error) => Err(told(&mut self.conn, &mut self.faults, error)),
         }
     }
 
@@ -202,7 +219,7 @@ impl<S: Alter> Shelf for SqlShelf<S> {
                 self.requests = more;
                 Ok(())
             }
-            Err(_) => Err(refuse(&mut self.faults)),
+            Err(error) => Err(told(&mut self.conn, &mut self.faults, error)),
         }
     }
 

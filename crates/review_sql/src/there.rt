@@ -5,7 +5,7 @@ ghost use Rattle.sqlite.specs.State.{HasCleanDisk};
 ghost use Rattle.review_sql.specs.Shelf.{Stays, IsUnderstood, IsAnyThere};
 
 use review_tables::texts;
-use sqlite::{Alter, Connection, Error};
+use sqlite::{Alter, Connection, Error, ErrorCode};
 
 /// Whether a text is understood.
 pub fn is_understood<S: Alter>(conn: &mut Connection<S>, sql: &str) -> Result<bool, Error>
@@ -13,12 +13,29 @@ pub fn is_understood<S: Alter>(conn: &mut Connection<S>, sql: &str) -> Result<bo
     ensures mode { conn.new.in_transaction ≡ false }
     ensures stays { Stays (state S.Store conn.old) (state S.Store conn.new) }
     ensures is { HasCleanDisk (state S.Store conn.new) → IfOk result (λ is. is ≡ true → IsUnderstood (state S.Store conn.old).now.schema sql.now) }
+    ensures open { HasCleanDisk (state S.Store conn.new) → IfOk result (λ is. is ≡ true → IsTrue (state S.Store conn.new).is_open) }
 {
     let _settled = conn.is_autocommit();
     match conn.prepare(sql) {
         Ok(_) => Ok(true),
         Err(Error::SqlInputError(_)) => Ok(false),
         Err(error) => Err(error),
+    }
+}
+
+/// The error of a call that failed. It says want of memory only where the connection is open still, which a text that is understood shows.
+pub fn seen<S: Alter>(conn: &mut Connection<S>, error: Error) -> Error
+    requires mode { conn.old.in_transaction ≡ false }
+    ensures mode { conn.new.in_transaction ≡ false }
+    ensures stays { Stays (state S.Store conn.old) (state S.Store conn.new) }
+    ensures memory { result ≡ Error.SqliteFailure ErrorCode.OutOfMemory → HasCleanDisk (state S.Store conn.new) → IsTrue (state S.Store conn.new).is_open }
+{
+    if !matches!(error, Error::SqliteFailure(ErrorCode::OutOfMemory)) {
+        return error;
+    }
+    match is_understood(conn, texts::FIND_DESK) {
+        Ok(true) => error,
+        _ => Error::SqliteFailure(ErrorCode::Closed),
     }
 }
 
