@@ -18,7 +18,9 @@ pub use apply::apply_lines;
 pub use desk::{deliver, run};
 pub use memory::run_in_memory;
 pub use review_decisions::{decide, show};
-pub use review_deliveries::{Stopped, gather, one_answer, restart_completes, runs_compose, runs_go_on};
+pub use review_deliveries::{
+    Stopped, gather, one_answer, restart_completes, runs_compose, runs_go_on,
+};
 pub use review_lines::{Fault, Outcome};
 pub use review_needs::next_need;
 pub use review_rows::{Delta, Kept, Matter, Need, Rows, Shelf, ShelfFault};

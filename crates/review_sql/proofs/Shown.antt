@@ -1,5 +1,5 @@
 -- What a connection shows as a shelf.
-use Rattle.std.proofs.Common.{◌≡◌, ◌≢◌, ◌∙◌, ◌⊎◌, inl, inr, ℕ, ◌+◌, List, [], ◌∷◌, Bool, Option, Some, None, true, false, Ok, Err, Result, OnOk, IsTrue, refl, sym, ap, subst}
+use Rattle.std.proofs.Common.{◌≡◌, ◌≢◌, ◌∙◌, ◌⊎◌, inl, inr, ℕ, ◌+◌, List, [], ◌∷◌, Bool, Option, Some, None, true, false, Ok, Err, Result, OnOk, IsTrue, refl, sym, ap, subst, arith}
 use Rattle.std.proofs.lemmas.Bool.{cases_Bool}
 use Rattle.sqlite_trees.specs.declared.store.Store.{Ghosts}
 use Rattle.sqlite_trees.specs.Tree.{Trees}
@@ -13,11 +13,13 @@ use Rattle.review_rows.specs.declared.rows.Delta.{Delta}
 use Rattle.review_rows.specs.declared.rows.Kept.{Kept as Request}
 use Rattle.review_rows.specs.View.{stored_answer}
 use Rattle.review_rows.proofs.Readings.{reading_of}
-use Rattle.review_rows.specs.Shelf.{StaysOrShuts, Shows, IsCommitted, IsDamaged}
+use Rattle.review_rows.specs.declared.shelf.ShelfFault.{ShelfFault}
+use Rattle.review_rows.specs.declared.shelf.ShelfFault.TheVariants.{Memory, Store, Damaged}
+use Rattle.review_rows.specs.Shelf.{Blames, LeavesBy, StaysOrShuts, Shows, IsCommitted, IsDamaged, cause_of}
 use Rattle.review_tables.specs.Ran.{IsReady, IsDeskIfOpen, Serves, Transacts}
 use Rattle.review_lookups.specs.Tables.{tables_at, IsDesk}
 use Rattle.review_sql.specs.Commits.{AreSingle, Commits}
-use Rattle.review_sql.specs.Shelf.{Holds, tables_of, stops_of}
+use Rattle.review_sql.specs.Shelf.{Holds, Stays, tables_of, stops_of}
 
 -- a stored request that is odd is one of no history
 not_odd : (h : List Entry) (i : Identity) → stored_answer h i ≡ Some OddAnswer → ⊥
@@ -111,3 +113,29 @@ module _ {S : Type 0} (g : Ghosts S) (old new : Held S) where
             let it = subst (λ q. Rattle.std.proofs.Common.OnErr q (IsTrue (state g old).is_open × ((state g new).now ≡ (state g old).now))) is (acts.undone is_open) in
             ready_as it.1 (holds.ready ours it.0);
       }
+
+-- a call that wrote nothing, after others
+module _ {S : Type 0} (g : Ghosts S) (mid new : Held S) (still : Stays (state g mid) (state g new)) where
+  pub holds_still : (is_ours : Bool) (requests : ℕ) → new.in_transaction ≡ false → Holds g mid is_ours requests → Holds g new is_ours requests
+  holds_still is_ours requests mode holds = record {
+    autocommit = mode;
+    ready = λ ours is_open. let k = still.kept is_open in subst (λ (d : Database). IsReady d × IsDesk requests d.trees) (sym k.1) (holds.ready ours k.0);
+  }
+
+  pub stops_still : HasCleanDisk (state g new) → (t : Tables) → stops_of g new t → stops_of g mid t
+  stops_still clean t left = elim (still.survives.crash clean left.0 left.1) [ inl was ↦ (left.0, was, left.2) | inr none ↦ absurd none ]
+
+  pub clean_still : HasCleanDisk (state g new) → HasCleanDisk (state g mid)
+  clean_still clean = omega (arith, still.survives.clean, clean)
+
+-- what a fault that is no damage leaves, where want of memory is told of an open store alone
+module _ {S : Type 0} (g : Ghosts S) (old new : Held S) (undone : IsTrue (state g new).is_open → IsTrue (state g old).is_open × ((state g new).now ≡ (state g old).now)) where
+  pub leaves : (f : ShelfFault) → f ≢ Damaged → (f ≡ Memory → IsTrue (state g new).is_open) → LeavesBy (cause_of f) (tables_of g old) (tables_of g new)
+  leaves Memory sound memory = let is = memory refl in let it = undone is in same_shown g old new it.0 is it.1
+  leaves Store sound memory = stays g old new undone
+  leaves Damaged sound memory = absurd (sound refl)
+
+pub blames : (f : ShelfFault) (old : Option Tables) → f ≢ Damaged → Blames f old
+blames Memory old sound = tt
+blames Store old sound = tt
+blames Damaged old sound = absurd (sound refl)

@@ -4,7 +4,7 @@ use Rattle.sqlite.proofs.StateLemmas.{clean_if_open}
 use Rattle.review_rows.specs.Rows.{Tables, kept_row}
 use Rattle.review_rows.specs.Shelf.{Shows, IsCommitted}
 use Rattle.review_sql.specs.Shelf.{Kept, Holds, tables_of, stops_of}
-use Rattle.review_sql.proofs.Shown.{holds_committed, stops_committed, committed_shown}
+use Rattle.review_sql.proofs.Shown.{holds_committed, stops_committed, committed_shown, clean_still, stops_still}
 use Rattle.review_sql.proofs.Singles.{are_single}
 use Rattle.review_sql.proofs.shelf.SqlShelfShelf.commit.Goals as goal
 
@@ -38,7 +38,9 @@ returns-in-Ok-clause-stops g c honest =
 pub returns-in-Err-clause-stops : goal.returns-in-Err-clause-stops
 returns-in-Err-clause-stops g c honest =
     let old = c.self.inside.conn in
-    let last = c.transact.new.conn in
+    let mid = c.transact.new.conn in
+    let last = c.told.new.conn in
+    let clean = clean_still g.S.Store mid last c.told.ensures.stays honest.0 in
     subst (λ (h : Held _). (t : Tables) → stops_of g.S.Store last t → stops_of g.S.Store h t ⊎ Shows (tables_of g.S.Store h) (λ was. IsCommitted was c.args.delta.now (kept_row c.args.kept.now) t)) (ap (λ (k : Kept _). k.conn) c.self.view_is)
-    (stops_committed g.S.Store old last c.self.inside.is_ours c.self.inside.requests c.self.invariant c.args.delta.now c.args.kept.now c.transact.result c.transact.ensures.acts
-    (λ ours was. are_single (state g.S.Store old).now (c.self.invariant.ready ours was).0 (c.schema-live.ensures.live was).0) honest.1 honest.0)
+    (λ t left. stops_committed g.S.Store old mid c.self.inside.is_ours c.self.inside.requests c.self.invariant c.args.delta.now c.args.kept.now c.transact.result c.transact.ensures.acts
+    (λ ours was. are_single (state g.S.Store old).now (c.self.invariant.ready ours was).0 (c.schema-live.ensures.live was).0) honest.1 clean t (stops_still g.S.Store mid last c.told.ensures.stays honest.0 t left))

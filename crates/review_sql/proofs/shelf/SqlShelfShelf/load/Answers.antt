@@ -8,7 +8,7 @@ use Rattle.review_tables.specs.Ran.{Serves}
 use Rattle.review_lookups.specs.declared.loading.Loaded.TheVariants as loaded
 use Rattle.review_lookups.specs.Loads.{AreLoaded, WereAsked}
 use Rattle.review_sql.specs.Shelf.{Kept, tables_of, stops_of}
-use Rattle.review_sql.proofs.Shown.{holds_read, served, stops_read, shown_now}
+use Rattle.review_sql.proofs.Shown.{holds_read, served, stops_read, shown_now, clean_still, stops_still}
 use Rattle.review_sql.proofs.shelf.SqlShelfShelf.load.Goals as goal
 
 pub invariant_of-self : goal.invariant_of-self
@@ -93,8 +93,11 @@ returns-in-Ok-Odd-clause-stops g c honest =
 pub returns-in-Err-clause-stops : goal.returns-in-Err-clause-stops
 returns-in-Err-clause-stops g c honest =
     let old = c.self.inside.conn in
-    let last = c.load.new.conn in
+    let mid = c.load.new.conn in
+    let last = c.told.new.conn in
     let same : old ≡ c.args.self.now.conn = ap (λ (k : Kept _). k.conn) c.self.view_is in
     let auto : IsTrue c.is_autocommit-settled.result = c.is_autocommit-settled.ensures.value ∙ ap not c.self.invariant.autocommit in
+    let clean = clean_still g.S.Store mid last c.told.ensures.stays honest.0 in
     subst (λ (h : Held _). (t : Tables) → stops_of g.S.Store last t → stops_of g.S.Store h t) same
-    (stops_read g.S.Store old last c.self.inside.is_ours c.self.inside.requests c.self.invariant AreLoaded c.load.result (λ was. c.is_autocommit-settled.ensures.settled auto was) (g.met.S.Store.stays old.store) c.load.ensures.serves honest.1 honest.0)
+    (λ t left. stops_read g.S.Store old mid c.self.inside.is_ours c.self.inside.requests c.self.invariant AreLoaded c.load.result (λ was. c.is_autocommit-settled.ensures.settled auto was) (g.met.S.Store.stays old.store) c.load.ensures.serves honest.1 clean t
+    (stops_still g.S.Store mid last c.told.ensures.stays honest.0 t left))
