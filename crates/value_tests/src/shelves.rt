@@ -93,40 +93,68 @@ fn recall<S: Shelf>(alloc: Global, shelf: &mut S, id: &str) -> Result<&'static s
     }
 }
 
+/// What five calls answer, and how many faults were counted.
+#[derive(Clone, Copy, Drop)]
+struct Calls {
+    first: &'static str,
+    second: &'static str,
+    ann: &'static str,
+    bob: &'static str,
+    request: &'static str,
+    faults: u64,
+}
+
 /// Commits ann, then bob, asks whose the names are, and recalls the first request.
-fn call<S: Shelf>(alloc: Global, shelf: &mut S) -> Result<[&'static str; 5], Fail> {
-    let first = commit(alloc, shelf, "ann")?;
-    let second = commit(alloc, shelf, "bob")?;
-    let ann = account_of(alloc, shelf, "ann")?;
-    let bob = account_of(alloc, shelf, "bob")?;
-    let request = recall(alloc, shelf, "ann")?;
-    Ok([first, second, ann, bob, request])
+fn call<S: Shelf>(alloc: Global, shelf: &mut S) -> Result<Calls, Fail> {
+    Ok(Calls {
+        first: commit(alloc, shelf, "ann")?,
+        second: commit(alloc, shelf, "bob")?,
+        ann: account_of(alloc, shelf, "ann")?,
+        bob: account_of(alloc, shelf, "bob")?,
+        request: recall(alloc, shelf, "ann")?,
+        faults: shelf.faults(),
+    })
+}
+
+/// What the five calls answer on a shelf one of whose calls fails.
+fn call_faulty(alloc: Global, failing: u64) -> Result<Calls, Fail> {
+    let mut shelf = FaultyShelf::new(MemoryShelf::new(alloc)?, failing);
+    call(alloc, &mut shelf)
 }
 
 #[test]
 fn a_shelf_in_memory(rt: HostRuntime) -> Result<(), Fail> {
     let mut shelf = MemoryShelf::new(rt.alloc())?;
-    let answers = call(rt.alloc(), &mut shelf)?;
-    assert!(rt; answers == ["done", "done", "nobody", "account 2", "recalled"]);
-    assert!(rt; shelf.faults() == 0);
+    let calls = call(rt.alloc(), &mut shelf)?;
+    assert!(rt; calls.first == "done");
+    assert!(rt; calls.second == "done");
+    assert!(rt; calls.ann == "nobody");
+    assert!(rt; calls.bob == "account 2");
+    assert!(rt; calls.request == "recalled");
+    assert!(rt; calls.faults == 0);
     Ok(())
 }
 
-/// What the five calls answer, one of which fails, and how many faults were counted.
-fn call_faulty(alloc: Global, failing: u64) -> Result<([&'static str; 5], u64), Fail> {
-    let mut shelf = FaultyShelf::new(MemoryShelf::new(alloc)?, failing);
-    let answers = call(alloc, &mut shelf)?;
-    Ok((answers, shelf.faults()))
+#[test]
+fn a_commit_that_fails_does_nothing(rt: HostRuntime) -> Result<(), Fail> {
+    let calls = call_faulty(rt.alloc(), 2)?;
+    assert!(rt; calls.first == "done");
+    assert!(rt; calls.second == "store");
+    assert!(rt; calls.ann == "account 2");
+    assert!(rt; calls.bob == "nobody");
+    assert!(rt; calls.request == "recalled");
+    assert!(rt; calls.faults == 1);
+    Ok(())
 }
 
 #[test]
-fn a_call_that_fails_does_nothing(rt: HostRuntime) -> Result<(), Fail> {
-    let second = call_faulty(rt.alloc(), 2)?;
-    assert!(rt; second.0 == ["done", "store", "account 2", "nobody", "recalled"]);
-    assert!(rt; second.1 == 1);
-    let third = call_faulty(rt.alloc(), 3)?;
-    assert!(rt; third.0 == ["done", "done", "store", "account 2", "recalled"]);
-    assert!(rt; third.1 == 1);
+fn a_look_up_that_fails_tells_nothing(rt: HostRuntime) -> Result<(), Fail> {
+    let calls = call_faulty(rt.alloc(), 3)?;
+    assert!(rt; calls.second == "done");
+    assert!(rt; calls.ann == "store");
+    assert!(rt; calls.bob == "account 2");
+    assert!(rt; calls.request == "recalled");
+    assert!(rt; calls.faults == 1);
     Ok(())
 }
 
@@ -140,9 +168,13 @@ fn bob_below(alloc: Global, shelf: ShuttingShelf<MemoryShelf>) -> Result<&'stati
 #[test]
 fn a_shelf_that_shuts_fails_for_good(rt: HostRuntime) -> Result<(), Fail> {
     let mut shelf = ShuttingShelf::new(MemoryShelf::new(rt.alloc())?, 2);
-    let answers = call(rt.alloc(), &mut shelf)?;
-    assert!(rt; answers == ["done", "store", "store", "store", "store"]);
-    assert!(rt; shelf.faults() == 4);
+    let calls = call(rt.alloc(), &mut shelf)?;
+    assert!(rt; calls.first == "done");
+    assert!(rt; calls.second == "store");
+    assert!(rt; calls.ann == "store");
+    assert!(rt; calls.bob == "store");
+    assert!(rt; calls.request == "store");
+    assert!(rt; calls.faults == 4);
     assert!(rt; bob_below(rt.alloc(), shelf)? == "account 2");
     Ok(())
 }
