@@ -1,5 +1,5 @@
 -- A shelf over a connection that one which was closed has left.
-use Rattle.std.proofs.Common.{◌≡◌, ◌≢◌, ◌⊎◌, inl, inr, ℕ, Option, Some, None, IsTrue, refl, sym, ap, subst}
+use Rattle.std.proofs.Common.{◌≡◌, ◌≢◌, ◌⊎◌, inl, inr, ℕ, Option, Some, None, Bool, IsTrue, refl, sym, ap, subst, arith}
 use Rattle.std.proofs.lemmas.Option.{same_Some}
 use Rattle.sqlite_trees.specs.declared.store.Store.{Ghosts}
 use Rattle.sqlite.specs.Effect.{Database}
@@ -10,10 +10,10 @@ use Rattle.review_tables.specs.Search.{row_at}
 use Rattle.review_records.specs.declared.rows.DeskRow.{DeskRow}
 use Rattle.review_records.specs.Forms.{desk}
 use Rattle.review_sql.specs.declared.faults.DeskFault.{DeskFault}
-use Rattle.review_sql.specs.declared.faults.DeskFault.TheVariants.{NotADesk, WrongVersion, Store, NotEmpty, Memory}
+use Rattle.review_sql.specs.declared.faults.DeskFault.TheVariants.{NotADesk, WrongVersion, Store, NotEmpty, NotOurs, Memory}
 use Rattle.review_sql.specs.Opened.{AreAllApart, IsNoDesk, IsOpened, IsOtherVersion, IsRefused}
 use Rattle.review_sql.specs.Reopened.{GoesOn, IsRefusedAgain, IsReopened}
-use Rattle.review_sql.specs.Shelf.{Holds, Kept, Stays, shown}
+use Rattle.review_sql.specs.Shelf.{Holds, Kept, Stays}
 use Rattle.review_lookups.specs.Tables.{IsDesk}
 use Rattle.review_sql.proofs.Shown.{stays}
 
@@ -32,37 +32,37 @@ has_version row requests is other =
     other.2 (ap (λ (d : DeskRow). d.version) same)
 
 -- the faults that are left
-store_or_memory : (fault : DeskFault) → (fault ≡ NotADesk → ⊥) → (fault ≡ WrongVersion → ⊥) → fault ≢ NotEmpty → (fault ≡ Memory) ⊎ (fault ≡ Store)
-store_or_memory NotADesk a b c = absurd (a refl)
-store_or_memory WrongVersion a b c = absurd (b refl)
-store_or_memory Store a b c = inr refl
-store_or_memory NotEmpty a b c = absurd (c refl)
-store_or_memory Memory a b c = inl refl
+store_or_memory : (fault : DeskFault) → (fault ≡ NotADesk → ⊥) → (fault ≡ WrongVersion → ⊥) → fault ≢ NotEmpty → (fault ≡ NotOurs → ⊥) → (fault ≡ Memory) ⊎ (fault ≡ Store)
+store_or_memory NotADesk a b c d = absurd (a refl)
+store_or_memory WrongVersion a b c d = absurd (b refl)
+store_or_memory Store a b c d = inr refl
+store_or_memory NotEmpty a b c d = absurd (c refl)
+store_or_memory NotOurs a b c d = absurd (d refl)
+store_or_memory Memory a b c d = inl refl
 
 cause_left : (s : State) (requests : ℕ) (fault : DeskFault) → IsReady s.now → IsDesk requests s.now.trees → IsRefused s fault → (fault ≡ Memory) ⊎ (fault ≡ Store)
 cause_left s requests fault ready is refused =
     store_or_memory fault (λ none. has_row (row_at desk s.now.trees tt) (record { version = 1; requests = requests }) is (refused.no_desk ready.schema none))
     (λ other. has_version (row_at desk s.now.trees tt) requests is (refused.other_version ready.schema other)) refused.not_empty
+    (λ not. refused.not_ours not ready.schema (all_apart s.now ready))
 
-module _ {S : Type 0} (g : Ghosts S) (old : Kept S) (holds : Holds g old.conn old.is_ours old.requests) where
-  reopened : (new : Kept S) → IsOpened g old.conn new → IsReopened g old new
+module _ {S : Type 0} (g : Ghosts S) (is_ours : Bool) (old : Kept S) (holds : Holds g old.conn is_ours old.requests) where
+  reopened : (new : Kept S) → IsOpened g old.conn new → IsReopened g is_ours old new
   reopened new it = record {
     tables = stays g old.conn new.conn it.stays.kept;
-    honest = λ was clean is_open.
-        let ready = (holds.ready was.1 (it.stays.kept is_open).0).0 in
-        (clean, it.ours is_open ready.schema (all_apart (state g old.conn).now ready));
-    stops = λ honest t left. elim (it.stays.survives.crash honest.0 left.0 left.1) [ inl was ↦ (left.0, was, left.2) | inr none ↦ absurd none ];
+    honest = λ h. (omega (arith, it.stays.survives.clean, h.0), h.1);
+    stops = λ clean t left. elim (it.stays.survives.crash clean left.0 left.1) [ inl was ↦ (left.0, was, left.2) | inr none ↦ absurd none ];
   }
 
-  cause_again : (conn : Held S) (fault : DeskFault) → Stays (state g old.conn) (state g conn) → (IsTrue (state g conn).is_open → IsRefused (state g old.conn) fault) → (shown g old).is_honest → IsTrue (state g conn).is_open → (fault ≡ Memory) ⊎ (fault ≡ Store)
-  cause_again conn fault same why honest is_open =
-      let it = holds.ready honest.1 (same.kept is_open).0 in
+  cause_again : (conn : Held S) (fault : DeskFault) → Stays (state g old.conn) (state g conn) → (IsTrue (state g conn).is_open → IsRefused (state g old.conn) fault) → IsTrue is_ours → IsTrue (state g conn).is_open → (fault ≡ Memory) ⊎ (fault ≡ Store)
+  cause_again conn fault same why ours is_open =
+      let it = holds.ready ours (same.kept is_open).0 in
       cause_left (state g old.conn) old.requests fault it.0 it.1 (why is_open)
 
-module _ {S : Type 0} (g : Ghosts S) (conn : Held S) where
-  pub goes_on : (new : Kept S) → IsOpened g conn new → GoesOn g conn new
-  goes_on new it old closed = reopened g old closed.1 new (subst (λ (h : Held S). IsOpened g h new) closed.0 it)
+module _ {S : Type 0} (g : Ghosts S) (is_ours : Bool) (conn : Held S) where
+  pub goes_on : (new : Kept S) → IsOpened g conn new → GoesOn g is_ours conn new
+  goes_on new it old closed = reopened g is_ours old closed.1 new (subst (λ (h : Held S). IsOpened g h new) closed.0 it)
 
-  pub refused_again : (last : Held S) (fault : DeskFault) → Stays (state g conn) (state g last) → (IsTrue (state g last).is_open → IsRefused (state g conn) fault) → IsRefusedAgain g conn last fault
+  pub refused_again : (last : Held S) (fault : DeskFault) → Stays (state g conn) (state g last) → (IsTrue (state g last).is_open → IsRefused (state g conn) fault) → IsRefusedAgain g is_ours conn last fault
   refused_again last fault same why old closed =
-      cause_again g old closed.1 last fault (subst (λ (h : Held S). Stays (state g h) (state g last)) closed.0 same) (λ is_open. subst (λ (h : Held S). IsRefused (state g h) fault) closed.0 (why is_open))
+      cause_again g is_ours old closed.1 last fault (subst (λ (h : Held S). Stays (state g h) (state g last)) closed.0 same) (λ is_open. subst (λ (h : Held S). IsRefused (state g h) fault) closed.0 (why is_open))

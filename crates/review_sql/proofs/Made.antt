@@ -1,6 +1,5 @@
 -- A shelf that was made.
-use Rattle.std.proofs.Common.{◌≡◌, ◌∙◌, Bool, Some, false, Ok, IsTrue, refl, sym, ap, subst}
-use Rattle.std.specs.Bool.{Decides}
+use Rattle.std.proofs.Common.{◌≡◌, ◌∙◌, Bool, Some, true, false, Ok, IsTrue, refl, sym, ap, subst}
 use Rattle.sqlite_trees.specs.declared.store.Store.{Ghosts}
 use Rattle.sqlite.specs.Effect.{Database}
 use Rattle.sqlite.specs.State.{HasCleanDisk}
@@ -14,11 +13,12 @@ use Rattle.review_sql.specs.Shelf.{Holds, Stays}
 use Rattle.review_sql.specs.Created.{IsCreated}
 use Rattle.review_tables.specs.Ran.{IsReady}
 use Rattle.review_sql.specs.declared.seen.Seen.{Seen}
-use Rattle.review_sql.specs.Opened.{IsOpened, IsSeen}
+use Rattle.review_sql.specs.Opened.{IsOpened, IsRefused, IsSeen}
+use Rattle.review_sql.specs.declared.faults.DeskFault.TheVariants.{NotOurs}
 use Rattle.sqlite_trees.specs.Tree.{Trees}
 use Rattle.review_lookups.specs.Tables.{IsDesk, tables_at}
 
-module _ {S : Type 0} (g : Ghosts S) (c0 c1 c2 : Held S) (is_ours : Bool) (decided : Decides is_ours (c1.schema ≡ schema_0)) (x : Unit {0}) (acts : Transacts MakesDesk (state g c1) (state g c2) (Ok x)) where
+module _ {S : Type 0} (g : Ghosts S) (c0 c1 c2 : Held S) (is_ours : Bool) (decided : IsTrue is_ours → c1.schema ≡ schema_0) (x : Unit {0}) (acts : Transacts MakesDesk (state g c1) (state g c2) (Ok x)) where
   blank : c1.schema ≡ schema_0 → IsBlank schema_0 (state g c1).now
   blank is = record { schema_is = is; empty = tt }
 
@@ -27,15 +27,14 @@ module _ {S : Type 0} (g : Ghosts S) (c0 c1 c2 : Held S) (is_ours : Bool) (decid
     autocommit = mode;
     ready = λ ours is_open.
         let made = (acts.done (clean is_open)).2 in
-        let b = blank (decided.0 ours) in
+        let b = blank (decided ours) in
         (made.ready b, made.desk b);
   }
 
   pub is_created : Stays (state g c0) (state g c1) → (IsTrue (state g c2).is_open → (state g c2).now ≡ (state g c2).committed)
-      → ((db : Trees) → IsTrue (state g c2).is_open → (state g c2).may_leave db → db ≡ (state g c2).committed.trees) → IsCreated g c0 (record { conn = c2; is_ours = is_ours; requests = 0; faults = 0 })
+      → ((db : Trees) → IsTrue (state g c2).is_open → (state g c2).may_leave db → db ≡ (state g c2).committed.trees) → IsCreated g is_ours c0 (record { conn = c2; requests = 0; faults = 0 })
   is_created stays settled law = record {
     faults = refl;
-    ours = λ clean none. decided.1 (ap (λ (d : Database). d.schema) (stays.kept (acts.done clean).0).1 ∙ none);
     view = λ clean none.
         let d = acts.done clean in
         (d.1, d.2.view (blank (ap (λ (d : Database). d.schema) (stays.kept d.0).1 ∙ none)));
@@ -47,13 +46,22 @@ module _ {S : Type 0} (g : Ghosts S) (c0 c1 c2 : Held S) (is_ours : Bool) (decid
   }
 
 module _ {S : Type 0} (g : Ghosts S) (c0 c1 : Held S) (seen : Seen) where
-  pub holds_opened : c1.in_transaction ≡ false → Stays (state g c0) (state g c1) → (IsTrue (state g c1).is_open → IsSeen (state g c0) seen) → Holds g c1 seen.is_ours seen.requests
-  holds_opened mode stays it = record {
+  pub holds_opened : (is_ours : Bool) → (IsTrue is_ours → seen.is_ours ≡ true) → c1.in_transaction ≡ false → Stays (state g c0) (state g c1) → (IsTrue (state g c1).is_open → IsSeen (state g c0) seen) → Holds g c1 is_ours seen.requests
+  holds_opened is_ours seen_ours mode stays it = record {
     autocommit = mode;
     ready = λ ours is_open.
         let same = (stays.kept is_open).1 in
-        subst (λ (d : Database). IsReady d × IsDesk seen.requests d.trees) (sym same) ((it is_open).ready ours);
+        subst (λ (d : Database). IsReady d × IsDesk seen.requests d.trees) (sym same) ((it is_open).ready (seen_ours ours));
   }
 
-  pub is_opened : Stays (state g c0) (state g c1) → (IsTrue (state g c1).is_open → IsSeen (state g c0) seen) → IsOpened g c0 (record { conn = c1; is_ours = seen.is_ours; requests = seen.requests; faults = 0 })
-  is_opened stays it = record { faults = refl; stays = stays; ours = λ is_open has all. (it is_open).ours has all }
+  pub is_opened : Stays (state g c0) (state g c1) → IsOpened g c0 (record { conn = c1; requests = seen.requests; faults = 0 })
+  is_opened stays = record { faults = refl; stays = stays }
+
+  -- tables that are not ours are of another form, or two rows have one rowid
+  pub not_ours : seen.is_ours ≡ false → IsSeen (state g c0) seen → IsRefused (state g c0) NotOurs
+  not_ours not it = record {
+    no_desk = λ has is. absurd (cc);
+    other_version = λ has is. absurd (cc);
+    not_ours = λ is has all. let e = sym not ∙ it.ours has all in cc;
+    not_empty = λ is. cc;
+  }

@@ -50,10 +50,12 @@ pub refused_ours : (s : State) (p : Peeked) (fault : DeskFault) → IsPeeked tru
 refused_ours s p fault it (inl none) = record {
   no_desk = λ has is. subst IsNoDesk it.desk_is none.1;
   other_version = λ has is. absurd (let e = none.0 in cc);
+  not_ours = λ is has all. let e = none.0 in cc;
   not_empty = λ is. let e = none.0 in cc;
 }
 refused_ours s p fault it (inr other) = record {
   no_desk = λ has is. absurd (let e = other.0 in cc);
   other_version = λ has is. subst IsOtherVersion it.desk_is other.1;
+  not_ours = λ is has all. let e = other.0 in cc;
   not_empty = λ is. let e = other.0 in cc;
 }

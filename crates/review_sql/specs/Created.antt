@@ -1,5 +1,5 @@
--- What `create` and `open` give.
-use Rattle.std.specs.Prelude.{◌≡◌, true, [], IsTrue}
+-- What `create` gives.
+use Rattle.std.specs.Prelude.{◌≡◌, [], Bool, IsTrue}
 use Rattle.sqlite_trees.specs.declared.store.Store.{Ghosts}
 use Rattle.sqlite.specs.Effect.{Database}
 use Rattle.sqlite.specs.State.{HasCleanDisk, Survives}
@@ -12,9 +12,8 @@ use Rattle.review_lookups.specs.Tables.{tables_at}
 use Rattle.review_sql.specs.Shelf.{Kept, shown}
 
 -- In a store with no table, the tables are those of the empty history; a stop within it leaves what one could leave before, or these, and one after it these alone.
-pub record IsCreated {S : Type 0} (g : Ghosts S) (conn : Held S) (shelf : Kept S) : Type 0 where
+pub record IsCreated {S : Type 0} (g : Ghosts S) (is_ours : Bool) (conn : Held S) (shelf : Kept S) : Type 0 where
   pub faults : shelf.faults ≡ 0
-  pub ours : HasCleanDisk (state g shelf.conn) → conn.schema ≡ schema_0 → shelf.is_ours ≡ true
   pub view : HasCleanDisk (state g shelf.conn) → conn.schema ≡ schema_0 → IsTrue (state g shelf.conn).is_open × IsView [] (tables_at (state g shelf.conn).now.trees)
-  pub alone : HasCleanDisk (state g shelf.conn) → StopLeavesOwnTables (shown g shelf)
+  pub alone : HasCleanDisk (state g shelf.conn) → StopLeavesOwnTables (shown g is_ours shelf)
   pub survives : Survives (state g conn) (state g shelf.conn) (λ db. IsTrue (state g conn).is_open × ((after : Database) × (db ≡ after.trees) × MakesDesk (state g conn).now after))

@@ -1,4 +1,4 @@
--- What is seen of tables before a desk is opened.
+-- What is seen of tables before a desk is opened, what opening gives, and why it is refused.
 use Rattle.std.specs.Prelude.{◌≡◌, ◌≢◌, ◌⊎◌, true, Bool, Option, Some, None, Result, IsTrue, IfOk}
 use Rattle.std.specs.Bool.{Decides}
 use Rattle.std.specs.List.{AllByRecursion}
@@ -15,7 +15,7 @@ use Rattle.review_records.specs.declared.rows.DeskRow.{DeskRow}
 use Rattle.review_sql.specs.declared.seen.Peeked.{Peeked}
 use Rattle.review_sql.specs.declared.seen.Seen.{Seen}
 use Rattle.review_sql.specs.declared.faults.DeskFault.{DeskFault}
-use Rattle.review_sql.specs.declared.faults.DeskFault.TheVariants.{NotADesk, WrongVersion, NotEmpty}
+use Rattle.review_sql.specs.declared.faults.DeskFault.TheVariants.{NotADesk, WrongVersion, NotEmpty, NotOurs}
 use Rattle.review_records.specs.Forms.{desk}
 use Rattle.review_lookups.specs.Tables.{IsDesk}
 use Rattle.review_sql.specs.Shelf.{Kept, Stays}
@@ -34,11 +34,10 @@ pub record Peeks {X : Type 0} (Found : Trees → X → Type 0) (old new : State)
   pub found : HasCleanDisk new → IsDeskIfOpen old → IfOk result (λ x. IsTrue new.is_open → Found old.now.trees x)
   pub stays : Stays old new
 
--- Nothing is written. Of tables that `create` made, whose rows have rowids of their own, the shelf is honest as long as its disk is.
+-- nothing is written
 pub record IsOpened {S : Type 0} (g : Ghosts S) (conn : Held S) (shelf : Kept S) : Type 0 where
   pub faults : shelf.faults ≡ 0
   pub stays : Stays (state g conn) (state g shelf.conn)
-  pub ours : IsTrue (state g shelf.conn).is_open → conn.schema ≡ desk_schema → AreAllApart (state g conn).now.trees → shelf.is_ours ≡ true
 
 -- the row of the desk says another version than 1
 abbrev pub IsOtherVersion : Option (Option DeskRow) → Type 0
@@ -53,8 +52,9 @@ pub record IsSeen (s : State) (seen : Seen) : Type 0 where
   pub ready : seen.is_ours ≡ true → IsReady s.now × IsDesk seen.requests s.now.trees
   pub ours : s.now.schema ≡ desk_schema → AreAllApart s.now.trees → seen.is_ours ≡ true
 
--- Why tables are refused: those of the form that `create` makes only for their row of the desk. Of other tables no more is said than that they aren't called full.
+-- Why tables are refused: those of the form that `create` makes only for their row of the desk. Of other tables no more is said than that they are not refused as full.
 pub record IsRefused (s : State) (fault : DeskFault) : Type 0 where
   pub no_desk : s.now.schema ≡ desk_schema → fault ≡ NotADesk → IsNoDesk (row_at desk s.now.trees tt)
   pub other_version : s.now.schema ≡ desk_schema → fault ≡ WrongVersion → IsOtherVersion (row_at desk s.now.trees tt)
+  pub not_ours : fault ≡ NotOurs → s.now.schema ≡ desk_schema → AreAllApart s.now.trees → ⊥
   pub not_empty : fault ≢ NotEmpty

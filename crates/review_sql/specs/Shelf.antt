@@ -3,7 +3,7 @@ use Rattle.std.specs.Prelude.{ℕ, ◌≡◌, ◌≤◌, map, false, Bool, List,
 use Rattle.std.proofs.Math.Nat.{min-le_right}
 use Rattle.std.specs.List.{Contains}
 use Rattle.review_tables.specs.declared.texts.TheConstants.{ANY_ROW}
-use Rattle.std.specs.Coded.{Coded, code_by, coded×, coded_ℕ, coded_bool}
+use Rattle.std.specs.Coded.{Coded, code_by, coded×, coded_ℕ}
 use Rattle.sqlite_trees.specs.declared.store.Store.{Ghosts}
 use Rattle.sqlite_trees.specs.Tree.{Trees}
 use Rattle.sqlite_schema.specs.declared.schema.Schema.{Schema}
@@ -19,17 +19,16 @@ use Rattle.review_tables.specs.Ran.{IsReady}
 use Rattle.review_sql.specs.First.{MakesDesk}
 use Rattle.review_lookups.specs.Tables.{tables_at, IsDesk}
 
--- the connection, whether its tables are those that `create` makes, how many requests are stored, and how many calls were refused
+-- the connection, how many requests are stored, and how many calls were refused
 pub record Kept (S : Type 0) : Type 0 where
   pub conn : Held S
-  pub is_ours : Bool
   pub requests : ℕ
   pub faults : ℕ
 
 abbrev pub kept_code : {S : Type 0} → Coded S → Coded (Kept S)
 kept_code {S} store =
-    code_by (Held S × (Bool × (ℕ × ℕ))) (coded× (held_code store) (coded× coded_bool (coded× coded_ℕ coded_ℕ))) (λ k. (k.conn, (k.is_ours, (k.requests, k.faults))))
-    (λ p. record { conn = p.0; is_ours = p.1.0; requests = p.1.1.0; faults = p.1.1.1 }) (λ _. refl)
+    code_by (Held S × (ℕ × ℕ)) (coded× (held_code store) (coded× coded_ℕ coded_ℕ)) (λ k. (k.conn, (k.requests, k.faults)))
+    (λ p. record { conn = p.0; requests = p.1.0; faults = p.1.1 }) (λ _. refl)
 
 -- Between calls no transaction is open, and an open connection whose tables are ours has the tables of a desk.
 pub record Holds {S : Type 0} (g : Ghosts S) (conn : Held S) (is_ours : Bool) (requests : ℕ) : Type 0 where
@@ -37,8 +36,8 @@ pub record Holds {S : Type 0} (g : Ghosts S) (conn : Held S) (is_ours : Bool) (r
   pub ready : IsTrue is_ours → IsTrue (state g conn).is_open → IsReady (state g conn).now × IsDesk requests (state g conn).now.trees
 
 -- a shelf was closed, which leaves its connection
-abbrev pub IsClosed : {S : Type 0} → Ghosts S → Kept S → Held S → Type 0
-IsClosed g shelf conn = (conn ≡ shelf.conn) × Holds g shelf.conn shelf.is_ours shelf.requests
+abbrev pub IsClosed : {S : Type 0} → Ghosts S → Bool → Kept S → Held S → Type 0
+IsClosed g is_ours shelf conn = (conn ≡ shelf.conn) × Holds g shelf.conn is_ours shelf.requests
 
 -- the tables in use, where no fault has shut the connection
 abbrev pub tables_of : {S : Type 0} → Ghosts S → Held S → Option Tables
@@ -48,9 +47,9 @@ tables_of g conn = if (state g conn).is_open then Some (tables_at (state g conn)
 abbrev pub stops_of : {S : Type 0} → Ghosts S → Held S → Tables → Type 0
 stops_of g conn t = (db : Trees) × (state g conn).may_leave db × (t ≡ tables_at db)
 
--- Honest is a shelf whose tables are those that `create` makes, over a disk that returned what was written.
-abbrev pub shown : {S : Type 0} → Ghosts S → Kept S → Shown
-shown g k = record { tables = tables_of g k.conn; is_honest = HasCleanDisk (state g k.conn) × IsTrue k.is_ours; faults = min k.faults greatest_count; stops = stops_of g k.conn }
+-- Honest is a shelf whose tables are ours, over a disk that returned what was written; whose they are no call changes.
+abbrev pub shown : {S : Type 0} → Ghosts S → Bool → Kept S → Shown
+shown g is_ours k = record { tables = tables_of g k.conn; is_honest = HasCleanDisk (state g k.conn) × IsTrue is_ours; faults = min k.faults greatest_count; stops = stops_of g k.conn }
 
 -- the count fits its type
 pub count_fits : (n : ℕ) → min n greatest_count ≤ greatest_count
@@ -65,7 +64,7 @@ pub record Stays (old new : State) : Type 0 where
 abbrev pub IsUnderstood : Schema → List ℕ → Type 0
 IsUnderstood schema sql = (c : Compiled) × (understood schema sql ≡ Ok c)
 
--- a refusal leaves what was, and a stop within it that or a whole desk
+-- a refusal leaves what was, and a stop within it that or, where the store had no table, a whole desk
 pub record IsUnmade (old new : State) : Type 0 where
   pub undone : IsTrue new.is_open → IsTrue old.is_open × (new.now ≡ old.now)
   pub survives : Survives old new (λ db. IsTrue old.is_open × ((after : Database) × (db ≡ after.trees) × MakesDesk old.now after))

@@ -14,6 +14,8 @@ pub enum DeskFault {
     Store,
     /// A table of one of the twelve names is there.
     NotEmpty,
+    /// The tables are not those that `create` makes, or not these alone.
+    NotOurs,
     /// There was no memory for it.
     Memory,
 }
@@ -21,7 +23,7 @@ pub enum DeskFault {
 impl DeskFault {
     /// The fault of an error of the store.
     pub fn of(error: Error) -> DeskFault
-        ensures store { (result ≢ DeskFault.NotADesk) × (result ≢ DeskFault.WrongVersion) × (result ≢ DeskFault.NotEmpty) }
+        ensures store { (result ≢ DeskFault.NotADesk) × (result ≢ DeskFault.WrongVersion) × (result ≢ DeskFault.NotEmpty) × (result ≢ DeskFault.NotOurs) }
     {
         match error {
             Error::SqliteFailure(ErrorCode::OutOfMemory) => DeskFault::Memory,

@@ -109,7 +109,7 @@ fn see_others<S: Alter>(conn: &mut Connection<S>, alloc: Global) -> Result<Seen,
     ensures mode { conn.new.in_transaction ≡ false }
     ensures stays { Stays (state S.Store conn.old) (state S.Store conn.new) }
     ensures seen { IfOk result (λ seen. seen.is_ours ≡ false) }
-    ensures refused { IfErr result (λ fault. fault ≢ DeskFault.NotEmpty) }
+    ensures refused { IfErr result (λ fault. (fault ≢ DeskFault.NotEmpty) × (fault ≢ DeskFault.NotOurs)) }
 {
     let peeked = match peek(conn, alloc, false) {
         Ok(peeked) => peeked,

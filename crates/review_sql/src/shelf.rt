@@ -1,5 +1,5 @@
 //! A shelf in SQLite.
-ghost use Rattle.std.specs.Prelude.{◌≡◌, ◌≢◌, ◌≤◌, true, false, IfOk, IfErr, IsTrue, min};
+ghost use Rattle.std.specs.Prelude.{◌≡◌, ◌≢◌, ◌≤◌, ◌⊎◌, true, false, IfOk, IfErr, IsTrue, min};
 ghost use Rattle.std.specs.Bool.{Decides};
 ghost use Rattle.sqlite.specs.Held.{state};
 ghost use Rattle.sqlite.specs.State.{HasCleanDisk};
@@ -21,37 +21,70 @@ use review_words::{AccountNo, RequestId};
 use sqlite::{Alter, Connection, Error, ErrorCode};
 use sqlite_schema::schema::Schema;
 use std::alloc::Global;
-use std::marker::Model;
+use std::marker::{Model, PhantomData};
 
-/// A desk in the tables of a connection.
-pub struct SqlShelf<S: Alter> {
-    conn: Connection<S>,
-    is_ours: bool,
-    requests: u64,
-    faults: u64,
+/// Whose tables a shelf has.
+pub trait Origin {
+    ghost use Rattle.std.specs.Prelude.{Bool};
+
+    /// Whether they are those that `create` makes.
+    ghost IS_OURS: { Bool };
+
+    /// Whether they are those that `create` makes.
+    const IS_OURS: bool;
 }
 
-impl<S: Alter + Drop> Drop for SqlShelf<S> {
+/// The tables that `create` makes.
+pub struct Ours;
+
+impl Origin for Ours {
+    ghost use Rattle.std.specs.Prelude.{true};
+
+    ghost IS_OURS = { true };
+
+    const IS_OURS: bool = true;
+}
+
+/// Tables that somebody else made, or to which somebody added others: of a shelf over them nothing is claimed.
+pub struct Others;
+
+impl Origin for Others {
+    ghost use Rattle.std.specs.Prelude.{false};
+
+    ghost IS_OURS = { false };
+
+    const IS_OURS: bool = false;
+}
+
+/// A desk in the tables of a connection.
+pub struct SqlShelf<S: Alter, O: Origin> {
+    conn: Connection<S>,
+    requests: u64,
+    faults: u64,
+    origin: PhantomData<O>,
+}
+
+impl<S: Alter + Drop, O: Origin> Drop for SqlShelf<S, O> {
     fn drop(self) {
         let SqlShelf {
             conn: _,
-            is_ours: _,
             requests: _,
             faults: _,
+            origin: _,
         } = self;
     }
 }
 
-impl<S: Alter> Model for SqlShelf<S> {
+impl<S: Alter, O: Origin> Model for SqlShelf<S, O> {
     ghost use Rattle.review_sql.specs.Shelf.{Kept, kept_code, Holds};
 
     ghost Value = { Kept S };
 
     ghost coded = { kept_code S.code };
 
-    ghost view = { λ s. record { conn = s.conn; is_ours = s.is_ours; requests = s.requests; faults = s.faults } };
+    ghost view = { λ s. record { conn = s.conn; requests = s.requests; faults = s.faults } };
 
-    ghost invariant = { λ s. Holds S.Store s.conn s.is_ours s.requests };
+    ghost invariant = { λ s. Holds S.Store s.conn O.IS_OURS s.requests };
 }
 
 // Whether a schema has nothing.
@@ -61,23 +94,34 @@ fn is_blank(schema: &Schema) -> bool
     schema.tables.is_empty() && schema.indexes.is_empty() && schema.views.is_empty()
 }
 
-impl<S: Alter + Drop> SqlShelf<S> {
+// Whether a shelf may be made over a store with no table, or over one with some: one of ours only over one with none.
+fn may_be_made<O: Origin>(is_blank: bool) -> bool
+    ensures made { result ≡ true → IsTrue O.IS_OURS → is_blank ≡ true }
+    ensures refused { result ≡ false → is_blank ≡ false }
+{
+    !O::IS_OURS || is_blank
+}
+
+impl<S: Alter + Drop, O: Origin> SqlShelf<S, O> {
     ghost use Rattle.review_sql.specs.Shelf.{IsAnyThere, IsClosed, IsUnmade};
     ghost use Rattle.review_sql.specs.Created.{IsCreated};
     ghost use Rattle.review_sql.specs.Opened.{IsOpened, IsRefused};
     ghost use Rattle.review_sql.specs.Reopened.{GoesOn, IsRefusedAgain};
 
-    /// Makes an empty desk, in one transaction. A refusal hands the connection back with its tables as they were.
+    /// Makes an empty desk, in one transaction: over a store with no table as ours. A refusal hands the connection back with its tables as
+    /// they were: NotEmpty where a table of one of the twelve names is there, and NotOurs where the shelf is to be ours and other tables
+    /// are, both with nothing touched.
     pub fn create(
         alloc: Global,
         conn: Connection<S>,
-    ) -> Result<SqlShelf<S>, (Connection<S>, DeskFault)>
+    ) -> Result<SqlShelf<S, O>, (Connection<S>, DeskFault)>
         requires mode { conn.in_transaction ≡ false }
-        ensures created { IfOk result (IsCreated S.Store conn) }
+        ensures created { IfOk result (IsCreated S.Store O.IS_OURS conn) }
         ensures mode { IfErr result (λ e. e.0.in_transaction ≡ false) }
         ensures refused { IfErr result (λ e. IsUnmade (state S.Store conn) (state S.Store e.0)) }
         ensures not_empty { IfErr result (λ e. e.1 ≡ DeskFault.NotEmpty → IsTrue (state S.Store e.0).is_open → IsAnyThere conn.schema) }
-        ensures untouched { IfErr result (λ e. e.1 ≡ DeskFault.NotEmpty → Stays (state S.Store conn) (state S.Store e.0)) }
+        ensures untouched { IfErr result (λ e. (e.1 ≡ DeskFault.NotEmpty) ⊎ (e.1 ≡ DeskFault.NotOurs) → Stays (state S.Store conn) (state S.Store e.0)) }
+        ensures not_ours { IfErr result (λ e. e.1 ≡ DeskFault.NotOurs → IsTrue (state S.Store e.0).is_open → conn.schema ≡ schema_0 → ⊥) }
         ensures kinds { IfErr result (λ e. (e.1 ≢ DeskFault.NotADesk) × (e.1 ≢ DeskFault.WrongVersion)) }
     {
         let mut conn = conn;
@@ -86,59 +130,68 @@ impl<S: Alter + Drop> SqlShelf<S> {
             Ok(true) => return Err((conn, DeskFault::NotEmpty)),
             Err(error) => return Err((conn, DeskFault::of(error))),
         }
-        let is_ours = is_blank(conn.schema());
+        let is_blank = is_blank(conn.schema());
+        if !may_be_made::<O>(is_blank) {
+            return Err((conn, DeskFault::NotOurs));
+        }
         match make_desk(&mut conn, alloc) {
             Ok(()) => {
                 let _settled = conn.is_autocommit();
                 Ok(SqlShelf {
                     conn,
-                    is_ours,
                     requests: 0,
                     faults: 0,
+                    origin: PhantomData,
                 })
             }
             Err(error) => Err((conn, DeskFault::of(error))),
         }
     }
 
-    /// Opens a desk. Nothing is written, and a refusal hands the connection back with its tables as they were. Of tables that `create` did
-    /// not make nothing is claimed. Over the connection of a shelf that was closed it is that shelf: it shows the tables that it showed, and a
-    /// stop leaves nothing that it could not leave before, so that runs before and after are one; what an honest shelf left is refused
-    /// only for want of memory or a fault of the store. Calls that were refused are counted from 0.
+    /// Opens a desk. Nothing is written, and a refusal hands the connection back with its tables as they were: NotOurs only where the shelf is to
+    /// be ours and the tables are of another form than `create` makes, or rows of one have one rowid. Over the connection of a shelf that
+    /// was closed it is that shelf: it shows the tables that it showed, unless it is shut, and a stop leaves nothing that it could not
+    /// leave before, so that runs before and after are one; what a shelf of ours left is refused only for want of memory or a fault of
+    /// the store. Calls that were refused are counted from 0.
     pub fn open(
         alloc: Global,
         conn: Connection<S>,
-    ) -> Result<SqlShelf<S>, (Connection<S>, DeskFault)>
+    ) -> Result<SqlShelf<S, O>, (Connection<S>, DeskFault)>
         requires mode { conn.in_transaction ≡ false }
         ensures opened { IfOk result (IsOpened S.Store conn) }
-        ensures goes_on { IfOk result (GoesOn S.Store conn) }
+        ensures goes_on { IfOk result (GoesOn S.Store O.IS_OURS conn) }
         ensures mode { IfErr result (λ e. e.0.in_transaction ≡ false) }
         ensures refused { IfErr result (λ e. Stays (state S.Store conn) (state S.Store e.0)) }
         ensures cause { IfErr result (λ e. IsTrue (state S.Store e.0).is_open → IsRefused (state S.Store conn) e.1) }
-        ensures again { IfErr result (λ e. IsRefusedAgain S.Store conn e.0 e.1) }
+        ensures again { IfErr result (λ e. IsRefusedAgain S.Store O.IS_OURS conn e.0 e.1) }
     {
         let mut conn = conn;
         match see(&mut conn, alloc) {
-            Ok(seen) => Ok(SqlShelf {
-                conn,
-                is_ours: seen.is_ours,
-                requests: seen.requests,
-                faults: 0,
-            }),
+            Ok(seen) => {
+                if O::IS_OURS && !seen.is_ours {
+                    return Err((conn, DeskFault::NotOurs));
+                }
+                Ok(SqlShelf {
+                    conn,
+                    requests: seen.requests,
+                    faults: 0,
+                    origin: PhantomData,
+                })
+            }
             Err(fault) => Err((conn, fault)),
         }
     }
 
     /// The connection of the shelf.
     pub fn close(self) -> Connection<S>
-        ensures closed { IsClosed S.Store self result }
+        ensures closed { IsClosed S.Store O.IS_OURS self result }
         ensures mode { result.in_transaction ≡ false }
     {
         let SqlShelf {
             conn,
-            is_ours: _,
             requests: _,
             faults: _,
+            origin: _,
         } = self;
         conn
     }
@@ -169,10 +222,10 @@ fn told<S: Alter>(conn: &mut Connection<S>, faults: &mut u64, error: Error) -> S
     }
 }
 
-impl<S: Alter> Shelf for SqlShelf<S> {
+impl<S: Alter, O: Origin> Shelf for SqlShelf<S, O> {
     ghost use Rattle.review_sql.specs.Shelf.{shown, count_fits};
 
-    ghost state = { shown S.Store };
+    ghost state = { shown S.Store O.IS_OURS };
 
     fn recall(
         &mut self,

@@ -1,4 +1,4 @@
-use Rattle.std.proofs.Common.{◌≡◌, ◌∙◌, ap, not, IsTrue}
+use Rattle.std.proofs.Common.{rules, ◌≡◌, ◌∙◌, true, ap, not, IsTrue}
 use Rattle.sqlite.proofs.StateLemmas.{clean_if_open}
 use Rattle.review_sql.proofs.Made.{holds_made, is_created}
 use Rattle.review_sql.proofs.shelf.SqlShelf.create.Goals as goal
@@ -11,11 +11,15 @@ returns-in-Ok-true-clause-not_empty g c same is_open =
 pub invariant_of-result : goal.invariant_of-result
 invariant_of-result g c =
     let last = c.make_desk.new.conn in
-    holds_made g.S.Store c.args.conn c.is_any_there.new.conn last c.is_blank-is_ours.result (rw c.schema.ensures.value at c.is_blank-is_ours.ensures) _ c.in-Ok.ensures.acts c.make_desk.ensures.mode (λ is_open. clean_if_open (g.S.Store.view last.store) (g.met.S.Store.shut_if_dirty last.store) is_open)
+    let blank = rw c.schema.ensures.value at c.is_blank-is_blank.ensures in
+    let may : c.may_be_made.result ≡ true = search rules in
+    holds_made g.S.Store c.args.conn c.is_any_there.new.conn last g.O.Origin.IS_OURS (λ ours. blank.0 (c.may_be_made.ensures.made may ours)) _ c.in-Ok.ensures.acts c.make_desk.ensures.mode (λ is_open. clean_if_open (g.S.Store.view last.store) (g.met.S.Store.shut_if_dirty last.store) is_open)
 
 pub returns-in-Ok-clause-created : goal.returns-in-Ok-clause-created
 returns-in-Ok-clause-created g c =
     let last = c.make_desk.new.conn in
+    let blank = rw c.schema.ensures.value at c.is_blank-is_blank.ensures in
+    let may : c.may_be_made.result ≡ true = search rules in
     let auto : IsTrue c.is_autocommit-settled.result = c.is_autocommit-settled.ensures.value ∙ ap not c.make_desk.ensures.mode in
-    is_created g.S.Store c.args.conn c.is_any_there.new.conn last c.is_blank-is_ours.result (rw c.schema.ensures.value at c.is_blank-is_ours.ensures) _ c.in-Ok.ensures.acts c.in-Ok-false.ensures.stays
+    is_created g.S.Store c.args.conn c.is_any_there.new.conn last g.O.Origin.IS_OURS (λ ours. blank.0 (c.may_be_made.ensures.made may ours)) _ c.in-Ok.ensures.acts c.in-Ok-false.ensures.stays
     (λ is_open. c.is_autocommit-settled.ensures.settled auto is_open) (g.met.S.Store.settled last.store)
