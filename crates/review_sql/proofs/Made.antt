@@ -1,15 +1,16 @@
 -- A shelf that was made.
-use Rattle.std.proofs.Common.{◌≡◌, ◌∙◌, Bool, Some, true, false, Ok, IsTrue, refl, sym, ap, subst}
+use Rattle.std.proofs.Common.{◌≡◌, ◌∙◌, Bool, Some, true, false, Ok, Err, IsTrue, refl, sym, ap, subst, arith}
 use Rattle.sqlite_trees.specs.declared.store.Store.{Ghosts}
 use Rattle.sqlite.specs.Effect.{Database}
-use Rattle.sqlite.specs.State.{HasCleanDisk}
+use Rattle.sqlite.specs.State.{State, HasCleanDisk}
+use Rattle.sqlite.specs.declared.error.Error.{Error}
 use Rattle.sqlite.specs.Held.{Held, state}
 use Rattle.sqlite.proofs.StateLemmas.{survives_then}
 use Rattle.review_tables.specs.Desk.{schema_0}
 use Rattle.review_tables.specs.Made.{IsBlank}
 use Rattle.review_tables.specs.Ran.{Transacts}
 use Rattle.review_sql.specs.First.{MakesDesk}
-use Rattle.review_sql.specs.Shelf.{Holds, Stays}
+use Rattle.review_sql.specs.Shelf.{Holds, IsAnyThere, IsUnmade, Stays}
 use Rattle.review_sql.specs.Created.{IsCreated}
 use Rattle.review_tables.specs.Ran.{IsReady}
 use Rattle.review_sql.specs.declared.seen.Seen.{Seen}
@@ -31,19 +32,28 @@ module _ {S : Type 0} (g : Ghosts S) (c0 c1 c2 : Held S) (is_ours : Bool) (decid
         (made.ready b, made.desk b);
   }
 
-  pub is_created : Stays (state g c0) (state g c1) → (IsTrue (state g c2).is_open → (state g c2).now ≡ (state g c2).committed)
+  pub is_created : Stays (state g c0) (state g c1) → (HasCleanDisk (state g c1) → IsAnyThere c0.schema → ⊥) → (IsTrue (state g c2).is_open → (state g c2).now ≡ (state g c2).committed)
       → ((db : Trees) → IsTrue (state g c2).is_open → (state g c2).may_leave db → db ≡ (state g c2).committed.trees) → IsCreated g is_ours c0 (record { conn = c2; requests = 0; faults = 0 })
-  is_created stays settled law = record {
+  is_created stays none settled law = record {
     faults = refl;
     view = λ clean none.
         let d = acts.done clean in
         (d.1, d.2.view (blank (ap (λ (d : Database). d.schema) (stays.kept d.0).1 ∙ none)));
+    empty = λ clean any. none (omega (arith, acts.survives.clean, clean)) any;
     alone = λ clean t left.
         let d = acts.done clean in
         rw d.1 (ap (λ (t : Trees). Some (tables_at t)) (ap (λ (d : Database). d.trees) (settled d.1) ∙ sym (law left.0 d.1 left.1)) ∙ ap Some (sym left.2));
     survives = survives_then (state g c0) (state g c1) (state g c2) _ _ _ (λ _ db h. absurd h)
         (λ clean db h. let was = stays.kept h.0 in (was.0, (h.1.0, h.1.1, subst (λ (d : Database). MakesDesk d h.1.0) was.1 h.1.2))) stays.survives acts.survives;
   }
+
+-- a desk was not made
+pub unmade : (s0 s1 s2 : State) (e : Error) → Stays s0 s1 → Transacts {X = Unit {0}} MakesDesk s1 s2 (Err e) → IsUnmade s0 s2
+unmade s0 s1 s2 e stays acts = record {
+  undone = λ is_open. let u = acts.undone is_open in let k = stays.kept u.0 in (k.0, u.1 ∙ k.1);
+  survives = survives_then s0 s1 s2 _ _ _ (λ _ db h. absurd h)
+      (λ clean db h. let was = stays.kept h.0 in (was.0, (h.1.0, h.1.1, subst (λ (d : Database). MakesDesk d h.1.0) was.1 h.1.2))) stays.survives acts.survives;
+}
 
 module _ {S : Type 0} (g : Ghosts S) (c0 c1 : Held S) (seen : Seen) where
   pub holds_opened : (is_ours : Bool) → (IsTrue is_ours → seen.is_ours ≡ true) → c1.in_transaction ≡ false → Stays (state g c0) (state g c1) → (IsTrue (state g c1).is_open → IsSeen (state g c0) seen) → Holds g c1 is_ours seen.requests

@@ -1,10 +1,15 @@
 -- Calls that write nothing.
 use Rattle.std.proofs.Common.{◌≡◌, ◌∙◌, inl, inr, List, ℕ, [], IsTrue, Ok, Err, Result, IfOk, IfErr, refl, sym, arith}
 use Rattle.sqlite_value.specs.Order.{Row}
-use Rattle.sqlite.specs.State.{State, HasCleanDisk, Survives, IsUnchanged, IsRolledBack, IsNotRun}
+use Rattle.sqlite_resolve.specs.declared.error.CompileError.{CompileError}
+use Rattle.sqlite_trees.specs.declared.error.StoreError.{StoreError}
+use Rattle.sqlite_trees.specs.declared.error.StoreError.TheVariants.{OutOfMemory, Io, Corrupt, Full, Broken, Unstorable}
+use Rattle.sqlite.specs.State.{State, HasCleanDisk, Survives, IsUnchanged, IsRolledBack, IsNoStatement, IsNotRun, store_error}
+use Rattle.sqlite.specs.declared.error.ErrorCode.TheVariants as code
+use Rattle.sqlite.specs.declared.error.Error.TheVariants.{SqliteFailure, SqlInputError}
 use Rattle.sqlite.specs.declared.error.Error.{Error}
 use Rattle.sqlite.proofs.StateLemmas.{survives_then}
-use Rattle.review_sql.specs.Shelf.{Stays}
+use Rattle.review_sql.specs.Shelf.{IsUnderstood, Stays}
 
 module _ (old new : State) (settled : IsTrue old.is_open → old.now ≡ old.committed) where
   unchanged_stays : IsUnchanged old new → IsTrue old.is_open × (new.now ≡ old.now)
@@ -37,3 +42,25 @@ stays_still s = record {
   kept = λ is_open. (is_open, refl);
   survives = record { clean = omega arith; shield = λ h. h; counts = omega arith; limit = refl; closes = λ clean h. inl h; crash = λ clean db h. inl h };
 }
+
+-- a store fault is no text that is not understood
+no_store : (f : CompileError) (cause : StoreError) → SqlInputError f ≡ store_error cause → ⊥
+no_store f OutOfMemory is = let e : SqlInputError f ≡ SqliteFailure code.OutOfMemory = is in cc
+no_store f Io is = let e : SqlInputError f ≡ SqliteFailure code.SystemIoFailure = is in cc
+no_store f Corrupt is = let e : SqlInputError f ≡ SqliteFailure code.DatabaseCorrupt = is in cc
+no_store f Full is = let e : SqlInputError f ≡ SqliteFailure code.DiskFull = is in cc
+no_store f Broken is = let e : SqlInputError f ≡ SqliteFailure code.Closed = is in cc
+no_store f Unstorable is = let e : SqlInputError f ≡ SqliteFailure code.TooBig = is in cc
+
+not_known : (s : State) (sql : List ℕ) (f : CompileError) → IsNoStatement s sql [] (SqlInputError f) → IsUnderstood s.now.schema sql → ⊥
+not_known s sql f (inl bad) known = let e = sym bad.1 ∙ known.1 in cc
+not_known s sql f (inr odd) known = elim odd.2 [
+  | inl many ↦ let e = many.1 in cc
+  | inr more ↦ elim more [ inl count ↦ (let e = count.1 in cc) | inr clock ↦ (let e = clock.1 in cc) ]
+]
+
+-- a text that was refused as one is not understood, and nothing was done
+pub not_understood : (old new : State) (sql : List ℕ) (f : CompileError) → IsNotRun old new sql [] (SqlInputError f) → IsUnchanged old new × (IsUnderstood old.now.schema sql → ⊥)
+unfolding IsNotRun
+not_understood old new sql f (inl none) = (none.1, not_known old sql f none.0)
+not_understood old new sql f (inr fails) = absurd (no_store f fails.0 fails.1)

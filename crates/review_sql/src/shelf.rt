@@ -121,6 +121,7 @@ impl<S: Alter + Drop, O: Origin> SqlShelf<S, O> {
         ensures refused { IfErr result (λ e. IsUnmade (state S.Store conn) (state S.Store e.0)) }
         ensures not_empty { IfErr result (λ e. e.1 ≡ DeskFault.NotEmpty → IsTrue (state S.Store e.0).is_open → IsAnyThere conn.schema) }
         ensures untouched { IfErr result (λ e. (e.1 ≡ DeskFault.NotEmpty) ⊎ (e.1 ≡ DeskFault.NotOurs) → Stays (state S.Store conn) (state S.Store e.0)) }
+        ensures spared { IfErr result (λ e. IsAnyThere conn.schema → HasCleanDisk (state S.Store e.0) → Stays (state S.Store conn) (state S.Store e.0)) }
         ensures not_ours { IfErr result (λ e. e.1 ≡ DeskFault.NotOurs → IsTrue (state S.Store e.0).is_open → conn.schema ≡ schema_0 → ⊥) }
         ensures kinds { IfErr result (λ e. (e.1 ≢ DeskFault.NotADesk) × (e.1 ≢ DeskFault.WrongVersion)) }
     {

@@ -1,5 +1,6 @@
 //! Whether a text is understood by the tables of a connection.
-ghost use Rattle.std.specs.Prelude.{◌≡◌, true, false, IsTrue, IfOk};
+ghost use Rattle.std.specs.Prelude.{◌≡◌, ◌<◌, ℕ, List, true, false, map, slice_index_or, IsTrue, IfOk};
+ghost use Rattle.review_tables.specs.declared.texts.TheConstants.{ANY_ROW};
 ghost use Rattle.sqlite.specs.Held.{state};
 ghost use Rattle.sqlite.specs.State.{HasCleanDisk};
 ghost use Rattle.review_sql.specs.Shelf.{Stays, IsUnderstood, IsAnyThere};
@@ -13,14 +14,16 @@ pub fn is_understood<S: Alter>(conn: &mut Connection<S>, sql: &str) -> Result<bo
     ensures mode { conn.new.in_transaction ≡ false }
     ensures stays { Stays (state S.Store conn.old) (state S.Store conn.new) }
     ensures is { HasCleanDisk (state S.Store conn.new) → IfOk result (λ is. is ≡ true → IsUnderstood (state S.Store conn.old).now.schema sql.now) }
-    ensures open { HasCleanDisk (state S.Store conn.new) → IfOk result (λ is. is ≡ true → IsTrue (state S.Store conn.new).is_open) }
+    ensures unknown { HasCleanDisk (state S.Store conn.new) → IfOk result (λ is. is ≡ false → IsUnderstood (state S.Store conn.old).now.schema sql.now → ⊥) }
+    ensures opens { HasCleanDisk (state S.Store conn.new) → IfOk result (λ is. IsTrue (state S.Store conn.new).is_open) }
 {
     let _settled = conn.is_autocommit();
     match conn.prepare(sql) {
-        Ok(_) => Ok(true),
-        Err(Error::SqlInputError(_)) => Ok(false),
-        Err(error) => Err(error),
+        Ok(_) => return Ok(true),
+        Err(Error::SqlInputError(_)) => {}
+        Err(error) => return Err(error),
     }
+    Ok(false)
 }
 
 /// The error of a call that failed. It says want of memory only where the connection is open still, which a text that is understood shows.
@@ -39,15 +42,24 @@ pub fn seen<S: Alter>(conn: &mut Connection<S>, error: Error) -> Error
     }
 }
 
+// A text that reads no column of a table of one of the twelve names.
+fn any_row(at: usize) -> &'static str
+    requires { at < 12 }
+    ensures { (d : List ℕ) → result.now ≡ slice_index_or (map (λ t. t.now) ANY_ROW) at d }
+{
+    texts::ANY_ROW[at]
+}
+
 /// Whether a table of one of the twelve names is there.
 pub fn is_any_there<S: Alter>(conn: &mut Connection<S>) -> Result<bool, Error>
     requires mode { conn.old.in_transaction ≡ false }
     ensures mode { conn.new.in_transaction ≡ false }
     ensures stays { Stays (state S.Store conn.old) (state S.Store conn.new) }
     ensures is { HasCleanDisk (state S.Store conn.new) → IfOk result (λ is. is ≡ true → IsTrue (state S.Store conn.new).is_open → IsAnyThere (state S.Store conn.old).now.schema) }
+    ensures none { HasCleanDisk (state S.Store conn.new) → IfOk result (λ is. is ≡ false → IsAnyThere (state S.Store conn.old).now.schema → ⊥) }
 {
     for at in 0..12 {
-        if is_understood(conn, texts::ANY_ROW[at])? {
+        if is_understood(conn, any_row(at))? {
             return Ok(true);
         }
     }

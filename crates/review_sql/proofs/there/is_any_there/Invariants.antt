@@ -1,6 +1,8 @@
-use Rattle.std.proofs.Common.{◌≡◌, ◌≤◌, false}
+use Rattle.std.proofs.Common.{◌≡◌, ◌≤◌, ◌<◌, ℕ, List, get_or, map, false, IsTrue}
 use Rattle.sqlite.specs.Held.{state}
-use Rattle.review_sql.specs.Shelf.{Stays}
+use Rattle.sqlite.specs.State.{HasCleanDisk}
+use Rattle.review_tables.specs.declared.texts.TheConstants.{ANY_ROW}
+use Rattle.review_sql.specs.Shelf.{IsUnderstood, Stays}
 use Rattle.review_sql.proofs.there.is_any_there.Given as goal
 
 abbrev pub invariant-loop-at : goal.invariant-loop-at
@@ -8,4 +10,5 @@ invariant-loop-at g l = record {
   within : l.at ≤ 12;
   mode : l.conn.in_transaction ≡ false;
   stays : Stays (state g.S.Store l.fn.conn) (state g.S.Store l.conn);
+  none : HasCleanDisk (state g.S.Store l.conn) → (i : ℕ) (d : List ℕ) → i < l.at → IsUnderstood (state g.S.Store l.fn.conn).now.schema (get_or (map (λ t. t.now) ANY_ROW) i d) → ⊥;
 }

@@ -1,6 +1,7 @@
 use Rattle.std.proofs.Common.{rules, ◌≡◌, ◌∙◌, true, ap, not, IsTrue}
 use Rattle.sqlite.proofs.StateLemmas.{clean_if_open}
-use Rattle.review_sql.proofs.Made.{holds_made, is_created}
+use Rattle.sqlite.specs.Held.{state}
+use Rattle.review_sql.proofs.Made.{holds_made, is_created, unmade}
 use Rattle.review_sql.proofs.shelf.SqlShelf.create.Goals as goal
 
 pub returns-in-Ok-true-clause-not_empty : goal.returns-in-Ok-true-clause-not_empty
@@ -21,5 +22,9 @@ returns-in-Ok-clause-created g c =
     let blank = rw c.schema.ensures.value at c.is_blank-is_blank.ensures in
     let may : c.may_be_made.result ≡ true = search rules in
     let auto : IsTrue c.is_autocommit-settled.result = c.is_autocommit-settled.ensures.value ∙ ap not c.make_desk.ensures.mode in
-    is_created g.S.Store c.args.conn c.is_any_there.new.conn last g.O.Origin.IS_OURS (λ ours. blank.0 (c.may_be_made.ensures.made may ours)) _ c.in-Ok.ensures.acts c.in-Ok-false.ensures.stays
+    is_created g.S.Store c.args.conn c.is_any_there.new.conn last g.O.Origin.IS_OURS (λ ours. blank.0 (c.may_be_made.ensures.made may ours)) _ c.in-Ok.ensures.acts c.in-Ok-false.ensures.stays (λ clean any. c.in-Ok-false.ensures.none clean c.in-Ok-false.field-0-test any)
     (λ is_open. c.is_autocommit-settled.ensures.settled auto is_open) (g.met.S.Store.settled last.store)
+
+pub returns-in-Err-make_desk-clause-refused : goal.returns-in-Err-make_desk-clause-refused
+returns-in-Err-make_desk-clause-refused g c =
+    unmade (state g.S.Store c.args.conn) (state g.S.Store c.is_any_there.new.conn) (state g.S.Store c.make_desk.new.conn) c.in-Err-make_desk.error c.in-Ok-false.ensures.stays c.in-Err-make_desk.ensures.acts
