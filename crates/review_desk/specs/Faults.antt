@@ -14,6 +14,7 @@ use Rattle.review_desk.specs.declared.fault.ProgramFault.TheVariants.{NotADesk, 
 -- why a desk is not made or opened
 abbrev pub desk_fault : DeskFault → ProgramFault
 desk_fault desk.NotADesk = NotADesk
+desk_fault desk.NotOurs = NotADesk
 desk_fault desk.WrongVersion = WrongVersion
 desk_fault desk.Store = Store
 desk_fault desk.NotEmpty = NotEmpty

@@ -1,5 +1,5 @@
 -- What a job on the tables of a connection did.
-use Rattle.std.specs.Prelude.{◌≡◌, ◌≢◌, ◌⊎◌, ℕ, List, [], Option, Result, Err, IsTrue, IfOk, IfErr, length}
+use Rattle.std.specs.Prelude.{◌≡◌, ◌≢◌, ◌⊎◌, ℕ, Bool, true, false, List, [], Option, Result, Err, IsTrue, IfOk, IfErr, length}
 use Rattle.std.specs.Io.KnownBytes.{Appends}
 use Rattle.sqlite_trees.specs.declared.store.Store.{Ghosts}
 use Rattle.sqlite.specs.Held.{Held, state}
@@ -16,13 +16,23 @@ use Rattle.review_sql.specs.Reopened.{GoesOn}
 use Rattle.review_sql.specs.Opened.{IsOpened, IsRefused}
 use Rattle.review_sql.specs.Created.{IsCreated}
 use Rattle.review_sql.specs.declared.faults.DeskFault.{DeskFault}
-use Rattle.review_sql.specs.declared.faults.DeskFault.TheVariants.{NotADesk, WrongVersion, NotEmpty}
+use Rattle.review_sql.specs.declared.faults.DeskFault.TheVariants.{NotADesk, WrongVersion, NotEmpty, NotOurs}
 use Rattle.review_desk.specs.Faults.{desk_fault, lines_outcome, shown_outcome}
 use Rattle.review_desk.specs.declared.fault.ProgramFault.{ProgramFault}
 
--- A shelf was opened over the connection, where that was left by one which was closed as that shelf again; this was done on it, and it was closed.
-abbrev pub OnShelf : {S : Type 0} → Ghosts S → (Shown → Shown → Type 0) → Held S → Held S → Type 0
-OnShelf {S} g Did old new = (opened : Kept S) × (left : Kept S) × IsOpened g old opened × GoesOn g old opened × Did (shown g opened) (shown g left) × IsClosed g left new
+-- A shelf was opened over the connection, as the one that was closed last; this was done on it, and it was closed.
+abbrev pub OnShelf : {S : Type 0} → Ghosts S → Bool → (Shown → Shown → Type 0) → Held S → Held S → Type 0
+OnShelf {S} g is_ours Did old new =
+    (opened : Kept S) × (left : Kept S) × IsOpened g old opened × GoesOn g is_ours old opened × Did (shown g is_ours opened) (shown g is_ours left) × IsClosed g is_ours left new
+
+-- the tables were refused as not ours, and stayed
+abbrev pub IsNotOurs : {S : Type 0} → Ghosts S → Held S → Held S → Type 0
+IsNotOurs g old new = Stays (state g old) (state g new) × (IsTrue (state g new).is_open → IsRefused (state g old) NotOurs)
+
+-- This was done on a shelf of ours, or no desk was opened; where the tables are not ours, it was done on a shelf over them, or no desk was opened.
+abbrev pub IsDoneOn : {S : Type 0} → Ghosts S → (Shown → Shown → Type 0) → (Held S → Held S → Type 0) → Held S → Held S → Type 0
+IsDoneOn {S} g Did Refuses old new =
+    OnShelf g true Did old new ⊎ (Refuses old new ⊎ ((between : Held S) × IsNotOurs g old between × (OnShelf g false Did between new ⊎ Refuses between new)))
 
 -- No desk was opened: the tables are as they were, and nothing was written.
 abbrev pub IsRefusedDesk : {S : Type 0} → Ghosts S → Option (List ℕ) → Option (List ℕ) → Held S → Held S → Result Outcome ProgramFault → Type 0
@@ -55,7 +65,7 @@ IsCauseOf g old new cause =
     (cause ≢ NotADesk) × (cause ≢ WrongVersion) × (cause ≡ NotEmpty → Stays (state g old) (state g new) × (IsTrue (state g new).is_open → IsAnyThere old.schema))
 
 -- A desk was made as `create` says, and closed, or refused with the tables as they were.
-abbrev pub Made : {S X : Type 0} → Ghosts S → Held S → Held S → Result X ProgramFault → Type 0
-Made {S} g old new made =
-    IfOk made (λ done. (shelf : Kept S) × IsCreated g old shelf × IsClosed g shelf new)
+abbrev pub Made : {S X : Type 0} → Ghosts S → Bool → Held S → Held S → Result X ProgramFault → Type 0
+Made {S} g is_ours old new made =
+    IfOk made (λ done. (shelf : Kept S) × IsCreated g is_ours old shelf × IsClosed g is_ours shelf new)
     × IfErr made (λ fault. IsUnmade (state g old) (state g new) × ((cause : DeskFault) × (fault ≡ desk_fault cause) × IsCauseOf g old new cause))

@@ -59,7 +59,7 @@ impl From<DeskFault> for ProgramFault {
 
     fn from(fault: DeskFault) -> ProgramFault {
         match fault {
-            DeskFault::NotADesk => ProgramFault::NotADesk,
+            DeskFault::NotADesk | DeskFault::NotOurs => ProgramFault::NotADesk,
             DeskFault::WrongVersion => ProgramFault::WrongVersion,
             DeskFault::Store => ProgramFault::Store,
             DeskFault::NotEmpty => ProgramFault::NotEmpty,

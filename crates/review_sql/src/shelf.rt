@@ -87,8 +87,8 @@ impl<S: Alter, O: Origin> Model for SqlShelf<S, O> {
     ghost invariant = { λ s. Holds S.Store s.conn O.IS_OURS s.requests };
 }
 
-// Whether a schema has nothing.
-fn is_blank(schema: &Schema) -> bool
+/// Whether a store has no table, no index and no view.
+pub fn is_blank(schema: &Schema) -> bool
     ensures { Decides result (schema.now ≡ schema_0) }
 {
     schema.tables.is_empty() && schema.indexes.is_empty() && schema.views.is_empty()

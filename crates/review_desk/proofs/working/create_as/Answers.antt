@@ -1,4 +1,5 @@
-use Rattle.review_desk.proofs.working.create.Goals as goal
+use Rattle.std.proofs.Common.{inl}
+use Rattle.review_desk.proofs.working.create_as.Goals as goal
 
 pub returns-in-Ok-clause-made : goal.returns-in-Ok-clause-made
 returns-in-Ok-clause-made g c = ((c.in-Ok.shelf, c.in-Ok.ensures.created, c.close.ensures.closed), tt)
@@ -6,4 +7,4 @@ returns-in-Ok-clause-made g c = ((c.in-Ok.shelf, c.in-Ok.ensures.created, c.clos
 pub returns-in-Err-clause-made : goal.returns-in-Err-clause-made
 returns-in-Err-clause-made g c =
     let e = c.in-Err.ensures in
-    (tt, (e.refused, (c.in-Err.fault, c.from.ensures, (e.kinds.0, e.kinds.1, λ is. (e.untouched is, e.not_empty is)))))
+    (tt, (e.refused, (c.in-Err.fault, c.from.ensures, (e.kinds.0, e.kinds.1, λ is. (e.untouched (inl is), e.not_empty is)))))
