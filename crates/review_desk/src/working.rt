@@ -49,8 +49,8 @@ fn create_as<S: Alter + Drop, O: Origin>(
     }
 }
 
-/// Takes the deliveries of the lines of a reader, and writes the answers. What was taken over this connection before, each time closed and
-/// opened again, is with it one run (`runs_go_on`).
+/// Takes the deliveries of the lines of a reader, and writes the answers. With a run that was made over this connection before, closed and
+/// opened again between them, it is one run (`runs_go_on`).
 pub fn apply<R: Read, W: Write, S: Alter + Drop>(
     alloc: Global,
     reader: &mut R,
@@ -98,7 +98,7 @@ fn take_lines<R: Read, W: Write, S: Alter + Drop, O: Origin>(
 {
     let mut shelf = shelf;
     let ended = apply_lines(alloc, reader, writer, &mut shelf);
-    // By this law it is one run with those before it, from when the desk was made.
+    // By this law it is one run with one before it, after which the shelf was closed and opened again.
     runs_go_on::<SqlShelf<S, O>>();
     (shelf.close(), lines_outcome(ended))
 }
