@@ -1,7 +1,5 @@
 -- The tables of changes: how their rows are looked up and stored.
 use Rattle.std.specs.Prelude.{ℕ, ℤ, zero, suc, pos, negsuc, ◌&&◌, Bool, true, false, nat_lt, int_le, List, [], ◌∷◌, Option, Some, None, if◌then◌else◌, codes}
-use Rattle.std.specs.declared.cmp.Ordering.{Ordering}
-use Rattle.std.specs.Ordering.{nat_cmp, ordering_then}
 use Rattle.std.specs.Str.{bytes_eq, is_utf8}
 use Rattle.sqlite_value.specs.declared.value.Value.{Value}
 use Rattle.sqlite_value.specs.declared.value.Value.TheVariants.{Null, Int, Real, Text, Blob}
@@ -23,8 +21,8 @@ use Rattle.review_changes.specs.Votes.{voted}
 use Rattle.review_rows.specs.declared.rows.BranchKey.{BranchKey}
 use Rattle.review_tables.specs.Columns.{number_in, text_in}
 use Rattle.review_tables.specs.Search.{Search, Form}
+use Rattle.review_records.specs.declared.rows.PlaceKey.{PlaceKey}
 use Rattle.review_records.specs.Forms.{both, where_is}
-use Rattle.review_change_records.specs.declared.branches.PlacedChange.{PlacedChange}
 use Rattle.review_change_records.specs.Paths.{paths_in, paths_text, are_read_back}
 
 -- ---- values of columns
@@ -283,26 +281,15 @@ sent = record {
   read = λ r. both (where_is (is_within most_changes) (number_in (column r 0))) (where_is (is_within most_patches) (number_in (column r 1)));
 }
 
--- ---- places in branches
-
--- by place, then by number
-abbrev pub placed_cmp : PlacedChange → PlacedChange → Ordering
-placed_cmp a b = ordering_then (nat_cmp a.place b.place) (nat_cmp a.change b.change)
-
--- a change and its place, with a row that has no more
-abbrev pub placed : Option (ℕ × ℕ) → Option (PlacedChange × Unit {0})
-placed None = None
-placed (Some e) = Some (record { place = e.1; change = e.0 }, tt)
-
--- a change for a branch has no more than its key
-abbrev pub placed_changes : Search (BranchKey × PlacedChange) (Unit {0})
-placed_changes = record {
+-- the change at a place of a branch
+abbrev pub changes_at : Search PlaceKey ℕ
+changes_at = record {
   tree = 9;
-  at = λ p. (2, Text p.0.project) ∷ (3, Text p.0.branch) ∷ (8, Int (pos p.1.place)) ∷ (0, Int (pos p.1.change)) ∷ [];
-  shown = change_places.shown;
-  read = λ r. Some tt;
+  at = λ k. (2, Text k.project) ∷ (3, Text k.branch) ∷ (8, Int (pos k.place)) ∷ [];
+  shown = λ r. column r 0 ∷ [];
+  read = λ r. where_is (is_within most_changes) (number_in (column r 0));
 }
 
--- the changes for a branch
-abbrev pub branch_changes : Search BranchKey (PlacedChange × Unit {0})
-branch_changes = record { tree = 9; at = change_places.at; shown = change_places.shown; read = λ r. placed (change_places.read r) }
+-- the numbers of the patch sets of a change
+abbrev pub patch_numbers : Search ℕ ℕ
+patch_numbers = record { tree = 11; at = change_patches.at; shown = λ r. column r 2 ∷ []; read = λ r. where_is (is_within most_patches) (number_in (column r 0)) }

@@ -37,9 +37,8 @@ use Rattle.review_tables.specs.Search.{IsLawful, reads}
 use Rattle.review_tables.proofs.Keys.{equal_is, itself, same_int, same_text}
 use Rattle.review_records.specs.Forms.{where_is}
 use Rattle.review_records.specs.Laws.{at_number, both_are, numbers_exact, one_number, passed, reads_text}
-use Rattle.review_change_records.specs.declared.branches.PlacedChange.{PlacedChange}
 use Rattle.review_change_records.specs.Paths.{are_read_back, are_same, paths_in, paths_text, were_read}
-use Rattle.review_change_records.specs.Forms.{answered, answers_number, branch_changes, call_form, calls, change_calls, change_comments, change_patches, change_roles, change_votes, comment_form, comments, flag_number, flagged, header_form, headers, is_answer, is_small, named, patch_form, patched, patches, placed, placed_changes, placed_cmp, sent, role_form, roles, state_name, state_named, vote_form, vote_key, votes}
+use Rattle.review_change_records.specs.Forms.{answered, answers_number, call_form, calls, change_calls, change_comments, change_patches, change_roles, change_votes, comment_form, comments, flag_number, flagged, header_form, headers, is_answer, is_small, named, patch_form, patched, patches, sent, role_form, roles, state_name, state_named, vote_form, vote_key, votes}
 
 -- ---- values
 
@@ -312,38 +311,3 @@ sent_is p e r h is =
     let first : e.0 ≡ p.0 = one_number (column r 1) e.0 p.0 (passed (is_within most_changes) _ e.0 it.0) (and_parts _ _ h).0 in
     let second : e.1 ≡ p.1 = one_number (column r 2) e.1 p.1 (passed (is_within most_patches) _ e.1 it.1) (and_parts _ _ (and_parts _ _ h).1).0 in
     (λ i. (first i, second i))
-
--- ---- places in branches
-
-pub placed_exact : IsExact placed_cmp
-placed_exact = record {
-  same = λ a b is.
-      let one = both_equal (nat_cmp a.place b.place) (nat_cmp a.change b.change) is in
-      let place : a.place ≡ b.place = exact_unsigned a.place b.place (equal_is _ one.0) in
-      let change : a.change ≡ b.change = exact_unsigned a.change b.change (equal_is _ one.1) in
-      (λ i. record { place = place i; change = change i });
-  itself = λ a. ap is_eq (then_equal (nat_cmp a.place a.place) (nat_cmp a.change a.change) (tied_itself nat_cmp_total a.place) (tied_itself nat_cmp_total a.change));
-}
-
-placed_is : (o : Option (ℕ × ℕ)) (k : PlacedChange) (u : Unit {0}) → placed o ≡ Some (k, u) → o ≡ Some (k.change, k.place)
-placed_is None k u is = absurd (cc)
-placed_is (Some e) k u is = ap (λ (p : PlacedChange × Unit {0}). Some (p.0.change, p.0.place)) (same_Some _ _ is)
-
-pub changes_of_branch : IsFront placed_cmp branch_changes placed_changes
-changes_of_branch = record {
-  tree = refl;
-  exact = placed_exact;
-  within = λ b k r h. let p = and_parts _ _ h in and_from _ _ p.0 (and_from _ _ (and_parts _ _ p.1).0 refl);
-  keyed = λ b k u r h is.
-      let p = and_parts _ _ h in
-      let it = both_are _ _ k.change k.place (placed_is _ k u is) in
-      and_from _ _ p.0 (and_from _ _ (and_parts _ _ p.1).0
-      (and_from _ _ (at_number (column r 8) k.place (passed is_small _ k.place it.1)) (and_from _ _ (at_number (column r 0) k.change (passed (is_within most_changes) _ k.change it.0)) refl)));
-  shows = λ b k u r is. refl;
-  alone = λ b j k u r is h.
-      let it = both_are _ _ j.change j.place (placed_is _ j u is) in
-      let one = and_parts _ _ (and_parts _ _ (and_parts _ _ h).1).1 in
-      let place : j.place ≡ k.place = one_number (column r 8) j.place k.place (passed is_small _ j.place it.1) one.0 in
-      let change : j.change ≡ k.change = one_number (column r 0) j.change k.change (passed (is_within most_changes) _ j.change it.0) (and_parts _ _ one.1).0 in
-      (λ i. record { place = place i; change = change i });
-}

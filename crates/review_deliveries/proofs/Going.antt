@@ -11,8 +11,7 @@ use Rattle.review_words.specs.declared.reply.Reply.TheVariants.{Done, Refused, I
 use Rattle.review_words.specs.History.{Entry, Identity, stored, is_same}
 use Rattle.review_rows.specs.Answer.{IsHistory}
 use Rattle.review_deliveries.specs.Replies.{taken, with_taken, with_write, StopGoesOnFrom, first_arrivals as first, arrivals_after as first_after, has_identity, history_after, with_entries as hist, entry_of, IsRight, AreRight, CountsFollow, IsServed, IsRun, StopsWithin, HasEffect}
-use Rattle.review_deliveries.specs.Restart.{RunsGoOn}
-use Rattle.review_rows.specs.Shelf.{Shown, StaysOrShuts, Views}
+use Rattle.review_rows.specs.Shelf.{Shown, Views}
 use Rattle.review_rows.specs.Rows.{Tables}
 use Rattle.review_deliveries.proofs.Histories.{same_from, stored_here, stored_there}
 use Rattle.review_deliveries.proofs.Served.{leaves_since}
@@ -168,7 +167,7 @@ module _ (h0 : List Entry) (ds es : List Delivery) (rs ss : List Reply) (cs os :
       }
 
 -- what a stop within the first list leaves, and within the second
-stops_early : (h0 : List Entry) (ds es : List Delivery) (rs ss : List Reply) (t : Tables) → length rs ≡ length ds → StopsWithin h0 ds rs t → StopsWithin h0 (ds ++ es) (rs ++ ss) t
+pub stops_early : (h0 : List Entry) (ds es : List Delivery) (rs ss : List Reply) (t : Tables) → length rs ≡ length ds → StopsWithin h0 ds rs t → StopsWithin h0 (ds ++ es) (rs ++ ss) t
 stops_early h0 ds es rs ss t same w =
     let i = w.0 in
     let below : i < length ds = w.2 in (
@@ -179,7 +178,7 @@ stops_early h0 ds es rs ss t same w =
           (λ k. (history_after h0 (sym (take-append-le i ds es (omega arith)) k) (sym (take-append-le i rs ss (omega arith)) k), sym (get_or_append_left ds es w.1 i below) k)) w.3,
     )
 
-stops_late : (h0 : List Entry) (ds es : List Delivery) (rs ss : List Reply) (t : Tables) → length rs ≡ length ds → StopsWithin (history_after h0 ds rs) es ss t → StopsWithin h0 (ds ++ es) (rs ++ ss) t
+pub stops_late : (h0 : List Entry) (ds es : List Delivery) (rs ss : List Reply) (t : Tables) → length rs ≡ length ds → StopsWithin (history_after h0 ds rs) es ss t → StopsWithin h0 (ds ++ es) (rs ++ ss) t
 stops_late h0 ds es rs ss t same w =
     let i = w.0 in
     let below : i < length es = w.2 in
@@ -208,28 +207,6 @@ run-append h0 ds es rs ss old mid new one other =
           (λ (w : StopsWithin (history_after h0 ds rs) es ss t). inr (stops_late h0 ds es rs ss t one.right.replies w))
           (other.stops t x);
       since = λ since. subst (λ h. StopGoesOnFrom h new) (sym grown) (other.since (one.since since));
-    }
-
--- the tables of a history, where a shelf with them was closed and opened again
-views_on : (h : List Entry) (old new : Option Tables) → StaysOrShuts old new → Views h old → Views h new
-views_on h old new (inl stays) view = subst (Views h) (sym stays) view
-views_on h old new (inr shut) view = subst (Views h) (sym shut) tt
-
--- the same, with the shelf closed and opened between them
-pub runs_go_on : {S : Type 0} (state : S → Shown) → RunsGoOn state
-runs_go_on state h0 ds es rs ss s t u v one stays no_more next =
-    let two = next (history_after h0 ds rs) one.history (views_on (history_after h0 ds rs) (state t).tables (state u).tables stays one.view) in
-    let grown = history_after-append h0 ds es rs ss one.right.replies in
-    record {
-      history = subst IsHistory (sym grown) two.history;
-      view = subst (λ h. Views h (state v).tables) (sym grown) two.view;
-      counts = one.counts ++ two.counts;
-      right = right-append h0 ds es rs ss one.counts two.counts one.right two.right;
-      stops = λ x left. ⊎_elim
-          (λ (y : (state u).stops x). ⊎_elim (λ (z : (state s).stops x). inl z) (λ (w : StopsWithin h0 ds rs x). inr (stops_early h0 ds es rs ss x one.right.replies w)) (one.stops x (no_more x y)))
-          (λ (w : StopsWithin (history_after h0 ds rs) es ss x). inr (stops_late h0 ds es rs ss x one.right.replies w))
-          (two.stops x left);
-      since = λ since. subst (λ h. StopGoesOnFrom h (state v)) (sym grown) (two.since (λ x left. one.since since x (no_more x left)));
     }
 
 pub run_none : (h : List Entry) (s : Shown) → IsHistory h → Views h s.tables → IsRun h [] [] s s

@@ -14,7 +14,7 @@ use Rattle.review_rows.specs.Files.{HasDeepPattern}
 use Rattle.review_rows.specs.Rows.{Tables}
 use Rattle.review_rows.specs.Shelf.{Shown, Views, StaysOrShuts, AddsNoStop}
 use Rattle.review_rows.specs.View.{IsView}
-use Rattle.review_deliveries.specs.Replies.{AreRight, IsRun, StopGoesOnFrom, StopsWithin, history_after, with_entries, first_arrivals}
+use Rattle.review_deliveries.specs.Replies.{AreRight, CountsFollow, IsRun, StopGoesOnFrom, StopsWithin, history_after, with_entries, first_arrivals}
 
 -- it was taken
 abbrev pub WasTaken : Reply → Type 0
@@ -45,20 +45,39 @@ RunsCompose = (h0 : List Entry) (ds es : List Delivery) (rs ss : List Reply) (co
     AreRight h0 ds rs counts → AreRight (history_after h0 ds rs) es ss others →
     (history_after h0 (ds ++ es) (rs ++ ss) ≡ history_after (history_after h0 ds rs) es ss) × AreRight h0 (ds ++ es) (rs ++ ss) (counts ++ others)
 
--- What a whole run does on whose way the shelf was closed and opened again: all that a run does, but that faults were counted anew.
+-- the fault counts of several sessions, one list
+abbrev pub all_counts : List (List (ℕ × ℕ)) → List (ℕ × ℕ)
+all_counts [] = []
+all_counts (counts ∷ later) = counts ++ all_counts later
+
+-- Within each session the counts of faults follow one another, from that at the start of the first to that at the end of the last; a later session counts anew.
+abbrev pub CountsFollowAcross : ℕ → List (List (ℕ × ℕ)) → ℕ → Type 0
+CountsFollowAcross from [] to = ⊥
+CountsFollowAcross from (counts ∷ []) to = CountsFollow from counts to
+CountsFollowAcross from (counts ∷ next ∷ later) to = (end start : ℕ) × CountsFollow from counts end × CountsFollowAcross start (next ∷ later) to
+
+-- What a whole run does on whose way the shelf was closed and opened again, so that it has several sessions: all that a run does, but that each session
+-- counts faults anew.
 pub record IsRunAcross (h0 : List Entry) (ds : List Delivery) (rs : List Reply) (old new : Shown) : Type 0 where
   pub history : IsHistory (history_after h0 ds rs)
   pub view : Views (history_after h0 ds rs) new.tables
-  pub counts : List (ℕ × ℕ)
-  pub right : AreRight h0 ds rs counts
+  pub sessions : List (List (ℕ × ℕ))
+  pub right : AreRight h0 ds rs (all_counts sessions)
+  pub follow : CountsFollowAcross old.faults sessions new.faults
   pub stops : (t : Tables) → new.stops t → old.stops t ⊎ StopsWithin h0 ds rs t
   pub since : StopGoesOnFrom h0 old → StopGoesOnFrom (history_after h0 ds rs) new
 
--- Runs with the shelf closed and opened between them are one run of the deliveries of both. Of the shelf that was opened no more is known
--- than that its tables are those that it had, unless it is shut, and that a stop leaves nothing that it could not leave before.
+-- a run is one of a single session
+abbrev pub RunIsSession : {S : Type 0} → (S → Shown) → Type 0
+RunIsSession {S} state = (h0 : List Entry) (ds : List Delivery) (rs : List Reply) (s t : S) →
+    IsRun h0 ds rs (state s) (state t) → IsRunAcross h0 ds rs (state s) (state t)
+
+-- A run of any number of sessions, and then, with the shelf closed and opened between them, one more run are one run of the deliveries of both. Of the
+-- shelf that was opened no more is known than that its tables are those that it had, unless it is shut, and that a stop leaves nothing that it could not
+-- leave before.
 abbrev pub RunsGoOn : {S : Type 0} → (S → Shown) → Type 0
 RunsGoOn {S} state = (h0 : List Entry) (ds es : List Delivery) (rs ss : List Reply) (s t u v : S) →
-    IsRun h0 ds rs (state s) (state t) → StaysOrShuts (state t).tables (state u).tables → AddsNoStop (state t) (state u) →
+    IsRunAcross h0 ds rs (state s) (state t) → StaysOrShuts (state t).tables (state u).tables → AddsNoStop (state t) (state u) →
     ((h : List Entry) → IsHistory h → Views h (state u).tables → IsRun h es ss (state u) (state v)) → IsRunAcross h0 (ds ++ es) (rs ++ ss) (state s) (state v)
 
 -- Requests that come again, after some first part of them stood, give the history of the whole. An entry carries the reply that was

@@ -1,5 +1,5 @@
 //! Laws over all runs, as contracts of calls that do nothing.
-ghost use Rattle.review_deliveries.specs.Restart.{OneAnswer, RunsCompose, RunsGoOn, RestartAfterStop, RestartCompletes, RestartIsRun, RestartKeepsHistory, RepliesFollowHistory};
+ghost use Rattle.review_deliveries.specs.Restart.{OneAnswer, RunsCompose, RunsGoOn, RunIsSession, RestartAfterStop, RestartCompletes, RestartIsRun, RestartKeepsHistory, RepliesFollowHistory};
 
 use review_rows::Shelf;
 use review_statuses::one_standing;
@@ -18,9 +18,10 @@ pub fn runs_compose()
     ensures { RunsCompose }
 {}
 
-/// Runs with the shelf closed and opened between them are one run of the deliveries of both.
+/// Runs with the shelf closed and opened between them, however many, are one run of the deliveries of all.
 pub fn runs_go_on<S: Shelf>()
-    ensures { RunsGoOn S.state }
+    ensures first { RunIsSession S.state }
+    ensures next { RunsGoOn S.state }
 {}
 
 /// A run that is begun again after a stop, all of it taken, completes what the first one began: it gives the replies to

@@ -12,8 +12,7 @@ mod working;
 
 use fault::ProgramFault;
 use review_jobs::{Job, WordsFault, job_of};
-use review_machine::{Outcome, apply_lines};
-use review_shelves::MemoryShelf;
+use review_machine::Outcome;
 use sqlite::Unknown;
 use std::env;
 use std::io::ErrorKind;
@@ -29,8 +28,7 @@ const USAGE: &str = "usage: review_desk COMMAND FILE ..
 FILE of apply may be :memory:, an empty desk in memory.";
 
 fn apply_in_memory(rt: &HostRuntime) -> Result<Outcome, ProgramFault> {
-    let mut shelf = MemoryShelf::new(rt.alloc())?;
-    match apply_lines(rt.alloc(), &mut rt.stdin(), &mut rt.stdout(), &mut shelf) {
+    match review_machine::apply_in_memory(rt.alloc(), &mut rt.stdin(), &mut rt.stdout()) {
         Ok(outcome) => Ok(outcome),
         Err(fault) => Err(ProgramFault::from(fault)),
     }

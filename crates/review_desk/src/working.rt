@@ -10,7 +10,7 @@ ghost use Rattle.review_desk.specs.Faults.{lines_outcome, shown_outcome};
 ghost use Rattle.review_desk.specs.Worked.{EndsShown, IsDoneOn, IsRefusedDesk, Made, OnShelf, TookLines};
 
 use crate::fault::ProgramFault;
-use review_machine::{Fault, Outcome, apply_lines, runs_go_on};
+use review_machine::{Fault, Outcome, apply_lines, restart_completes, runs_go_on};
 use review_names::{BranchName, ChangeNo, ProjectName};
 use review_showing::{ShowFault, joined_lines, show_lines};
 use review_sql::faults::DeskFault;
@@ -49,8 +49,8 @@ fn create_as<S: Alter + Drop, O: Origin>(
     }
 }
 
-/// Takes the deliveries of the lines of a reader, and writes the answers. With a run that was made over this connection before, closed and
-/// opened again between them, it is one run (`runs_go_on`).
+/// Takes the deliveries of the lines of a reader, and writes the answers. With the runs that were made over this connection before, closed and
+/// opened again between them, it is one run (`runs_go_on`); the whole input sent again after a stop completes it (`restart_completes`).
 pub fn apply<R: Read, W: Write, S: Alter + Drop>(
     alloc: Global,
     reader: &mut R,
@@ -98,8 +98,10 @@ fn take_lines<R: Read, W: Write, S: Alter + Drop, O: Origin>(
 {
     let mut shelf = shelf;
     let ended = apply_lines(alloc, reader, writer, &mut shelf);
-    // By this law it is one run with one before it, after which the shelf was closed and opened again.
+    // By this law it is one run with those before it, after each of which the shelf was closed and opened again.
     runs_go_on::<SqlShelf<S, O>>();
+    // By this one the whole input, sent again after a stop, completes what the first run began.
+    restart_completes();
     (shelf.close(), lines_outcome(ended))
 }
 

@@ -43,7 +43,7 @@ patch_same : (x y : PatchRow) → Some (APart (APatch x)) ≡ Some (APart (APatc
 patch_same x y is = cc
 
 module _ (row : Key → Option Row) (key : Branch) where
-  one_place : (n p q : ℕ) → IsAtPlace row key p n → IsAtPlace row key q n → p ≡ q
+  pub one_place : (n p q : ℕ) → IsAtPlace row key p n → IsAtPlace row key q n → p ≡ q
   one_place n p q a b = sym a.placed ∙ ap (λ (h : Header). h.place) (header_same a.header b.header (sym a.stands ∙ b.stands)) ∙ b.placed
 
   not_later : (n : ℕ) (x y : PatchRow) (a : IsCurrent row n x) (b : IsCurrent row n y) → a.number < b.number → ⊥
@@ -58,7 +58,7 @@ module _ (row : Key → Option Row) (key : Branch) where
       (cases_lt b.number a.number))
       (cases_lt a.number b.number)
 
-  one_joined : (p q : ℕ) (j k : JoinedChange) → IsJoinedAt row key p j → IsJoinedAt row key q k → j.change ≡ k.change → j ≡ k
+  pub one_joined : (p q : ℕ) (j k : JoinedChange) → IsJoinedAt row key p j → IsJoinedAt row key q k → j.change ≡ k.change → j ≡ k
   one_joined p q j k a b same =
       let patch = one_patch k.change a.patch b.patch (subst (λ n. IsCurrent row n a.patch) same a.current) b.current in
       let commit = sym a.commit ∙ ap (λ (x : PatchRow). x.commit) patch ∙ b.commit in

@@ -11,4 +11,4 @@ mod output;
 
 pub use apply::apply_lines;
 pub use fault::{Fault, Outcome};
-pub use output::write_and_flush;
+pub use output::{Output, write_and_flush};

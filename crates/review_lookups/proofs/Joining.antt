@@ -21,6 +21,7 @@ use Rattle.review_tables.specs.Search.{reads, row_at, rows_at}
 use Rattle.review_records.specs.Laws.{both_are, number_is, passed}
 use Rattle.review_change_records.specs.Forms.{change_places, headed, headers, is_small}
 use Rattle.review_change_records.specs.Laws.{at_text}
+use Rattle.review_lookups.specs.Joins.{NoneAbove}
 use Rattle.review_lookups.specs.Tables.{tables_at, told}
 use Rattle.review_lookups.proofs.Sending.{all_has, header_from, part_found}
 use Rattle.review_lookups.proofs.Telling.{greater, has_in, in_has, stored_row}
@@ -57,18 +58,25 @@ among db key place n at =
 placed : (n m : ℕ) (r : Raw) → reads change_places r ≡ Some (n, m) → column r 8 ≡ Int (pos m)
 placed n m r is = number_is (column r 8) m (passed is_small _ m (both_are _ _ n m is).1)
 
+-- no change is at a later place than the greatest
+pub none_above : (db : Trees) (key : BranchKey) (n m : ℕ) → HasGreatest change_places 8 key db (Some (Some (n, m))) → NoneAbove key m db
+none_above db key n m great p k less at =
+    let it = among db key p k at in
+    let most = all_has (λ q. is_gt (value_cmp (column q 8) (column great.0 8)) ≡ false) (rows_at (change_places.at key) (db 9)) it.0 great.1.most it.1 in
+    let less_so : is_gt (value_cmp (Int (pos p)) (Int (pos m))) ≡ false = subst (λ v. is_gt (value_cmp v (Int (pos m))) ≡ false) it.2 (subst (λ v. is_gt (value_cmp (column it.0 8) v) ≡ false) (placed n m great.0 (sym great.2)) most) in
+    both_ways _ less_so (ap is_gt (value_cmp-Int (pos p) (pos m)) ∙ greater p m less)
+
+pub none_at_all : (db : Trees) (key : BranchKey) (m : ℕ) → HasGreatest change_places 8 key db None → NoneAbove key m db
+none_at_all db key m none p k less at = let it = among db key p k at in subst (λ l. Has l it.0) none it.1
+
 pub last_joined : (db : Trees) (key : BranchKey) (n m : ℕ) (h : Header) → HasGreatest change_places 8 key db (Some (Some (n, m))) → row_at headers db n ≡ Some (Some h) → h.project ≡ key.project → h.branch ≡ key.branch → h.place ≡ m → IsLastJoined (tables_at db).row key m
 last_joined db key n m h great stands project branch place = record {
-  above = λ p k less at.
-      let it = among db key p k at in
-      let most = all_has (λ q. is_gt (value_cmp (column q 8) (column great.0 8)) ≡ false) (rows_at (change_places.at key) (db 9)) it.0 great.1.most it.1 in
-      let less_so : is_gt (value_cmp (Int (pos p)) (Int (pos m))) ≡ false = subst (λ v. is_gt (value_cmp v (Int (pos m))) ≡ false) it.2 (subst (λ v. is_gt (value_cmp (column it.0 8) v) ≡ false) (placed n m great.0 (sym great.2)) most) in
-      absurd (both_ways _ less_so (ap is_gt (value_cmp-Int (pos p) (pos m)) ∙ greater p m less));
+  above = none_above db key n m great;
   there = inr (n, record { header = h; stands = ap (told (λ x. APart (AHeader x))) stands; project = project; branch = branch; placed = place });
 }
 
 pub none_joined : (db : Trees) (key : BranchKey) → HasGreatest change_places 8 key db None → IsLastJoined (tables_at db).row key 0
 none_joined db key none = record {
-  above = λ p k less at. let it = among db key p k at in let there : Has [] it.0 = subst (λ l. Has l it.0) none it.1 in absurd there;
+  above = none_at_all db key 0 none;
   there = inl refl;
 }

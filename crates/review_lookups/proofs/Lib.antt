@@ -2,5 +2,6 @@ pub mod Telling
 pub mod Asking
 pub mod Reviewing
 pub mod Sending
+pub mod Current
 pub mod Joining
 pub mod Joined

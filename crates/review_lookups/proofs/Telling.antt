@@ -147,7 +147,7 @@ at_text : (v : Value) (t : List ℕ) → text_in v ≡ Some t → is_eq (value_c
 at_text v t is = subst (λ w. is_eq (value_cmp w (Text t)) ≡ true) (sym (text_is v t is)) (itself (Text t))
 
 -- rows that pass two tests, one after the other
-filter_both : {X : Type 0} (q p both : X → Bool) → ((x : X) → (q x && p x) ≡ both x) → (xs : List X) → filter p (filter q xs) ≡ filter both xs
+pub filter_both : {X : Type 0} (q p both : X → Bool) → ((x : X) → (q x && p x) ≡ both x) → (xs : List X) → filter p (filter q xs) ≡ filter both xs
 filter_both q p both same [] = refl
 filter_both q p both same (x ∷ xs) = elim (cases_Bool (q x)) [
   | inl passes ↦ elim (cases_Bool (p x)) [

@@ -1,126 +1,125 @@
 //! The changes that joined a branch are looked up.
-ghost use Rattle.std.specs.Prelude.{◌≡◌, option_copied, IfOk};
-ghost use Rattle.std.specs.List.Sorted.{IsStrictlySortedBy};
-ghost use Rattle.std.specs.Map.{keys_of};
-ghost use Rattle.std.specs.Ordering.{nat_cmp};
+ghost use Rattle.std.specs.Prelude.{◌≡◌, ◌<◌, ◌×◌, Some, None, IfOk};
 ghost use Rattle.sqlite.specs.Held.{state};
 ghost use Rattle.sqlite_trees.specs.Tree.{Trees};
-ghost use Rattle.review_table.specs.Rows.{rows_of};
+ghost use Rattle.review_rows.specs.declared.rows.BranchKey.{BranchKey};
 ghost use Rattle.review_rows.specs.declared.rows.Want.TheVariants as want;
-ghost use Rattle.review_rows.specs.Known.{HaveJoined};
-ghost use Rattle.review_kept_changes.specs.Kept.{IsCurrentOf};
-ghost use Rattle.review_tables.specs.Fronts.{HaveRows, Knows};
+ghost use Rattle.review_rows.specs.Known.{HaveJoined, IsCurrent};
+ghost use Rattle.review_tables.specs.Fronts.{Knows};
+ghost use Rattle.review_tables.specs.Greatest.{HasGreatest};
 ghost use Rattle.review_tables.specs.Ran.{Looks};
 ghost use Rattle.review_tables.specs.Search.{row_at};
-ghost use Rattle.review_change_records.specs.Forms.{headers, patches, placed_cmp};
-ghost use Rattle.review_lookups.specs.Joins.{ArePlaced, IsJoinedAs, with_place};
+ghost use Rattle.review_change_records.specs.Forms.{change_places, changes_at, headers, patch_numbers, patches};
+ghost use Rattle.review_lookups.specs.Joins.{IsOnlyAt, NoneAbove};
 ghost use Rattle.review_lookups.specs.Loads.{HasLearnt, Sees};
 ghost use Rattle.review_lookups.specs.Tables.{tables_at};
 
 use crate::learning::{learn_joined, learnt};
 use crate::loading::Sight;
 use crate::places::is_placed;
-use review_change_records::branches::{BranchChanges, PlacedChange};
-use review_change_records::headers::Headers;
-use review_change_records::patches::Patches;
+use review_change_records::branches::ChangeAt;
+use review_change_records::headers::{Headers, LastJoined};
+use review_change_records::patches::{LastPatch, PatchSets};
 use review_changes::{Header, PatchRow};
+use review_records::rows::PlaceKey;
 use review_rows::{BranchKey, Rows};
-use review_table::Table;
-use review_tables::fronts::find_parts;
+use review_tables::greatest::find_greatest;
 use review_tables::reads::find;
-use review_words::{JoinedChange, Listed, PatchNo};
+use review_words::{ChangeNo, JoinedChange, Listed, PatchNo};
 use sqlite::{Alter, Error, Transaction};
 use std::alloc::{AllocError, Global};
 
-// The changes that have a place, in the order of their places.
-fn with_place(
-    alloc: Global,
-    placed: Table<PlacedChange, ()>,
-) -> Result<Vec<PlacedChange>, AllocError>
-    ensures sorted { IsStrictlySortedBy placed_cmp (keys_of (rows_of placed)) }
-    ensures all { IfOk result (λ changes. changes.items ≡ with_place (keys_of (rows_of placed))) }
+// The patch set with the greatest number; none where it is odd.
+fn current(number: PatchNo, found: Option<Option<PatchRow>>) -> Option<PatchRow>
+    ensures { (n : ℕ) (db : Trees) → HasGreatest patch_numbers 2 n db (Some (Some number)) → found ≡ row_at patches db (n, number) → Knows result (IsCurrent (tables_at db).row n) }
 {
-    placed.once();
-    let mut changes = Vec::new(alloc);
-    for (change, _) in placed.into_rows(alloc)? {
-        if change.place > 0 {
-            changes.push(change)?;
-        }
+    let _number = number;
+    match found {
+        Some(Some(patch)) => Some(patch),
+        Some(None) | None => None,
     }
-    Ok(changes)
 }
 
-// The changes for a branch that have a place, in the order of their places; none where a row of one is odd.
-fn find_placed<S: Alter>(
+// The current patch set of a change; none where a row of it is odd, or where it has no patch set.
+fn find_current<S: Alter>(
     tx: &mut Transaction<'_, S>,
     alloc: Global,
-    branch: &BranchKey,
-) -> Result<Option<Vec<PlacedChange>>, Error>
+    change: ChangeNo,
+) -> Result<Option<PatchRow>, Error>
     ensures same_reference { tx.new.conn.ghost_name ≡ tx.old.conn.ghost_name }
-    ensures looks { Looks (λ db found. Knows found (λ changes. ArePlaced branch.now db changes.items)) (state S.Store tx.old.conn.now) (state S.Store tx.new.conn.now) result }
+    ensures looks { Looks (λ db found. Knows found (IsCurrent (tables_at db).row change)) (state S.Store tx.old.conn.now) (state S.Store tx.new.conn.now) result }
 {
-    let found = find_parts::<BranchChanges, S>(tx, alloc, branch)?;
-    let Some(placed) = found else {
+    let last = find_greatest::<LastPatch, S>(tx, alloc, &change)?;
+    let Some(Some(number)) = last else {
         return Ok(None);
     };
-    Ok(Some(with_place(alloc, placed)?))
+    let found = find::<PatchSets, S>(tx, alloc, &(change, number))?;
+    Ok(current(number, found))
 }
 
-// The current patch set, where there is one.
-fn current(patches: &Table<PatchNo, PatchRow>) -> Option<&PatchRow>
-    ensures { IsCurrentOf (rows_of patches.now) (option_copied result) }
-{
-    match patches.last_key() {
-        Some(number) => patches.get(number),
-        None => None,
-    }
-}
-
-// The change of a place with its current commit; none where a row of it is odd, where it is not for the branch at the place, or where it
-// has no patch set.
+// The change of a place with its current commit; none where a row of it is odd, or where it is not for the branch at the place.
 fn joined_at(
-    alloc: Global,
-    branch: &BranchKey,
-    placed: &PlacedChange,
+    key: &PlaceKey,
+    change: ChangeNo,
     header: Option<Option<Header>>,
-    sets: Option<Table<PatchNo, PatchRow>>,
-) -> Result<Option<JoinedChange>, AllocError>
-    ensures { IfOk result (λ found. (db : Trees) → header ≡ row_at headers db placed.now.change → Knows sets (λ t. HaveRows nat_cmp patches placed.now.change db (rows_of t)) → Knows found (IsJoinedAs branch.now placed.now db)) }
+    patch: Option<PatchRow>,
+) -> Option<JoinedChange>
+    requires { 0 < key.now.place }
+    ensures { (db : Trees) → Some (Some change) ≡ row_at changes_at db key.now → header ≡ row_at headers db change → Knows patch (IsCurrent (tables_at db).row change) → Knows result (IsOnlyAt key.now db) }
 {
-    let Some(sets) = sets else {
-        return Ok(None);
+    let (Some(Some(header)), Some(patch)) = (header, patch) else {
+        return None;
     };
-    let Some(Some(header)) = header else {
-        return Ok(None);
-    };
-    if !is_placed(branch, placed.place, &header) {
-        return Ok(None);
+    if !is_placed(&key.project, &key.branch, key.place, &header) {
+        return None;
     }
-    let Some(patch) = current(&sets) else {
-        return Ok(None);
-    };
-    Ok(Some(JoinedChange {
-        change: placed.change,
-        commit: patch.commit.copy(alloc)?,
-    }))
+    let PatchRow { commit, .. } = patch;
+    Some(JoinedChange { change, commit })
 }
 
+// The change at a place of a branch with its current commit; none where there is none, or where a row of it is odd.
 fn find_at<S: Alter>(
     tx: &mut Transaction<'_, S>,
     alloc: Global,
-    branch: &BranchKey,
-    placed: &PlacedChange,
+    key: &PlaceKey,
 ) -> Result<Option<JoinedChange>, Error>
+    requires { 0 < key.now.place }
     ensures same_reference { tx.new.conn.ghost_name ≡ tx.old.conn.ghost_name }
-    ensures looks { Looks (λ db found. Knows found (IsJoinedAs branch.now placed.now db)) (state S.Store tx.old.conn.now) (state S.Store tx.new.conn.now) result }
+    ensures looks { Looks (λ db found. Knows found (IsOnlyAt key.now db)) (state S.Store tx.old.conn.now) (state S.Store tx.new.conn.now) result }
 {
-    let header = find::<Headers, S>(tx, alloc, &placed.change)?;
-    let sets = find_parts::<Patches, S>(tx, alloc, &placed.change)?;
-    Ok(joined_at(alloc, branch, placed, header, sets)?)
+    let found = find::<ChangeAt, S>(tx, alloc, key)?;
+    let Some(Some(change)) = found else {
+        return Ok(None);
+    };
+    let header = find::<Headers, S>(tx, alloc, &change)?;
+    let patch = find_current(tx, alloc, change)?;
+    Ok(joined_at(key, change, header, patch))
 }
 
-// The changes that joined a branch, or none where a row of one is odd. Which they are is looked up first, and then the header and the patch
-// sets of each.
+// The greatest place of the changes for a branch, or 0; none where it is odd.
+fn last_place(found: Option<Option<(ChangeNo, u32)>>) -> Option<u64>
+    ensures { (key : BranchKey) (db : Trees) → HasGreatest change_places 8 key db found → Knows result (λ last. NoneAbove key last db) }
+{
+    match found {
+        Some(Some(last)) => Some(u64::from(last.1)),
+        Some(None) => None,
+        None => Some(0),
+    }
+}
+
+// The key of a place of a branch, before the first one.
+fn before_first(alloc: Global, branch: &BranchKey) -> Result<PlaceKey, AllocError>
+    ensures { IfOk result (λ key. (key.project ≡ branch.now.project) × (key.branch ≡ branch.now.branch)) }
+{
+    Ok(PlaceKey {
+        project: branch.project.copy(alloc)?,
+        branch: branch.branch.copy(alloc)?,
+        place: 0,
+    })
+}
+
+// The changes that joined a branch, or none where a row of one is odd or a place before the last has none. The last place is looked up first,
+// and then the change of each.
 fn find_joins<S: Alter>(
     tx: &mut Transaction<'_, S>,
     alloc: Global,
@@ -129,13 +128,15 @@ fn find_joins<S: Alter>(
     ensures same_reference { tx.new.conn.ghost_name ≡ tx.old.conn.ghost_name }
     ensures looks { Looks (λ db found. Knows found (HaveJoined (tables_at db).row branch.now)) (state S.Store tx.old.conn.now) (state S.Store tx.new.conn.now) result }
 {
-    let found = find_placed(tx, alloc, branch)?;
-    let Some(placed) = found else {
+    let found = find_greatest::<LastJoined, S>(tx, alloc, branch)?;
+    let Some(last) = last_place(found) else {
         return Ok(None);
     };
+    let mut key = before_first(alloc, branch)?;
     let mut joined = Vec::new(alloc);
-    for one in &placed {
-        let known = find_at(tx, alloc, branch, one)?;
+    for before in 0..last {
+        key.place = before + 1;
+        let known = find_at(tx, alloc, &key)?;
         let Some(change) = known else {
             return Ok(None);
         };

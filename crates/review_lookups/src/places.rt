@@ -16,19 +16,19 @@ use review_changes::Header;
 use review_rows::{BranchKey, Rows};
 use review_tables::greatest::find_greatest;
 use review_tables::reads::find;
-use review_words::ChangeNo;
+use review_words::{BranchName, ChangeNo, ProjectName};
 use sqlite::{Alter, Error, Transaction};
 use std::alloc::Global;
 
 /// Whether a header is that of a change for the branch, at the place in it.
-pub fn is_placed(branch: &BranchKey, place: u32, header: &Header) -> bool
-    ensures project { result ≡ true → header.now.project ≡ branch.now.project }
-    ensures branch { result ≡ true → header.now.branch ≡ branch.now.branch }
+pub fn is_placed(project: &ProjectName, branch: &BranchName, place: u64, header: &Header) -> bool
+    ensures project { result ≡ true → header.now.project ≡ project.now }
+    ensures branch { result ≡ true → header.now.branch ≡ branch.now }
     ensures place { result ≡ true → header.now.place ≡ place }
 {
-    header.project.as_str() == branch.project.as_str()
-        && header.branch.as_str() == branch.branch.as_str()
-        && header.place == place
+    header.project.as_str() == project.as_str()
+        && header.branch.as_str() == branch.as_str()
+        && u64::from(header.place) == place
 }
 
 #[tactic(auto, using(crate::proofs::Telling::has_learnt))]
@@ -47,7 +47,7 @@ fn tell_last_joined(
     let Some(Some(header)) = found else {
         return Sight::Odd;
     };
-    if !is_placed(branch, place, &header) {
+    if !is_placed(&branch.project, &branch.branch, u64::from(place), &header) {
         return Sight::Odd;
     }
     learnt(learn_last_joined(alloc, branch, place, rows))

@@ -1,18 +1,17 @@
 //! The change that sent a commit is looked up, and what a commit is to a branch.
-ghost use Rattle.std.specs.Prelude.{◌≡◌, ℕ, true, false, IfOk, MatchBool};
-ghost use Rattle.std.specs.Ordering.{nat_cmp};
+ghost use Rattle.std.specs.Prelude.{◌≡◌, ◌×◌, ℕ, true, false, IfOk, MatchBool};
 ghost use Rattle.sqlite.specs.Held.{state};
 ghost use Rattle.sqlite_trees.specs.Tree.{Trees};
-ghost use Rattle.review_table.specs.Rows.{rows_of};
+ghost use Rattle.review_rows.specs.declared.rows.Base.{Base};
 ghost use Rattle.review_rows.specs.declared.rows.Want.TheVariants as want;
 ghost use Rattle.review_rows.specs.Known.{IsBaseOrNot, StandsAs};
-ghost use Rattle.review_kept_changes.specs.Kept.{IsLastOf};
-ghost use Rattle.review_tables.specs.Fronts.{HaveRows, Knows};
+ghost use Rattle.review_tables.specs.Fronts.{Knows};
+ghost use Rattle.review_tables.specs.Greatest.{HasGreatest};
 ghost use Rattle.review_tables.specs.Ran.{Looks};
 ghost use Rattle.review_tables.specs.Search.{row_at};
-ghost use Rattle.review_change_records.specs.Forms.{headers, patches};
+ghost use Rattle.review_change_records.specs.Forms.{headers, patch_numbers, patches};
 ghost use Rattle.review_lookups.specs.Loads.{HasLearnt, Sees};
-ghost use Rattle.review_lookups.specs.Senders.{Examines, IsFoundSent, IsSentAt, is_sent_at};
+ghost use Rattle.review_lookups.specs.Senders.{Examines, HasSent, IsFoundSent, IsLastSet, IsOutside, IsSentWith, KnowsIf, is_sent_with};
 ghost use Rattle.review_lookups.specs.Tables.{tables_at};
 
 use crate::branches::is_base;
@@ -20,85 +19,104 @@ use crate::learning::{learn_change_of, learn_standing, learnt};
 use crate::loading::Sight;
 use review_chain::Standing;
 use review_change_records::headers::Headers;
-use review_change_records::patches::Patches;
+use review_change_records::patches::{LastPatch, PatchSets};
 use review_change_records::sent::Sent;
 use review_changes::{Header, PatchRow};
 use review_rows::{Base, Rows};
-use review_table::Table;
-use review_tables::fronts::find_parts;
+use review_tables::greatest::find_greatest;
 use review_tables::reads::{find, find_all};
 use review_words::{ChangeNo, PatchNo, State};
 use sqlite::{Alter, Error, Transaction};
 use std::alloc::Global;
 
-fn is_sent(base: &Base, patch: PatchNo, header: &Header, patches: &Table<PatchNo, PatchRow>) -> bool
-    ensures { result ≡ is_sent_at base.now patch header.now (rows_of patches.now) }
+// Whether a change with the header is for the branch, and its patch set has the commit.
+fn is_sent(base: &Base, header: &Header, patch: &PatchRow) -> bool
+    ensures { result ≡ is_sent_with base.now header.now patch.now }
 {
-    match patches.get(&patch) {
-        Some(row) => {
-            header.project.as_str() == base.project.as_str()
-                && header.branch.as_str() == base.branch.as_str()
-                && row.commit.as_str() == base.commit.as_str()
-        }
-        None => false,
-    }
+    header.project.as_str() == base.project.as_str()
+        && header.branch.as_str() == base.branch.as_str()
+        && patch.commit.as_str() == base.commit.as_str()
 }
 
-// Whether no patch set has a greater number.
-fn is_last(patch: PatchNo, patches: &Table<PatchNo, PatchRow>) -> bool
-    ensures { MatchBool result (IsLastOf (rows_of patches.now) patch) (IsLastOf (rows_of patches.now) patch → ⊥) }
+// The same; where the change is to be merged, it is merged as well.
+fn is_sent_as(base: &Base, merged: bool, header: &Header, patch: &PatchRow) -> bool
+    ensures { MatchBool result (IsSentWith merged base.now header.now patch.now) (IsSentWith merged base.now header.now patch.now → ⊥) }
 {
-    let Some(last) = patches.last_key() else {
-        return true;
-    };
-    if last.get() > patch.get() {
-        return false;
-    }
-    true
-}
-
-// Whether a change is for the branch, and its patch set has the commit; where it is to be merged, as its current one.
-fn is_sent_as(
-    base: &Base,
-    merged: bool,
-    patch: PatchNo,
-    header: &Header,
-    patches: &Table<PatchNo, PatchRow>,
-) -> bool
-    ensures { MatchBool result (IsSentAt merged base.now patch header.now (rows_of patches.now)) (IsSentAt merged base.now patch header.now (rows_of patches.now) → ⊥) }
-{
-    if !is_sent(base, patch, header, patches) {
+    if !is_sent(base, header, patch) {
         return false;
     }
     if !merged {
         return true;
     }
     match header.state {
-        State::Merged => is_last(patch, patches),
+        State::Merged => true,
         State::New | State::Abandoned => false,
     }
 }
 
-// Whether a change for the branch has sent the commit so by its patch set of a number; none where a row of it is odd.
-fn examined(
+// Whether a change for the branch has sent the commit by its patch set of a number; none where one of the two rows is odd.
+fn sent_by(
     base: &Base,
     merged: bool,
-    patch: PatchNo,
     header: Option<Option<Header>>,
-    sets: Option<Table<PatchNo, PatchRow>>,
+    patch: Option<Option<PatchRow>>,
 ) -> Option<bool>
-    ensures { (n : ℕ) (db : Trees) → header ≡ row_at headers db n → Knows sets (λ t. HaveRows nat_cmp patches n db (rows_of t)) → Examines merged base.now (n, patch) db result }
+    ensures { (n p : ℕ) (db : Trees) → header ≡ row_at headers db n → patch ≡ row_at patches db (n, p) → KnowsIf (HasSent merged base.now (n, p) db) result }
 {
-    let Some(sets) = sets else {
+    let Some(header) = header else {
+        return Some(false);
+    };
+    let Some(patch) = patch else {
+        return Some(false);
+    };
+    let (Some(header), Some(patch)) = (header, patch) else {
         return None;
     };
-    match header {
-        Some(Some(header)) => Some(is_sent_as(base, merged, patch, &header, &sets)),
+    Some(is_sent_as(base, merged, &header, &patch))
+}
+
+fn find_sender<S: Alter>(
+    tx: &mut Transaction<'_, S>,
+    alloc: Global,
+    base: &Base,
+    merged: bool,
+    change: ChangeNo,
+    patch: PatchNo,
+) -> Result<Option<bool>, Error>
+    ensures same_reference { tx.new.conn.ghost_name ≡ tx.old.conn.ghost_name }
+    ensures looks { Looks (λ db is. KnowsIf (HasSent merged base.now (change, patch) db) is) (state S.Store tx.old.conn.now) (state S.Store tx.new.conn.now) result }
+{
+    let header = find::<Headers, S>(tx, alloc, &change)?;
+    let row = find::<PatchSets, S>(tx, alloc, &(change, patch))?;
+    Ok(sent_by(base, merged, header, row))
+}
+
+// Whether no patch set has a greater number; none where the greatest is odd.
+fn is_last(patch: PatchNo, found: Option<Option<PatchNo>>) -> Option<bool>
+    ensures { (n : ℕ) (db : Trees) → HasGreatest patch_numbers 2 n db found → KnowsIf (IsLastSet (n, patch) db) result }
+{
+    match found {
+        Some(Some(last)) => Some(last.get() <= patch.get()),
         Some(None) => None,
-        None => Some(false),
+        None => Some(true),
     }
 }
 
+fn find_is_last<S: Alter>(
+    tx: &mut Transaction<'_, S>,
+    alloc: Global,
+    change: ChangeNo,
+    patch: PatchNo,
+) -> Result<Option<bool>, Error>
+    ensures same_reference { tx.new.conn.ghost_name ≡ tx.old.conn.ghost_name }
+    ensures looks { Looks (λ db is. KnowsIf (IsLastSet (change, patch) db) is) (state S.Store tx.old.conn.now) (state S.Store tx.new.conn.now) result }
+{
+    let found = find_greatest::<LastPatch, S>(tx, alloc, &change)?;
+    Ok(is_last(patch, found))
+}
+
+// Whether a change has sent the commit so by its patch set of a number, which is looked up with its header. Only of a merged change the
+// greatest number of a patch set is looked up too.
 fn examine<S: Alter>(
     tx: &mut Transaction<'_, S>,
     alloc: Global,
@@ -110,9 +128,16 @@ fn examine<S: Alter>(
     ensures same_reference { tx.new.conn.ghost_name ≡ tx.old.conn.ghost_name }
     ensures looks { Looks (Examines merged base.now (change, patch)) (state S.Store tx.old.conn.now) (state S.Store tx.new.conn.now) result }
 {
-    let header = find::<Headers, S>(tx, alloc, &change)?;
-    let sets = find_parts::<Patches, S>(tx, alloc, &change)?;
-    Ok(examined(base, merged, patch, header, sets))
+    let sent = find_sender(tx, alloc, base, merged, change, patch)?;
+    match sent {
+        Some(true) => {}
+        Some(false) => return Ok(Some(false)),
+        None => return Ok(None),
+    }
+    if !merged {
+        return Ok(Some(true));
+    }
+    find_is_last(tx, alloc, change, patch)
 }
 
 // The change for a branch that has a patch set of a commit, with the number of that; where it is to be merged, as its current one. The
@@ -173,22 +198,18 @@ pub fn find_change_of<S: Alter>(
     Ok(tell_sender(alloc, base, found, rows))
 }
 
-// What a commit is to a branch: whether it is a base, whether it is the current commit of a merged change, and else who sent it.
-fn standing(
-    base: &Base,
-    is: bool,
-    merged: Option<(ChangeNo, PatchNo)>,
-    sent: Option<(ChangeNo, PatchNo)>,
-) -> Standing
-    ensures { (db : Trees) → IsBaseOrNot (tables_at db).row base.now is → IsFoundSent true base.now db merged → IsFoundSent false base.now db sent → StandsAs (tables_at db).row base.now result }
+#[tactic(auto, using(crate::proofs::Telling::has_learnt))]
+fn tell_standing(alloc: Global, base: &Base, standing: Standing, rows: &mut Rows) -> Sight
+    ensures told { (db : Trees) → StandsAs (tables_at db).row base.now standing → Sees (want.Standing base.now) rows.old rows.new db result }
+    ensures learnt { result ≡ Sight.Learnt → HasLearnt (want.Standing base.now) rows.old rows.new }
 {
-    let _base = base;
-    if is {
-        return Standing::InBranch;
-    }
-    if merged.is_some() {
-        return Standing::InBranch;
-    }
+    learnt(learn_standing(alloc, base, standing, rows))
+}
+
+// What a commit outside of a branch is to it.
+fn standing_outside(sent: Option<(ChangeNo, PatchNo)>) -> Standing
+    ensures { (base : Base) (db : Trees) → IsOutside base db → IsFoundSent false base db sent → StandsAs (tables_at db).row base result }
+{
     match sent {
         Some(sent) => Standing::PatchSet {
             change: sent.0,
@@ -198,32 +219,47 @@ fn standing(
     }
 }
 
-#[tactic(auto, using(crate::proofs::Telling::has_learnt))]
-fn tell_standing(
+// What a commit is to a branch that has not got it: that of a patch set, or nothing.
+fn find_outside<S: Alter>(
+    tx: &mut Transaction<'_, S>,
     alloc: Global,
     base: &Base,
-    is: Option<bool>,
-    merged: Option<Option<(ChangeNo, PatchNo)>>,
-    sent: Option<Option<(ChangeNo, PatchNo)>>,
     rows: &mut Rows,
-) -> Sight
-    ensures told { (db : Trees) → Knows is (IsBaseOrNot (tables_at db).row base.now) → Knows merged (IsFoundSent true base.now db) → Knows sent (IsFoundSent false base.now db) → Sees (want.Standing base.now) rows.old rows.new db result }
-    ensures learnt { result ≡ Sight.Learnt → HasLearnt (want.Standing base.now) rows.old rows.new }
+) -> Result<Sight, Error>
+    ensures same_reference { tx.new.conn.ghost_name ≡ tx.old.conn.ghost_name }
+    ensures looks { Looks (λ db s. IsOutside base.now db → Sees (want.Standing base.now) rows.old rows.new db s) (state S.Store tx.old.conn.now) (state S.Store tx.new.conn.now) result }
+    ensures learnt { IfOk result (λ s. s ≡ Sight.Learnt → HasLearnt (want.Standing base.now) rows.old rows.new) }
 {
-    let Some(is) = is else {
-        return Sight::Odd;
+    let found = find_sent(tx, alloc, base, false)?;
+    let Some(sent) = found else {
+        return Ok(Sight::Odd);
     };
-    let Some(merged) = merged else {
-        return Sight::Odd;
-    };
-    let Some(sent) = sent else {
-        return Sight::Odd;
-    };
-    let standing = standing(base, is, merged, sent);
-    learnt(learn_standing(alloc, base, standing, rows))
+    Ok(tell_standing(alloc, base, standing_outside(sent), rows))
 }
 
-/// What a commit is to a branch.
+// What a commit that is no base is to a branch: in it as the current commit of a merged change, or outside.
+fn find_merged<S: Alter>(
+    tx: &mut Transaction<'_, S>,
+    alloc: Global,
+    base: &Base,
+    rows: &mut Rows,
+) -> Result<Sight, Error>
+    ensures same_reference { tx.new.conn.ghost_name ≡ tx.old.conn.ghost_name }
+    ensures looks { Looks (λ db s. IsBaseOrNot (tables_at db).row base.now false → Sees (want.Standing base.now) rows.old rows.new db s) (state S.Store tx.old.conn.now) (state S.Store tx.new.conn.now) result }
+    ensures learnt { IfOk result (λ s. s ≡ Sight.Learnt → HasLearnt (want.Standing base.now) rows.old rows.new) }
+{
+    let found = find_sent(tx, alloc, base, true)?;
+    let Some(merged) = found else {
+        return Ok(Sight::Odd);
+    };
+    if merged.is_some() {
+        return Ok(tell_standing(alloc, base, Standing::InBranch, rows));
+    }
+    find_outside(tx, alloc, base, rows)
+}
+
+/// What a commit is to a branch: whether it is a base is looked up, where it isn't whether it is the current commit of a merged change, and
+/// else who sent it.
 pub fn find_standing<S: Alter>(
     tx: &mut Transaction<'_, S>,
     alloc: Global,
@@ -234,8 +270,12 @@ pub fn find_standing<S: Alter>(
     ensures looks { Looks (Sees (want.Standing base.now) rows.old rows.new) (state S.Store tx.old.conn.now) (state S.Store tx.new.conn.now) result }
     ensures learnt { IfOk result (λ s. s ≡ Sight.Learnt → HasLearnt (want.Standing base.now) rows.old rows.new) }
 {
-    let is = is_base(tx, alloc, base)?;
-    let merged = find_sent(tx, alloc, base, true)?;
-    let sent = find_sent(tx, alloc, base, false)?;
-    Ok(tell_standing(alloc, base, is, merged, sent, rows))
+    let found = is_base(tx, alloc, base)?;
+    let Some(is) = found else {
+        return Ok(Sight::Odd);
+    };
+    if is {
+        return Ok(tell_standing(alloc, base, Standing::InBranch, rows));
+    }
+    find_merged(tx, alloc, base, rows)
 }

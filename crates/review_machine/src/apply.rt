@@ -3,6 +3,7 @@ ghost use Rattle.std.specs.Prelude.{◌≡◌, ℕ, List, length, IfOk, IfErr};
 ghost use Rattle.std.specs.Io.KnownBytes.{Appends};
 ghost use Rattle.review_words.specs.declared.reply.Reply.{Reply};
 ghost use Rattle.review_lines.specs.Answers.{answers, deliveries, HasLines, HasFirst, all_done, is_complete, IsRunOf, IsLeftBy};
+ghost use Rattle.review_machine.specs.Branches.{BranchesAreSound};
 
 use crate::rules::DeskRules;
 use review_lines::{Fault, Outcome};
@@ -23,6 +24,9 @@ use std::io::{Read, Write};
 /// order, each delivery's with its reply: all of them where no fault came or the input failed, all but at most the last where there was no memory, and some
 /// first part of them where the writer failed. This is said of readers and writers whose bytes are known; of standard input and
 /// output `std` knows none.
+///
+/// Of the history that the run leaves, as of each: each change joined its branch at most once and has its place there; it stands on a base of the
+/// branch or on a change that joined before it; and just before its submit it was open, not in work in progress, and no requirement was unsatisfied.
 pub fn apply_lines<R: Read, W: Write, S: Shelf>(
     alloc: Global,
     reader: &mut R,
@@ -34,6 +38,7 @@ pub fn apply_lines<R: Read, W: Write, S: Shelf>(
         × (text : List ℕ) × Appends (W.contents writer.old) (W.contents writer.new) text
         × IfOk result (λ outcome. HasLines (R.remaining reader.old) lines × (text ≡ answers lines replies) × (is_complete outcome ≡ all_done lines replies))
         × IfErr result (λ fault. IsLeftBy fault lines replies text) }
+    ensures branches { BranchesAreSound }
 {
     review_lines::apply_lines(alloc, reader, writer, shelf, &mut DeskRules::new(alloc))
 }

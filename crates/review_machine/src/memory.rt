@@ -1,32 +1,23 @@
-//! Runs over a desk in memory.
-ghost use Rattle.std.specs.Prelude.{◌≡◌, ◌<◌, [], List, MatchResult, IfErr, take, length};
-ghost use Rattle.review_words.specs.History.{Entry};
-ghost use Rattle.review_rows.specs.Answer.{IsHistory};
-ghost use Rattle.review_rows.specs.View.{IsView};
-ghost use Rattle.review_rows.specs.Shelf.{Shows};
-ghost use Rattle.review_deliveries.specs.Replies.{IsRun, history_after};
+//! Deliveries by the line on a desk in memory.
+ghost use Rattle.review_machine.specs.Memory.{RanInMemory};
 
-use crate::desk::run;
-use review_deliveries::Stopped;
-use review_rows::Shelf;
+use crate::apply::apply_lines;
+use review_lines::{Fault, Outcome};
 use review_shelves::MemoryShelf;
-use review_words::{Delivery, Reply};
 use std::alloc::Global;
+use std::io::{Read, Write};
 
-/// Takes deliveries in order on a desk in memory. It has no store that could fail or shut, so from the tables of a history the
-/// tables afterwards are always those of the history with each taken first arrival added, and the replies are right: no premise is left.
-pub fn run_in_memory(
+/// Does as [`apply_lines`] on an empty desk in memory, which is gone at the end. Such a desk has no store that could fail or shut, so no premise is
+/// left: the deliveries of the first lines, of all where no fault came, acted once each, on the desk of no request.
+///
+/// Errors as those of [`apply_lines`], and want of memory for the desk.
+pub fn apply_in_memory<R: Read, W: Write>(
     alloc: Global,
-    shelf: &mut MemoryShelf,
-    deliveries: &[Delivery],
-) -> Result<Vec<Reply>, Stopped>
-    ensures acts_once { (h : List Entry) → IsHistory h → Shows (⟦<MemoryShelf as Shelf>⟧.state shelf.old).tables (IsView h) → MatchResult result
-        (λ replies. IsRun h deliveries.now replies.items (⟦<MemoryShelf as Shelf>⟧.state shelf.old) (⟦<MemoryShelf as Shelf>⟧.state shelf.new))
-        (λ stopped. IsRun h (take (length stopped.replies.items) deliveries.now) stopped.replies.items (⟦<MemoryShelf as Shelf>⟧.state shelf.old) (⟦<MemoryShelf as Shelf>⟧.state shelf.new)) }
-    ensures view { (h : List Entry) → IsHistory h → Shows (⟦<MemoryShelf as Shelf>⟧.state shelf.old).tables (IsView h) → MatchResult result
-        (λ replies. Shows (⟦<MemoryShelf as Shelf>⟧.state shelf.new).tables (IsView (history_after h deliveries.now replies.items)))
-        (λ stopped. Shows (⟦<MemoryShelf as Shelf>⟧.state shelf.new).tables (IsView (history_after h (take (length stopped.replies.items) deliveries.now) stopped.replies.items))) }
-    ensures stopped { IfErr result (λ stopped. (stopped.replies.items ≡ []) × (0 < length deliveries.now)) }
+    reader: &mut R,
+    writer: &mut W,
+) -> Result<Outcome, Fault>
+    ensures ran { RanInMemory (R.remaining reader.old) (W.contents writer.old) (W.contents writer.new) result }
 {
-    run(alloc, shelf, deliveries)
+    let mut shelf = MemoryShelf::new(alloc)?;
+    apply_lines(alloc, reader, writer, &mut shelf)
 }

@@ -97,7 +97,7 @@ pub fn is_blank(schema: &Schema) -> bool
 // Whether a shelf may be made over a store with no table, or over one with some: one of ours only over one with none.
 fn may_be_made<O: Origin>(is_blank: bool) -> bool
     ensures made { result ≡ true → IsTrue O.IS_OURS → is_blank ≡ true }
-    ensures refused { result ≡ false → is_blank ≡ false }
+    ensures refused { result ≡ false → IsTrue O.IS_OURS × (is_blank ≡ false) }
 {
     !O::IS_OURS || is_blank
 }
@@ -123,6 +123,7 @@ impl<S: Alter + Drop, O: Origin> SqlShelf<S, O> {
         ensures untouched { IfErr result (λ e. (e.1 ≡ DeskFault.NotEmpty) ⊎ (e.1 ≡ DeskFault.NotOurs) → Stays (state S.Store conn) (state S.Store e.0)) }
         ensures spared { IfErr result (λ e. IsAnyThere conn.schema → HasCleanDisk (state S.Store e.0) → Stays (state S.Store conn) (state S.Store e.0)) }
         ensures not_ours { IfErr result (λ e. e.1 ≡ DeskFault.NotOurs → IsTrue (state S.Store e.0).is_open → conn.schema ≡ schema_0 → ⊥) }
+        ensures ours { IfErr result (λ e. e.1 ≡ DeskFault.NotOurs → IsTrue O.IS_OURS) }
         ensures kinds { IfErr result (λ e. (e.1 ≢ DeskFault.NotADesk) × (e.1 ≢ DeskFault.WrongVersion)) }
     {
         let mut conn = conn;
@@ -164,6 +165,7 @@ impl<S: Alter + Drop, O: Origin> SqlShelf<S, O> {
         ensures mode { IfErr result (λ e. e.0.in_transaction ≡ false) }
         ensures refused { IfErr result (λ e. Stays (state S.Store conn) (state S.Store e.0)) }
         ensures cause { IfErr result (λ e. IsTrue (state S.Store e.0).is_open → IsRefused (state S.Store conn) e.1) }
+        ensures ours { IfErr result (λ e. e.1 ≡ DeskFault.NotOurs → IsTrue O.IS_OURS) }
         ensures again { IfErr result (λ e. IsRefusedAgain S.Store O.IS_OURS conn e.0 e.1) }
     {
         let mut conn = conn;

@@ -1,4 +1,4 @@
--- What the texts mean that look up all rows of a change, or of a branch.
+-- What the texts mean that look up all rows of a change, and changes by a commit or a place.
 use Rattle.std.proofs.Common.{◌≡◌, ◌&&◌, ℕ, ℤ, List, [], ◌∷◌, codes, map, filter, true, false, refl}
 use Rattle.std.specs.List.Sorted.{IsPermutation}
 use Rattle.sqlite_schema.specs.declared.command.Command.TheVariants.{Select}
@@ -9,7 +9,7 @@ use Rattle.sqlite_tied.specs.Compute.{everything}
 use Rattle.sqlite.specs.Listing.{understood, reads_listing}
 use Rattle.sqlite.specs.State.{State, Shown}
 use Rattle.sqlite.proofs.Callers.{IsPlain, command_of}
-use Rattle.review_tables.specs.declared.texts.TheConstants.{FIND_PATCHES, FIND_VOTES, FIND_REVIEWERS, FIND_COMMENTS, FIND_CALLS, FIND_SENT, FIND_BRANCH_CHANGES}
+use Rattle.review_tables.specs.declared.texts.TheConstants.{FIND_PATCHES, FIND_VOTES, FIND_REVIEWERS, FIND_COMMENTS, FIND_CALLS, FIND_SENT, FIND_CHANGE_AT}
 use Rattle.review_tables.specs.Desk.{desk_schema}
 use Rattle.review_tables.specs.Content.{has_key}
 use Rattle.review_tables.proofs.Queries.{over_table, passes}
@@ -153,25 +153,25 @@ sent_unlisted = refl
 pub sent_found : (old new : State) (commit : List ℕ) (rows : List Row) → old.now.schema ≡ desk_schema → Shown FIND_SENT.now (Text commit ∷ []) old new rows → IsPermutation (map (λ r. column r 1 ∷ column r 2 ∷ []) (filter (has_key ((3, Text commit) ∷ [])) (old.now.trees 11))) rows
 sent_found old new commit rows has h = finds FIND_SENT.now (Text commit ∷ []) old new has 11 sent_tests (col 1 1 ∷ col 1 2 ∷ []) (codes "change" ∷ codes "patch" ∷ []) sent_is sent_plain sent_unlisted ((3, Text commit) ∷ []) (sent_has commit) refl rows h
 
--- ---- branch changes
+-- ---- change at a place
 
-abbrev branch_changes_tests : List Term
-branch_changes_tests = text_is 2 0 ∷ text_is 3 1 ∷ []
+abbrev change_at_tests : List Term
+change_at_tests = text_is 2 0 ∷ text_is 3 1 ∷ number_is 8 2 ∷ []
 
-branch_changes_has : (project : List ℕ) (branch : List ℕ) (row : Row) → passes (Text project ∷ Text branch ∷ []) branch_changes_tests row ≡ has_key ((2, Text project) ∷ (3, Text branch) ∷ []) row
-branch_changes_has project branch row = λ i. (tested_text (Text project ∷ Text branch ∷ []) row 2 0 project refl i && (tested_text (Text project ∷ Text branch ∷ []) row 3 1 branch refl i && true))
+change_at_has : (project : List ℕ) (branch : List ℕ) (place : ℤ) (row : Row) → passes (Text project ∷ Text branch ∷ Int place ∷ []) change_at_tests row ≡ has_key ((2, Text project) ∷ (3, Text branch) ∷ (8, Int place) ∷ []) row
+change_at_has project branch place row = (λ i. (tested_text (Text project ∷ Text branch ∷ Int place ∷ []) row 2 0 project refl i && (tested_text (Text project ∷ Text branch ∷ Int place ∷ []) row 3 1 branch refl i && (tested_number (Text project ∷ Text branch ∷ Int place ∷ []) row 8 2 place refl i && true))))
 
-branch_changes_is : command_of (understood desk_schema FIND_BRANCH_CHANGES.now) ≡ Select (record { lets = []; body = over_table 9 branch_changes_tests (col 1 0 ∷ col 1 8 ∷ []) [] }) (codes "number" ∷ codes "place" ∷ [])
+change_at_is : command_of (understood desk_schema FIND_CHANGE_AT.now) ≡ Select (record { lets = []; body = over_table 9 change_at_tests (col 1 0 ∷ []) [] }) (codes "number" ∷ [])
 unfolding understood everything
-branch_changes_is = refl
+change_at_is = refl
 
-pub branch_changes_plain : IsPlain (understood desk_schema FIND_BRANCH_CHANGES.now)
+pub change_at_plain : IsPlain (understood desk_schema FIND_CHANGE_AT.now)
 unfolding understood everything
-branch_changes_plain = (refl, refl)
+change_at_plain = (refl, refl)
 
-branch_changes_unlisted : reads_listing desk_schema FIND_BRANCH_CHANGES.now ≡ false
+change_at_unlisted : reads_listing desk_schema FIND_CHANGE_AT.now ≡ false
 unfolding understood everything
-branch_changes_unlisted = refl
+change_at_unlisted = refl
 
-pub branch_changes_found : (old new : State) (project : List ℕ) (branch : List ℕ) (rows : List Row) → old.now.schema ≡ desk_schema → Shown FIND_BRANCH_CHANGES.now (Text project ∷ Text branch ∷ []) old new rows → IsPermutation (map (λ r. column r 0 ∷ column r 8 ∷ []) (filter (has_key ((2, Text project) ∷ (3, Text branch) ∷ [])) (old.now.trees 9))) rows
-branch_changes_found old new project branch rows has h = finds FIND_BRANCH_CHANGES.now (Text project ∷ Text branch ∷ []) old new has 9 branch_changes_tests (col 1 0 ∷ col 1 8 ∷ []) (codes "number" ∷ codes "place" ∷ []) branch_changes_is branch_changes_plain branch_changes_unlisted ((2, Text project) ∷ (3, Text branch) ∷ []) (branch_changes_has project branch) refl rows h
+pub change_at_found : (old new : State) (project : List ℕ) (branch : List ℕ) (place : ℤ) (rows : List Row) → old.now.schema ≡ desk_schema → Shown FIND_CHANGE_AT.now (Text project ∷ Text branch ∷ Int place ∷ []) old new rows → IsPermutation (map (λ r. column r 0 ∷ []) (filter (has_key ((2, Text project) ∷ (3, Text branch) ∷ (8, Int place) ∷ [])) (old.now.trees 9))) rows
+change_at_found old new project branch place rows has h = finds FIND_CHANGE_AT.now (Text project ∷ Text branch ∷ Int place ∷ []) old new has 9 change_at_tests (col 1 0 ∷ []) (codes "number" ∷ []) change_at_is change_at_plain change_at_unlisted ((2, Text project) ∷ (3, Text branch) ∷ (8, Int place) ∷ []) (change_at_has project branch place) refl rows h

@@ -116,7 +116,7 @@ last_patch_tests = number_is 1 0 ∷ []
 last_patch_has : (change : ℤ) (row : Row) → passes (Int change ∷ []) last_patch_tests row ≡ has_key ((1, Int change) ∷ []) row
 last_patch_has change row = λ i. (tested_number (Int change ∷ []) row 1 0 change refl i && true)
 
-last_patch_is : command_of (understood desk_schema FIND_LAST_PATCH.now) ≡ Select (record { lets = []; body = last_of 11 last_patch_tests (col 1 2 ∷ col 1 3 ∷ []) 2 }) (codes "patch" ∷ codes "commit_name" ∷ [])
+last_patch_is : command_of (understood desk_schema FIND_LAST_PATCH.now) ≡ Select (record { lets = []; body = last_of 11 last_patch_tests (col 1 2 ∷ []) 2 }) (codes "patch" ∷ [])
 unfolding understood everything
 last_patch_is = refl
 
@@ -128,8 +128,8 @@ last_patch_unlisted : reads_listing desk_schema FIND_LAST_PATCH.now ≡ false
 unfolding understood everything
 last_patch_unlisted = refl
 
-pub last_patch_found : (old new : State) (change : ℤ) (rows : List Row) → old.now.schema ≡ desk_schema → Shown FIND_LAST_PATCH.now (Int change ∷ []) old new rows → ShowsGreatest (λ r. column r 2 ∷ column r 3 ∷ []) 2 (filter (has_key ((1, Int change) ∷ [])) (old.now.trees 11)) rows
-last_patch_found old new change rows has h = finds_last FIND_LAST_PATCH.now (Int change ∷ []) old new has 11 last_patch_tests (col 1 2 ∷ col 1 3 ∷ []) 2 (codes "patch" ∷ codes "commit_name" ∷ []) last_patch_is last_patch_plain last_patch_unlisted ((1, Int change) ∷ []) (last_patch_has change) refl rows h
+pub last_patch_found : (old new : State) (change : ℤ) (rows : List Row) → old.now.schema ≡ desk_schema → Shown FIND_LAST_PATCH.now (Int change ∷ []) old new rows → ShowsGreatest (λ r. column r 2 ∷ []) 2 (filter (has_key ((1, Int change) ∷ [])) (old.now.trees 11)) rows
+last_patch_found old new change rows has h = finds_last FIND_LAST_PATCH.now (Int change ∷ []) old new has 11 last_patch_tests (col 1 2 ∷ []) 2 (codes "patch" ∷ []) last_patch_is last_patch_plain last_patch_unlisted ((1, Int change) ∷ []) (last_patch_has change) refl rows h
 
 -- ---- project beyond
 

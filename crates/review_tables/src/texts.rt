@@ -164,7 +164,7 @@ pub const FIND_BASE_COMMIT: &str =
 pub const FIND_BRANCH: &str =
     "SELECT place, commit_name FROM bases WHERE project = ?1 AND branch = ?2";
 
-// ---- all rows of a change, or of a branch
+// ---- all rows of a change, and changes by a commit or a place
 
 pub const FIND_PATCHES: &str =
     "SELECT patch, commit_name, parent, kind, uploader, paths FROM patches WHERE change = ?1";
@@ -180,8 +180,8 @@ pub const FIND_CALLS: &str = "SELECT account, reason, request FROM attention WHE
 
 pub const FIND_SENT: &str = "SELECT change, patch FROM patches WHERE commit_name = ?1";
 
-pub const FIND_BRANCH_CHANGES: &str =
-    "SELECT number, place FROM changes WHERE project = ?1 AND branch = ?2";
+pub const FIND_CHANGE_AT: &str =
+    "SELECT number FROM changes WHERE project = ?1 AND branch = ?2 AND place = ?3";
 
 // ---- greatest numbers
 
@@ -196,7 +196,7 @@ pub const FIND_LAST_JOINED: &str =
     "SELECT number, place FROM changes WHERE project = ?1 AND branch = ?2 ORDER BY place DESC LIMIT 1";
 
 pub const FIND_LAST_PATCH: &str =
-    "SELECT patch, commit_name FROM patches WHERE change = ?1 ORDER BY patch DESC LIMIT 1";
+    "SELECT patch FROM patches WHERE change = ?1 ORDER BY patch DESC LIMIT 1";
 
 // ---- whether there are so many rows and more
 

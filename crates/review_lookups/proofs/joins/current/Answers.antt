@@ -1,7 +1,8 @@
-use Rattle.std.specs.Option.{option_copied}
-use Rattle.review_table.specs.Rows.{rows_of}
-use Rattle.review_kept_changes.proofs.Merged.{current_of}
+use Rattle.std.proofs.Common.{◌≡◌, Some, rules}
+use Rattle.review_lookups.proofs.Current.{current_is}
 use Rattle.review_lookups.proofs.joins.current.Goals as goal
 
-pub returns-in-Some : goal.returns-in-Some
-returns-in-Some c = current_of (rows_of c.args.patches.now) c.in-Some.number.now (option_copied c.get.result) c.get.ensures c.in-Some.ensures.there c.in-Some.ensures.above
+pub returns-in-Some-Some : goal.returns-in-Some-Some
+returns-in-Some-Some c = λ n db great at.
+    let some : c.args.found ≡ Some (Some c.in-Some-Some.patch) = search rules in
+    current_is db n c.args.number c.args.found c.in-Some-Some.patch great at some

@@ -1,23 +1,42 @@
-use Rattle.std.proofs.Common.{◌≡◌, ℕ, List, Option, Ok}
-use Rattle.std.specs.Ordering.{nat_cmp}
+use Rattle.std.proofs.Common.{◌≡◌, ◌∙◌, sym, Bool, true, false, Option, Some, None, Ok, subst, rules}
 use Rattle.sqlite.specs.Held.{state}
 use Rattle.sqlite_trees.specs.Tree.{Trees}
-use Rattle.review_table.specs.Rows.{rows_of}
-use Rattle.review_changes.specs.declared.rows.Header.{Header}
-use Rattle.review_changes.specs.declared.rows.PatchRow.{PatchRow}
-use Rattle.review_tables.specs.Fronts.{HaveRows, Knows}
-use Rattle.review_tables.specs.Search.{row_at}
 use Rattle.review_tables.proofs.Found.{look_both, look_on}
-use Rattle.review_change_records.specs.Forms.{headers, patches}
+use Rattle.review_lookups.specs.Senders.{HasSent, IsLastSet, KnowsIf}
+use Rattle.review_lookups.proofs.Sending.{looks_so, sent_and_last}
 use Rattle.review_lookups.proofs.senders.examine.Goals as goal
+
+pub returns-in-Some-false-clause-looks : goal.returns-in-Some-false-clause-looks
+returns-in-Some-false-clause-looks g c =
+    let base = c.args.base.now in
+    let e = (c.args.change, c.args.patch) in
+    let F : Trees → Option Bool → Type 0 = λ db is. KnowsIf (HasSent c.args.merged base e db) is in
+    let s0 = state g.S.Store c.args.tx.now.conn.now in
+    let s1 = state g.S.Store c.find_sender.new.tx.conn.now in
+    let is : c.in_ok-sent.sent ≡ Some false = search rules in
+    look_on F _ s0 s1 c.in_ok-sent.sent (Ok (Some false)) c.in_ok-sent.ensures.looks (λ db h. let not_sent = subst (F db) is h in (λ sent. not_sent sent.0))
+
+pub returns-then-in-Some-true-clause-looks : goal.returns-then-in-Some-true-clause-looks
+returns-then-in-Some-true-clause-looks g c =
+    let base = c.args.base.now in
+    let e = (c.args.change, c.args.patch) in
+    let F : Trees → Option Bool → Type 0 = λ db is. KnowsIf (HasSent c.args.merged base e db) is in
+    let s0 = state g.S.Store c.args.tx.now.conn.now in
+    let s1 = state g.S.Store c.find_sender.new.tx.conn.now in
+    let is : c.in_ok-sent.sent ≡ Some true = search rules in
+    let not_to_be : c.args.merged ≡ false = search rules in
+    look_on F _ s0 s1 c.in_ok-sent.sent (Ok (Some true)) c.in_ok-sent.ensures.looks (λ db h. (subst (F db) is h, λ yes. absurd (let f = sym not_to_be ∙ yes in cc)))
 
 pub returns-clause-looks : goal.returns-clause-looks
 returns-clause-looks g c =
-    let n = c.args.change in
-    let H : Trees → Option (Option Header) → Type 0 = λ db found. found ≡ row_at headers db n in
-    let P : Trees → Option (List (ℕ × Option PatchRow)) → Type 0 = λ db found. Knows found (λ t. HaveRows nat_cmp patches n db (rows_of t)) in
+    let base = c.args.base.now in
+    let e = (c.args.change, c.args.patch) in
+    let F : Trees → Option Bool → Type 0 = λ db is. KnowsIf (HasSent c.args.merged base e db) is in
+    let G : Trees → Option Bool → Type 0 = λ db is. KnowsIf (IsLastSet e db) is in
     let s0 = state g.S.Store c.args.tx.now.conn.now in
-    let s1 = state g.S.Store c.find.new.tx.conn.now in
-    let s2 = state g.S.Store c.find_parts.new.tx.conn.now in
-    let both = look_both H P s0 s1 s2 c.in_ok-header.header (Ok c.in_ok-sets.sets) c.in_ok-header.ensures.looks c.in_ok-sets.ensures.looks in
-    look_on _ _ s0 s2 c.in_ok-sets.sets (Ok c.examined.result) both (λ db h. c.examined.ensures n db h.0 h.1)
+    let s1 = state g.S.Store c.find_sender.new.tx.conn.now in
+    let s2 = state g.S.Store c.find_is_last.new.tx.conn.now in
+    let is : c.in_ok-sent.sent ≡ Some true = search rules in
+    let to_be : c.args.merged ≡ true = search rules in
+    let both = look_both F G s0 s1 s2 c.in_ok-sent.sent c.find_is_last.result c.in_ok-sent.ensures.looks c.find_is_last.ensures.looks in
+    looks_so _ _ s0 s2 c.find_is_last.result both (λ db o h. sent_and_last c.args.merged base e db o to_be (subst (F db) is h.0) h.1)

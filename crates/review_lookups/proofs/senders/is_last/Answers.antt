@@ -1,21 +1,16 @@
-use Rattle.std.proofs.Common.{◌≡◌, ◌<◌, false, true, subst, sym, arith}
-use Rattle.std.specs.Option.{IsSome}
-use Rattle.std.specs.declared.cmp.Ordering.TheVariants.{Less}
-use Rattle.std.specs.Cmp.{nat_cmp_is}
+use Rattle.std.proofs.Common.{◌≡◌, Some, None, subst, rules}
+use Rattle.review_tables.specs.Greatest.{HasGreatest}
+use Rattle.review_change_records.specs.Forms.{patch_numbers}
+use Rattle.review_lookups.proofs.Current.{alone_told, last_told}
 use Rattle.review_lookups.proofs.senders.is_last.Goals as goal
 
-pub returns-then-get : goal.returns-then-get
-returns-then-get c = λ last.
-    let greater = c.if-get.true in
-    let a = c.get.ensures.value in
-    let b = c.get-2.ensures.value in
-    let less : c.args.patch < c.in-Some.last.now = omega arith in
-    let f : false ≡ true = subst IsSome (last c.in-Some.last.now less) c.in-Some.ensures.there in absurd (cc)
+pub returns-in-Some-Some : goal.returns-in-Some-Some
+returns-in-Some-Some c = λ n db great.
+    let q = c.in-Some-Some.last in
+    let some : c.args.found ≡ Some (Some q) = search rules in
+    last_told db n c.args.patch q _ (search rules) (subst (HasGreatest patch_numbers 2 n db) some great)
 
-pub returns : goal.returns
-returns c = λ m less.
-    let other = c.if-get.false in
-    let a = c.get.ensures.value in
-    let b = c.get-2.ensures.value in
-    let below : c.in-Some.last.now < m = omega arith in
-    c.in-Some.ensures.above m (sym (nat_cmp_is c.in-Some.last.now m Less below))
+pub returns-in-None : goal.returns-in-None
+returns-in-None c = λ n db great.
+    let none : c.args.found ≡ None = search rules in
+    alone_told db n c.args.patch (subst (HasGreatest patch_numbers 2 n db) none great)

@@ -1,0 +1,12 @@
+use Rattle.std.proofs.Common.{pos}
+use Rattle.review_tables.proofs.PatchTexts.{find_plain, found}
+use Rattle.review_tables.proofs.Sequences.{look}
+use Rattle.sqlite.specs.Held.{state}
+use Rattle.review_change_records.proofs.patches.PatchSetsLookup.select.Goals as goal
+
+pub returns-clause-looks : goal.returns-clause-looks
+returns-clause-looks g c =
+    let old = state g.S.Store c.args.tx.now.conn.now in
+    let new = state g.S.Store c.query_all.new.self.conn.now in
+    look (λ v. v.items) _ _ old new c.query_all.result _ find_plain (λ x has h. found old new (pos c.args.key.now.0) (pos c.args.key.now.1) x.items has h)
+    (λ clean. rw (c.params-to_sql.ensures, c.params-to_sql-2.ensures, c.get.ensures.value, c.get-2.ensures.value) at (c.query_all.ensures.ok clean)) (λ clean. rw (c.params-to_sql.ensures, c.params-to_sql-2.ensures, c.get.ensures.value, c.get-2.ensures.value) at (c.query_all.ensures.err clean)) c.query_all.ensures.survives

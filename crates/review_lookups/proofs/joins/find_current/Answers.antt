@@ -1,0 +1,22 @@
+use Rattle.std.proofs.Common.{◌≡◌, ℕ, Option, Some, Ok, subst, rules}
+use Rattle.sqlite.specs.Held.{state}
+use Rattle.sqlite_trees.specs.Tree.{Trees}
+use Rattle.review_changes.specs.declared.rows.PatchRow.{PatchRow}
+use Rattle.review_tables.specs.Greatest.{HasGreatest}
+use Rattle.review_tables.specs.Search.{row_at}
+use Rattle.review_tables.proofs.Found.{look_both, look_on}
+use Rattle.review_change_records.specs.Forms.{patch_numbers, patches}
+use Rattle.review_lookups.proofs.joins.find_current.Goals as goal
+
+pub returns-clause-looks : goal.returns-clause-looks
+returns-clause-looks g c =
+    let n = c.args.change in
+    let k = c.in-Some-Some.number in
+    let F : Trees → Option (Option ℕ) → Type 0 = λ db found. HasGreatest patch_numbers 2 n db found in
+    let G : Trees → Option (Option PatchRow) → Type 0 = λ db found. found ≡ row_at patches db (n, k) in
+    let is : c.in_ok-last.last ≡ Some (Some k) = search rules in
+    let s0 = state g.S.Store c.args.tx.now.conn.now in
+    let s1 = state g.S.Store c.find_greatest.new.tx.conn.now in
+    let s2 = state g.S.Store c.find.new.tx.conn.now in
+    let both = look_both F G s0 s1 s2 c.in_ok-last.last (Ok c.in_ok-found.found) c.in_ok-last.ensures.looks c.in_ok-found.ensures.looks in
+    look_on _ _ s0 s2 c.in_ok-found.found (Ok c.current.result) both (λ db h. c.current.ensures n db (subst (F db) is h.0) h.1)

@@ -1,0 +1,21 @@
+use Rattle.std.proofs.Common.{◌≡◌, ◌∙◌, Some, None, sym, rules}
+use Rattle.review_lookups.proofs.Sending.{no_header, no_patch, sent_told}
+use Rattle.review_lookups.proofs.senders.sent_by.Goals as goal
+
+pub returns-in-None : goal.returns-in-None
+returns-in-None c = λ n p db stands row.
+    let none : c.args.header ≡ None = search rules in
+    no_header c.args.merged c.args.base.now n p db (sym stands ∙ none)
+
+pub returns-in-None-2 : goal.returns-in-None-2
+returns-in-None-2 c = λ n p db stands row.
+    let none : c.args.patch ≡ None = search rules in
+    no_patch c.args.merged c.args.base.now n p db (sym row ∙ none)
+
+pub returns : goal.returns
+returns c = λ n p db stands row.
+    let h = c.in-Some-Some.header in
+    let x = c.in-Some-Some.patch in
+    let some : c.args.header ≡ Some (Some h) = search rules in
+    let known : c.args.patch ≡ Some (Some x) = search rules in
+    sent_told c.args.merged c.args.base.now n p db h x c.is_sent_as.result (sym stands ∙ some) (sym row ∙ known) c.is_sent_as.ensures
