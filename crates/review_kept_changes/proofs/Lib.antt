@@ -13,3 +13,4 @@ pub mod Placed
 pub mod Merged
 pub mod Joined
 pub mod Listed
+pub mod Looked

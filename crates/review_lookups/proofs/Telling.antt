@@ -30,7 +30,7 @@ use Rattle.review_rows.specs.View.{fact}
 use Rattle.review_rows.proofs.Readings.{reading_of}
 use Rattle.review_changes.specs.Change.{of_number}
 use Rattle.review_kept_changes.specs.Loads.{AreInOrder}
-use Rattle.review_shelves.proofs.Placed.{based_from}
+use Rattle.review_kept_changes.proofs.Looked.{based_from}
 use Rattle.review_tables.specs.Columns.{number_in, text_in}
 use Rattle.review_tables.specs.Content.{has_key}
 use Rattle.review_tables.specs.Fronts.{HaveRows, Knows}

@@ -9,7 +9,7 @@ use Rattle.review_rows.specs.declared.rows.Want.{Want}
 use Rattle.review_rows.specs.Known.{at_place, AreAsked, Agrees, Found, Learns}
 use Rattle.review_rows.specs.Rows.{Tables}
 use Rattle.review_rows.specs.Shelf.{IsDamaged}
-use Rattle.review_shelves.specs.Loads.{Looks}
+use Rattle.review_kept_changes.specs.Looked.{LearnsFound}
 use Rattle.review_lookups.specs.declared.loading.Sight.{Sight}
 use Rattle.review_lookups.specs.declared.loading.Sight.TheVariants as sight
 use Rattle.review_lookups.specs.declared.loading.Loaded.{Loaded}
@@ -18,7 +18,7 @@ use Rattle.review_lookups.specs.Tables.{tables_at}
 
 -- how a look-up ended, of these tables
 abbrev pub Tells : Tables → Want → Rows → Rows → Sight → Type 0
-Tells t w old new sight.Learnt = Looks t w old new
+Tells t w old new sight.Learnt = LearnsFound t w old new
 Tells t w old new sight.NoMemory = Unit {0}
 Tells t w old new sight.Damaged = IsDamaged t
 Tells t w old new sight.Odd = Unit {0}

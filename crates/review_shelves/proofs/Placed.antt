@@ -15,12 +15,7 @@ use Rattle.review_rows.specs.Shelf.{IsDamaged}
 use Rattle.review_shelves.specs.declared.keys.PlaceKey.{PlaceKey}
 use Rattle.review_shelves.specs.Branches.{base_at, commit_cmp, AreBases, IsLastPlace, greatest_place}
 use Rattle.review_shelves.specs.Desk.{Desk, tables_of}
-
-pub based_from : (o p : Option (List ℕ)) → option_map BaseRow o ≡ option_map BaseRow p → o ≡ p
-based_from None None e = refl
-based_from None (Some y) e = absurd (cc)
-based_from (Some x) None e = absurd (cc)
-based_from (Some x) (Some y) e = let same : x ≡ y = cc in ap Some same
+use Rattle.review_kept_changes.proofs.Looked.{based_from}
 
 -- a branch whose bases make no list is that of no history
 pub unlisted_damaged : (d : Desk) (key : BranchKey) → ((commits : List (List ℕ)) → AreBases d.branches.bases key commits → ⊥) → IsDamaged (tables_of d)

@@ -1,17 +1,10 @@
--- What a look-up in tables in memory does to rows, and why it fails.
-use Rattle.review_rows.specs.declared.rows.Rows.{Rows}
-use Rattle.review_rows.specs.declared.rows.Want.{Want}
+-- Why tables in memory are not read.
 use Rattle.review_rows.specs.declared.shelf.ShelfFault.{ShelfFault}
 use Rattle.review_rows.specs.declared.shelf.ShelfFault.TheVariants.{Memory, Store, Damaged}
 use Rattle.review_rows.specs.Rows.{Tables}
-use Rattle.review_rows.specs.Known.{Found, IsFound, Learns}
 use Rattle.review_rows.specs.Shelf.{IsDamaged}
 use Rattle.review_shelves.specs.declared.branches.BasesFault.{BasesFault}
 use Rattle.review_shelves.specs.declared.branches.BasesFault.TheVariants as bases
-
--- rows learn what a look-up finds
-abbrev pub Looks : Tables → Want → Rows → Rows → Type 0
-Looks t w old new = (f : Found) × IsFound t w f × Learns w f old new
 
 -- why tables in memory are not read: want of memory, or that they are those of no history
 abbrev pub IsUnread : Tables → ShelfFault → Type 0

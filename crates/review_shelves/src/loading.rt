@@ -8,7 +8,8 @@ ghost use Rattle.review_rows.specs.declared.rows.Counted.TheVariants as counted;
 ghost use Rattle.review_rows.specs.Rows.{AccountKey, member_cmp};
 ghost use Rattle.review_rows.specs.Known.{Agrees, AreAsked, IsLast, HasMembers, StandsAs};
 ghost use Rattle.review_shelves.specs.Desk.{tables_of, desk_of, row_of, IsIndexed, IsNumbered};
-ghost use Rattle.review_shelves.specs.Loads.{Looks, IsUnread};
+ghost use Rattle.review_kept_changes.specs.Looked.{LearnsFound};
+ghost use Rattle.review_shelves.specs.Loads.{IsUnread};
 
 use crate::branches::BasesFault;
 use crate::keys::NameKey;
@@ -59,7 +60,7 @@ impl MemoryTables {
     fn find(&self, alloc: Global, want: &Want, rows: &mut Rows) -> Result<(), ShelfFault>
         requires indexed { IsIndexed (rows_of self.now.accounts) (rows_of self.now.names) }
         requires numbered { IsNumbered (rows_of self.now.members) }
-        ensures found { OnOk result (Looks (tables_of (desk_of self.now)) want.now rows.old rows.new) }
+        ensures found { OnOk result (LearnsFound (tables_of (desk_of self.now)) want.now rows.old rows.new) }
         ensures fault { IfErr result (IsUnread (tables_of (desk_of self.now))) }
     {
         match want {
@@ -89,7 +90,7 @@ impl MemoryTables {
     }
 
     fn find_requests(&self, rows: &mut Rows)
-        ensures { Looks (tables_of (desk_of self.now)) want.Requests rows.old rows.new }
+        ensures { LearnsFound (tables_of (desk_of self.now)) want.Requests rows.old rows.new }
     {
         rows.learn_requests(self.requests);
     }
@@ -100,7 +101,7 @@ impl MemoryTables {
         number: AccountNo,
         rows: &mut Rows,
     ) -> Result<(), AllocError>
-        ensures { OnOk result (Looks (tables_of (desk_of self.now)) (want.Account number) rows.old rows.new) }
+        ensures { OnOk result (LearnsFound (tables_of (desk_of self.now)) (want.Account number) rows.old rows.new) }
     {
         let name = match self.accounts.get(&number) {
             Some(name) => Some(name.copy(alloc)?),
@@ -116,14 +117,14 @@ impl MemoryTables {
         rows: &mut Rows,
     ) -> Result<(), AllocError>
         requires { IsIndexed (rows_of self.now.accounts) (rows_of self.now.names) }
-        ensures { OnOk result (Looks (tables_of (desk_of self.now)) (want.AccountNamed name.now) rows.old rows.new) }
+        ensures { OnOk result (LearnsFound (tables_of (desk_of self.now)) (want.AccountNamed name.now) rows.old rows.new) }
     {
         let holder = self.named(alloc, name)?;
         rows.learn_holder(name.copy(alloc)?, holder)
     }
 
     fn find_last_account(&self, rows: &mut Rows)
-        ensures { Looks (tables_of (desk_of self.now)) want.LastAccount rows.old rows.new }
+        ensures { LearnsFound (tables_of (desk_of self.now)) want.LastAccount rows.old rows.new }
     {
         rows.learn_last_account(self.last_account());
     }
@@ -134,7 +135,7 @@ impl MemoryTables {
         member: &MemberKey,
         rows: &mut Rows,
     ) -> Result<(), AllocError>
-        ensures { OnOk result (Looks (tables_of (desk_of self.now)) (want.Member member.now) rows.old rows.new) }
+        ensures { OnOk result (LearnsFound (tables_of (desk_of self.now)) (want.Member member.now) rows.old rows.new) }
     {
         let is = self.members.get(member).is_some();
         rows.learn_member(member.copy(alloc)?, is)
@@ -147,7 +148,7 @@ impl MemoryTables {
         rows: &mut Rows,
     ) -> Result<(), AllocError>
         requires { IsNumbered (rows_of self.now.members) }
-        ensures { OnOk result (Looks (tables_of (desk_of self.now)) (want.Group group.now) rows.old rows.new) }
+        ensures { OnOk result (LearnsFound (tables_of (desk_of self.now)) (want.Group group.now) rows.old rows.new) }
     {
         let members = self.members_of(alloc, group)?;
         rows.learn_group(group.copy(alloc)?, members)
@@ -159,7 +160,7 @@ impl MemoryTables {
         project: &ProjectName,
         rows: &mut Rows,
     ) -> Result<(), AllocError>
-        ensures { OnOk result (Looks (tables_of (desk_of self.now)) (want.File project.now) rows.old rows.new) }
+        ensures { OnOk result (LearnsFound (tables_of (desk_of self.now)) (want.File project.now) rows.old rows.new) }
     {
         let file = match self.files.get(project) {
             Some(file) => Some(file.copy(alloc)?),
@@ -174,14 +175,14 @@ impl MemoryTables {
         project: &ProjectName,
         rows: &mut Rows,
     ) -> Result<(), AllocError>
-        ensures { OnOk result (Looks (tables_of (desk_of self.now)) (want.Project project.now) rows.old rows.new) }
+        ensures { OnOk result (LearnsFound (tables_of (desk_of self.now)) (want.Project project.now) rows.old rows.new) }
     {
         let is = self.files.get(project).is_some();
         rows.learn_project(project.copy(alloc)?, is)
     }
 
     fn find_room_for_projects(&self, rows: &mut Rows)
-        ensures { Looks (tables_of (desk_of self.now)) (want.Room counted.Projects) rows.old rows.new }
+        ensures { LearnsFound (tables_of (desk_of self.now)) (want.Room counted.Projects) rows.old rows.new }
     {
         rows.learn_room_for_projects(self.projects < MOST_PROJECTS);
     }
@@ -192,14 +193,14 @@ impl MemoryTables {
         project: &ProjectName,
         rows: &mut Rows,
     ) -> Result<(), AllocError>
-        ensures { OnOk result (Looks (tables_of (desk_of self.now)) (want.Room (counted.BasesOf project.now)) rows.old rows.new) }
+        ensures { OnOk result (LearnsFound (tables_of (desk_of self.now)) (want.Room (counted.BasesOf project.now)) rows.old rows.new) }
     {
         let is = self.branches.total(project) < MOST_BASES;
         rows.learn_room_for_bases(project.copy(alloc)?, is)
     }
 
     fn find_base(&self, alloc: Global, base: &Base, rows: &mut Rows) -> Result<(), AllocError>
-        ensures { OnOk result (Looks (tables_of (desk_of self.now)) (want.Base base.now) rows.old rows.new) }
+        ensures { OnOk result (LearnsFound (tables_of (desk_of self.now)) (want.Base base.now) rows.old rows.new) }
     {
         let is = self.branches.has(alloc, base)?;
         rows.learn_base(base.copy(alloc)?, is)
@@ -211,7 +212,7 @@ impl MemoryTables {
         branch: &BranchKey,
         rows: &mut Rows,
     ) -> Result<(), AllocError>
-        ensures { OnOk result (Looks (tables_of (desk_of self.now)) (want.LastPlace branch.now) rows.old rows.new) }
+        ensures { OnOk result (LearnsFound (tables_of (desk_of self.now)) (want.LastPlace branch.now) rows.old rows.new) }
     {
         let last = self.branches.last_place(branch);
         rows.learn_last_place(branch.copy(alloc)?, last)
@@ -223,7 +224,7 @@ impl MemoryTables {
         branch: &BranchKey,
         rows: &mut Rows,
     ) -> Result<(), ShelfFault>
-        ensures found { OnOk result (Looks (tables_of (desk_of self.now)) (want.Bases branch.now) rows.old rows.new) }
+        ensures found { OnOk result (LearnsFound (tables_of (desk_of self.now)) (want.Bases branch.now) rows.old rows.new) }
         ensures fault { IfErr result (IsUnread (tables_of (desk_of self.now))) }
     {
         let bases = self.branches.bases_of(alloc, branch)?;
@@ -237,7 +238,7 @@ impl MemoryTables {
         number: ChangeNo,
         rows: &mut Rows,
     ) -> Result<(), ShelfFault>
-        ensures found { OnOk result (Looks (tables_of (desk_of self.now)) (want.Change number) rows.old rows.new) }
+        ensures found { OnOk result (LearnsFound (tables_of (desk_of self.now)) (want.Change number) rows.old rows.new) }
         ensures fault { IfErr result (IsUnread (tables_of (desk_of self.now))) }
     {
         let change = self.changes.load(alloc, number)?;
@@ -246,14 +247,14 @@ impl MemoryTables {
     }
 
     fn find_change_of(&self, alloc: Global, base: &Base, rows: &mut Rows) -> Result<(), AllocError>
-        ensures { OnOk result (Looks (tables_of (desk_of self.now)) (want.ChangeOf base.now) rows.old rows.new) }
+        ensures { OnOk result (LearnsFound (tables_of (desk_of self.now)) (want.ChangeOf base.now) rows.old rows.new) }
     {
         let change = self.changes.sender(alloc, base)?;
         rows.learn_change_of(base.copy(alloc)?, change)
     }
 
     fn find_last_change(&self, rows: &mut Rows)
-        ensures { Looks (tables_of (desk_of self.now)) want.LastChange rows.old rows.new }
+        ensures { LearnsFound (tables_of (desk_of self.now)) want.LastChange rows.old rows.new }
     {
         rows.learn_last_change(self.changes.last());
     }
@@ -264,14 +265,14 @@ impl MemoryTables {
         branch: &BranchKey,
         rows: &mut Rows,
     ) -> Result<(), AllocError>
-        ensures { OnOk result (Looks (tables_of (desk_of self.now)) (want.LastJoined branch.now) rows.old rows.new) }
+        ensures { OnOk result (LearnsFound (tables_of (desk_of self.now)) (want.LastJoined branch.now) rows.old rows.new) }
     {
         let last = self.changes.last_joined(alloc, branch)?;
         rows.learn_last_joined(branch.copy(alloc)?, last)
     }
 
     fn find_standing(&self, alloc: Global, base: &Base, rows: &mut Rows) -> Result<(), AllocError>
-        ensures { OnOk result (Looks (tables_of (desk_of self.now)) (want.Standing base.now) rows.old rows.new) }
+        ensures { OnOk result (LearnsFound (tables_of (desk_of self.now)) (want.Standing base.now) rows.old rows.new) }
     {
         let standing = self.standing_of(alloc, base)?;
         rows.learn_standing(base.copy(alloc)?, standing)
@@ -283,7 +284,7 @@ impl MemoryTables {
         branch: &BranchKey,
         rows: &mut Rows,
     ) -> Result<(), AllocError>
-        ensures { OnOk result (Looks (tables_of (desk_of self.now)) (want.Joined branch.now) rows.old rows.new) }
+        ensures { OnOk result (LearnsFound (tables_of (desk_of self.now)) (want.Joined branch.now) rows.old rows.new) }
     {
         let joined = self.changes.joined(alloc, branch)?;
         rows.learn_joined(branch.copy(alloc)?, joined)
