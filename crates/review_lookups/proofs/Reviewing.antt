@@ -49,34 +49,34 @@ pub known_as : {X : Type 0} (o : Option X) (x : X) (P : X → Type 0) → o ≡ 
 known_as o x P is known = subst (λ o. Knows o P) is known
 
 -- the tables of a change that has a header
-pub tables_told : (n : ℕ) (db : Trees) (f : FoundRows) (t : ChangeTables) → f.header ≡ Some (Some t.header) → f.patches ≡ Some t.patches → f.votes ≡ Some t.votes → f.roles ≡ Some t.roles → f.comments ≡ Some t.comments → f.attention ≡ Some t.attention
+pub tables_told : (n : ℕ) (db : Trees) (f : FoundRows) (t : ChangeTables) → f.sets.header ≡ Some (Some t.header) → f.sets.patches ≡ Some t.patches → f.sets.votes ≡ Some t.votes → f.talk.roles ≡ Some t.roles → f.talk.comments ≡ Some t.comments → f.talk.attention ≡ Some t.attention
     → AreFoundRows n db f → HaveTables n db (Some t)
-tables_told n db f t a b c d e g are TheHeader = ap (told (λ x. APart (AHeader x))) (sym are.header ∙ a)
+tables_told n db f t a b c d e g are TheHeader = ap (told (λ x. APart (AHeader x))) (sym are.sets.header ∙ a)
 tables_told n db f t a b c d e g are (PatchOf k) =
-    ap (told (λ x. APart (APatch x))) (known_as f.patches t.patches (λ t. HaveRows nat_cmp patches n db (rows_of t)) b are.patches k) ∙ part_whole APatch (row_in nat_cmp (rows_of t.patches) k)
+    ap (told (λ x. APart (APatch x))) (known_as f.sets.patches t.patches (λ t. HaveRows nat_cmp patches n db (rows_of t)) b are.sets.patches k) ∙ part_whole APatch (row_in nat_cmp (rows_of t.patches) k)
 tables_told n db f t a b c d e g are (VoteOf k label u) =
-    ap vote_told (known_as f.votes t.votes (λ t. HaveRows vote_cmp votes n db (rows_of t)) c are.votes (record { patch = k; label = label; account = u })) ∙ vote_whole (row_in vote_cmp (rows_of t.votes) (record { patch = k; label = label; account = u }))
+    ap vote_told (known_as f.sets.votes t.votes (λ t. HaveRows vote_cmp votes n db (rows_of t)) c are.sets.votes (record { patch = k; label = label; account = u })) ∙ vote_whole (row_in vote_cmp (rows_of t.votes) (record { patch = k; label = label; account = u }))
 tables_told n db f t a b c d e g are (RoleOf u) =
-    ap (told (λ x. APart (ARole x))) (known_as f.roles t.roles (λ t. HaveRows nat_cmp roles n db (rows_of t)) d are.roles u) ∙ part_whole ARole (row_in nat_cmp (rows_of t.roles) u)
+    ap (told (λ x. APart (ARole x))) (known_as f.talk.roles t.roles (λ t. HaveRows nat_cmp roles n db (rows_of t)) d are.talk.roles u) ∙ part_whole ARole (row_in nat_cmp (rows_of t.roles) u)
 tables_told n db f t a b c d e g are (CommentOf k) =
-    ap (told (λ x. APart (AComment x))) (known_as f.comments t.comments (λ t. HaveRows nat_cmp comments n db (rows_of t)) e are.comments k) ∙ part_whole AComment (row_in nat_cmp (rows_of t.comments) k)
+    ap (told (λ x. APart (AComment x))) (known_as f.talk.comments t.comments (λ t. HaveRows nat_cmp comments n db (rows_of t)) e are.talk.comments k) ∙ part_whole AComment (row_in nat_cmp (rows_of t.comments) k)
 tables_told n db f t a b c d e g are (AttentionOf u) =
-    ap (told (λ x. APart (ACall x))) (known_as f.attention t.attention (λ t. HaveRows nat_cmp calls n db (rows_of t)) g are.attention u) ∙ part_whole ACall (row_in nat_cmp (rows_of t.attention) u)
+    ap (told (λ x. APart (ACall x))) (known_as f.talk.attention t.attention (λ t. HaveRows nat_cmp calls n db (rows_of t)) g are.talk.attention u) ∙ part_whole ACall (row_in nat_cmp (rows_of t.attention) u)
 
 -- a change that has no row
-pub none_told : (n : ℕ) (db : Trees) (f : FoundRows) (tp : List (ℕ × Option PatchRow)) (tv : List (VoteKey × Option ℤ)) (tr : List (ℕ × Option Role)) (tc : List (ℕ × Option CommentRow)) (ta : List (ℕ × Option Called)) → f.header ≡ None → f.patches ≡ Some tp → f.votes ≡ Some tv → f.roles ≡ Some tr → f.comments ≡ Some tc → f.attention ≡ Some ta
+pub none_told : (n : ℕ) (db : Trees) (f : FoundRows) (tp : List (ℕ × Option PatchRow)) (tv : List (VoteKey × Option ℤ)) (tr : List (ℕ × Option Role)) (tc : List (ℕ × Option CommentRow)) (ta : List (ℕ × Option Called)) → f.sets.header ≡ None → f.sets.patches ≡ Some tp → f.sets.votes ≡ Some tv → f.talk.roles ≡ Some tr → f.talk.comments ≡ Some tc → f.talk.attention ≡ Some ta
     → rows_of tp ≡ [] → rows_of tv ≡ [] → rows_of tr ≡ [] → rows_of tc ≡ [] → rows_of ta ≡ [] → AreFoundRows n db f → HaveTables n db None
-none_told n db f tp tv tr tc ta a b c d e g p q r s u are TheHeader = ap (told (λ x. APart (AHeader x))) (sym are.header ∙ a)
+none_told n db f tp tv tr tc ta a b c d e g p q r s u are TheHeader = ap (told (λ x. APart (AHeader x))) (sym are.sets.header ∙ a)
 none_told n db f tp tv tr tc ta a b c d e g p q r s u are (PatchOf k) =
-    ap (told (λ x. APart (APatch x))) (known_as f.patches tp (λ t. HaveRows nat_cmp patches n db (rows_of t)) b are.patches k ∙ ap (λ l. option_map Some (row_in nat_cmp l k)) p)
+    ap (told (λ x. APart (APatch x))) (known_as f.sets.patches tp (λ t. HaveRows nat_cmp patches n db (rows_of t)) b are.sets.patches k ∙ ap (λ l. option_map Some (row_in nat_cmp l k)) p)
 none_told n db f tp tv tr tc ta a b c d e g p q r s u are (VoteOf k label w) =
-    ap vote_told (known_as f.votes tv (λ t. HaveRows vote_cmp votes n db (rows_of t)) c are.votes (record { patch = k; label = label; account = w }) ∙ ap (λ l. option_map Some (row_in vote_cmp l (record { patch = k; label = label; account = w }))) q)
+    ap vote_told (known_as f.sets.votes tv (λ t. HaveRows vote_cmp votes n db (rows_of t)) c are.sets.votes (record { patch = k; label = label; account = w }) ∙ ap (λ l. option_map Some (row_in vote_cmp l (record { patch = k; label = label; account = w }))) q)
 none_told n db f tp tv tr tc ta a b c d e g p q r s u are (RoleOf w) =
-    ap (told (λ x. APart (ARole x))) (known_as f.roles tr (λ t. HaveRows nat_cmp roles n db (rows_of t)) d are.roles w ∙ ap (λ l. option_map Some (row_in nat_cmp l w)) r)
+    ap (told (λ x. APart (ARole x))) (known_as f.talk.roles tr (λ t. HaveRows nat_cmp roles n db (rows_of t)) d are.talk.roles w ∙ ap (λ l. option_map Some (row_in nat_cmp l w)) r)
 none_told n db f tp tv tr tc ta a b c d e g p q r s u are (CommentOf k) =
-    ap (told (λ x. APart (AComment x))) (known_as f.comments tc (λ t. HaveRows nat_cmp comments n db (rows_of t)) e are.comments k ∙ ap (λ l. option_map Some (row_in nat_cmp l k)) s)
+    ap (told (λ x. APart (AComment x))) (known_as f.talk.comments tc (λ t. HaveRows nat_cmp comments n db (rows_of t)) e are.talk.comments k ∙ ap (λ l. option_map Some (row_in nat_cmp l k)) s)
 none_told n db f tp tv tr tc ta a b c d e g p q r s u are (AttentionOf w) =
-    ap (told (λ x. APart (ACall x))) (known_as f.attention ta (λ t. HaveRows nat_cmp calls n db (rows_of t)) g are.attention w ∙ ap (λ l. option_map Some (row_in nat_cmp l w)) u)
+    ap (told (λ x. APart (ACall x))) (known_as f.talk.attention ta (λ t. HaveRows nat_cmp calls n db (rows_of t)) g are.talk.attention w ∙ ap (λ l. option_map Some (row_in nat_cmp l w)) u)
 
 -- the change that its tables show
 pub change_told : (n : ℕ) (db : Trees) (t : ChangeTables) (c : Change) → HaveTables n db (Some t) → Show t c → HasChange (tables_at db).row n (Some c)

@@ -14,16 +14,26 @@ use Rattle.review_change_records.specs.Forms.{headers, patches, votes, roles, co
 use Rattle.review_lookups.specs.declared.loading.Sight.{Sight}
 use Rattle.review_lookups.specs.declared.loading.Sight.TheVariants.{Learnt, NoMemory, Damaged, Odd}
 use Rattle.review_lookups.specs.declared.reviews.FoundRows.{FoundRows}
+use Rattle.review_lookups.specs.declared.reviews.FoundSets.{FoundSets}
+use Rattle.review_lookups.specs.declared.reviews.FoundTalk.{FoundTalk}
 use Rattle.review_lookups.specs.Tables.{part_in}
 
--- the rows are those of a change, table by table
-pub record AreFoundRows (n : ℕ) (db : Trees) (f : FoundRows) : Type 0 where
+-- what was sent of a change, and the votes on it, as its tables have them
+pub record AreFoundSets (n : ℕ) (db : Trees) (f : FoundSets) : Type 0 where
   pub header : f.header ≡ row_at headers db n
   pub patches : Knows f.patches (λ t. HaveRows nat_cmp patches n db (rows_of t))
   pub votes : Knows f.votes (λ t. HaveRows vote_cmp votes n db (rows_of t))
+
+-- the roles, the comments and the attention set of a change, as its tables have them
+pub record AreFoundTalk (n : ℕ) (db : Trees) (f : FoundTalk) : Type 0 where
   pub roles : Knows f.roles (λ t. HaveRows nat_cmp roles n db (rows_of t))
   pub comments : Knows f.comments (λ t. HaveRows nat_cmp comments n db (rows_of t))
   pub attention : Knows f.attention (λ t. HaveRows nat_cmp calls n db (rows_of t))
+
+-- the rows are those of a change, table by table
+pub record AreFoundRows (n : ℕ) (db : Trees) (f : FoundRows) : Type 0 where
+  pub sets : AreFoundSets n db f.sets
+  pub talk : AreFoundTalk n db f.talk
 
 -- the rows of a change are those of its tables, where it has some
 abbrev pub HaveTables : ℕ → Trees → Option ChangeTables → Type 0

@@ -8,7 +8,7 @@ ghost use Rattle.review_tables.specs.Greatest.{HasGreatest};
 ghost use Rattle.review_tables.specs.Ran.{Looks};
 ghost use Rattle.review_change_records.specs.Forms.{change_numbers};
 ghost use Rattle.review_lookups.specs.Loads.{HasLearnt, Sees};
-ghost use Rattle.review_lookups.specs.Reviews.{AreFoundRows, HaveTables, IsWhyNone};
+ghost use Rattle.review_lookups.specs.Reviews.{AreFoundRows, AreFoundSets, AreFoundTalk, HaveTables, IsWhyNone};
 
 use crate::learning::{last, learnt, whole};
 use crate::loading::Sight;
@@ -30,15 +30,63 @@ use review_words::{AccountNo, ChangeNo, CommentNo, PatchNo, Role};
 use sqlite::{Alter, Error, Transaction};
 use std::alloc::Global;
 
-/// The rows of a change, table by table: none for a table where one of them is odd, or two have one key.
+/// What was sent of a change, and the votes on it, table by table: none for a table where a row is odd, or two have one key.
 #[derive(Drop)]
-pub struct FoundRows {
+pub struct FoundSets {
     pub header: Option<Option<Header>>,
     pub patches: Option<Table<PatchNo, PatchRow>>,
     pub votes: Option<Table<VoteKey, Vote>>,
+}
+
+/// Who has a role in a change, what was said, and who is called, in the same way.
+#[derive(Drop)]
+pub struct FoundTalk {
     pub roles: Option<Table<AccountNo, Role>>,
     pub comments: Option<Table<CommentNo, CommentRow>>,
     pub attention: Option<Table<AccountNo, Called>>,
+}
+
+/// The rows of a change.
+#[derive(Drop)]
+pub struct FoundRows {
+    pub sets: FoundSets,
+    pub talk: FoundTalk,
+}
+
+fn find_sets<S: Alter>(
+    tx: &mut Transaction<'_, S>,
+    alloc: Global,
+    number: ChangeNo,
+) -> Result<FoundSets, Error>
+    ensures same_reference { tx.new.conn.ghost_name ≡ tx.old.conn.ghost_name }
+    ensures looks { Looks (AreFoundSets number) (state S.Store tx.old.conn.now) (state S.Store tx.new.conn.now) result }
+{
+    let header = find::<Headers, S>(tx, alloc, &number)?;
+    let patches = find_parts::<Patches, S>(tx, alloc, &number)?;
+    let votes = find_parts::<Votes, S>(tx, alloc, &number)?;
+    Ok(FoundSets {
+        header,
+        patches,
+        votes,
+    })
+}
+
+fn find_talk<S: Alter>(
+    tx: &mut Transaction<'_, S>,
+    alloc: Global,
+    number: ChangeNo,
+) -> Result<FoundTalk, Error>
+    ensures same_reference { tx.new.conn.ghost_name ≡ tx.old.conn.ghost_name }
+    ensures looks { Looks (AreFoundTalk number) (state S.Store tx.old.conn.now) (state S.Store tx.new.conn.now) result }
+{
+    let roles = find_parts::<Roles, S>(tx, alloc, &number)?;
+    let comments = find_parts::<Comments, S>(tx, alloc, &number)?;
+    let attention = find_parts::<Calls, S>(tx, alloc, &number)?;
+    Ok(FoundTalk {
+        roles,
+        comments,
+        attention,
+    })
 }
 
 fn find_rows<S: Alter>(
@@ -49,20 +97,9 @@ fn find_rows<S: Alter>(
     ensures same_reference { tx.new.conn.ghost_name ≡ tx.old.conn.ghost_name }
     ensures looks { Looks (AreFoundRows number) (state S.Store tx.old.conn.now) (state S.Store tx.new.conn.now) result }
 {
-    let header = find::<Headers, S>(tx, alloc, &number)?;
-    let patches = find_parts::<Patches, S>(tx, alloc, &number)?;
-    let votes = find_parts::<Votes, S>(tx, alloc, &number)?;
-    let roles = find_parts::<Roles, S>(tx, alloc, &number)?;
-    let comments = find_parts::<Comments, S>(tx, alloc, &number)?;
-    let attention = find_parts::<Calls, S>(tx, alloc, &number)?;
-    Ok(FoundRows {
-        header,
-        patches,
-        votes,
-        roles,
-        comments,
-        attention,
-    })
+    let sets = find_sets(tx, alloc, number)?;
+    let talk = find_talk(tx, alloc, number)?;
+    Ok(FoundRows { sets, talk })
 }
 
 fn is_empty<K: Key, V: Drop>(table: &Table<K, V>) -> bool
@@ -77,14 +114,17 @@ fn tables_of(found: FoundRows) -> Result<Option<ChangeTables>, Sight>
     ensures err { IfErr result (λ s. (n : ℕ) (db : Trees) → AreFoundRows n db found → IsWhyNone n db s) }
     ensures unlearnt { IfErr result (λ s. s ≢ Sight.Learnt) }
 {
-    let FoundRows {
+    let FoundRows { sets, talk } = found;
+    let FoundSets {
         header,
         patches,
         votes,
+    } = sets;
+    let FoundTalk {
         roles,
         comments,
         attention,
-    } = found;
+    } = talk;
     let Some(patches) = patches else {
         return Err(Sight::Odd);
     };
