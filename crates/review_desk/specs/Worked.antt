@@ -11,8 +11,8 @@ use Rattle.review_lines.specs.declared.fault.Fault.{Fault}
 use Rattle.review_lines.specs.declared.fault.Outcome.{Outcome}
 use Rattle.review_showing.specs.declared.fault.ShowFault.{ShowFault}
 use Rattle.review_showing.specs.Shown.{IsWritten, WereAsked}
-use Rattle.review_sql.specs.Shelf.{Kept, Stays, shown, IsAnyThere, IsClosed, IsUnmade}
-use Rattle.review_sql.specs.Reopened.{GoesOn}
+use Rattle.review_sql.specs.Shelf.{ShelfView, Stays, shown, IsAnyThere, IsClosed, IsUnmade}
+use Rattle.review_sql.specs.Reopened.{ReopensLast}
 use Rattle.review_sql.specs.Opened.{IsOpened, IsRefused}
 use Rattle.review_sql.specs.Created.{IsCreated}
 use Rattle.review_sql.specs.declared.faults.DeskFault.{DeskFault}
@@ -23,7 +23,7 @@ use Rattle.review_desk.specs.declared.fault.ProgramFault.{ProgramFault}
 -- A shelf was opened over the connection, as the one that was closed last; this was done on it, and it was closed.
 abbrev pub OnShelf : {S : Type 0} → Ghosts S → Bool → (Shown → Shown → Type 0) → Held S → Held S → Type 0
 OnShelf {S} g is_ours Did old new =
-    (opened : Kept S) × (left : Kept S) × IsOpened g old opened × GoesOn g is_ours old opened × Did (shown g is_ours opened) (shown g is_ours left) × IsClosed g is_ours left new
+    (opened : ShelfView S) × (left : ShelfView S) × IsOpened g old opened × ReopensLast g is_ours old opened × Did (shown g is_ours opened) (shown g is_ours left) × IsClosed g is_ours left new
 
 -- the tables were refused as not ours, and stayed
 abbrev pub IsNotOurs : {S : Type 0} → Ghosts S → Held S → Held S → Type 0
@@ -67,5 +67,5 @@ IsCauseOf g old new cause =
 -- A desk was made as `create` says, and closed, or refused with the tables as they were.
 abbrev pub Made : {S X : Type 0} → Ghosts S → Bool → Held S → Held S → Result X ProgramFault → Type 0
 Made {S} g is_ours old new made =
-    IfOk made (λ done. (shelf : Kept S) × IsCreated g is_ours old shelf × IsClosed g is_ours shelf new)
+    IfOk made (λ done. (shelf : ShelfView S) × IsCreated g is_ours old shelf × IsClosed g is_ours shelf new)
     × IfErr made (λ fault. IsUnmade (state g old) (state g new) × ((cause : DeskFault) × (fault ≡ desk_fault cause) × IsCauseOf g old new cause))

@@ -4,7 +4,7 @@
 ghost use Rattle.std.specs.Prelude.{◌≡◌, ◌⊎◌, Bool, true, false};
 ghost use Rattle.sqlite.specs.Held.{Held};
 ghost use Rattle.review_tables.specs.Desk.{schema_0};
-ghost use Rattle.review_sql.specs.Shelf.{IsClosed, Kept, shown};
+ghost use Rattle.review_sql.specs.Shelf.{IsClosed, ShelfView, shown};
 ghost use Rattle.review_showing.specs.Told.{branch_questions, change_page, change_questions, joined_page};
 ghost use Rattle.review_desk.specs.Faults.{lines_outcome, shown_outcome};
 ghost use Rattle.review_desk.specs.Worked.{EndsShown, IsDoneOn, IsRefusedDesk, Made, OnShelf, TookLines};
@@ -93,7 +93,7 @@ fn take_lines<R: Read, W: Write, S: Alter + Drop, O: Origin>(
     shelf: SqlShelf<S, O>,
 ) -> (Connection<S>, Result<Outcome, ProgramFault>)
     ensures mode { result.0.in_transaction ≡ false }
-    ensures taken { (left : Kept S) × TookLines (R.remaining reader.old) (W.contents writer.old) (W.contents writer.new) result.1 (shown S.Store O.IS_OURS shelf) (shown S.Store O.IS_OURS left)
+    ensures taken { (left : ShelfView S) × TookLines (R.remaining reader.old) (W.contents writer.old) (W.contents writer.new) result.1 (shown S.Store O.IS_OURS shelf) (shown S.Store O.IS_OURS left)
         × IsClosed S.Store O.IS_OURS left result.0 }
 {
     let mut shelf = shelf;
@@ -157,7 +157,7 @@ fn write_change<W: Write, S: Alter + Drop, O: Origin>(
     change: ChangeNo,
 ) -> (Connection<S>, Result<Outcome, ProgramFault>)
     ensures mode { result.0.in_transaction ≡ false }
-    ensures shown { (left : Kept S) × EndsShown (change_questions change) change_page (W.contents writer.old) (W.contents writer.new) result.1 (shown S.Store O.IS_OURS shelf) (shown S.Store O.IS_OURS left)
+    ensures shown { (left : ShelfView S) × EndsShown (change_questions change) change_page (W.contents writer.old) (W.contents writer.new) result.1 (shown S.Store O.IS_OURS shelf) (shown S.Store O.IS_OURS left)
         × IsClosed S.Store O.IS_OURS left result.0 }
 {
     let mut shelf = shelf;
@@ -211,7 +211,7 @@ fn write_branch<W: Write, S: Alter + Drop, O: Origin>(
     branch: &BranchName,
 ) -> (Connection<S>, Result<Outcome, ProgramFault>)
     ensures mode { result.0.in_transaction ≡ false }
-    ensures shown { (left : Kept S) × EndsShown (branch_questions project.now branch.now) joined_page (W.contents writer.old) (W.contents writer.new) result.1 (shown S.Store O.IS_OURS shelf) (shown S.Store O.IS_OURS left)
+    ensures shown { (left : ShelfView S) × EndsShown (branch_questions project.now branch.now) joined_page (W.contents writer.old) (W.contents writer.new) result.1 (shown S.Store O.IS_OURS shelf) (shown S.Store O.IS_OURS left)
         × IsClosed S.Store O.IS_OURS left result.0 }
 {
     let mut shelf = shelf;

@@ -12,8 +12,8 @@ use Rattle.review_records.specs.Forms.{desk}
 use Rattle.review_sql.specs.declared.faults.DeskFault.{DeskFault}
 use Rattle.review_sql.specs.declared.faults.DeskFault.TheVariants.{NotADesk, WrongVersion, Store, NotEmpty, NotOurs, Memory}
 use Rattle.review_sql.specs.Opened.{AreAllApart, IsNoDesk, IsOpened, IsOtherVersion, IsRefused}
-use Rattle.review_sql.specs.Reopened.{GoesOn, IsRefusedAgain, IsReopened}
-use Rattle.review_sql.specs.Shelf.{Holds, Kept, Stays}
+use Rattle.review_sql.specs.Reopened.{ReopensLast, IsRefusedAgain, IsReopened}
+use Rattle.review_sql.specs.Shelf.{Holds, ShelfView, Stays}
 use Rattle.review_lookups.specs.Tables.{IsDesk}
 use Rattle.review_sql.proofs.Shown.{stays}
 
@@ -46,8 +46,8 @@ cause_left s requests fault ready is refused =
     (λ other. has_version (row_at desk s.now.trees tt) requests is (refused.other_version ready.schema other)) refused.not_empty
     (λ not. refused.not_ours not ready.schema (all_apart s.now ready))
 
-module _ {S : Type 0} (g : Ghosts S) (is_ours : Bool) (old : Kept S) (holds : Holds g old.conn is_ours old.requests) where
-  reopened : (new : Kept S) → IsOpened g old.conn new → IsReopened g is_ours old new
+module _ {S : Type 0} (g : Ghosts S) (is_ours : Bool) (old : ShelfView S) (holds : Holds g old.conn is_ours old.requests) where
+  reopened : (new : ShelfView S) → IsOpened g old.conn new → IsReopened g is_ours old new
   reopened new it = record {
     tables = stays g old.conn new.conn it.stays.kept;
     honest = λ h. (omega (arith, it.stays.survives.clean, h.0), h.1);
@@ -60,7 +60,7 @@ module _ {S : Type 0} (g : Ghosts S) (is_ours : Bool) (old : Kept S) (holds : Ho
       cause_left (state g old.conn) old.requests fault it.0 it.1 (why is_open)
 
 module _ {S : Type 0} (g : Ghosts S) (is_ours : Bool) (conn : Held S) where
-  pub goes_on : (new : Kept S) → IsOpened g conn new → GoesOn g is_ours conn new
+  pub goes_on : (new : ShelfView S) → IsOpened g conn new → ReopensLast g is_ours conn new
   goes_on new it old closed = reopened g is_ours old closed.1 new (subst (λ (h : Held S). IsOpened g h new) closed.0 it)
 
   pub refused_again : (last : Held S) (fault : DeskFault) → Stays (state g conn) (state g last) → (IsTrue (state g last).is_open → IsRefused (state g conn) fault) → IsRefusedAgain g is_ours conn last fault

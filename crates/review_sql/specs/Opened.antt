@@ -18,7 +18,7 @@ use Rattle.review_sql.specs.declared.faults.DeskFault.{DeskFault}
 use Rattle.review_sql.specs.declared.faults.DeskFault.TheVariants.{NotADesk, WrongVersion, NotEmpty, NotOurs}
 use Rattle.review_records.specs.Forms.{desk}
 use Rattle.review_lookups.specs.Tables.{IsDesk}
-use Rattle.review_sql.specs.Shelf.{Kept, Stays}
+use Rattle.review_sql.specs.Shelf.{ShelfView, Stays}
 
 -- the rows of each table have rowids of their own
 abbrev pub AreAllApart : Trees → Type 0
@@ -35,7 +35,7 @@ pub record Peeks {X : Type 0} (Found : Trees → X → Type 0) (old new : State)
   pub stays : Stays old new
 
 -- nothing is written
-pub record IsOpened {S : Type 0} (g : Ghosts S) (conn : Held S) (shelf : Kept S) : Type 0 where
+pub record IsOpened {S : Type 0} (g : Ghosts S) (conn : Held S) (shelf : ShelfView S) : Type 0 where
   pub faults : shelf.faults ≡ 0
   pub stays : Stays (state g conn) (state g shelf.conn)
 

@@ -6,18 +6,18 @@ use Rattle.sqlite.specs.Held.{Held, state}
 use Rattle.review_rows.specs.Shelf.{AddsNoStop, StaysOrShuts}
 use Rattle.review_sql.specs.declared.faults.DeskFault.{DeskFault}
 use Rattle.review_sql.specs.declared.faults.DeskFault.TheVariants.{Memory, Store}
-use Rattle.review_sql.specs.Shelf.{IsClosed, Kept, shown, tables_of}
+use Rattle.review_sql.specs.Shelf.{IsClosed, ShelfView, shown, tables_of}
 
 -- The tables stay, or the store is shut; it is honest only where the shelf before it was; and, while the disk is clean, a stop leaves nothing new.
-pub record IsReopened {S : Type 0} (g : Ghosts S) (is_ours : Bool) (old new : Kept S) : Type 0 where
+pub record IsReopened {S : Type 0} (g : Ghosts S) (is_ours : Bool) (old new : ShelfView S) : Type 0 where
   pub tables : StaysOrShuts (tables_of g old.conn) (tables_of g new.conn)
   pub honest : (shown g is_ours new).is_honest → (shown g is_ours old).is_honest
   pub stops : HasCleanDisk (state g new.conn) → AddsNoStop (shown g is_ours old) (shown g is_ours new)
 
 -- whatever shelf was closed last, this is that shelf opened again
-abbrev pub GoesOn : {S : Type 0} → Ghosts S → Bool → Held S → Kept S → Type 0
-GoesOn {S} g is_ours conn new = (old : Kept S) → IsClosed g is_ours old conn → IsReopened g is_ours old new
+abbrev pub ReopensLast : {S : Type 0} → Ghosts S → Bool → Held S → ShelfView S → Type 0
+ReopensLast {S} g is_ours conn new = (old : ShelfView S) → IsClosed g is_ours old conn → IsReopened g is_ours old new
 
 -- what a shelf of ours left is refused only for want of memory or for a fault of the store, where that is not shut
 abbrev pub IsRefusedAgain : {S : Type 0} → Ghosts S → Bool → Held S → Held S → DeskFault → Type 0
-IsRefusedAgain {S} g is_ours conn new fault = (old : Kept S) → IsClosed g is_ours old conn → IsTrue is_ours → IsTrue (state g new).is_open → (fault ≡ Memory) ⊎ (fault ≡ Store)
+IsRefusedAgain {S} g is_ours conn new fault = (old : ShelfView S) → IsClosed g is_ours old conn → IsTrue is_ours → IsTrue (state g new).is_open → (fault ≡ Memory) ⊎ (fault ≡ Store)

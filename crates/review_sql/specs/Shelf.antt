@@ -20,13 +20,13 @@ use Rattle.review_sql.specs.First.{MakesDesk}
 use Rattle.review_lookups.specs.Tables.{tables_at, IsDesk}
 
 -- the connection, how many requests are stored, and how many calls were refused
-pub record Kept (S : Type 0) : Type 0 where
+pub record ShelfView (S : Type 0) : Type 0 where
   pub conn : Held S
   pub requests : ℕ
   pub faults : ℕ
 
-abbrev pub kept_code : {S : Type 0} → Coded S → Coded (Kept S)
-kept_code {S} store =
+abbrev pub view_code : {S : Type 0} → Coded S → Coded (ShelfView S)
+view_code {S} store =
     code_by (Held S × (ℕ × ℕ)) (coded× (held_code store) (coded× coded_ℕ coded_ℕ)) (λ k. (k.conn, (k.requests, k.faults)))
     (λ p. record { conn = p.0; requests = p.1.0; faults = p.1.1 }) (λ _. refl)
 
@@ -36,7 +36,7 @@ pub record Holds {S : Type 0} (g : Ghosts S) (conn : Held S) (is_ours : Bool) (r
   pub ready : IsTrue is_ours → IsTrue (state g conn).is_open → IsReady (state g conn).now × IsDesk requests (state g conn).now.trees
 
 -- a shelf was closed, which leaves its connection
-abbrev pub IsClosed : {S : Type 0} → Ghosts S → Bool → Kept S → Held S → Type 0
+abbrev pub IsClosed : {S : Type 0} → Ghosts S → Bool → ShelfView S → Held S → Type 0
 IsClosed g is_ours shelf conn = (conn ≡ shelf.conn) × Holds g shelf.conn is_ours shelf.requests
 
 -- the tables in use, where no fault has shut the connection
@@ -48,7 +48,7 @@ abbrev pub stops_of : {S : Type 0} → Ghosts S → Held S → Tables → Type 0
 stops_of g conn t = (db : Trees) × (state g conn).may_leave db × (t ≡ tables_at db)
 
 -- Honest is a shelf whose tables are ours, over a disk that returned what was written; whose they are no call changes.
-abbrev pub shown : {S : Type 0} → Ghosts S → Bool → Kept S → Shown
+abbrev pub shown : {S : Type 0} → Ghosts S → Bool → ShelfView S → Shown
 shown g is_ours k = record { tables = tables_of g k.conn; is_honest = HasCleanDisk (state g k.conn) × IsTrue is_ours; faults = min k.faults greatest_count; stops = stops_of g k.conn }
 
 -- the count fits its type

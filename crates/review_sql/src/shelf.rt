@@ -76,11 +76,11 @@ impl<S: Alter + Drop, O: Origin> Drop for SqlShelf<S, O> {
 }
 
 impl<S: Alter, O: Origin> Model for SqlShelf<S, O> {
-    ghost use Rattle.review_sql.specs.Shelf.{Kept, kept_code, Holds};
+    ghost use Rattle.review_sql.specs.Shelf.{ShelfView, view_code, Holds};
 
-    ghost Value = { Kept S };
+    ghost Value = { ShelfView S };
 
-    ghost coded = { kept_code S.code };
+    ghost coded = { view_code S.code };
 
     ghost view = { λ s. record { conn = s.conn; requests = s.requests; faults = s.faults } };
 
@@ -106,7 +106,7 @@ impl<S: Alter + Drop, O: Origin> SqlShelf<S, O> {
     ghost use Rattle.review_sql.specs.Shelf.{IsAnyThere, IsClosed, IsUnmade};
     ghost use Rattle.review_sql.specs.Created.{IsCreated};
     ghost use Rattle.review_sql.specs.Opened.{IsOpened, IsRefused};
-    ghost use Rattle.review_sql.specs.Reopened.{GoesOn, IsRefusedAgain};
+    ghost use Rattle.review_sql.specs.Reopened.{ReopensLast, IsRefusedAgain};
 
     /// Makes an empty desk, in one transaction: over a store with no table as ours. A refusal hands the connection back with its tables as
     /// they were: NotEmpty where a table of one of the twelve names is there, and NotOurs where the shelf is to be ours and other tables
@@ -161,7 +161,7 @@ impl<S: Alter + Drop, O: Origin> SqlShelf<S, O> {
     ) -> Result<SqlShelf<S, O>, (Connection<S>, DeskFault)>
         requires mode { conn.in_transaction ≡ false }
         ensures opened { IfOk result (IsOpened S.Store conn) }
-        ensures goes_on { IfOk result (GoesOn S.Store O.IS_OURS conn) }
+        ensures goes_on { IfOk result (ReopensLast S.Store O.IS_OURS conn) }
         ensures mode { IfErr result (λ e. e.0.in_transaction ≡ false) }
         ensures refused { IfErr result (λ e. Stays (state S.Store conn) (state S.Store e.0)) }
         ensures cause { IfErr result (λ e. IsTrue (state S.Store e.0).is_open → IsRefused (state S.Store conn) e.1) }

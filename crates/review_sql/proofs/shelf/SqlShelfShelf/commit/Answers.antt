@@ -3,7 +3,7 @@ use Rattle.sqlite.specs.Held.{Held, state}
 use Rattle.sqlite.proofs.StateLemmas.{clean_if_open}
 use Rattle.review_rows.specs.Rows.{Tables, kept_row}
 use Rattle.review_rows.specs.Shelf.{Shows, IsCommitted}
-use Rattle.review_sql.specs.Shelf.{Kept, Holds, tables_of, stops_of}
+use Rattle.review_sql.specs.Shelf.{ShelfView, Holds, tables_of, stops_of}
 use Rattle.review_sql.proofs.Shown.{holds_committed, stops_committed, committed_shown, clean_still, stops_still}
 use Rattle.review_sql.proofs.Singles.{are_single}
 use Rattle.review_sql.proofs.shelf.SqlShelfShelf.commit.Goals as goal
@@ -23,7 +23,7 @@ returns-in-Ok-clause-done g c honest =
     let old = c.self.inside.conn in
     let last = c.transact.new.conn in
     let done : c.transact.result ≡ Ok (tt {0}) = search rules in
-    subst (λ (h : Held _). Shows (tables_of g.S.Store h) (λ t. Shows (tables_of g.S.Store last) (IsCommitted t c.args.delta.now (kept_row c.args.kept.now)))) (ap (λ (k : Kept _). k.conn) c.self.view_is)
+    subst (λ (h : Held _). Shows (tables_of g.S.Store h) (λ t. Shows (tables_of g.S.Store last) (IsCommitted t c.args.delta.now (kept_row c.args.kept.now)))) (ap (λ (k : ShelfView _). k.conn) c.self.view_is)
     (committed_shown g.S.Store old last g.O.Origin.IS_OURS c.self.inside.requests c.self.invariant c.args.delta.now c.args.kept.now c.transact.result c.transact.ensures.acts
     (λ ours was. are_single (state g.S.Store old).now (c.self.invariant.ready ours was).0 (c.schema-live.ensures.live was).0) done honest.1 honest.0)
 
@@ -31,7 +31,7 @@ pub returns-in-Ok-clause-stops : goal.returns-in-Ok-clause-stops
 returns-in-Ok-clause-stops g c honest =
     let old = c.self.inside.conn in
     let last = c.transact.new.conn in
-    subst (λ (h : Held _). (t : Tables) → stops_of g.S.Store last t → stops_of g.S.Store h t ⊎ Shows (tables_of g.S.Store h) (λ was. IsCommitted was c.args.delta.now (kept_row c.args.kept.now) t)) (ap (λ (k : Kept _). k.conn) c.self.view_is)
+    subst (λ (h : Held _). (t : Tables) → stops_of g.S.Store last t → stops_of g.S.Store h t ⊎ Shows (tables_of g.S.Store h) (λ was. IsCommitted was c.args.delta.now (kept_row c.args.kept.now) t)) (ap (λ (k : ShelfView _). k.conn) c.self.view_is)
     (stops_committed g.S.Store old last g.O.Origin.IS_OURS c.self.inside.requests c.self.invariant c.args.delta.now c.args.kept.now c.transact.result c.transact.ensures.acts
     (λ ours was. are_single (state g.S.Store old).now (c.self.invariant.ready ours was).0 (c.schema-live.ensures.live was).0) honest.1 honest.0)
 
@@ -41,6 +41,6 @@ returns-in-Err-clause-stops g c honest =
     let mid = c.transact.new.conn in
     let last = c.told.new.conn in
     let clean = clean_still g.S.Store mid last c.told.ensures.stays honest.0 in
-    subst (λ (h : Held _). (t : Tables) → stops_of g.S.Store last t → stops_of g.S.Store h t ⊎ Shows (tables_of g.S.Store h) (λ was. IsCommitted was c.args.delta.now (kept_row c.args.kept.now) t)) (ap (λ (k : Kept _). k.conn) c.self.view_is)
+    subst (λ (h : Held _). (t : Tables) → stops_of g.S.Store last t → stops_of g.S.Store h t ⊎ Shows (tables_of g.S.Store h) (λ was. IsCommitted was c.args.delta.now (kept_row c.args.kept.now) t)) (ap (λ (k : ShelfView _). k.conn) c.self.view_is)
     (λ t left. stops_committed g.S.Store old mid g.O.Origin.IS_OURS c.self.inside.requests c.self.invariant c.args.delta.now c.args.kept.now c.transact.result c.transact.ensures.acts
     (λ ours was. are_single (state g.S.Store old).now (c.self.invariant.ready ours was).0 (c.schema-live.ensures.live was).0) honest.1 clean t (stops_still g.S.Store mid last c.told.ensures.stays honest.0 t left))

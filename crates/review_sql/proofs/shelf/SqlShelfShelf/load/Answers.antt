@@ -7,7 +7,7 @@ use Rattle.review_rows.specs.Shelf.{Shows, IsDamaged}
 use Rattle.review_tables.specs.Ran.{Serves}
 use Rattle.review_lookups.specs.declared.loading.Loaded.TheVariants as loaded
 use Rattle.review_lookups.specs.Loads.{AreLoaded, WereAsked}
-use Rattle.review_sql.specs.Shelf.{Kept, tables_of, stops_of}
+use Rattle.review_sql.specs.Shelf.{ShelfView, tables_of, stops_of}
 use Rattle.review_sql.proofs.Shown.{holds_read, served, stops_read, shown_now, clean_still, stops_still}
 use Rattle.review_sql.proofs.shelf.SqlShelfShelf.load.Goals as goal
 
@@ -40,7 +40,7 @@ pub returns-in-Ok-Rows-clause-found : goal.returns-in-Ok-Rows-clause-found
 returns-in-Ok-Rows-clause-found g c honest =
     let old = c.self.inside.conn in
     let last = c.load.new.conn in
-    let same : old ≡ c.args.self.now.conn = ap (λ (k : Kept _). k.conn) c.self.view_is in
+    let same : old ≡ c.args.self.now.conn = ap (λ (k : ShelfView _). k.conn) c.self.view_is in
     let is : c.load.result ≡ Ok (loaded.Rows c.in-Ok-Rows.rows) = search rules in
     let it = served g.S.Store old last g.O.Origin.IS_OURS c.self.inside.requests c.self.invariant honest.1 honest.0 (loaded.Rows c.in-Ok-Rows.rows) (subst (Serves AreLoaded (state g.S.Store old) (state g.S.Store last)) is c.load.ensures.serves) in
     subst (λ (h : Held _). Shows (tables_of g.S.Store h) (λ t. Agrees t c.in-Ok-Rows.rows)) same (shown_now g.S.Store old last (λ t. Agrees t c.in-Ok-Rows.rows) it.0 it.1)
@@ -49,7 +49,7 @@ pub returns-in-Ok-Damaged-clause-damaged : goal.returns-in-Ok-Damaged-clause-dam
 returns-in-Ok-Damaged-clause-damaged g c honest =
     let old = c.self.inside.conn in
     let last = c.load.new.conn in
-    let same : old ≡ c.args.self.now.conn = ap (λ (k : Kept _). k.conn) c.self.view_is in
+    let same : old ≡ c.args.self.now.conn = ap (λ (k : ShelfView _). k.conn) c.self.view_is in
     let is : c.load.result ≡ Ok (loaded.Damaged) = search rules in
     let it = served g.S.Store old last g.O.Origin.IS_OURS c.self.inside.requests c.self.invariant honest.1 honest.0 (loaded.Damaged) (subst (Serves AreLoaded (state g.S.Store old) (state g.S.Store last)) is c.load.ensures.serves) in
     subst (λ (h : Held _). Shows (tables_of g.S.Store h) (IsDamaged)) same (shown_now g.S.Store old last (IsDamaged) it.0 it.1)
@@ -58,7 +58,7 @@ pub returns-in-Ok-Rows-clause-stops : goal.returns-in-Ok-Rows-clause-stops
 returns-in-Ok-Rows-clause-stops g c honest =
     let old = c.self.inside.conn in
     let last = c.load.new.conn in
-    let same : old ≡ c.args.self.now.conn = ap (λ (k : Kept _). k.conn) c.self.view_is in
+    let same : old ≡ c.args.self.now.conn = ap (λ (k : ShelfView _). k.conn) c.self.view_is in
     let auto : IsTrue c.is_autocommit-settled.result = c.is_autocommit-settled.ensures.value ∙ ap not c.self.invariant.autocommit in
     subst (λ (h : Held _). (t : Tables) → stops_of g.S.Store last t → stops_of g.S.Store h t) same
     (stops_read g.S.Store old last g.O.Origin.IS_OURS c.self.inside.requests c.self.invariant AreLoaded c.load.result (λ was. c.is_autocommit-settled.ensures.settled auto was) (g.met.S.Store.stays old.store) c.load.ensures.serves honest.1 honest.0)
@@ -67,7 +67,7 @@ pub returns-in-Ok-NoMemory-clause-stops : goal.returns-in-Ok-NoMemory-clause-sto
 returns-in-Ok-NoMemory-clause-stops g c honest =
     let old = c.self.inside.conn in
     let last = c.load.new.conn in
-    let same : old ≡ c.args.self.now.conn = ap (λ (k : Kept _). k.conn) c.self.view_is in
+    let same : old ≡ c.args.self.now.conn = ap (λ (k : ShelfView _). k.conn) c.self.view_is in
     let auto : IsTrue c.is_autocommit-settled.result = c.is_autocommit-settled.ensures.value ∙ ap not c.self.invariant.autocommit in
     subst (λ (h : Held _). (t : Tables) → stops_of g.S.Store last t → stops_of g.S.Store h t) same
     (stops_read g.S.Store old last g.O.Origin.IS_OURS c.self.inside.requests c.self.invariant AreLoaded c.load.result (λ was. c.is_autocommit-settled.ensures.settled auto was) (g.met.S.Store.stays old.store) c.load.ensures.serves honest.1 honest.0)
@@ -76,7 +76,7 @@ pub returns-in-Ok-Damaged-clause-stops : goal.returns-in-Ok-Damaged-clause-stops
 returns-in-Ok-Damaged-clause-stops g c honest =
     let old = c.self.inside.conn in
     let last = c.load.new.conn in
-    let same : old ≡ c.args.self.now.conn = ap (λ (k : Kept _). k.conn) c.self.view_is in
+    let same : old ≡ c.args.self.now.conn = ap (λ (k : ShelfView _). k.conn) c.self.view_is in
     let auto : IsTrue c.is_autocommit-settled.result = c.is_autocommit-settled.ensures.value ∙ ap not c.self.invariant.autocommit in
     subst (λ (h : Held _). (t : Tables) → stops_of g.S.Store last t → stops_of g.S.Store h t) same
     (stops_read g.S.Store old last g.O.Origin.IS_OURS c.self.inside.requests c.self.invariant AreLoaded c.load.result (λ was. c.is_autocommit-settled.ensures.settled auto was) (g.met.S.Store.stays old.store) c.load.ensures.serves honest.1 honest.0)
@@ -85,7 +85,7 @@ pub returns-in-Ok-Odd-clause-stops : goal.returns-in-Ok-Odd-clause-stops
 returns-in-Ok-Odd-clause-stops g c honest =
     let old = c.self.inside.conn in
     let last = c.load.new.conn in
-    let same : old ≡ c.args.self.now.conn = ap (λ (k : Kept _). k.conn) c.self.view_is in
+    let same : old ≡ c.args.self.now.conn = ap (λ (k : ShelfView _). k.conn) c.self.view_is in
     let auto : IsTrue c.is_autocommit-settled.result = c.is_autocommit-settled.ensures.value ∙ ap not c.self.invariant.autocommit in
     subst (λ (h : Held _). (t : Tables) → stops_of g.S.Store last t → stops_of g.S.Store h t) same
     (stops_read g.S.Store old last g.O.Origin.IS_OURS c.self.inside.requests c.self.invariant AreLoaded c.load.result (λ was. c.is_autocommit-settled.ensures.settled auto was) (g.met.S.Store.stays old.store) c.load.ensures.serves honest.1 honest.0)
@@ -95,7 +95,7 @@ returns-in-Err-clause-stops g c honest =
     let old = c.self.inside.conn in
     let mid = c.load.new.conn in
     let last = c.told.new.conn in
-    let same : old ≡ c.args.self.now.conn = ap (λ (k : Kept _). k.conn) c.self.view_is in
+    let same : old ≡ c.args.self.now.conn = ap (λ (k : ShelfView _). k.conn) c.self.view_is in
     let auto : IsTrue c.is_autocommit-settled.result = c.is_autocommit-settled.ensures.value ∙ ap not c.self.invariant.autocommit in
     let clean = clean_still g.S.Store mid last c.told.ensures.stays honest.0 in
     subst (λ (h : Held _). (t : Tables) → stops_of g.S.Store last t → stops_of g.S.Store h t) same

@@ -4,7 +4,7 @@ use Rattle.sqlite.proofs.StateLemmas.{clean_if_open}
 use Rattle.review_words.specs.History.{Identity}
 use Rattle.review_rows.specs.Rows.{Tables, OddAnswer}
 use Rattle.review_rows.specs.Shelf.{Shows, IsDamaged}
-use Rattle.review_sql.specs.Shelf.{Kept, tables_of, stops_of}
+use Rattle.review_sql.specs.Shelf.{ShelfView, tables_of, stops_of}
 use Rattle.review_lookups.specs.Tables.{tables_at, answer_in, stored_as}
 use Rattle.review_sql.proofs.Shown.{holds_read, stops_read, desk_if_open, odd_is_damage, shown_now, clean_still, stops_still}
 use Rattle.review_sql.proofs.shelf.SqlShelfShelf.recall.Goals as goal
@@ -19,7 +19,7 @@ returns-in-Err-clause-stops g c honest =
     let old = c.self.inside.conn in
     let mid = c.find_stored.new.conn in
     let last = c.told.new.conn in
-    let same : old ≡ c.args.self.now.conn = ap (λ (k : Kept _). k.conn) c.self.view_is in
+    let same : old ≡ c.args.self.now.conn = ap (λ (k : ShelfView _). k.conn) c.self.view_is in
     let auto : IsTrue c.is_autocommit-settled.result = c.is_autocommit-settled.ensures.value ∙ ap not c.self.invariant.autocommit in
     let clean = clean_still g.S.Store mid last c.told.ensures.stays honest.0 in
     subst (λ (h : Held _). (t : Tables) → stops_of g.S.Store last t → stops_of g.S.Store h t) same
@@ -30,7 +30,7 @@ pub returns-in-Some-Some-clause-stops : goal.returns-in-Some-Some-clause-stops
 returns-in-Some-Some-clause-stops g c honest =
     let old = c.self.inside.conn in
     let last = c.find_stored.new.conn in
-    let same : old ≡ c.args.self.now.conn = ap (λ (k : Kept _). k.conn) c.self.view_is in
+    let same : old ≡ c.args.self.now.conn = ap (λ (k : ShelfView _). k.conn) c.self.view_is in
     let auto : IsTrue c.is_autocommit-settled.result = c.is_autocommit-settled.ensures.value ∙ ap not c.self.invariant.autocommit in
     subst (λ (h : Held _). (t : Tables) → stops_of g.S.Store last t → stops_of g.S.Store h t) same
     (stops_read g.S.Store old last g.O.Origin.IS_OURS c.self.inside.requests c.self.invariant _ c.find_stored.result (λ was. c.is_autocommit-settled.ensures.settled auto was) (g.met.S.Store.stays old.store) c.find_stored.ensures.serves honest.1 honest.0)
@@ -40,7 +40,7 @@ returns-in-Some-None-clause-damaged g c honest =
     let old = c.self.inside.conn in
     let last = c.find_stored.new.conn in
     let i : Identity = record { caller = c.args.caller; id = c.in_ok-copy.field-0 } in
-    let same : old ≡ c.args.self.now.conn = ap (λ (k : Kept _). k.conn) c.self.view_is in
+    let same : old ≡ c.args.self.now.conn = ap (λ (k : ShelfView _). k.conn) c.self.view_is in
     let is : c.in-Ok.found ≡ Some None = search rules in
     let it = c.in-Ok.ensures.serves.found honest.0 (desk_if_open g.S.Store old last g.O.Origin.IS_OURS c.self.inside.requests c.self.invariant honest.1) in
     let odd : answer_in (state g.S.Store old).now.trees i ≡ Some OddAnswer = ap (stored_as i) (sym it.3 ∙ is) in
@@ -50,7 +50,7 @@ pub returns-in-Some-None-clause-stops : goal.returns-in-Some-None-clause-stops
 returns-in-Some-None-clause-stops g c honest =
     let old = c.self.inside.conn in
     let last = c.find_stored.new.conn in
-    let same : old ≡ c.args.self.now.conn = ap (λ (k : Kept _). k.conn) c.self.view_is in
+    let same : old ≡ c.args.self.now.conn = ap (λ (k : ShelfView _). k.conn) c.self.view_is in
     let auto : IsTrue c.is_autocommit-settled.result = c.is_autocommit-settled.ensures.value ∙ ap not c.self.invariant.autocommit in
     subst (λ (h : Held _). (t : Tables) → stops_of g.S.Store last t → stops_of g.S.Store h t) same
     (stops_read g.S.Store old last g.O.Origin.IS_OURS c.self.inside.requests c.self.invariant _ c.find_stored.result (λ was. c.is_autocommit-settled.ensures.settled auto was) (g.met.S.Store.stays old.store) c.find_stored.ensures.serves honest.1 honest.0)
@@ -59,7 +59,7 @@ pub returns-in-None-clause-stops : goal.returns-in-None-clause-stops
 returns-in-None-clause-stops g c honest =
     let old = c.self.inside.conn in
     let last = c.find_stored.new.conn in
-    let same : old ≡ c.args.self.now.conn = ap (λ (k : Kept _). k.conn) c.self.view_is in
+    let same : old ≡ c.args.self.now.conn = ap (λ (k : ShelfView _). k.conn) c.self.view_is in
     let auto : IsTrue c.is_autocommit-settled.result = c.is_autocommit-settled.ensures.value ∙ ap not c.self.invariant.autocommit in
     subst (λ (h : Held _). (t : Tables) → stops_of g.S.Store last t → stops_of g.S.Store h t) same
     (stops_read g.S.Store old last g.O.Origin.IS_OURS c.self.inside.requests c.self.invariant _ c.find_stored.result (λ was. c.is_autocommit-settled.ensures.settled auto was) (g.met.S.Store.stays old.store) c.find_stored.ensures.serves honest.1 honest.0)
