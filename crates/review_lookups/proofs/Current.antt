@@ -1,5 +1,5 @@
 -- The patch set of a change that has the greatest number.
-use Rattle.std.proofs.Common.{◌≡◌, ◌∙◌, ◌<◌, ◌≤◌, ℕ, pos, ◌&&◌, [], ◌∷◌, Bool, true, false, Option, Some, None, nat_le, filter, leb-true, leb-false, refl, sym, ap, subst, inl, inr, ⊎_elim, arith}
+use Rattle.std.proofs.Common.{◌≡◌, ◌∙◌, ◌<◌, ℕ, pos, ◌&&◌, [], ◌∷◌, Bool, true, false, Option, Some, None, nat_le, filter, leb-true, leb-false, refl, sym, ap, subst, ⊎_elim, arith}
 use Rattle.std.specs.Option.{IsSome}
 use Rattle.sqlite_value.specs.declared.value.Value.TheVariants.{Int}
 use Rattle.sqlite_trees.specs.Tree.{Trees}

@@ -1,5 +1,5 @@
 -- The last place that a change joined a branch at.
-use Rattle.std.proofs.Common.{◌≡◌, ◌∙◌, ℕ, pos, List, [], Bool, true, false, Option, Some, None, is_gt, refl, sym, ap, subst, inl, inr}
+use Rattle.std.proofs.Common.{◌≡◌, ◌∙◌, ℕ, pos, List, Bool, true, false, Option, Some, None, is_gt, refl, sym, ap, subst, inl, inr}
 use Rattle.std.specs.Ordering.{is_eq}
 use Rattle.std.proofs.lemmas.Bool.{and_from, both_ways}
 use Rattle.std.proofs.lemmas.Option.{same_Some}

@@ -1,5 +1,5 @@
 -- A database as the tables of a desk.
-use Rattle.std.specs.Prelude.{option_map, ℤ, ℕ, ◌≡◌, List, [], ◌∷◌, length, Option, Some, None}
+use Rattle.std.specs.Prelude.{option_map, ℤ, ℕ, ◌≡◌, [], ◌∷◌, length, Option, Some, None}
 use Rattle.sqlite_value.specs.declared.value.Value.TheVariants.{Text}
 use Rattle.sqlite_trees.specs.Tree.{Trees}
 use Rattle.review_words.specs.History.{Identity}

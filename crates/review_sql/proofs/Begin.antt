@@ -2,8 +2,6 @@
 use Rattle.std.proofs.Common.{◌≡◌, ◌≢◌, ◌∙◌, ◌==◌, ℕ, List, [], ◌∷◌, Some, None, option_map, cond, true, refl, sym, ap, subst, arith, inl, inr, length, eqb-true}
 use Rattle.std.specs.Str.{bytes_eq}
 use Rattle.std.proofs.lemmas.Bool.{cases_Bool, both_ways, eqb-false}
-use Rattle.std.specs.Ordering.{nat_cmp}
-use Rattle.std.specs.Cmp.Lexicographic.{slice_cmp}
 use Rattle.sqlite_value.specs.declared.value.Value.TheVariants.{Text}
 use Rattle.sqlite_trees.specs.Tree.{Trees}
 use Rattle.sqlite.specs.Effect.{Database}
@@ -17,7 +15,6 @@ use Rattle.review_tables.specs.Desk.{schema_0, desk_schema, is_tree}
 use Rattle.review_tables.specs.Made.{Grows}
 use Rattle.review_tables.specs.Ran.{OnDesk}
 use Rattle.review_tables.specs.Search.{rows_at, row_at, only, reads, SetsRow}
-use Rattle.review_tables.proofs.Keys.{equal_is}
 use Rattle.review_tables.proofs.Sequences.{Next}
 use Rattle.review_tables.proofs.Made.{ready_blank, empty_at}
 use Rattle.review_sql.specs.First.{SetsFirst, MakesDesk}

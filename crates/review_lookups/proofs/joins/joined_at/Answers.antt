@@ -1,4 +1,4 @@
-use Rattle.std.proofs.Common.{◌≡◌, ◌∙◌, Some, true, rules}
+use Rattle.std.proofs.Common.{◌≡◌, Some, true, rules}
 use Rattle.review_lookups.proofs.Joined.{joined_is}
 use Rattle.review_lookups.proofs.joins.joined_at.Goals as goal
 

@@ -1,4 +1,4 @@
-use Rattle.std.proofs.Common.{◌≡◌, ℕ, List, Option, Ok}
+use Rattle.std.proofs.Common.{ℕ, List, Option, Ok}
 use Rattle.std.specs.Ordering.{nat_cmp}
 use Rattle.sqlite.specs.Held.{state}
 use Rattle.sqlite_trees.specs.Tree.{Trees}

@@ -1,4 +1,4 @@
-use Rattle.std.proofs.Common.{◌≡◌, Option, Some, None, true, false, Ok, subst, rules}
+use Rattle.std.proofs.Common.{◌≡◌, Some, None, true, Ok, subst, rules}
 use Rattle.sqlite.specs.Held.{state}
 use Rattle.review_tables.proofs.Found.{look_both, look_on}
 use Rattle.review_lookups.proofs.Sending.{KnowsSent, is_outside, looks_so, stands_merged_so}

@@ -1,4 +1,4 @@
-use Rattle.std.proofs.Common.{◌≡◌, ℕ, Option, Ok}
+use Rattle.std.proofs.Common.{◌≡◌, Option, Ok}
 use Rattle.sqlite.specs.Held.{state}
 use Rattle.sqlite_trees.specs.Tree.{Trees}
 use Rattle.review_changes.specs.declared.rows.Header.{Header}

@@ -1,8 +1,7 @@
-use Rattle.std.proofs.Common.{rules, ◌≡◌, ◌∙◌, ◌<◌, ℕ, List, length, refl, true, false, inl, inr, sym, ap, subst, get_or, map, arith, IsTrue}
+use Rattle.std.proofs.Common.{rules, ◌≡◌, ◌<◌, ℕ, List, length, refl, true, false, inl, inr, sym, subst, get_or, map, arith}
 use Rattle.std.proofs.lemmas.Bool.{cases_lt}
 use Rattle.sqlite.specs.Effect.{Database}
 use Rattle.sqlite.specs.Held.{state}
-use Rattle.sqlite.specs.State.{HasCleanDisk}
 use Rattle.review_tables.specs.declared.texts.TheConstants.{ANY_ROW}
 use Rattle.review_sql.specs.Shelf.{IsUnderstood}
 use Rattle.review_sql.proofs.Staying.{stays_still, stays_then}
