@@ -3,65 +3,123 @@
 use crate::asked::asked;
 use crate::fault::{Fault, named};
 use crate::sets::{given_paths, labels};
-use crate::texts::{cut, on_a_line, truth};
+use crate::texts::{answered, cut, on_a_line, truth, whole_number};
 use review_texts::content_text;
 use review_words::{
-    BranchName, ChangeCommand, ChangeKind, ChangeNo, Command, CommentNo, Comments, CommitName,
+    BranchName, ChangeCommand, ChangeKind, ChangeNo, Command, Comments, CommitName,
     Message, NewChange, NewComment, NewPatch, PatchNo, Paths, Place, ProjectName, Review, Subject,
 };
 use std::alloc::Global;
 
-fn new_change(alloc: Global, text: &str) -> Result<Command, Fault> {
+/// The parts of a new change's text.
+struct ChangeParts<'a> {
+    project: &'a str,
+    branch: &'a str,
+    commit: &'a str,
+    parent: &'a str,
+    paths: &'a str,
+    wip: &'a str,
+    subject: &'a str,
+}
+
+fn change_parts(text: &str) -> Result<ChangeParts<'_>, Fault> {
     let (project, rest) = cut(text, " ")?;
     let (branch, rest) = cut(rest, " ")?;
     let (commit, rest) = cut(rest, " ")?;
     let (parent, rest) = cut(rest, " ")?;
     let (paths, rest) = cut(rest, " ")?;
     let (wip, subject) = cut(rest, " ")?;
+    Ok(ChangeParts {
+        project,
+        branch,
+        commit,
+        parent,
+        paths,
+        wip,
+        subject,
+    })
+}
+
+fn commits(alloc: Global, commit: &str, parent: &str) -> Result<(CommitName, CommitName), Fault> {
+    let commit = CommitName::read(alloc, commit)?;
+    let parent = CommitName::read(alloc, parent)?;
+    Ok((commit, parent))
+}
+
+fn paths(alloc: Global, text: &str) -> Result<Paths, Fault> {
+    let given = given_paths(alloc, text)?;
+    Ok(Paths::from_vec(alloc, given)?)
+}
+
+fn new_change(alloc: Global, text: &str) -> Result<Command, Fault> {
+    let parts = change_parts(text)?;
+    let wip = truth(parts.wip)?;
+    let project = ProjectName::read(alloc, parts.project)?;
+    let branch = BranchName::read(alloc, parts.branch)?;
+    let subject = Subject::read(alloc, parts.subject)?;
+    let (commit, parent) = commits(alloc, parts.commit, parts.parent)?;
+    let paths = paths(alloc, parts.paths)?;
     Ok(Command::CreateChange(NewChange {
-        project: ProjectName::read(alloc, project)?,
-        branch: BranchName::read(alloc, branch)?,
-        subject: Subject::read(alloc, subject)?,
-        commit: CommitName::read(alloc, commit)?,
-        parent: CommitName::read(alloc, parent)?,
-        paths: Paths::from_vec(alloc, given_paths(alloc, paths)?)?,
-        wip: truth(wip)?,
+        project,
+        branch,
+        subject,
+        commit,
+        parent,
+        paths,
+        wip,
     }))
+}
+
+/// The patch set of a text.
+fn patch_set(alloc: Global, text: &str) -> Result<NewPatch, Fault> {
+    let (commit, rest) = cut(text, " ")?;
+    let (parent, rest) = cut(rest, " ")?;
+    let (kind, given) = cut(rest, " ")?;
+    let kind = ChangeKind::from_name(kind).ok_or(Fault::Form)?;
+    let (commit, parent) = commits(alloc, commit, parent)?;
+    let paths = paths(alloc, given)?;
+    Ok(NewPatch {
+        commit,
+        parent,
+        kind,
+        paths,
+    })
 }
 
 fn new_patch(alloc: Global, text: &str) -> Result<Command, Fault> {
     let (change, rest) = cut(text, " ")?;
-    let (commit, rest) = cut(rest, " ")?;
-    let (parent, rest) = cut(rest, " ")?;
-    let (kind, paths) = cut(rest, " ")?;
+    let change = ChangeNo::read(change)?;
+    let patch = patch_set(alloc, rest)?;
     Ok(Command::OnChange {
-        change: ChangeNo::read(change)?,
-        command: ChangeCommand::Upload(NewPatch {
-            commit: CommitName::read(alloc, commit)?,
-            parent: CommitName::read(alloc, parent)?,
-            kind: ChangeKind::from_name(kind).ok_or(Fault::Form)?,
-            paths: Paths::from_vec(alloc, given_paths(alloc, paths)?)?,
-        }),
+        change,
+        command: ChangeCommand::Upload(patch),
     })
+}
+
+/// What is said of whether a comment is unresolved.
+fn flag(text: &str) -> Result<Option<bool>, Fault> {
+    match text {
+        "absent" => Ok(None),
+        flag => Ok(Some(truth(flag)?)),
+    }
 }
 
 fn comment(alloc: Global, text: &str) -> Result<NewComment, Fault> {
     let (place, rest) = cut(text, " ")?;
     let (line, rest) = cut(rest, " ")?;
     let (unresolved, rest) = cut(rest, " ")?;
-    let (answered, message) = cut(rest, " ")?;
+    let (earlier, message) = cut(rest, " ")?;
+    let line = whole_number(line)?;
+    let unresolved = flag(unresolved)?;
+    let in_reply_to = answered(earlier)?;
+    let path = Place::read(alloc, place)?;
+    let message = Message::read(alloc, message)?;
     Ok(NewComment {
-        path: Place::read(alloc, place)?,
-        line: line.parse::<u32>().map_err(|_| Fault::Form)?,
-        message: Message::read(alloc, message)?,
-        unresolved: match unresolved {
-            "absent" => None,
-            flag => Some(truth(flag)?),
-        },
-        in_reply_to: match answered {
-            "absent" => None,
-            number => Some(CommentNo::read(number)?),
-        },
+        path,
+        line,
+        message,
+        unresolved,
+        in_reply_to,
     })
 }
 
@@ -73,27 +131,42 @@ fn comments(alloc: Global, text: &str) -> Result<Vec<NewComment>, Fault> {
     Ok(comments)
 }
 
-/// The review of a text, or none where one of its comments has no message.
-fn review(alloc: Global, text: &str) -> Result<Option<Command>, Fault> {
+/// The patch set that a review is of, or none for the current one.
+fn reviewed(text: &str) -> Result<Option<PatchNo>, Fault> {
+    match text {
+        "current" => Ok(None),
+        number => Ok(Some(PatchNo::read(number)?)),
+    }
+}
+
+/// The review of a text with these comments.
+fn review_with(alloc: Global, text: &str, comments: Comments) -> Result<Command, Fault> {
     let (head, rest) = cut(text, "|")?;
     let (change, head) = cut(head, " ")?;
     let (patch, given) = cut(head, " ")?;
-    let message = rest.split_once("|").map_or(rest, |parts| parts.0);
-    let Some(comments) = named(Comments::from_vec(comments(alloc, rest)?))? else {
-        return Ok(None);
-    };
-    Ok(Some(Command::OnChange {
-        change: ChangeNo::read(change)?,
+    let change = ChangeNo::read(change)?;
+    let patch = reviewed(patch)?;
+    let message = Message::read(alloc, rest.split_once("|").map_or(rest, |parts| parts.0))?;
+    let labels = labels(alloc, given)?;
+    Ok(Command::OnChange {
+        change,
         command: ChangeCommand::Review(Review {
-            patch: match patch {
-                "current" => None,
-                number => Some(PatchNo::read(number)?),
-            },
-            message: Message::read(alloc, message)?,
-            labels: labels(alloc, given)?,
+            patch,
+            message,
+            labels,
             comments,
         }),
-    }))
+    })
+}
+
+/// The review of a text, or none where one of its comments has no message.
+fn review(alloc: Global, text: &str) -> Result<Option<Command>, Fault> {
+    let (_, rest) = cut(text, "|")?;
+    let comments = comments(alloc, rest)?;
+    match named(Comments::from_vec(comments))? {
+        Some(comments) => Ok(Some(review_with(alloc, text, comments)?)),
+        None => Ok(None),
+    }
 }
 
 /// What a word asks of the change that a text names first.

@@ -1,7 +1,7 @@
 //! Answers to questions about a change.
 
 use crate::fault::Fault;
-use crate::texts::{cut, truth};
+use crate::texts::{answered, cut, truth, whole_number};
 use review_words::{
     AccountNo, Answer, BranchName, ChangeNo, CommentNo, CommitName, LabelName, Listed, Message,
     PatchNo, Place, ProjectName, Reason, ShownCall, ShownChange, ShownComment, ShownRequirement,
@@ -92,21 +92,54 @@ fn patch_set(alloc: Global, text: &str) -> Result<(PatchNo, CommitName, AccountN
     Ok((patch, commit, AccountNo::read(uploader)?))
 }
 
-fn change(alloc: Global, text: &str) -> Result<ShownChange, Fault> {
+/// The parts of a change's text.
+struct ChangeParts<'a> {
+    placed: &'a str,
+    stands: &'a str,
+    sent: &'a str,
+    people: &'a str,
+    subject: &'a str,
+}
+
+fn change_parts(text: &str) -> Result<ChangeParts<'_>, Fault> {
     let (placed, rest) = cut(text, "|")?;
     let (stands, rest) = cut(rest, "|")?;
     let (sent, rest) = cut(rest, "|")?;
     let (people, subject) = cut(rest, "|")?;
-    let (reviewers, rest) = cut(people, " ")?;
+    Ok(ChangeParts {
+        placed,
+        stands,
+        sent,
+        people,
+        subject,
+    })
+}
+
+/// The reviewers of a change, its CCs, and the votes on it.
+fn people(
+    alloc: Global,
+    text: &str,
+) -> Result<(Listed<AccountNo>, Listed<AccountNo>, Listed<ShownVote>), Fault> {
+    let (reviewers, rest) = cut(text, " ")?;
     let (ccs, given) = cut(rest, " ")?;
-    let (change, project, branch, owner) = place(alloc, placed)?;
-    let (state, wip, updated) = standing(stands)?;
-    let (patch, commit, uploader) = patch_set(alloc, sent)?;
+    let reviewers = accounts(alloc, reviewers)?;
+    let ccs = accounts(alloc, ccs)?;
+    let votes = votes(alloc, given)?;
+    Ok((reviewers, ccs, votes))
+}
+
+fn change(alloc: Global, text: &str) -> Result<ShownChange, Fault> {
+    let parts = change_parts(text)?;
+    let (state, wip, updated) = standing(parts.stands)?;
+    let subject = Subject::read(alloc, parts.subject)?;
+    let (change, project, branch, owner) = place(alloc, parts.placed)?;
+    let (patch, commit, uploader) = patch_set(alloc, parts.sent)?;
+    let (reviewers, ccs, votes) = people(alloc, parts.people)?;
     Ok(ShownChange {
         change,
         project,
         branch,
-        subject: Subject::read(alloc, subject)?,
+        subject,
         owner,
         state,
         wip,
@@ -114,9 +147,9 @@ fn change(alloc: Global, text: &str) -> Result<ShownChange, Fault> {
         patch,
         commit,
         uploader,
-        reviewers: accounts(alloc, reviewers)?,
-        ccs: accounts(alloc, ccs)?,
-        votes: votes(alloc, given)?,
+        reviewers,
+        ccs,
+        votes,
     })
 }
 
@@ -133,7 +166,19 @@ fn requirements(alloc: Global, text: &str) -> Result<Listed<ShownRequirement>, F
     Ok(Listed::from_vec(requirements))
 }
 
-fn comment(alloc: Global, text: &str) -> Result<ShownComment, Fault> {
+/// The parts of a comment's text.
+struct CommentParts<'a> {
+    number: &'a str,
+    patch: &'a str,
+    path: &'a str,
+    line: &'a str,
+    author: &'a str,
+    unresolved: &'a str,
+    answered: &'a str,
+    message: &'a str,
+}
+
+fn comment_parts(text: &str) -> Result<CommentParts<'_>, Fault> {
     let (number, rest) = cut(text, " ")?;
     let (patch, rest) = cut(rest, " ")?;
     let (path, rest) = cut(rest, " ")?;
@@ -141,18 +186,46 @@ fn comment(alloc: Global, text: &str) -> Result<ShownComment, Fault> {
     let (author, rest) = cut(rest, " ")?;
     let (unresolved, rest) = cut(rest, " ")?;
     let (answered, message) = cut(rest, " ")?;
+    Ok(CommentParts {
+        number,
+        patch,
+        path,
+        line,
+        author,
+        unresolved,
+        answered,
+        message,
+    })
+}
+
+/// Which comment it is, and where it stands.
+fn spot(
+    alloc: Global,
+    parts: &CommentParts<'_>,
+) -> Result<(CommentNo, PatchNo, Place, u32), Fault> {
+    let number = CommentNo::read(parts.number)?;
+    let patch = PatchNo::read(parts.patch)?;
+    let line = whole_number(parts.line)?;
+    let path = Place::read(alloc, parts.path)?;
+    Ok((number, patch, path, line))
+}
+
+fn comment(alloc: Global, text: &str) -> Result<ShownComment, Fault> {
+    let parts = comment_parts(text)?;
+    let answers = answered(parts.answered)?;
+    let unresolved = truth(parts.unresolved)?;
+    let author = AccountNo::read(parts.author)?;
+    let message = Message::read(alloc, parts.message)?;
+    let (number, patch, path, line) = spot(alloc, &parts)?;
     Ok(ShownComment {
-        number: CommentNo::read(number)?,
-        patch: PatchNo::read(patch)?,
-        path: Place::read(alloc, path)?,
-        line: line.parse::<u32>().map_err(|_| Fault::Form)?,
-        author: AccountNo::read(author)?,
-        message: Message::read(alloc, message)?,
-        unresolved: truth(unresolved)?,
-        answers: match answered {
-            "absent" => None,
-            number => Some(CommentNo::read(number)?),
-        },
+        number,
+        patch,
+        path,
+        line,
+        author,
+        message,
+        unresolved,
+        answers,
     })
 }
 

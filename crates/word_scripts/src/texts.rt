@@ -1,6 +1,7 @@
 //! Texts that a line writes in short, their parts, and texts that are shown on a line.
 
 use crate::fault::Fault;
+use review_words::CommentNo;
 use std::alloc::{AllocError, Global};
 
 /// What stands before the next separator, and the rest.
@@ -13,6 +14,19 @@ pub fn truth(text: &str) -> Result<bool, Fault> {
         "true" => Ok(true),
         "false" => Ok(false),
         _ => Err(Fault::Form),
+    }
+}
+
+/// A number of a line.
+pub fn whole_number(text: &str) -> Result<u32, Fault> {
+    text.parse::<u32>().map_err(|_| Fault::Form)
+}
+
+/// The comment that is answered, or none where that is `absent`.
+pub fn answered(text: &str) -> Result<Option<CommentNo>, Fault> {
+    match text {
+        "absent" => Ok(None),
+        number => Ok(Some(CommentNo::read(number)?)),
     }
 }
 
