@@ -1,5 +1,5 @@
 -- The patch set of a change that has the greatest number.
-use Rattle.std.proofs.Common.{◌≡◌, ◌∙◌, ◌<◌, ◌≤◌, ℕ, pos, ◌&&◌, [], ◌∷◌, Bool, true, false, Option, Some, None, nat_le, refl, sym, ap, subst, inl, inr, ⊎_elim, arith}
+use Rattle.std.proofs.Common.{◌≡◌, ◌∙◌, ◌<◌, ◌≤◌, ℕ, pos, ◌&&◌, [], ◌∷◌, Bool, true, false, Option, Some, None, nat_le, filter, leb-true, leb-false, refl, sym, ap, subst, inl, inr, ⊎_elim, arith}
 use Rattle.std.specs.Option.{IsSome}
 use Rattle.sqlite_value.specs.declared.value.Value.TheVariants.{Int}
 use Rattle.sqlite_trees.specs.Tree.{Trees}
@@ -38,7 +38,7 @@ no_set db n none = last_none (λ x. APart (APatch x)) (reads patches) (λ m. Par
 pub last_told : (db : Trees) (n p q : ℕ) (b : Bool) → b ≡ nat_le q p → HasGreatest patch_numbers 2 n db (Some (Some q)) → KnowsIf (IsLastSet (n, p) db) (Some b)
 last_told db n p q true is great = λ m less. (last_set db n q great).above m (let le = leb-true q p (sym is) in omega (arith, le, less))
 last_told db n p q false is great = λ last.
-    let greater : p < q = ltb-from_leb p q (sym is) in
+    let greater : p < q = leb-false q p (sym is) in
     ⊎_elim (λ (zero : q ≡ 0). absurd (omega (arith, zero, greater)))
     (λ there. let f : false ≡ true = subst IsSome (last q greater) there in absurd (cc))
     (last_set db n q great).there

@@ -96,9 +96,9 @@ module _ (merged : Bool) (base : Base) (n p : ℕ) (db : Trees) where
 
 -- one that has sent the commit, and whether its patch set is the last
 pub sent_and_last : (merged : Bool) (base : Base) (e : ℕ × ℕ) (db : Trees) (last : Option Bool) → merged ≡ true → HasSent merged base e db → KnowsIf (IsLastSet e db) last → Examines merged base e db last
-sent_and_last merged base e db None to_be sent is = tt
-sent_and_last merged base e db (Some true) to_be sent is = (sent, λ yes. is)
-sent_and_last merged base e db (Some false) to_be sent is = λ so. is (so.1 to_be)
+sent_and_last merged base e db None to_be has is = tt
+sent_and_last merged base e db (Some true) to_be has is = (has, λ yes. is)
+sent_and_last merged base e db (Some false) to_be has is = λ so. is (so.1 to_be)
 
 -- what a look-up found is so in other words
 pub looks_so : {X : Type 0} (F G : Trees → X → Type 0) (a b : State) (r : Result X Error) → Looks F a b r → ((db : Trees) (x : X) → F db x → G db x) → Looks G a b r

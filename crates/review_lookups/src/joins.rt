@@ -1,5 +1,5 @@
 //! The changes that joined a branch are looked up.
-ghost use Rattle.std.specs.Prelude.{◌≡◌, ◌<◌, ◌×◌, Some, None, IfOk};
+ghost use Rattle.std.specs.Prelude.{◌≡◌, ◌<◌, ℕ, Some, None, IfOk};
 ghost use Rattle.sqlite.specs.Held.{state};
 ghost use Rattle.sqlite_trees.specs.Tree.{Trees};
 ghost use Rattle.review_rows.specs.declared.rows.BranchKey.{BranchKey};

@@ -1,5 +1,5 @@
 //! The change that sent a commit is looked up, and what a commit is to a branch.
-ghost use Rattle.std.specs.Prelude.{◌≡◌, ◌×◌, ℕ, true, false, IfOk, MatchBool};
+ghost use Rattle.std.specs.Prelude.{◌≡◌, ℕ, true, false, IfOk, MatchBool};
 ghost use Rattle.sqlite.specs.Held.{state};
 ghost use Rattle.sqlite_trees.specs.Tree.{Trees};
 ghost use Rattle.review_rows.specs.declared.rows.Base.{Base};

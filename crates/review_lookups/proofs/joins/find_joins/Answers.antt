@@ -1,7 +1,8 @@
-use Rattle.std.proofs.Common.{◌≡◌, ◌∙◌, Some, Ok, subst, sym, rules, arith}
+use Rattle.std.proofs.Common.{◌≡◌, ◌∙◌, ◌+◌, Some, Ok, subst, sym, rules, arith}
 use Rattle.sqlite.specs.Held.{state}
+use Rattle.review_records.specs.declared.rows.PlaceKey.{PlaceKey}
 use Rattle.review_tables.specs.Ran.{Looks}
-use Rattle.review_lookups.proofs.Joined.{joined_all, joined_first, joined_more, KnowsAll, KnowsOne, next_key}
+use Rattle.review_lookups.proofs.Joined.{joined_all, joined_first, joined_more, KnowsAll, KnowsOne, SoFar}
 use Rattle.review_lookups.proofs.joins.find_joins.Goals as goal
 
 pub loop-before-init : goal.loop-before-init
@@ -15,7 +16,7 @@ loop-before-init g c =
       reference = c.find_greatest.ensures.same_reference;
       project = c.in_ok-key.ensures.0;
       branch = c.in_ok-key.ensures.1;
-      looks = joined_first key last c.in_ok-found.found c.last_place.result s0 s1 is (c.last_place.ensures key) c.in_ok-found.ensures.looks;
+      looks = subst (λ js. Looks (SoFar key last 0 js) s0 s1 (Ok (tt {0}))) (sym c.new-joined.ensures.items) (joined_first key last c.in_ok-found.found c.last_place.result s0 s1 is (c.last_place.ensures key) c.in_ok-found.ensures.looks);
     }
 
 pub loop-before-preserved : goal.loop-before-preserved
@@ -28,13 +29,13 @@ loop-before-preserved g c =
     let s2 = state g.S.Store c.find_at.new.tx.conn.now in
     let j = c.in-Some-known.change in
     let is : c.in_ok-known.known ≡ Some j = search rules in
-    let at : next_key key count ≡ next_key key count = (λ i. next_key key count) in
+    let at : PlaceKey = record { project = c.loop-before.key.project; branch = c.loop-before.key.branch; place = count + 1 } in
     record {
       reference = c.find_at.ensures.same_reference ∙ c.loop-before.invariant.reference;
       project = c.loop-before.invariant.project;
       branch = c.loop-before.invariant.branch;
-      looks = joined_more key last count _ c.loop-before.joined.items c.push.new.self.items j s0 s1 s2 (λ i. record { project = c.loop-before.invariant.project i; branch = c.loop-before.invariant.branch i; place = count + 1 })
-          c.in_ok-push.ensures.items c.loop-before.invariant.looks (subst (λ o. Looks (KnowsOne _) s1 s2 (Ok o)) is c.in_ok-known.ensures.looks);
+      looks = joined_more key last count at c.loop-before.joined.items c.push.new.self.items j s0 s1 s2 (λ i. record { project = c.loop-before.invariant.project i; branch = c.loop-before.invariant.branch i; place = count + 1 })
+          c.in_ok-push.ensures.items c.loop-before.invariant.looks (subst (λ o. Looks (KnowsOne at) s1 s2 (Ok o)) is c.in_ok-known.ensures.looks);
     }
 
 pub returns-clause-looks : goal.returns-clause-looks

@@ -13,4 +13,4 @@ returns-clause-told c = λ db great stands.
     let some : c.args.found ≡ Some (Some h) = search rules in
     let is : c.is_placed.result ≡ true = search rules in
     tells_as (tables_at db) (want.LastJoined key) (Number c.args.place) c.args.rows.now c.learn_last_joined.new.rows c.learn_last_joined.result c.learnt.result c.learnt.ensures
-    (c.args.place, refl, last_joined db key c.args.change c.args.place h great (sym stands ∙ some) (c.is_placed.ensures.project is) (c.is_placed.ensures.branch is) (c.is_placed.ensures.place is)) c.learn_last_joined.ensures
+    (c.args.place, refl, last_joined db key c.args.change c.args.place h great (sym stands ∙ some) (c.is_placed.ensures.project is) (c.is_placed.ensures.branch is) (c.is_placed.ensures.place is ∙ c.from.ensures)) c.learn_last_joined.ensures

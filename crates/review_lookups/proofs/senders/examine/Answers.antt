@@ -1,4 +1,4 @@
-use Rattle.std.proofs.Common.{◌≡◌, ◌∙◌, sym, Bool, true, false, Option, Some, None, Ok, subst, rules}
+use Rattle.std.proofs.Common.{◌≡◌, ℕ, ◌∙◌, sym, Bool, true, false, Option, Some, None, Ok, subst, rules}
 use Rattle.sqlite.specs.Held.{state}
 use Rattle.sqlite_trees.specs.Tree.{Trees}
 use Rattle.review_tables.proofs.Found.{look_both, look_on}
@@ -9,17 +9,17 @@ use Rattle.review_lookups.proofs.senders.examine.Goals as goal
 pub returns-in-Some-false-clause-looks : goal.returns-in-Some-false-clause-looks
 returns-in-Some-false-clause-looks g c =
     let base = c.args.base.now in
-    let e = (c.args.change, c.args.patch) in
+    let e : ℕ × ℕ = (c.args.change, c.args.patch) in
     let F : Trees → Option Bool → Type 0 = λ db is. KnowsIf (HasSent c.args.merged base e db) is in
     let s0 = state g.S.Store c.args.tx.now.conn.now in
     let s1 = state g.S.Store c.find_sender.new.tx.conn.now in
     let is : c.in_ok-sent.sent ≡ Some false = search rules in
     look_on F _ s0 s1 c.in_ok-sent.sent (Ok (Some false)) c.in_ok-sent.ensures.looks (λ db h. let not_sent = subst (F db) is h in (λ sent. not_sent sent.0))
 
-pub returns-then-in-Some-true-clause-looks : goal.returns-then-in-Some-true-clause-looks
-returns-then-in-Some-true-clause-looks g c =
+pub returns-then-not-merged-clause-looks : goal.returns-then-not-merged-clause-looks
+returns-then-not-merged-clause-looks g c =
     let base = c.args.base.now in
-    let e = (c.args.change, c.args.patch) in
+    let e : ℕ × ℕ = (c.args.change, c.args.patch) in
     let F : Trees → Option Bool → Type 0 = λ db is. KnowsIf (HasSent c.args.merged base e db) is in
     let s0 = state g.S.Store c.args.tx.now.conn.now in
     let s1 = state g.S.Store c.find_sender.new.tx.conn.now in
@@ -30,7 +30,7 @@ returns-then-in-Some-true-clause-looks g c =
 pub returns-clause-looks : goal.returns-clause-looks
 returns-clause-looks g c =
     let base = c.args.base.now in
-    let e = (c.args.change, c.args.patch) in
+    let e : ℕ × ℕ = (c.args.change, c.args.patch) in
     let F : Trees → Option Bool → Type 0 = λ db is. KnowsIf (HasSent c.args.merged base e db) is in
     let G : Trees → Option Bool → Type 0 = λ db is. KnowsIf (IsLastSet e db) is in
     let s0 = state g.S.Store c.args.tx.now.conn.now in

@@ -2,13 +2,13 @@ use Rattle.std.proofs.Common.{◌≡◌, ◌∙◌, Some, None, sym, rules}
 use Rattle.review_lookups.proofs.Sending.{no_header, no_patch, sent_told}
 use Rattle.review_lookups.proofs.senders.sent_by.Goals as goal
 
-pub returns-in-None : goal.returns-in-None
-returns-in-None c = λ n p db stands row.
+pub returns-in_default : goal.returns-in_default
+returns-in_default c = λ n p db stands row.
     let none : c.args.header ≡ None = search rules in
     no_header c.args.merged c.args.base.now n p db (sym stands ∙ none)
 
-pub returns-in-None-2 : goal.returns-in-None-2
-returns-in-None-2 c = λ n p db stands row.
+pub returns-in_default-patch : goal.returns-in_default-patch
+returns-in_default-patch c = λ n p db stands row.
     let none : c.args.patch ≡ None = search rules in
     no_patch c.args.merged c.args.base.now n p db (sym row ∙ none)
 
