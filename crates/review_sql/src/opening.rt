@@ -88,6 +88,7 @@ fn see_ours<S: Alter>(conn: &mut Connection<S>, alloc: Global) -> Result<Seen, D
     ensures stays { Stays (state S.Store conn.old) (state S.Store conn.new) }
     ensures seen { IsTrue (state S.Store conn.new).is_open → IfOk result (IsSeen (state S.Store conn.old)) }
     ensures refused { IsTrue (state S.Store conn.new).is_open → IfErr result (IsRefused (state S.Store conn.old)) }
+    ensures not_ours { IfErr result (λ fault. fault ≢ DeskFault.NotOurs) }
 {
     let peeked = match peek(conn, alloc, true) {
         Ok(peeked) => peeked,
@@ -136,6 +137,7 @@ pub fn see<S: Alter>(conn: &mut Connection<S>, alloc: Global) -> Result<Seen, De
     ensures stays { Stays (state S.Store conn.old) (state S.Store conn.new) }
     ensures seen { IsTrue (state S.Store conn.new).is_open → IfOk result (IsSeen (state S.Store conn.old)) }
     ensures refused { IsTrue (state S.Store conn.new).is_open → IfErr result (IsRefused (state S.Store conn.old)) }
+    ensures not_ours { IfErr result (λ fault. fault ≢ DeskFault.NotOurs) }
 {
     let is_ours = match is_desk(alloc, conn.schema()) {
         Ok(is_ours) => is_ours,
