@@ -45,40 +45,41 @@ RunsCompose = (h0 : List Entry) (ds es : List Delivery) (rs ss : List Reply) (co
     AreRight h0 ds rs counts → AreRight (history_after h0 ds rs) es ss others →
     (history_after h0 (ds ++ es) (rs ++ ss) ≡ history_after (history_after h0 ds rs) es ss) × AreRight h0 (ds ++ es) (rs ++ ss) (counts ++ others)
 
--- the fault counts of several sessions, one list
+-- the fault counts of several sessions, as one list
 abbrev pub all_counts : List (List (ℕ × ℕ)) → List (ℕ × ℕ)
 all_counts [] = []
 all_counts (counts ∷ later) = counts ++ all_counts later
 
--- Within each session the counts of faults follow one another, from that at the start of the first to that at the end of the last; a later session counts anew.
-abbrev pub CountsFollowAcross : ℕ → List (List (ℕ × ℕ)) → ℕ → Type 0
-CountsFollowAcross from [] to = ⊥
-CountsFollowAcross from (counts ∷ []) to = CountsFollow from counts to
-CountsFollowAcross from (counts ∷ next ∷ later) to = (end start : ℕ) × CountsFollow from counts end × CountsFollowAcross start (next ∷ later) to
+-- In each session the counts of faults follow one another, from that of the shelf as the session found it to that of the shelf as it left it.
+abbrev pub CountsFollowIn : List (ℕ × ℕ) → List (List (ℕ × ℕ)) → Type 0
+CountsFollowIn [] [] = Unit {0}
+CountsFollowIn (session ∷ sessions) (counts ∷ later) = CountsFollow session.0 counts session.1 × CountsFollowIn sessions later
+CountsFollowIn sessions counts = ⊥
 
--- What a whole run does on whose way the shelf was closed and opened again, so that it has several sessions: all that a run does, but that each session
--- counts faults anew.
-pub record IsRunAcross (h0 : List Entry) (ds : List Delivery) (rs : List Reply) (old new : Shown) : Type 0 where
+-- What a run of one session or more did, each given by the counts of faults of the shelf as it found it and as it left it; between two of them the shelf was closed
+-- and opened again. It is what a run does, but that faults are counted session by session.
+pub record IsRunAcross (h0 : List Entry) (ds : List Delivery) (rs : List Reply) (sessions : List (ℕ × ℕ)) (old new : Shown) : Type 0 where
   pub history : IsHistory (history_after h0 ds rs)
   pub view : Views (history_after h0 ds rs) new.tables
-  pub sessions : List (List (ℕ × ℕ))
-  pub right : AreRight h0 ds rs (all_counts sessions)
-  pub follow : CountsFollowAcross old.faults sessions new.faults
+  pub counts : List (List (ℕ × ℕ))
+  pub right : AreRight h0 ds rs (all_counts counts)
+  pub follow : CountsFollowIn sessions counts
   pub stops : (t : Tables) → new.stops t → old.stops t ⊎ StopsWithin h0 ds rs t
   pub since : StopGoesOnFrom h0 old → StopGoesOnFrom (history_after h0 ds rs) new
 
--- a run is one of a single session
+-- a run by itself is one of a single session
 abbrev pub RunIsSession : {S : Type 0} → (S → Shown) → Type 0
 RunIsSession {S} state = (h0 : List Entry) (ds : List Delivery) (rs : List Reply) (s t : S) →
-    IsRun h0 ds rs (state s) (state t) → IsRunAcross h0 ds rs (state s) (state t)
+    IsRun h0 ds rs (state s) (state t) → IsRunAcross h0 ds rs (((state s).faults, (state t).faults) ∷ []) (state s) (state t)
 
--- A run of any number of sessions, and then, with the shelf closed and opened between them, one more run are one run of the deliveries of both. Of the
--- shelf that was opened no more is known than that its tables are those that it had, unless it is shut, and that a stop leaves nothing that it could not
--- leave before.
+-- A run of any number of sessions, and then, with the shelf closed and opened between them, one more run are such a run of the deliveries of both. Of the shelf
+-- that was opened no more is known than that its tables are those of the shelf that was closed, unless it is shut, and that a stop leaves nothing that it could
+-- not leave before.
 abbrev pub RunsGoOn : {S : Type 0} → (S → Shown) → Type 0
-RunsGoOn {S} state = (h0 : List Entry) (ds es : List Delivery) (rs ss : List Reply) (s t u v : S) →
-    IsRunAcross h0 ds rs (state s) (state t) → StaysOrShuts (state t).tables (state u).tables → AddsNoStop (state t) (state u) →
-    ((h : List Entry) → IsHistory h → Views h (state u).tables → IsRun h es ss (state u) (state v)) → IsRunAcross h0 (ds ++ es) (rs ++ ss) (state s) (state v)
+RunsGoOn {S} state = (h0 : List Entry) (ds es : List Delivery) (rs ss : List Reply) (sessions : List (ℕ × ℕ)) (s t u v : S) →
+    IsRunAcross h0 ds rs sessions (state s) (state t) → StaysOrShuts (state t).tables (state u).tables → AddsNoStop (state t) (state u) →
+    ((h : List Entry) → IsHistory h → Views h (state u).tables → IsRun h es ss (state u) (state v)) →
+    IsRunAcross h0 (ds ++ es) (rs ++ ss) (sessions ++ ((state u).faults, (state v).faults) ∷ []) (state s) (state v)
 
 -- Requests that come again, after some first part of them stood, give the history of the whole. An entry carries the reply that was
 -- given, so a choice that was made stays.

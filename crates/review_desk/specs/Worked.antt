@@ -59,7 +59,7 @@ abbrev pub EndsShown : List Delivery → (List Reply → Result (List ℕ) ShowF
 EndsShown questions page before after ended s t =
     (told : Result (Unit {0}) ShowFault) × (ended ≡ shown_outcome told) × Showed questions page before after told s t
 
--- Why no desk was made: not for what stands there as a desk; where it was for tables that are there, nothing was touched.
+-- Why no desk was made: not for what stands there as a desk; where it was for a table of one of the twelve names, one is there, and nothing was touched.
 abbrev pub IsCauseOf : {S : Type 0} → Ghosts S → Held S → Held S → DeskFault → Type 0
 IsCauseOf g old new cause =
     (cause ≢ NotADesk) × (cause ≢ WrongVersion) × (cause ≡ NotEmpty → Stays (state g old) (state g new) × (IsTrue (state g new).is_open → IsAnyThere old.schema))

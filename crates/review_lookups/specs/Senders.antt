@@ -21,11 +21,11 @@ KnowsIf IsSo (Some false) = IsSo → ⊥
 abbrev pub is_sent_with : Base → Header → PatchRow → Bool
 is_sent_with base header patch = bytes_eq header.project base.project && (bytes_eq header.branch base.branch && bytes_eq patch.commit base.commit)
 
--- it is so, and where the change is to be merged, it is
+-- it is so, and where a merged change is looked for, it is merged
 abbrev pub IsSentWith : Bool → Base → Header → PatchRow → Type 0
 IsSentWith merged base header patch = (is_sent_with base header patch ≡ true) × (merged ≡ true → header.state ≡ Merged)
 
--- a change for the branch has sent the commit by its patch set of a number, and where the change is to be merged, it is
+-- a change for the branch has sent the commit by its patch set of a number; where a merged change is looked for, it is merged
 abbrev pub HasSent : Bool → Base → ℕ × ℕ → Trees → Type 0
 HasSent merged base e db = (s : IsSender (tables_at db).row base e.0) × (s.number ≡ e.1) × (merged ≡ true → s.header.state ≡ Merged)
 
@@ -33,7 +33,7 @@ HasSent merged base e db = (s : IsSender (tables_at db).row base e.0) × (s.numb
 abbrev pub IsLastSet : ℕ × ℕ → Trees → Type 0
 IsLastSet e db = (m : ℕ) → e.1 < m → (tables_at db).row (PartKey e.0 (PatchOf m)) ≡ None
 
--- a change for the branch has sent the commit by its patch set of a number; where it is to be merged, as its current one
+-- a change for the branch has sent the commit by its patch set of a number; where a merged change is looked for, it is merged, and that is its current patch set
 abbrev pub IsSentIn : Bool → Base → ℕ × ℕ → Trees → Type 0
 IsSentIn merged base e db = HasSent merged base e db × (merged ≡ true → IsLastSet e db)
 

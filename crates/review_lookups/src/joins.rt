@@ -96,7 +96,7 @@ fn find_at<S: Alter>(
     Ok(joined_at(key, change, header, patch))
 }
 
-// The greatest place of the changes for a branch, or 0; none where it is odd.
+// A place after which no change of the branch stands: the greatest, or 0; none where that is odd.
 fn last_place(found: Option<Option<(ChangeNo, u32)>>) -> Option<u64>
     ensures { (key : BranchKey) (db : Trees) → HasGreatest change_places 8 key db found → Knows result (λ last. NoneAbove key last db) }
 {

@@ -38,7 +38,7 @@ fn is_sent(base: &Base, header: &Header, patch: &PatchRow) -> bool
         && patch.commit.as_str() == base.commit.as_str()
 }
 
-// The same; where the change is to be merged, it is merged as well.
+// The same; where a merged change is looked for, it is merged as well.
 fn is_sent_as(base: &Base, merged: bool, header: &Header, patch: &PatchRow) -> bool
     ensures { MatchBool result (IsSentWith merged base.now header.now patch.now) (IsSentWith merged base.now header.now patch.now → ⊥) }
 {

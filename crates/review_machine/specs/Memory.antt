@@ -15,7 +15,7 @@ use Rattle.review_lines.specs.declared.fault.Outcome.{Outcome}
 abbrev pub HadNoMemory : Option (List ℕ) → Option (List ℕ) → Result Outcome Fault → Type 0
 HadNoMemory before after told = (told ≡ Err fault.Memory) × Appends before after []
 
--- The first lines of an input, all where no fault came, were a run from the history of no request, with no premise, and were answered.
+-- The first lines of an input, all where no fault came, were a run from the history of no request, with no premise on a store, and were answered.
 abbrev pub RanFromNothing : Option (List ℕ) → Option (List ℕ) → Option (List ℕ) → Result Outcome Fault → Type 0
 RanFromNothing input before after told =
     (first last : Tables) × IsView [] first × (lines : List (List ℕ)) × (replies : List Reply) × HasFirst input lines × (length replies ≡ length (deliveries lines))

@@ -25,6 +25,8 @@ use std::io::{Read, Write};
 /// first part of them where the writer failed. This is said of readers and writers whose bytes are known; of standard input and
 /// output `std` knows none.
 ///
+/// Premises: the clauses on tables hold where the store returned what was written to it, and once a fault has shut it nothing is said of tables.
+///
 /// Of the history that the run leaves, as of each: each change joined its branch at most once and has its place there; it stands on a base of the
 /// branch or on a change that joined before it; and just before its submit it was open, not in work in progress, and no requirement was unsatisfied.
 pub fn apply_lines<R: Read, W: Write, S: Shelf>(

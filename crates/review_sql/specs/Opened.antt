@@ -52,7 +52,7 @@ pub record IsSeen (s : State) (seen : Seen) : Type 0 where
   pub ready : seen.is_ours ≡ true → IsReady s.now × IsDesk seen.requests s.now.trees
   pub ours : s.now.schema ≡ desk_schema → AreAllApart s.now.trees → seen.is_ours ≡ true
 
--- Why tables are refused: those of the form that `create` makes only for their row of the desk. Of other tables no more is said than that they are not refused as full.
+-- Why tables are refused: those of the form that `create` makes as no desk or another version only for their row of the desk, and as not ours only where rows of one have one rowid. Of other tables no more is said than that they are not refused as not empty.
 pub record IsRefused (s : State) (fault : DeskFault) : Type 0 where
   pub no_desk : s.now.schema ≡ desk_schema → fault ≡ NotADesk → IsNoDesk (row_at desk s.now.trees tt)
   pub other_version : s.now.schema ≡ desk_schema → fault ≡ WrongVersion → IsOtherVersion (row_at desk s.now.trees tt)

@@ -64,7 +64,7 @@ pub record Stays (old new : State) : Type 0 where
 abbrev pub IsUnderstood : Schema → List ℕ → Type 0
 IsUnderstood schema sql = (c : Compiled) × (understood schema sql ≡ Ok c)
 
--- a refusal leaves what was, and a stop within it that or, where the store had no table, a whole desk
+-- A refusal leaves what was. A stop within it leaves that or, where the store had no table, a whole desk; what it leaves where other tables stood is not said.
 pub record IsUnmade (old new : State) : Type 0 where
   pub undone : IsTrue new.is_open → IsTrue old.is_open × (new.now ≡ old.now)
   pub survives : Survives old new (λ db. IsTrue old.is_open × ((after : Database) × (db ≡ after.trees) × MakesDesk old.now after))

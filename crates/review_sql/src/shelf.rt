@@ -200,7 +200,7 @@ impl<S: Alter + Drop, O: Origin> SqlShelf<S, O> {
     }
 }
 
-// Counts a call that the store refused.
+// Counts a call that is told as a store fault.
 fn refuse(faults: &mut u64) -> ShelfFault
     ensures counted { IsCounted result (min faults.old greatest_count) (min faults.new greatest_count) }
     ensures store { result ≡ ShelfFault.Store }
