@@ -3,6 +3,7 @@ use Rattle.std.specs.Prelude.{◌≡◌, ◌≢◌, ◌⊎◌, ℕ, Bool, true, 
 use Rattle.std.specs.Io.KnownBytes.{Appends}
 use Rattle.sqlite_trees.specs.declared.store.Store.{Ghosts}
 use Rattle.sqlite.specs.Held.{Held, state}
+use Rattle.review_tables.specs.Desk.{schema_0}
 use Rattle.review_words.specs.declared.command.Delivery.{Delivery}
 use Rattle.review_words.specs.declared.reply.Reply.{Reply}
 use Rattle.review_rows.specs.Shelf.{Shown}
@@ -59,13 +60,15 @@ abbrev pub EndsShown : List Delivery → (List Reply → Result (List ℕ) ShowF
 EndsShown questions page before after ended s t =
     (told : Result (Unit {0}) ShowFault) × (ended ≡ shown_outcome told) × Showed questions page before after told s t
 
--- Why no desk was made: not for what stands there as a desk; where it was for a table of one of the twelve names, one is there, and nothing was touched.
-abbrev pub IsCauseOf : {S : Type 0} → Ghosts S → Held S → Held S → DeskFault → Type 0
-IsCauseOf g old new cause =
+-- Why no desk was made: not for what stands there as a desk; where it was for a table of one of the twelve names, one is there, and nothing was touched; and
+-- not as not ours but where one of ours was to be made, in a store with tables.
+abbrev pub IsCauseOf : {S : Type 0} → Ghosts S → Bool → Held S → Held S → DeskFault → Type 0
+IsCauseOf g is_ours old new cause =
     (cause ≢ NotADesk) × (cause ≢ WrongVersion) × (cause ≡ NotEmpty → Stays (state g old) (state g new) × (IsTrue (state g new).is_open → IsAnyThere old.schema))
+    × (cause ≡ NotOurs → IsTrue is_ours × (IsTrue (state g new).is_open → old.schema ≡ schema_0 → ⊥))
 
 -- A desk was made as `create` says, and closed, or refused with the tables as they were.
 abbrev pub Made : {S X : Type 0} → Ghosts S → Bool → Held S → Held S → Result X ProgramFault → Type 0
 Made {S} g is_ours old new made =
     IfOk made (λ done. (shelf : ShelfView S) × IsCreated g is_ours old shelf × IsClosed g is_ours shelf new)
-    × IfErr made (λ fault. IsUnmade (state g old) (state g new) × ((cause : DeskFault) × (fault ≡ desk_fault cause) × IsCauseOf g old new cause))
+    × IfErr made (λ fault. IsUnmade (state g old) (state g new) × ((cause : DeskFault) × (fault ≡ desk_fault cause) × IsCauseOf g is_ours old new cause))

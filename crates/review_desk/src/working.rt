@@ -26,7 +26,7 @@ pub fn create<S: Alter + Drop>(
 ) -> (Connection<S>, Result<(), ProgramFault>)
     requires mode { conn.in_transaction ≡ false }
     ensures mode { result.0.in_transaction ≡ false }
-    ensures made { (is_ours : Bool) × (conn.schema ≡ schema_0 → is_ours ≡ true) × Made S.Store is_ours conn result.0 result.1 }
+    ensures made { (is_ours : Bool) × (conn.schema ≡ schema_0 → is_ours ≡ true) × (is_ours ≡ true → conn.schema ≡ schema_0) × Made S.Store is_ours conn result.0 result.1 }
 {
     if is_blank(conn.schema()) {
         create_as::<S, Ours>(alloc, conn)
