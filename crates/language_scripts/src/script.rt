@@ -22,6 +22,12 @@ impl Script {
         Ok(Script { change, vote })
     }
 
+    /// Forgets what was said.
+    pub fn begin(&mut self, alloc: Global) -> Result<(), Fault> {
+        *self = Script::new(alloc)?;
+        Ok(())
+    }
+
     /// The answer to a question, if a word asks one.
     fn asked(&self, alloc: Global, word: &str, text: &str) -> Result<Option<String>, Fault> {
         let answer = match word {
