@@ -32,6 +32,7 @@ mod texts;
 
 use fault::Fault;
 use script::Script;
+use std::io;
 use std::io::{BufRead, BufReader};
 use std::process::ExitCode;
 
@@ -59,14 +60,27 @@ fn step(rt: &HostRuntime, script: &mut Script, line: &str) -> Result<(), Fault> 
     }
 }
 
-fn transcribe(rt: &HostRuntime) -> Result<(), Fault> {
+/// Takes a line as it was read.
+fn read_step(
+    rt: &HostRuntime,
+    script: &mut Script,
+    line: Result<String, io::Error>,
+) -> Result<(), Fault> {
+    let line = line.map_err(Fault::of_input)?;
+    step(rt, script, line.as_str())
+}
+
+fn transcribe_with(rt: &HostRuntime, script: &mut Script) -> Result<(), Fault> {
     let reader = BufReader::new(rt.alloc(), rt.reader()).map_err(Fault::of_input)?;
-    let mut script = Script::new(rt.alloc());
     for line in reader.lines(rt.alloc()) {
-        let line = line.map_err(Fault::of_input)?;
-        step(rt, &mut script, line.as_str())?;
+        read_step(rt, script, line)?;
     }
     Ok(())
+}
+
+fn transcribe(rt: &HostRuntime) -> Result<(), Fault> {
+    let mut script = Script::new(rt.alloc());
+    transcribe_with(rt, &mut script)
 }
 
 fn main(rt: HostRuntime) -> ExitCode {

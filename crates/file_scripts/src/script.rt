@@ -39,8 +39,35 @@ fn right(word: &str) -> Result<Right, Fault> {
     }
 }
 
-fn yes_or_no(alloc: Global, is_so: bool) -> Result<String, Fault> {
-    Ok(String::from_str(alloc, if is_so { "yes" } else { "no" })?)
+fn yes_or_no(alloc: Global, is_so: Result<bool, Fault>) -> Result<String, Fault> {
+    let answer = if is_so? { "yes" } else { "no" };
+    Ok(String::from_str(alloc, answer)?)
+}
+
+fn each_account(alloc: Global, text: &str) -> Result<Vec<AccountNo>, Fault> {
+    let mut accounts = Vec::new(alloc);
+    for number in text.split(" ") {
+        let account = AccountNo::read(number)?;
+        accounts.push(account)?;
+    }
+    Ok(accounts)
+}
+
+/// A group that words say, and its members.
+fn group(alloc: Global, words: &str) -> Result<(GroupName, Members), Fault> {
+    let (name, numbers) = words.split_once(" ").ok_or(Fault::Form)?;
+    let accounts = each_account(alloc, numbers)?;
+    let members = Members::from_vec(alloc, accounts)?;
+    let name = GroupName::read(alloc, name)?;
+    Ok((name, members))
+}
+
+/// The account and the label that words name.
+fn voter(alloc: Global, words: &str) -> Result<(AccountNo, LabelName), Fault> {
+    let (number, name) = words.split_once(" ").ok_or(Fault::Form)?;
+    let account = AccountNo::read(number)?;
+    let label = LabelName::read(alloc, name)?;
+    Ok((account, label))
 }
 
 impl Script {
@@ -64,28 +91,20 @@ impl Script {
     }
 
     fn put_group(&mut self, alloc: Global, words: &str) -> Result<(), Fault> {
-        let (name, numbers) = words.split_once(" ").ok_or(Fault::Form)?;
-        let mut accounts = Vec::new(alloc);
-        for number in numbers.split(" ") {
-            accounts.push(AccountNo::read(number)?)?;
-        }
-        let members = Members::from_vec(alloc, accounts)?;
-        self.groups
-            .0
-            .insert(GroupName::read(alloc, name)?, members)?;
+        let (name, members) = group(alloc, words)?;
+        self.groups.0.insert(name, members)?;
         Ok(())
     }
 
     fn has_right(&self, file: &ProjectFile, words: &str) -> Result<bool, Fault> {
         let (number, word) = words.split_once(" ").ok_or(Fault::Form)?;
         let account = AccountNo::read(number)?;
-        Ok(may(file, right(word)?, account, &self.groups))
+        let right = right(word)?;
+        Ok(may(file, right, account, &self.groups))
     }
 
     fn range(&self, alloc: Global, file: &ProjectFile, words: &str) -> Result<String, Fault> {
-        let (number, name) = words.split_once(" ").ok_or(Fault::Form)?;
-        let account = AccountNo::read(number)?;
-        let label = LabelName::read(alloc, name)?;
+        let (account, label) = voter(alloc, words)?;
         let (least, greatest) = range_of(file, &label, account, &self.groups);
         Ok(format!(in alloc; "from {least} to {greatest}")?)
     }
@@ -98,18 +117,29 @@ impl Script {
         }
     }
 
-    /// The answer to a question about the last file.
-    fn about_file(&self, alloc: Global, word: &str, words: &str) -> Result<String, Fault> {
-        let Ok(file) = read_file(alloc, text_of(self.lines.as_str())) else {
-            return Err(Fault::NoFile);
-        };
+    /// The answer to a question about a file.
+    fn about(
+        &self,
+        alloc: Global,
+        file: &ProjectFile,
+        word: &str,
+        words: &str,
+    ) -> Result<String, Fault> {
         match word {
-            "show" => contents_of(alloc, &file),
-            "may" => yes_or_no(alloc, self.has_right(&file, words)?),
-            "range" => self.range(alloc, &file, words),
-            "satisfied" => yes_or_no(alloc, is_satisfied(alloc, &file, words)?),
-            "covers" => yes_or_no(alloc, self.is_covered(alloc, &file)?),
+            "show" => contents_of(alloc, file),
+            "may" => yes_or_no(alloc, self.has_right(file, words)),
+            "range" => self.range(alloc, file, words),
+            "satisfied" => yes_or_no(alloc, is_satisfied(alloc, file, words)),
+            "covers" => yes_or_no(alloc, self.is_covered(alloc, file)),
             _ => Err(Fault::Form),
+        }
+    }
+
+    /// The answer to a question about the last file.
+    fn about_last(&self, alloc: Global, word: &str, words: &str) -> Result<String, Fault> {
+        match read_file(alloc, text_of(self.lines.as_str())) {
+            Ok(file) => self.about(alloc, &file, word, words),
+            Err(_) => Err(Fault::NoFile),
         }
     }
 
@@ -122,10 +152,11 @@ impl Script {
         }
         self.is_whole = true;
         let text = text_of(self.lines.as_str());
-        Ok(Some(match word {
-            "read" => reading(alloc, text)?,
-            "fronts" => fronts(alloc, text)?,
-            _ => self.about_file(alloc, word, words)?,
-        }))
+        let answer = match word {
+            "read" => reading(alloc, text),
+            "fronts" => fronts(alloc, text),
+            _ => self.about_last(alloc, word, words),
+        };
+        Ok(Some(answer?))
     }
 }

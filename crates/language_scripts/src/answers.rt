@@ -17,8 +17,9 @@ fn printed(alloc: Global, expr: &Expr) -> Result<String, AllocError> {
 
 /// The line of the labels that an expression names, with a line feed before it, if it names any.
 fn labels_line(alloc: Global, expr: &Expr) -> Result<String, AllocError> {
+    let labels = labels_of(alloc, expr)?;
     let mut line = String::new(alloc);
-    for label in &labels_of(alloc, expr)? {
+    for label in &labels {
         line.push_str(if line.is_empty() {
             "\n   labels: "
         } else {
@@ -42,16 +43,26 @@ fn refused(alloc: Global, fault: ParseFault) -> Result<String, Fault> {
     }
 }
 
+/// What an expression is printed as, and the line of its labels.
+fn shown(alloc: Global, expr: &Expr) -> Result<String, Fault> {
+    let mut answer = printed(alloc, expr)?;
+    let labels = labels_line(alloc, expr)?;
+    answer.push_str(labels.as_str())?;
+    Ok(answer)
+}
+
 /// What is said of a text that was read.
 pub fn reading(alloc: Global, read: Result<Expr, ParseFault>) -> Result<String, Fault> {
     match read {
-        Ok(expr) => {
-            let mut answer = printed(alloc, &expr)?;
-            answer.push_str(labels_line(alloc, &expr)?.as_str())?;
-            Ok(answer)
-        }
+        Ok(expr) => shown(alloc, &expr),
         Err(fault) => refused(alloc, fault),
     }
+}
+
+/// Whether an expression holds.
+fn judged(alloc: Global, expr: &Expr, facts: &Facts) -> Result<String, Fault> {
+    let held = eval(alloc, expr, facts)?;
+    Ok(String::from_str(alloc, if held { "yes" } else { "no" })?)
 }
 
 /// Whether a text that was read holds.
@@ -61,10 +72,7 @@ pub fn judgement(
     facts: &Facts,
 ) -> Result<String, Fault> {
     match read {
-        Ok(expr) => {
-            let held = eval(alloc, &expr, facts)?;
-            Ok(String::from_str(alloc, if held { "yes" } else { "no" })?)
-        }
+        Ok(expr) => judged(alloc, &expr, facts),
         Err(fault) => refused(alloc, fault),
     }
 }

@@ -10,13 +10,15 @@ use std::collections::BTreeMap;
 
 /// A change of which nothing was said.
 pub fn first_change(alloc: Global) -> Result<Facts, Fault> {
+    let paths = Paths::from_vec(alloc, Vec::new(alloc))?;
+    let branch = BranchName::read(alloc, "main")?;
     Ok(Facts::Change(ChangeFacts {
         votes: BTreeMap::new(alloc),
         ranges: BTreeMap::new(alloc),
-        paths: Paths::from_vec(alloc, Vec::new(alloc))?,
+        paths,
         owner: AccountNo::first(),
         uploader: AccountNo::first(),
-        branch: BranchName::read(alloc, "main")?,
+        branch,
         unresolved: false,
         groups: Groups(BTreeMap::new(alloc)),
     }))
@@ -60,10 +62,9 @@ fn value(text: &str) -> Result<i8, Fault> {
 
 fn range(text: &str) -> Result<ValueRange, Fault> {
     let (least, greatest) = cut(text)?;
-    Ok(ValueRange {
-        least: value(least)?,
-        greatest: value(greatest)?,
-    })
+    let least = value(least)?;
+    let greatest = value(greatest)?;
+    Ok(ValueRange { least, greatest })
 }
 
 fn kind(text: &str) -> Result<ChangeKind, Fault> {
@@ -78,40 +79,113 @@ fn kind(text: &str) -> Result<ChangeKind, Fault> {
     }
 }
 
-fn paths(alloc: Global, text: &str) -> Result<Paths, Fault> {
+fn put_account(account: &mut AccountNo, text: &str) -> Result<(), Fault> {
+    *account = AccountNo::read(text)?;
+    Ok(())
+}
+
+fn put_branch(alloc: Global, branch: &mut BranchName, text: &str) -> Result<(), Fault> {
+    *branch = BranchName::read(alloc, text)?;
+    Ok(())
+}
+
+fn put_threads(unresolved: &mut bool, text: &str) -> Result<(), Fault> {
+    *unresolved = is_first(text, "unresolved", "resolved")?;
+    Ok(())
+}
+
+fn put_value(number: &mut i8, text: &str) -> Result<(), Fault> {
+    *number = value(text)?;
+    Ok(())
+}
+
+fn put_range(values: &mut ValueRange, text: &str) -> Result<(), Fault> {
+    *values = range(text)?;
+    Ok(())
+}
+
+fn put_kind(patch: &mut ChangeKind, text: &str) -> Result<(), Fault> {
+    *patch = kind(text)?;
+    Ok(())
+}
+
+fn put_files(unchanged: &mut bool, text: &str) -> Result<(), Fault> {
+    *unchanged = is_first(text, "same", "changed")?;
+    Ok(())
+}
+
+fn each_path(alloc: Global, text: &str) -> Result<Vec<Path>, Fault> {
     let mut paths = Vec::new(alloc);
     for path in text.split(", ") {
-        paths.push(Path::read(alloc, path)?)?;
+        let path = Path::read(alloc, path)?;
+        paths.push(path)?;
     }
-    Ok(Paths::from_vec(alloc, paths)?)
+    Ok(paths)
+}
+
+fn put_paths(alloc: Global, paths: &mut Paths, text: &str) -> Result<(), Fault> {
+    let given = each_path(alloc, text)?;
+    *paths = Paths::from_vec(alloc, given)?;
+    Ok(())
+}
+
+fn each_account(alloc: Global, text: &str) -> Result<Vec<AccountNo>, Fault> {
+    let mut accounts = Vec::new(alloc);
+    for number in text.split(" ") {
+        let account = AccountNo::read(number)?;
+        accounts.push(account)?;
+    }
+    Ok(accounts)
+}
+
+fn members(alloc: Global, text: &str) -> Result<Members, Fault> {
+    let accounts = each_account(alloc, text)?;
+    Ok(Members::from_vec(alloc, accounts)?)
 }
 
 fn put_group(alloc: Global, groups: &mut Groups, text: &str) -> Result<(), Fault> {
     let (name, numbers) = cut(text)?;
-    let mut accounts = Vec::new(alloc);
-    for number in numbers.split(" ") {
-        accounts.push(AccountNo::read(number)?)?;
-    }
-    let members = Members::from_vec(alloc, accounts)?;
-    groups.0.insert(GroupName::read(alloc, name)?, members)?;
+    let name = GroupName::read(alloc, name)?;
+    let members = members(alloc, numbers)?;
+    groups.0.insert(name, members)?;
     Ok(())
 }
 
-fn put_label(alloc: Global, facts: &mut ChangeFacts, text: &str) -> Result<(), Fault> {
+/// What labels have, by their names.
+type OfLabels<T> = BTreeMap<LabelName, T>;
+
+fn put_label(alloc: Global, ranges: &mut OfLabels<ValueRange>, text: &str) -> Result<(), Fault> {
     let (name, values) = cut(text)?;
+    let values = range(values)?;
     let label = LabelName::read(alloc, name)?;
-    facts.ranges.insert(label, range(values)?)?;
+    ranges.insert(label, values)?;
     Ok(())
 }
 
-fn put_votes(alloc: Global, facts: &mut ChangeFacts, text: &str) -> Result<(), Fault> {
-    let (name, given) = cut(text)?;
+fn vote(text: &str) -> Result<(AccountNo, i8), Fault> {
+    let (account, number) = cut(text)?;
+    let account = AccountNo::read(account)?;
+    Ok((account, value(number)?))
+}
+
+fn each_vote(alloc: Global, text: &str) -> Result<BTreeMap<AccountNo, i8>, Fault> {
     let mut votes = BTreeMap::new(alloc);
-    for vote in given.split(", ") {
-        let (account, number) = cut(vote)?;
-        votes.insert(AccountNo::read(account)?, value(number)?)?;
+    for part in text.split(", ") {
+        let (account, value) = vote(part)?;
+        votes.insert(account, value)?;
     }
-    facts.votes.insert(LabelName::read(alloc, name)?, votes)?;
+    Ok(votes)
+}
+
+fn put_votes(
+    alloc: Global,
+    votes: &mut OfLabels<BTreeMap<AccountNo, i8>>,
+    text: &str,
+) -> Result<(), Fault> {
+    let (name, given) = cut(text)?;
+    let label = LabelName::read(alloc, name)?;
+    let given = each_vote(alloc, given)?;
+    votes.insert(label, given)?;
     Ok(())
 }
 
@@ -122,32 +196,34 @@ fn tell_change(
     word: &str,
     text: &str,
 ) -> Result<bool, Fault> {
-    match word {
-        "owner" => facts.owner = AccountNo::read(text)?,
-        "uploader" => facts.uploader = AccountNo::read(text)?,
-        "branch" => facts.branch = BranchName::read(alloc, text)?,
-        "paths" => facts.paths = paths(alloc, text)?,
-        "threads" => facts.unresolved = is_first(text, "unresolved", "resolved")?,
-        "group" => put_group(alloc, &mut facts.groups, text)?,
-        "label" => put_label(alloc, facts, text)?,
-        "votes" => put_votes(alloc, facts, text)?,
+    let told = match word {
+        "owner" => put_account(&mut facts.owner, text),
+        "uploader" => put_account(&mut facts.uploader, text),
+        "branch" => put_branch(alloc, &mut facts.branch, text),
+        "paths" => put_paths(alloc, &mut facts.paths, text),
+        "threads" => put_threads(&mut facts.unresolved, text),
+        "group" => put_group(alloc, &mut facts.groups, text),
+        "label" => put_label(alloc, &mut facts.ranges, text),
+        "votes" => put_votes(alloc, &mut facts.votes, text),
         _ => return Ok(false),
-    }
+    };
+    told?;
     Ok(true)
 }
 
 /// Takes a fact of a vote: whether the word names one.
 fn tell_vote(alloc: Global, facts: &mut VoteFacts, word: &str, text: &str) -> Result<bool, Fault> {
-    match word {
-        "voter" => facts.voter = AccountNo::read(text)?,
-        "uploader" => facts.uploader = AccountNo::read(text)?,
-        "value" => facts.value = value(text)?,
-        "range" => facts.range = range(text)?,
-        "kind" => facts.kind = kind(text)?,
-        "files" => facts.unchanged_files = is_first(text, "same", "changed")?,
-        "group" => put_group(alloc, &mut facts.groups, text)?,
+    let told = match word {
+        "voter" => put_account(&mut facts.voter, text),
+        "uploader" => put_account(&mut facts.uploader, text),
+        "value" => put_value(&mut facts.value, text),
+        "range" => put_range(&mut facts.range, text),
+        "kind" => put_kind(&mut facts.kind, text),
+        "files" => put_files(&mut facts.unchanged_files, text),
+        "group" => put_group(alloc, &mut facts.groups, text),
         _ => return Ok(false),
-    }
+    };
+    told?;
     Ok(true)
 }
 

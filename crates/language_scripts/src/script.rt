@@ -22,6 +22,12 @@ impl Script {
         Ok(Script { change, vote })
     }
 
+    /// Forgets what was said.
+    pub fn begin(&mut self, alloc: Global) -> Result<(), Fault> {
+        *self = Script::new(alloc)?;
+        Ok(())
+    }
+
     /// The answer to a question, if a word asks one.
     fn asked(&self, alloc: Global, word: &str, text: &str) -> Result<Option<String>, Fault> {
         let answer = match word {
@@ -36,17 +42,23 @@ impl Script {
         Ok(Some(answer?))
     }
 
+    /// Takes a fact of the change, of the vote, or of both.
+    fn take_fact(&mut self, alloc: Global, word: &str, text: &str) -> Result<(), Fault> {
+        let of_change = tell(alloc, &mut self.change, word, text)?;
+        let of_vote = tell(alloc, &mut self.vote, word, text)?;
+        if of_change || of_vote {
+            return Ok(());
+        }
+        Err(Fault::Form)
+    }
+
     /// Takes a line: its answer, if it asks something.
     pub fn take(&mut self, alloc: Global, line: &str) -> Result<Option<String>, Fault> {
         let (word, rest) = line.split_once(" ").unwrap_or((line, ""));
         let text = whole_text(alloc, rest)?;
         let answer = self.asked(alloc, word, text.as_str())?;
         if answer.is_none() {
-            let of_change = tell(alloc, &mut self.change, word, rest)?;
-            let of_vote = tell(alloc, &mut self.vote, word, rest)?;
-            if !of_change && !of_vote {
-                return Err(Fault::Form);
-            }
+            self.take_fact(alloc, word, rest)?;
         }
         Ok(answer)
     }

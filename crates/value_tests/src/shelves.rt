@@ -18,11 +18,12 @@ fn request_id(alloc: Global, text: &str) -> Result<RequestId, Fail> {
 
 /// Account 2 gets a name.
 fn second_account(alloc: Global, name: &str) -> Result<Delta, Fail> {
-    let mut accounts = Vec::new(alloc);
-    accounts.push(Change {
+    let name = account_name(alloc, name)?;
+    let change = Change {
         key: AccountNo::from_number(2).unwrap_or(AccountNo::last()),
-        row: Some(account_name(alloc, name)?),
-    })?;
+        row: Some(name),
+    };
+    let accounts = vec![in alloc; change]?;
     Ok(Delta {
         accounts,
         members: Vec::new(alloc),
@@ -34,9 +35,10 @@ fn second_account(alloc: Global, name: &str) -> Result<Delta, Fail> {
 
 /// A request of account 1.
 fn request(alloc: Global, id: &str) -> Result<Kept, Fail> {
+    let id = request_id(alloc, id)?;
     Ok(Kept {
         caller: AccountNo::first(),
-        id: request_id(alloc, id)?,
+        id,
         request: 1,
         content: String::new(alloc),
         reply: String::new(alloc),
@@ -52,14 +54,19 @@ fn fault_word(fault: ShelfFault) -> &'static str {
     }
 }
 
+/// What a commit answers.
+fn commit_word<S: Shelf>(alloc: Global, shelf: &mut S, delta: &Delta, kept: &Kept) -> &'static str {
+    match shelf.commit(alloc, delta, kept) {
+        Ok(()) => "done",
+        Err(fault) => fault_word(fault),
+    }
+}
+
 /// Gives account 2 a name: what the commit answers.
 fn commit<S: Shelf>(alloc: Global, shelf: &mut S, name: &str) -> Result<&'static str, Fail> {
-    let delta = second_account(alloc, name)?;
     let kept = request(alloc, name)?;
-    match shelf.commit(alloc, &delta, &kept) {
-        Ok(()) => Ok("done"),
-        Err(fault) => Ok(fault_word(fault)),
-    }
+    let delta = second_account(alloc, name)?;
+    Ok(commit_word(alloc, shelf, &delta, &kept))
 }
 
 /// The account that a look-up found, in words.
@@ -71,16 +78,31 @@ fn holder_word(holder: Option<AccountNo>) -> &'static str {
     }
 }
 
+/// What is needed to know the account of a name.
+fn need_of(alloc: Global, name: &AccountName) -> Result<Need, Fail> {
+    let name = name.copy(alloc)?;
+    let wants = vec![in alloc; Want::AccountNamed(name)]?;
+    Ok(Need { wants })
+}
+
+/// What a look-up says of a name.
+fn loaded_word<S: Shelf>(
+    alloc: Global,
+    shelf: &mut S,
+    need: &Need,
+    name: &AccountName,
+) -> &'static str {
+    match shelf.load(alloc, need) {
+        Ok(rows) => holder_word(rows.holder(name)),
+        Err(fault) => fault_word(fault),
+    }
+}
+
 /// The account of a name, or what else the look-up answers.
 fn account_of<S: Shelf>(alloc: Global, shelf: &mut S, name: &str) -> Result<&'static str, Fail> {
     let name = account_name(alloc, name)?;
-    let need = Need {
-        wants: vec![in alloc; Want::AccountNamed(name.copy(alloc)?)]?,
-    };
-    match shelf.load(alloc, &need) {
-        Ok(rows) => Ok(holder_word(rows.holder(&name))),
-        Err(fault) => Ok(fault_word(fault)),
-    }
+    let need = need_of(alloc, &name)?;
+    Ok(loaded_word(alloc, shelf, &need, &name))
 }
 
 /// Whether a request of account 1 is recalled.
@@ -106,14 +128,25 @@ struct Calls {
 
 /// Commits ann, then bob, asks whose the names are, and recalls the first request.
 fn call<S: Shelf>(alloc: Global, shelf: &mut S) -> Result<Calls, Fail> {
+    let first = commit(alloc, shelf, "ann")?;
+    let second = commit(alloc, shelf, "bob")?;
+    let ann = account_of(alloc, shelf, "ann")?;
+    let bob = account_of(alloc, shelf, "bob")?;
+    let request = recall(alloc, shelf, "ann")?;
     Ok(Calls {
-        first: commit(alloc, shelf, "ann")?,
-        second: commit(alloc, shelf, "bob")?,
-        ann: account_of(alloc, shelf, "ann")?,
-        bob: account_of(alloc, shelf, "bob")?,
-        request: recall(alloc, shelf, "ann")?,
+        first,
+        second,
+        ann,
+        bob,
+        request,
         faults: shelf.faults(),
     })
+}
+
+/// What the five calls answer on a shelf none of whose calls fails.
+fn call_memory(alloc: Global) -> Result<Calls, Fail> {
+    let mut shelf = MemoryShelf::new(alloc)?;
+    call(alloc, &mut shelf)
 }
 
 /// What the five calls answer on a shelf one of whose calls fails.
@@ -124,8 +157,7 @@ fn call_faulty(alloc: Global, failing: u64) -> Result<Calls, Fail> {
 
 #[test]
 fn a_shelf_in_memory(rt: HostRuntime) -> Result<(), Fail> {
-    let mut shelf = MemoryShelf::new(rt.alloc())?;
-    let calls = call(rt.alloc(), &mut shelf)?;
+    let calls = call_memory(rt.alloc())?;
     assert!(rt; calls.first == "done");
     assert!(rt; calls.second == "done");
     assert!(rt; calls.ann == "nobody");
@@ -164,17 +196,24 @@ fn bob_below(alloc: Global, shelf: ShuttingShelf<MemoryShelf>) -> Result<&'stati
     account_of(alloc, &mut below, "bob")
 }
 
+/// What the five calls answer on a shelf that shuts in the second commit, and whose bob is below it.
+fn call_shutting(alloc: Global) -> Result<(Calls, &'static str), Fail> {
+    let mut shelf = ShuttingShelf::new(MemoryShelf::new(alloc)?, 2);
+    let calls = call(alloc, &mut shelf)?;
+    let bob = bob_below(alloc, shelf)?;
+    Ok((calls, bob))
+}
+
 /// The second commit is made below, and shuts the shelf.
 #[test]
 fn a_shelf_that_shuts_fails_for_good(rt: HostRuntime) -> Result<(), Fail> {
-    let mut shelf = ShuttingShelf::new(MemoryShelf::new(rt.alloc())?, 2);
-    let calls = call(rt.alloc(), &mut shelf)?;
+    let (calls, bob) = call_shutting(rt.alloc())?;
     assert!(rt; calls.first == "done");
     assert!(rt; calls.second == "store");
     assert!(rt; calls.ann == "store");
     assert!(rt; calls.bob == "store");
     assert!(rt; calls.request == "store");
     assert!(rt; calls.faults == 4);
-    assert!(rt; bob_below(rt.alloc(), shelf)? == "account 2");
+    assert!(rt; bob == "account 2");
     Ok(())
 }

@@ -8,16 +8,22 @@ use std::alloc::Global;
 use std::collections::BTreeMap;
 use std::test::Fail;
 
+fn paths(alloc: Global, path: &str) -> Result<Paths, Fail> {
+    let path = Path::read(alloc, path)?;
+    let paths = vec![in alloc; path]?;
+    Ok(Paths::from_vec(alloc, paths)?)
+}
+
 fn change(alloc: Global, path: &str) -> Result<ChangeFacts, Fail> {
-    let mut paths = Vec::new(alloc);
-    paths.push(Path::read(alloc, path)?)?;
+    let branch = BranchName::read(alloc, "main")?;
+    let paths = paths(alloc, path)?;
     Ok(ChangeFacts {
         votes: BTreeMap::new(alloc),
         ranges: BTreeMap::new(alloc),
-        paths: Paths::from_vec(alloc, paths)?,
+        paths,
         owner: AccountNo::first(),
         uploader: AccountNo::first(),
-        branch: BranchName::read(alloc, "main")?,
+        branch,
         unresolved: false,
         groups: Groups(BTreeMap::new(alloc)),
     })
@@ -25,9 +31,10 @@ fn change(alloc: Global, path: &str) -> Result<ChangeFacts, Fail> {
 
 /// Whether a change with one path has a component.
 fn has_component(alloc: Global, path: &str, name: &str) -> Result<bool, Fail> {
-    let term = RequirementTerm::File(Path::read(alloc, name)?);
-    let node = Node::Term(Box::new(alloc, term)?);
-    Ok(eval(alloc, &node, &change(alloc, path)?)?)
+    let change = change(alloc, path)?;
+    let name = Path::read(alloc, name)?;
+    let node = Node::Term(Box::new(alloc, RequirementTerm::File(name))?);
+    Ok(eval(alloc, &node, &change)?)
 }
 
 #[test]

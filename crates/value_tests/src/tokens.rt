@@ -6,6 +6,16 @@ use std::alloc::Global;
 use std::collections::VecDeque;
 use std::test::Fail;
 
+/// The token that a character writes.
+fn token(alloc: Global, byte: u8) -> Result<Token<u8>, Fail> {
+    match byte {
+        b'(' => Ok(Token::Open),
+        b')' => Ok(Token::Close),
+        b'-' => Ok(Token::Minus),
+        digit => Ok(Token::Word(Box::new(alloc, digit)?)),
+    }
+}
+
 /// The fault of tokens that are written one character each, after so many NOT.
 fn fault_of(alloc: Global, negations: usize, text: &str) -> Result<Option<ShapeFault>, Fail> {
     let mut tokens = VecDeque::new(alloc);
@@ -13,12 +23,8 @@ fn fault_of(alloc: Global, negations: usize, text: &str) -> Result<Option<ShapeF
         tokens.push_back(Token::Not)?;
     }
     for byte in text.as_bytes() {
-        tokens.push_back(match *byte {
-            b'(' => Token::Open,
-            b')' => Token::Close,
-            b'-' => Token::Minus,
-            digit => Token::Word(Box::new(alloc, digit)?),
-        })?;
+        let token = token(alloc, *byte)?;
+        tokens.push_back(token)?;
     }
     Ok(parse(alloc, tokens).err())
 }

@@ -2,16 +2,18 @@
 
 use crate::asked::asked;
 use crate::fault::{Fault, named};
-use crate::sets::{given_paths, labels};
-use crate::texts::{answered, cut, on_a_line, truth, whole_number};
+use crate::lists::{Part, list};
+use crate::sets::labels;
+use crate::texts::{answered, cut, cut_thrice, cut_twice, on_a_line, truth, whole_number};
 use review_texts::content_text;
 use review_words::{
-    BranchName, ChangeCommand, ChangeKind, ChangeNo, Command, Comments, CommitName,
+    BranchName, ChangeCommand, ChangeKind, ChangeNo, Command, CommentNo, Comments, CommitName,
     Message, NewChange, NewComment, NewPatch, PatchNo, Paths, Place, ProjectName, Review, Subject,
 };
 use std::alloc::Global;
 
 /// The parts of a new change's text.
+#[derive(Drop)]
 struct ChangeParts<'a> {
     project: &'a str,
     branch: &'a str,
@@ -23,12 +25,8 @@ struct ChangeParts<'a> {
 }
 
 fn change_parts(text: &str) -> Result<ChangeParts<'_>, Fault> {
-    let (project, rest) = cut(text, " ")?;
-    let (branch, rest) = cut(rest, " ")?;
-    let (commit, rest) = cut(rest, " ")?;
-    let (parent, rest) = cut(rest, " ")?;
-    let (paths, rest) = cut(rest, " ")?;
-    let (wip, subject) = cut(rest, " ")?;
+    let (project, branch, commit, rest) = cut_thrice(text, " ")?;
+    let (parent, paths, wip, subject) = cut_thrice(rest, " ")?;
     Ok(ChangeParts {
         project,
         branch,
@@ -47,16 +45,25 @@ fn commits(alloc: Global, commit: &str, parent: &str) -> Result<(CommitName, Com
 }
 
 fn paths(alloc: Global, text: &str) -> Result<Paths, Fault> {
-    let given = given_paths(alloc, text)?;
+    let given = list(alloc, text, ",")?;
     Ok(Paths::from_vec(alloc, given)?)
+}
+
+/// Where a new change belongs, and what it is about.
+fn place(
+    alloc: Global,
+    parts: &ChangeParts<'_>,
+) -> Result<(ProjectName, BranchName, Subject), Fault> {
+    let project = ProjectName::read(alloc, parts.project)?;
+    let branch = BranchName::read(alloc, parts.branch)?;
+    let subject = Subject::read(alloc, parts.subject)?;
+    Ok((project, branch, subject))
 }
 
 fn new_change(alloc: Global, text: &str) -> Result<Command, Fault> {
     let parts = change_parts(text)?;
     let wip = truth(parts.wip)?;
-    let project = ProjectName::read(alloc, parts.project)?;
-    let branch = BranchName::read(alloc, parts.branch)?;
-    let subject = Subject::read(alloc, parts.subject)?;
+    let (project, branch, subject) = place(alloc, &parts)?;
     let (commit, parent) = commits(alloc, parts.commit, parts.parent)?;
     let paths = paths(alloc, parts.paths)?;
     Ok(Command::CreateChange(NewChange {
@@ -72,9 +79,7 @@ fn new_change(alloc: Global, text: &str) -> Result<Command, Fault> {
 
 /// The patch set of a text.
 fn patch_set(alloc: Global, text: &str) -> Result<NewPatch, Fault> {
-    let (commit, rest) = cut(text, " ")?;
-    let (parent, rest) = cut(rest, " ")?;
-    let (kind, given) = cut(rest, " ")?;
+    let (commit, parent, kind, given) = cut_thrice(text, " ")?;
     let kind = ChangeKind::from_name(kind).ok_or(Fault::Form)?;
     let (commit, parent) = commits(alloc, commit, parent)?;
     let paths = paths(alloc, given)?;
@@ -104,14 +109,18 @@ fn flag(text: &str) -> Result<Option<bool>, Fault> {
     }
 }
 
-fn comment(alloc: Global, text: &str) -> Result<NewComment, Fault> {
-    let (place, rest) = cut(text, " ")?;
-    let (line, rest) = cut(rest, " ")?;
-    let (unresolved, rest) = cut(rest, " ")?;
-    let (earlier, message) = cut(rest, " ")?;
-    let line = whole_number(line)?;
+/// Whether a comment is unresolved, and what it answers.
+fn thread(unresolved: &str, earlier: &str) -> Result<(Option<bool>, Option<CommentNo>), Fault> {
     let unresolved = flag(unresolved)?;
-    let in_reply_to = answered(earlier)?;
+    let earlier = answered(earlier)?;
+    Ok((unresolved, earlier))
+}
+
+fn comment(alloc: Global, text: &str) -> Result<NewComment, Fault> {
+    let (place, line, unresolved, rest) = cut_thrice(text, " ")?;
+    let (earlier, message) = cut(rest, " ")?;
+    let (unresolved, in_reply_to) = thread(unresolved, earlier)?;
+    let line = whole_number(line)?;
     let path = Place::read(alloc, place)?;
     let message = Message::read(alloc, message)?;
     Ok(NewComment {
@@ -123,12 +132,10 @@ fn comment(alloc: Global, text: &str) -> Result<NewComment, Fault> {
     })
 }
 
-fn comments(alloc: Global, text: &str) -> Result<Vec<NewComment>, Fault> {
-    let mut comments = Vec::new(alloc);
-    for part in text.split("|").skip(1) {
-        comments.push(comment(alloc, part)?)?;
+impl Part for NewComment {
+    fn of_text(alloc: Global, text: &str) -> Result<NewComment, Fault> {
+        comment(alloc, text)
     }
-    Ok(comments)
 }
 
 /// The patch set that a review is of, or none for the current one.
@@ -139,14 +146,23 @@ fn reviewed(text: &str) -> Result<Option<PatchNo>, Fault> {
     }
 }
 
-/// The review of a text with these comments.
-fn review_with(alloc: Global, text: &str, comments: Comments) -> Result<Command, Fault> {
-    let (head, rest) = cut(text, "|")?;
-    let (change, head) = cut(head, " ")?;
-    let (patch, given) = cut(head, " ")?;
+/// The change and the patch set that a review is of.
+fn review_of(change: &str, patch: &str) -> Result<(ChangeNo, Option<PatchNo>), Fault> {
     let change = ChangeNo::read(change)?;
     let patch = reviewed(patch)?;
-    let message = Message::read(alloc, rest.split_once("|").map_or(rest, |parts| parts.0))?;
+    Ok((change, patch))
+}
+
+/// The review of a head and a message with these comments.
+fn review_with(
+    alloc: Global,
+    head: &str,
+    message: &str,
+    comments: Comments,
+) -> Result<Command, Fault> {
+    let (change, patch, given) = cut_twice(head, " ")?;
+    let (change, patch) = review_of(change, patch)?;
+    let message = Message::read(alloc, message)?;
     let labels = labels(alloc, given)?;
     Ok(Command::OnChange {
         change,
@@ -159,40 +175,64 @@ fn review_with(alloc: Global, text: &str, comments: Comments) -> Result<Command,
     })
 }
 
-/// The review of a text, or none where one of its comments has no message.
-fn review(alloc: Global, text: &str) -> Result<Option<Command>, Fault> {
-    let (_, rest) = cut(text, "|")?;
-    let comments = comments(alloc, rest)?;
-    match named(Comments::from_vec(comments))? {
-        Some(comments) => Ok(Some(review_with(alloc, text, comments)?)),
+/// The comments of a list, or none where one of them has no message.
+fn comments(alloc: Global, text: &str) -> Result<Option<Comments>, Fault> {
+    let comments = list(alloc, text, "|")?;
+    named(Comments::from_vec(comments))
+}
+
+fn form_of(alloc: Global, command: &Command) -> Result<Option<String>, Fault> {
+    let content = content_text(alloc, command)?;
+    let line = on_a_line(alloc, content.as_str())?;
+    Ok(Some(line))
+}
+
+/// The content text of a command, which goes out of use here alone.
+fn form(alloc: Global, command: Command) -> Result<Option<String>, Fault> {
+    form_of(alloc, &command)
+}
+
+fn no_form(alloc: Global) -> Result<Option<String>, Fault> {
+    let answer = String::from_str(alloc, "no form")?;
+    Ok(Some(answer))
+}
+
+/// The content text of a review, or `no form` where one of its comments has no message.
+fn review(alloc: Global, text: &str) -> Result<Option<String>, Fault> {
+    let (head, rest) = cut(text, "|")?;
+    let (message, rest) = rest.split_once("|").unwrap_or((rest, ""));
+    match comments(alloc, rest)? {
+        Some(comments) => form(alloc, review_with(alloc, head, message, comments)?),
+        None => no_form(alloc),
+    }
+}
+
+fn create_change(alloc: Global, text: &str) -> Result<Option<String>, Fault> {
+    form(alloc, new_change(alloc, text)?)
+}
+
+fn upload(alloc: Global, text: &str) -> Result<Option<String>, Fault> {
+    form(alloc, new_patch(alloc, text)?)
+}
+
+/// The content text of what a word asks of the change that a text names first, if both are so.
+fn on_change(alloc: Global, word: &str, text: &str) -> Result<Option<String>, Fault> {
+    let (change, rest) = text.split_once(" ").unwrap_or((text, ""));
+    let Ok(change) = ChangeNo::read(change) else {
+        return Ok(None);
+    };
+    match asked(alloc, word, rest)? {
+        Some(command) => form(alloc, Command::OnChange { change, command }),
         None => Ok(None),
     }
 }
 
-/// What a word asks of the change that a text names first.
-fn on_change(alloc: Global, word: &str, text: &str) -> Result<Option<Command>, Fault> {
-    let (change, rest) = text.split_once(" ").unwrap_or((text, ""));
-    let Some(command) = asked(alloc, word, rest)? else {
-        return Ok(None);
-    };
-    let change = ChangeNo::read(change)?;
-    Ok(Some(Command::OnChange { change, command }))
-}
-
 /// The content text of a command, if a word asks for one.
 pub fn command(alloc: Global, word: &str, text: &str) -> Result<Option<String>, Fault> {
-    let command = match word {
-        "create-change" => Some(new_change(alloc, text)?),
-        "upload" => Some(new_patch(alloc, text)?),
-        "review" => review(alloc, text)?,
-        _ => match on_change(alloc, word, text)? {
-            Some(command) => Some(command),
-            None => return Ok(None),
-        },
-    };
-    let answer = match &command {
-        Some(command) => on_a_line(alloc, content_text(alloc, command)?.as_str())?,
-        None => String::from_str(alloc, "no form")?,
-    };
-    Ok(Some(answer))
+    match word {
+        "create-change" => create_change(alloc, text),
+        "upload" => upload(alloc, text),
+        "review" => review(alloc, text),
+        _ => on_change(alloc, word, text),
+    }
 }

@@ -1,14 +1,12 @@
 //! What ends a transcript early.
 
-use review_json::BadBody;
-use review_texts::BadReply;
 use review_words::BadName;
 use std::alloc::{AllocError, AllocFailed};
 use std::fmt::{Display, Formatter};
 use std::{fmt, io};
 
 /// What ends a transcript early.
-#[derive(Clone, Copy, Debug, PartialEq, Eq)]
+#[derive(Clone, Copy)]
 pub enum Fault {
     /// There was no memory.
     Memory,
@@ -57,24 +55,6 @@ pub fn named<T>(read: Result<T, BadName>) -> Result<Option<T>, Fault> {
         Ok(value) => Ok(Some(value)),
         Err(BadName::Form) => Ok(None),
         Err(BadName::Memory) => Err(Fault::Memory),
-    }
-}
-
-/// The delivery or the like that was read, or none where a line spells none.
-pub fn spelled<T>(read: Result<T, BadBody>) -> Result<Option<T>, Fault> {
-    match read {
-        Ok(value) => Ok(Some(value)),
-        Err(BadBody::Form) => Ok(None),
-        Err(BadBody::Memory) => Err(Fault::Memory),
-    }
-}
-
-/// The reply that was read, or none where a text is that of none.
-pub fn stored<T>(read: Result<T, BadReply>) -> Result<Option<T>, Fault> {
-    match read {
-        Ok(value) => Ok(Some(value)),
-        Err(BadReply::Form) => Ok(None),
-        Err(BadReply::Memory) => Err(Fault::Memory),
     }
 }
 

@@ -1,8 +1,8 @@
 //! Lines that spell deliveries.
 
-use crate::fault::{Fault, spelled};
+use crate::fault::Fault;
 use crate::texts::{on_a_line, with_byte};
-use review_json::delivery_of_line;
+use review_json::{BadBody, delivery_of_line};
 use review_texts::content_text;
 use review_words::{AccountNo, ChangeQuery, Command, Delivery, Query, RequestId};
 use std::alloc::{AllocError, Global};
@@ -56,10 +56,17 @@ fn delivery_text(alloc: Global, delivery: &Delivery) -> Result<String, Fault> {
     }
 }
 
+fn no_delivery(alloc: Global, fault: BadBody) -> Result<String, Fault> {
+    match fault {
+        BadBody::Form => Ok(String::from_str(alloc, "no delivery")?),
+        BadBody::Memory => Err(Fault::Memory),
+    }
+}
+
 fn delivery(alloc: Global, bytes: &[u8]) -> Result<String, Fault> {
-    match spelled(delivery_of_line(alloc, bytes))? {
-        Some(delivery) => delivery_text(alloc, &delivery),
-        None => Ok(String::from_str(alloc, "no delivery")?),
+    match delivery_of_line(alloc, bytes) {
+        Ok(delivery) => delivery_text(alloc, &delivery),
+        Err(fault) => no_delivery(alloc, fault),
     }
 }
 

@@ -37,6 +37,7 @@ mod asked;
 mod commands;
 mod fault;
 mod lines;
+mod lists;
 mod names;
 mod questions;
 mod replies;
@@ -66,29 +67,36 @@ fn named(alloc: Global, word: &str, text: &str) -> Result<Option<String>, Fault>
     sets::set(alloc, word, text)
 }
 
-/// What a line is answered.
-fn answer(alloc: Global, line: &str) -> Result<String, Fault> {
-    let (word, rest) = line.split_once(" ").unwrap_or((line, ""));
-    let text = whole_text(alloc, rest)?;
-    if let Some(answer) = named(alloc, word, text.as_str())? {
+/// What a command, a line that asks or a reply is told as.
+fn told(alloc: Global, word: &str, text: &str) -> Result<String, Fault> {
+    if let Some(answer) = commands::command(alloc, word, text)? {
+        return Ok(answer);
+    }
+    if let Some(answer) = lines::line(alloc, word, text)? {
+        return Ok(answer);
+    }
+    replies::reply(alloc, word, text)?.ok_or(Fault::Form)
+}
+
+/// What a word asks of a text.
+fn answer_to(alloc: Global, word: &str, text: &str) -> Result<String, Fault> {
+    if let Some(answer) = named(alloc, word, text)? {
         return Ok(answer);
     }
     if let Some(answer) = names::known(alloc, word)? {
         return Ok(answer);
     }
-    if let Some(answer) = commands::command(alloc, word, text.as_str())? {
-        return Ok(answer);
+    match word {
+        "file" => names::file_text(alloc, text),
+        _ => told(alloc, word, text),
     }
-    if let Some(answer) = lines::line(alloc, word, text.as_str())? {
-        return Ok(answer);
-    }
-    if let Some(answer) = replies::reply(alloc, word, text.as_str())? {
-        return Ok(answer);
-    }
-    if word == "file" {
-        return names::file_text(alloc, text.as_str());
-    }
-    Err(Fault::Form)
+}
+
+/// What a line is answered.
+fn answer(alloc: Global, line: &str) -> Result<String, Fault> {
+    let (word, rest) = line.split_once(" ").unwrap_or((line, ""));
+    let text = whole_text(alloc, rest)?;
+    answer_to(alloc, word, text.as_str())
 }
 
 /// Prints a line, and its answer.

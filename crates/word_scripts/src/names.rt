@@ -108,21 +108,28 @@ fn place<F: Form + Drop>(left: &Name<F>, right: &Name<F>) -> &'static str {
     }
 }
 
+/// Where a name that was read stands beside another.
+fn order<F: Form + Drop>(
+    left: Result<Name<F>, BadName>,
+    right: Result<Name<F>, BadName>,
+) -> Result<&'static str, Fault> {
+    let left = left?;
+    let right = right?;
+    Ok(place(&left, &right))
+}
+
 /// How two names stand in their order, if a word asks that.
 pub fn compared(alloc: Global, word: &str, text: &str) -> Result<Option<String>, Fault> {
     let (left, right) = text.split_once(" ").unwrap_or((text, ""));
-    let answer = match word {
-        "label-order" => {
-            let left = LabelName::read(alloc, left)?;
-            place(&left, &LabelName::read(alloc, right)?)
-        }
-        "account-order" => {
-            let left = AccountName::read(alloc, left)?;
-            place(&left, &AccountName::read(alloc, right)?)
-        }
+    let order = match word {
+        "label-order" => order(LabelName::read(alloc, left), LabelName::read(alloc, right)),
+        "account-order" => order(
+            AccountName::read(alloc, left),
+            AccountName::read(alloc, right),
+        ),
         _ => return Ok(None),
     };
-    Ok(Some(String::from_str(alloc, answer)?))
+    Ok(Some(String::from_str(alloc, order?)?))
 }
 
 /// The text of a copy of a file.

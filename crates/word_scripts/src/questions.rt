@@ -1,7 +1,8 @@
 //! Answers to questions about a change.
 
 use crate::fault::Fault;
-use crate::texts::{answered, cut, truth, whole_number};
+use crate::lists::{Part, list};
+use crate::texts::{answered, cut, cut_thrice, cut_twice, small_number, truth, whole_number};
 use review_words::{
     AccountNo, Answer, BranchName, ChangeNo, CommentNo, CommitName, LabelName, Listed, Message,
     PatchNo, Place, ProjectName, Reason, ShownCall, ShownChange, ShownComment, ShownRequirement,
@@ -32,34 +33,28 @@ fn status(text: &str) -> Result<Status, Fault> {
     }
 }
 
-fn accounts(alloc: Global, text: &str) -> Result<Listed<AccountNo>, Fault> {
-    let mut accounts = Vec::new(alloc);
-    if text != "-" {
-        for number in text.split(",") {
-            accounts.push(AccountNo::read(number)?)?;
-        }
-    }
-    Ok(Listed::from_vec(accounts))
+/// A value, and who gave it.
+fn given(text: &str) -> Result<(i8, AccountNo), Fault> {
+    let (value, account) = cut(text, "@")?;
+    let account = AccountNo::read(account)?;
+    Ok((small_number(value)?, account))
 }
 
-fn vote(alloc: Global, text: &str) -> Result<ShownVote, Fault> {
-    let (label, rest) = cut(text, "=")?;
-    let (value, account) = cut(rest, "@")?;
-    Ok(ShownVote {
-        label: LabelName::read(alloc, label)?,
-        account: AccountNo::read(account)?,
-        value: value.parse::<i8>().map_err(|_| Fault::Form)?,
-    })
+impl Part for ShownVote {
+    fn of_text(alloc: Global, text: &str) -> Result<ShownVote, Fault> {
+        let (label, rest) = cut(text, "=")?;
+        let (value, account) = given(rest)?;
+        let label = LabelName::read(alloc, label)?;
+        Ok(ShownVote {
+            label,
+            account,
+            value,
+        })
+    }
 }
 
-fn votes(alloc: Global, text: &str) -> Result<Listed<ShownVote>, Fault> {
-    let mut votes = Vec::new(alloc);
-    if text != "-" {
-        for part in text.split(",") {
-            votes.push(vote(alloc, part)?)?;
-        }
-    }
-    Ok(Listed::from_vec(votes))
+fn listed<T: Part>(alloc: Global, text: &str, mark: &str) -> Result<Listed<T>, Fault> {
+    Ok(Listed::from_vec(list(alloc, text, mark)?))
 }
 
 /// What a change is for, and who owns it.
@@ -67,32 +62,34 @@ fn place(
     alloc: Global,
     text: &str,
 ) -> Result<(ChangeNo, ProjectName, BranchName, AccountNo), Fault> {
-    let (change, rest) = cut(text, " ")?;
-    let (project, rest) = cut(rest, " ")?;
-    let (branch, owner) = cut(rest, " ")?;
+    let (change, project, branch, owner) = cut_thrice(text, " ")?;
     let change = ChangeNo::read(change)?;
+    let owner = AccountNo::read(owner)?;
     let project = ProjectName::read(alloc, project)?;
     let branch = BranchName::read(alloc, branch)?;
-    Ok((change, project, branch, AccountNo::read(owner)?))
+    Ok((change, project, branch, owner))
 }
 
 /// How a change stands, whether it is in work in progress, and when it was updated.
 fn standing(text: &str) -> Result<(State, bool, u64), Fault> {
-    let (standing, rest) = cut(text, " ")?;
-    let (wip, updated) = cut(rest, " ")?;
-    Ok((state(standing)?, truth(wip)?, number(updated)?))
+    let (standing, wip, updated) = cut_twice(text, " ")?;
+    let state = state(standing)?;
+    let wip = truth(wip)?;
+    let updated = number(updated)?;
+    Ok((state, wip, updated))
 }
 
 /// The current patch set of a change, its commit, and who sent it.
 fn patch_set(alloc: Global, text: &str) -> Result<(PatchNo, CommitName, AccountNo), Fault> {
-    let (patch, rest) = cut(text, " ")?;
-    let (commit, uploader) = cut(rest, " ")?;
+    let (patch, commit, uploader) = cut_twice(text, " ")?;
     let patch = PatchNo::read(patch)?;
+    let uploader = AccountNo::read(uploader)?;
     let commit = CommitName::read(alloc, commit)?;
-    Ok((patch, commit, AccountNo::read(uploader)?))
+    Ok((patch, commit, uploader))
 }
 
 /// The parts of a change's text.
+#[derive(Drop)]
 struct ChangeParts<'a> {
     placed: &'a str,
     stands: &'a str,
@@ -102,9 +99,7 @@ struct ChangeParts<'a> {
 }
 
 fn change_parts(text: &str) -> Result<ChangeParts<'_>, Fault> {
-    let (placed, rest) = cut(text, "|")?;
-    let (stands, rest) = cut(rest, "|")?;
-    let (sent, rest) = cut(rest, "|")?;
+    let (placed, stands, sent, rest) = cut_thrice(text, "|")?;
     let (people, subject) = cut(rest, "|")?;
     Ok(ChangeParts {
         placed,
@@ -120,11 +115,10 @@ fn people(
     alloc: Global,
     text: &str,
 ) -> Result<(Listed<AccountNo>, Listed<AccountNo>, Listed<ShownVote>), Fault> {
-    let (reviewers, rest) = cut(text, " ")?;
-    let (ccs, given) = cut(rest, " ")?;
-    let reviewers = accounts(alloc, reviewers)?;
-    let ccs = accounts(alloc, ccs)?;
-    let votes = votes(alloc, given)?;
+    let (reviewers, ccs, votes) = cut_twice(text, " ")?;
+    let reviewers = listed(alloc, reviewers, ",")?;
+    let ccs = listed(alloc, ccs, ",")?;
+    let votes = listed(alloc, votes, ",")?;
     Ok((reviewers, ccs, votes))
 }
 
@@ -153,20 +147,17 @@ fn change(alloc: Global, text: &str) -> Result<ShownChange, Fault> {
     })
 }
 
-fn requirements(alloc: Global, text: &str) -> Result<Listed<ShownRequirement>, Fault> {
-    let mut requirements = Vec::new(alloc);
-    if text != "-" {
-        for part in text.split(",") {
-            let (name, standing) = cut(part, "=")?;
-            let name = LabelName::read(alloc, name)?;
-            let status = status(standing)?;
-            requirements.push(ShownRequirement { name, status })?;
-        }
+impl Part for ShownRequirement {
+    fn of_text(alloc: Global, text: &str) -> Result<ShownRequirement, Fault> {
+        let (name, standing) = cut(text, "=")?;
+        let status = status(standing)?;
+        let name = LabelName::read(alloc, name)?;
+        Ok(ShownRequirement { name, status })
     }
-    Ok(Listed::from_vec(requirements))
 }
 
 /// The parts of a comment's text.
+#[derive(Drop)]
 struct CommentParts<'a> {
     number: &'a str,
     patch: &'a str,
@@ -179,12 +170,8 @@ struct CommentParts<'a> {
 }
 
 fn comment_parts(text: &str) -> Result<CommentParts<'_>, Fault> {
-    let (number, rest) = cut(text, " ")?;
-    let (patch, rest) = cut(rest, " ")?;
-    let (path, rest) = cut(rest, " ")?;
-    let (line, rest) = cut(rest, " ")?;
-    let (author, rest) = cut(rest, " ")?;
-    let (unresolved, rest) = cut(rest, " ")?;
+    let (number, patch, path, rest) = cut_thrice(text, " ")?;
+    let (line, author, unresolved, rest) = cut_thrice(rest, " ")?;
     let (answered, message) = cut(rest, " ")?;
     Ok(CommentParts {
         number,
@@ -229,58 +216,64 @@ fn comment(alloc: Global, text: &str) -> Result<ShownComment, Fault> {
     })
 }
 
-fn thread(alloc: Global, text: &str) -> Result<Thread, Fault> {
-    let (root, rest) = cut(text, " ")?;
-    let (unresolved, rest) = cut(rest, " ")?;
-    let mut comments = Vec::new(alloc);
-    for part in rest.split(";") {
-        comments.push(comment(alloc, part)?)?;
+impl Part for ShownComment {
+    fn of_text(alloc: Global, text: &str) -> Result<ShownComment, Fault> {
+        comment(alloc, text)
     }
-    Ok(Thread {
-        root: CommentNo::read(root)?,
-        comments: Listed::from_vec(comments),
-        unresolved: truth(unresolved)?,
-    })
 }
 
-fn threads(alloc: Global, text: &str) -> Result<Listed<Thread>, Fault> {
-    let mut threads = Vec::new(alloc);
-    if text != "-" {
-        for part in text.split("|") {
-            threads.push(thread(alloc, part)?)?;
-        }
+impl Part for Thread {
+    fn of_text(alloc: Global, text: &str) -> Result<Thread, Fault> {
+        let (root, unresolved, rest) = cut_twice(text, " ")?;
+        let root = CommentNo::read(root)?;
+        let unresolved = truth(unresolved)?;
+        let comments = listed(alloc, rest, ";")?;
+        Ok(Thread {
+            root,
+            comments,
+            unresolved,
+        })
     }
-    Ok(Listed::from_vec(threads))
 }
 
-fn call(alloc: Global, text: &str) -> Result<ShownCall, Fault> {
-    let (account, rest) = cut(text, " ")?;
-    let (request, reason) = cut(rest, " ")?;
-    Ok(ShownCall {
-        account: AccountNo::read(account)?,
-        reason: Reason::read(alloc, reason)?,
-        request: number(request)?,
-    })
+impl Part for ShownCall {
+    fn of_text(alloc: Global, text: &str) -> Result<ShownCall, Fault> {
+        let (account, request, reason) = cut_twice(text, " ")?;
+        let account = AccountNo::read(account)?;
+        let request = number(request)?;
+        let reason = Reason::read(alloc, reason)?;
+        Ok(ShownCall {
+            account,
+            reason,
+            request,
+        })
+    }
 }
 
-fn calls(alloc: Global, text: &str) -> Result<Listed<ShownCall>, Fault> {
-    let mut calls = Vec::new(alloc);
-    if text != "-" {
-        for part in text.split("|") {
-            calls.push(call(alloc, part)?)?;
-        }
-    }
-    Ok(Listed::from_vec(calls))
+fn shown(alloc: Global, text: &str) -> Result<Answer, Fault> {
+    Ok(Answer::Shown(change(alloc, text)?))
+}
+
+fn requirements(alloc: Global, text: &str) -> Result<Answer, Fault> {
+    Ok(Answer::Requirements(listed(alloc, text, ",")?))
+}
+
+fn threads(alloc: Global, text: &str) -> Result<Answer, Fault> {
+    Ok(Answer::Threads(listed(alloc, text, "|")?))
+}
+
+fn attention(alloc: Global, text: &str) -> Result<Answer, Fault> {
+    Ok(Answer::Attention(listed(alloc, text, "|")?))
 }
 
 /// The answer that a word and a text spell, if a word asks for one.
 pub fn answer(alloc: Global, word: &str, text: &str) -> Result<Option<Answer>, Fault> {
     let answer = match word {
-        "change-with" => Answer::Shown(change(alloc, text)?),
-        "requirements-with" => Answer::Requirements(requirements(alloc, text)?),
-        "threads-with" => Answer::Threads(threads(alloc, text)?),
-        "attention-with" => Answer::Attention(calls(alloc, text)?),
+        "change-with" => shown(alloc, text),
+        "requirements-with" => requirements(alloc, text),
+        "threads-with" => threads(alloc, text),
+        "attention-with" => attention(alloc, text),
         _ => return Ok(None),
     };
-    Ok(Some(answer))
+    Ok(Some(answer?))
 }

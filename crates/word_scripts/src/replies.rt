@@ -1,10 +1,11 @@
 //! Replies, their stored texts and their JSON.
 
-use crate::fault::{Fault, stored};
+use crate::fault::Fault;
+use crate::lists::{Part, list};
 use crate::questions;
 use crate::texts::cut;
 use review_json::answer_text;
-use review_texts::{read_reply, reply_text};
+use review_texts::{BadReply, read_reply, reply_text};
 use review_words::{Answer, Bases, ChangeNo, CommitName, JoinedChange, Listed, NotTaken, Reply};
 use std::alloc::Global;
 
@@ -23,58 +24,55 @@ fn stored_text(alloc: Global, reply: &Reply) -> Result<String, Fault> {
     }
 }
 
-fn told(alloc: Global, reply: &Reply) -> Result<String, Fault> {
+fn told_of(alloc: Global, reply: &Reply) -> Result<String, Fault> {
     let answer = answer_text(alloc, reply)?;
     let kept = stored_text(alloc, reply)?;
     Ok(format!(in alloc; "{answer}\n   {kept}")?)
 }
 
+/// What a reply is told as, which goes out of use here alone.
+fn told(alloc: Global, reply: Reply) -> Result<String, Fault> {
+    told_of(alloc, &reply)
+}
+
+fn no_reply(alloc: Global, fault: BadReply) -> Result<String, Fault> {
+    match fault {
+        BadReply::Form => Ok(String::from_str(alloc, "no stored reply")?),
+        BadReply::Memory => Err(Fault::Memory),
+    }
+}
+
 fn read(alloc: Global, text: &str) -> Result<String, Fault> {
-    match stored(read_reply(alloc, text))? {
-        Some(reply) => told(alloc, &reply),
-        None => Ok(String::from_str(alloc, "no stored reply")?),
+    match read_reply(alloc, text) {
+        Ok(reply) => told(alloc, reply),
+        Err(fault) => no_reply(alloc, fault),
     }
 }
 
-fn bases(alloc: Global, text: &str) -> Result<Bases, Fault> {
-    let mut bases = Bases::new(alloc);
-    if text != "-" {
-        for commit in text.split(",") {
-            bases.push(CommitName::read(alloc, commit)?)?;
-        }
+impl Part for JoinedChange {
+    fn of_text(alloc: Global, text: &str) -> Result<JoinedChange, Fault> {
+        let (change, commit) = cut(text, "@")?;
+        let change = ChangeNo::read(change)?;
+        let commit = CommitName::read(alloc, commit)?;
+        Ok(JoinedChange { change, commit })
     }
-    Ok(bases)
-}
-
-fn joined_change(alloc: Global, text: &str) -> Result<JoinedChange, Fault> {
-    let (change, commit) = cut(text, "@")?;
-    Ok(JoinedChange {
-        change: ChangeNo::read(change)?,
-        commit: CommitName::read(alloc, commit)?,
-    })
-}
-
-fn joined(alloc: Global, text: &str) -> Result<Listed<JoinedChange>, Fault> {
-    let mut changes = Vec::new(alloc);
-    if text != "-" {
-        for part in text.split(",") {
-            changes.push(joined_change(alloc, part)?)?;
-        }
-    }
-    Ok(Listed::from_vec(changes))
 }
 
 /// The bases of a branch, and what joined it.
 fn branch(alloc: Global, text: &str) -> Result<Answer, Fault> {
     let (recorded, changes) = cut(text, " ")?;
-    Ok(Answer::Branch {
-        bases: bases(alloc, recorded)?,
-        joined: joined(alloc, changes)?,
-    })
+    let bases = Bases::from_vec(list(alloc, recorded, ",")?);
+    let joined = Listed::from_vec(list(alloc, changes, ",")?);
+    Ok(Answer::Branch { bases, joined })
 }
 
-fn not_taken(cause: &str) -> Result<NotTaken, Fault> {
-    match cause {
+fn branch_told(alloc: Global, text: &str) -> Result<String, Fault> {
+    let answer = branch(alloc, text)?;
+    told(alloc, Reply::Done(answer))
+}
+
+fn cause(text: &str) -> Result<NotTaken, Fault> {
+    match text {
         "memory" => Ok(NotTaken::Memory),
         "store" => Ok(NotTaken::Store),
         "damaged" => Ok(NotTaken::Damaged),
@@ -84,17 +82,27 @@ fn not_taken(cause: &str) -> Result<NotTaken, Fault> {
     }
 }
 
+fn not_taken(alloc: Global, text: &str) -> Result<String, Fault> {
+    let cause = cause(text)?;
+    told(alloc, Reply::NotTaken(cause))
+}
+
+fn answer(alloc: Global, word: &str, text: &str) -> Result<Option<String>, Fault> {
+    let Some(answer) = questions::answer(alloc, word, text)? else {
+        return Ok(None);
+    };
+    let told = told(alloc, Reply::Done(answer))?;
+    Ok(Some(told))
+}
+
 /// What a reply is told as, if a word asks that.
 pub fn reply(alloc: Global, word: &str, text: &str) -> Result<Option<String>, Fault> {
-    let answer = match word {
+    let reply = match word {
         "reply" => read(alloc, text),
-        "branch-with" => told(alloc, &Reply::Done(branch(alloc, text)?)),
-        "not-taken" => told(alloc, &Reply::NotTaken(not_taken(text)?)),
-        "identity-reused" => told(alloc, &Reply::IdentityReused),
-        _ => match questions::answer(alloc, word, text)? {
-            Some(answer) => told(alloc, &Reply::Done(answer)),
-            None => return Ok(None),
-        },
+        "branch-with" => branch_told(alloc, text),
+        "not-taken" => not_taken(alloc, text),
+        "identity-reused" => told(alloc, Reply::IdentityReused),
+        _ => return answer(alloc, word, text),
     };
-    Ok(Some(answer?))
+    Ok(Some(reply?))
 }

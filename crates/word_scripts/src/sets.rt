@@ -1,19 +1,10 @@
 //! Sets of accounts and of paths.
 
 use crate::fault::{Fault, named};
-use review_words::{AccountNo, Given, LabelName, Labels, Members, Path, Paths};
+use crate::lists::{Part, list};
+use crate::texts::{cut, small_number};
+use review_words::{AccountNo, Given, LabelName, Labels, Members, Paths};
 use std::alloc::{AllocError, Global};
-
-fn accounts(alloc: Global, text: &str) -> Result<Vec<AccountNo>, Fault> {
-    let mut accounts = Vec::new(alloc);
-    if text.is_empty() {
-        return Ok(accounts);
-    }
-    for number in text.split(",") {
-        accounts.push(AccountNo::read(number)?)?;
-    }
-    Ok(accounts)
-}
 
 fn members_text(alloc: Global, members: &Members) -> Result<String, AllocError> {
     let count = members.len();
@@ -41,36 +32,25 @@ fn paths_text(alloc: Global, paths: &Paths) -> Result<String, AllocError> {
 }
 
 fn members(alloc: Global, text: &str) -> Result<String, Fault> {
-    match named(Members::from_vec(alloc, accounts(alloc, text)?))? {
+    let accounts = list(alloc, text, ",")?;
+    match named(Members::from_vec(alloc, accounts))? {
         Some(members) => Ok(members_text(alloc, &members)?),
         None => Ok(String::from_str(alloc, "too many")?),
     }
 }
 
-/// The paths of a list.
-pub fn given_paths(alloc: Global, text: &str) -> Result<Vec<Path>, Fault> {
-    let mut given = Vec::new(alloc);
-    if text == "-" {
-        return Ok(given);
+impl Part for Given {
+    fn of_text(alloc: Global, text: &str) -> Result<Given, Fault> {
+        let (label, value) = cut(text, "=")?;
+        let value = small_number(value)?;
+        let label = LabelName::read(alloc, label)?;
+        Ok(Given { label, value })
     }
-    for path in text.split(",") {
-        given.push(Path::read(alloc, path)?)?;
-    }
-    Ok(given)
 }
 
 /// The values that a list gives on labels.
 pub fn labels(alloc: Global, text: &str) -> Result<Labels, Fault> {
-    let mut given = Vec::new(alloc);
-    if text == "-" {
-        return Ok(Labels::from_vec(alloc, given)?);
-    }
-    for part in text.split(",") {
-        let (label, value) = part.split_once("=").ok_or(Fault::Form)?;
-        let label = LabelName::read(alloc, label)?;
-        let value = value.parse::<i8>().map_err(|_| Fault::Form)?;
-        given.push(Given { label, value })?;
-    }
+    let given = list(alloc, text, ",")?;
     Ok(Labels::from_vec(alloc, given)?)
 }
 
@@ -86,7 +66,7 @@ fn labels_text(alloc: Global, text: &str) -> Result<String, Fault> {
 }
 
 fn paths(alloc: Global, text: &str) -> Result<String, Fault> {
-    let given = given_paths(alloc, text)?;
+    let given = list(alloc, text, ",")?;
     match named(Paths::from_vec(alloc, given))? {
         Some(paths) => Ok(paths_text(alloc, &paths)?),
         None => Ok(String::from_str(alloc, "too many")?),
@@ -94,9 +74,10 @@ fn paths(alloc: Global, text: &str) -> Result<String, Fault> {
 }
 
 fn is_member(alloc: Global, text: &str) -> Result<String, Fault> {
-    let (number, list) = text.split_once(" ").ok_or(Fault::Form)?;
+    let (number, numbers) = cut(text, " ")?;
     let account = AccountNo::read(number)?;
-    let members = Members::from_vec(alloc, accounts(alloc, list)?)?;
+    let accounts = list(alloc, numbers, ",")?;
+    let members = Members::from_vec(alloc, accounts)?;
     let answer = if members.has(account) { "yes" } else { "no" };
     Ok(String::from_str(alloc, answer)?)
 }

@@ -9,6 +9,23 @@ pub fn cut<'a>(text: &'a str, separator: &str) -> Result<(&'a str, &'a str), Fau
     text.split_once(separator).ok_or(Fault::Form)
 }
 
+/// What stands before each of the next two separators, and the rest.
+pub fn cut_twice<'a>(text: &'a str, separator: &str) -> Result<(&'a str, &'a str, &'a str), Fault> {
+    let (first, rest) = cut(text, separator)?;
+    let (second, rest) = cut(rest, separator)?;
+    Ok((first, second, rest))
+}
+
+/// What stands before each of the next three separators, and the rest.
+pub fn cut_thrice<'a>(
+    text: &'a str,
+    separator: &str,
+) -> Result<(&'a str, &'a str, &'a str, &'a str), Fault> {
+    let (first, rest) = cut(text, separator)?;
+    let (second, third, rest) = cut_twice(rest, separator)?;
+    Ok((first, second, third, rest))
+}
+
 pub fn truth(text: &str) -> Result<bool, Fault> {
     match text {
         "true" => Ok(true),
@@ -20,6 +37,11 @@ pub fn truth(text: &str) -> Result<bool, Fault> {
 /// A number of a line.
 pub fn whole_number(text: &str) -> Result<u32, Fault> {
     text.parse::<u32>().map_err(|_| Fault::Form)
+}
+
+/// A value of a label.
+pub fn small_number(text: &str) -> Result<i8, Fault> {
+    text.parse::<i8>().map_err(|_| Fault::Form)
 }
 
 /// The comment that is answered, or none where that is `absent`.
@@ -53,6 +75,17 @@ fn quoted_range(inner: &str) -> Option<(u32, u32)> {
     range(inner.strip_prefix("\"")?.strip_suffix("\"")?)
 }
 
+/// Writes a number between two marks, behind a comma.
+fn push_number(
+    alloc: Global,
+    whole: &mut String,
+    number: u32,
+    mark: &str,
+) -> Result<(), AllocError> {
+    let text = format!(in alloc; ",{mark}{number}{mark}")?;
+    whole.push_str(text.as_str())
+}
+
 /// Writes the numbers from the first to the last, rising or falling, each between two marks, with commas between.
 fn push_numbers(
     alloc: Global,
@@ -63,11 +96,10 @@ fn push_numbers(
     let (first, last) = ends;
     whole.push_str(format!(in alloc; "{mark}{first}{mark}")?.as_str())?;
     for number in first.saturating_add(1)..last.saturating_add(1) {
-        whole.push_str(format!(in alloc; ",{mark}{number}{mark}")?.as_str())?;
+        push_number(alloc, whole, number, mark)?;
     }
     for step in 1..first.saturating_sub(last).saturating_add(1) {
-        let number = first.saturating_sub(step);
-        whole.push_str(format!(in alloc; ",{mark}{number}{mark}")?.as_str())?;
+        push_number(alloc, whole, first.saturating_sub(step), mark)?;
     }
     Ok(())
 }
@@ -117,32 +149,44 @@ pub fn whole_text(alloc: Global, text: &str) -> Result<String, Fault> {
     Ok(whole)
 }
 
+/// A text with another in place of each mark.
+fn replaced(alloc: Global, text: &str, mark: &str, other: &str) -> Result<String, AllocError> {
+    let mut whole = String::new(alloc);
+    for (place, part) in text.split(mark).enumerate() {
+        if place > 0 {
+            whole.push_str(other)?;
+        }
+        whole.push_str(part)?;
+    }
+    Ok(whole)
+}
+
 /// A text as it is shown: line feeds as `\n`, or its length where it has more than 300 bytes.
 pub fn on_a_line(alloc: Global, text: &str) -> Result<String, Fault> {
     let length = text.len();
     if length > 300 {
         return Ok(format!(in alloc; "{length} bytes")?);
     }
-    let mut line = String::new(alloc);
-    for (place, part) in text.split("\n").enumerate() {
-        if place > 0 {
-            line.push_str("\\n")?;
-        }
-        line.push_str(part)?;
+    Ok(replaced(alloc, text, "\n", "\\n")?)
+}
+
+/// The bytes of a text, with a byte in place of each star.
+fn starred(alloc: Global, text: &str, star: u8) -> Result<Vec<u8>, AllocError> {
+    let mut bytes = Vec::new(alloc);
+    for byte in text.as_bytes() {
+        let byte = if *byte == b'*' { star } else { *byte };
+        bytes.push(byte)?;
     }
-    Ok(line)
+    Ok(bytes)
+}
+
+fn hexadecimal(digits: &str) -> Result<u8, Fault> {
+    u8::from_str_radix(digits, 16).map_err(|_| Fault::Form)
 }
 
 /// The bytes of a text, behind two hexadecimal digits, with that byte in place of each star.
 pub fn with_byte(alloc: Global, text: &str) -> Result<Vec<u8>, Fault> {
-    let (digits, line) = text.split_once(" ").ok_or(Fault::Form)?;
-    let byte = u8::from_str_radix(digits, 16).map_err(|_| Fault::Form)?;
-    let mut bytes = Vec::new(alloc);
-    for (place, part) in line.split("*").enumerate() {
-        if place > 0 {
-            bytes.push(byte)?;
-        }
-        bytes.extend_from_slice(part.as_bytes())?;
-    }
-    Ok(bytes)
+    let (digits, line) = cut(text, " ")?;
+    let byte = hexadecimal(digits)?;
+    Ok(starred(alloc, line, byte)?)
 }
