@@ -3,7 +3,6 @@ use review_machine::Fault;
 use review_showing::ShowFault;
 use review_sql::faults::DeskFault;
 use sqlite::Error;
-use std::alloc::AllocError;
 use std::fmt;
 use std::fmt::{Display, Formatter};
 
@@ -37,17 +36,6 @@ impl ProgramFault {
     /// The fault of an error of the store.
     pub fn of_store(error: Error) -> ProgramFault {
         ProgramFault::from(DeskFault::of(error))
-    }
-}
-
-impl From<AllocError> for ProgramFault {
-    ghost use Rattle.std.specs.Prelude.{◌≡◌};
-    ghost use Rattle.review_desk.specs.declared.fault.ProgramFault.TheVariants.{Memory};
-
-    ghost from_gives = { λ _ e. e ≡ Memory };
-
-    fn from(_error: AllocError) -> ProgramFault {
-        ProgramFault::Memory
     }
 }
 
