@@ -1,14 +1,15 @@
 //! Changes and patch sets that are copied.
-ghost use Rattle.std.specs.Prelude.{◌≡◌, ◌∷◌, ℕ, [], IfOk, OnOk};
+ghost use Rattle.std.specs.Prelude.{◌≡◌, ℕ, IfOk};
 ghost use Rattle.std.specs.Ordering.{nat_cmp};
-ghost use Rattle.std.specs.Option.{option_or};
+ghost use Rattle.std.specs.List.Sorted.{IsStrictlySortedBy};
+ghost use Rattle.std.specs.Map.{keys_of};
 ghost use Rattle.review_table.specs.Rows.{row_in, rows_of};
 ghost use Rattle.review_changes.specs.Seen.{seen, vote_cmp};
 ghost use Rattle.review_changes.specs.declared.rows.VoteKey.{VoteKey};
 
 use crate::rows::Copied;
 use review_changes::{Called, ChangeRows, CommentRow, Header, PatchRow, Vote, VoteKey};
-use review_table::{Key, Table};
+use review_table::{BadRows, Key, Table};
 use review_words::{AccountNo, NewChange, NewPatch, Role};
 use std::alloc::{AllocError, Global};
 
@@ -165,25 +166,32 @@ pub fn copied_table<K: Key, V: Copied>(
 ) -> Result<Table<K, V>, AllocError>
     ensures { IfOk result (λ t. (q : K) → row_in K.cmp (rows_of t) q ≡ row_in K.cmp (rows_of table.now) q) }
 {
-    let mut copy = Table::new(alloc);
-    for (key, row) in table.rows(alloc)? {
-        add_copy(alloc, &mut copy, key, row)?;
+    let copies = copied_rows(alloc, table)?;
+    match Table::from_vec(alloc, copies) {
+        Ok(copy) => Ok(copy),
+        Err(BadRows::Memory) => Err(AllocError),
+        Err(BadRows::Double) => unreachable!(),
     }
-    Ok(copy)
 }
 
-// Adds a row where its key has none.
-fn add_copy<K: Key, V: Copied>(
+// The rows of a table once more, in the order of their keys.
+fn copied_rows<K: Key, V: Copied>(
     alloc: Global,
-    copy: &mut Table<K, V>,
-    key: &K,
-    row: &V,
-) -> Result<(), AllocError>
-    ensures { OnOk result ((q : K) → row_in K.cmp (rows_of copy.new) q ≡ option_or (row_in K.cmp (rows_of copy.old) q) (row_in K.cmp ((key.now, row.now) ∷ []) q)) }
+    table: &Table<K, V>,
+) -> Result<Vec<(K, V)>, AllocError>
+    ensures rows { IfOk result (λ rows. rows.items ≡ rows_of table.now) }
+    ensures sorted { IsStrictlySortedBy K.cmp (keys_of (rows_of table.now)) }
 {
-    if copy.get(key).is_none() {
-        let key = key.copy(alloc)?;
-        copy.put(key, row.copied(alloc)?)?;
+    let mut copies = Vec::new(alloc);
+    for (key, row) in table.rows(alloc)? {
+        let copy = copied_row(alloc, key, row)?;
+        copies.push(copy)?;
     }
-    Ok(())
+    Ok(copies)
+}
+
+fn copied_row<K: Key, V: Copied>(alloc: Global, key: &K, row: &V) -> Result<(K, V), AllocError>
+    ensures { IfOk result (λ copy. copy ≡ (key.now, row.now)) }
+{
+    Ok((key.copy(alloc)?, row.copied(alloc)?))
 }

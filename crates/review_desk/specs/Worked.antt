@@ -1,5 +1,5 @@
 -- What a job on the tables of a connection did.
-use Rattle.std.specs.Prelude.{◌≡◌, ◌≢◌, ◌⊎◌, ℕ, Bool, true, false, List, [], Option, Result, Err, IsTrue, IfOk, IfErr, length}
+use Rattle.std.specs.Prelude.{◌≡◌, ◌≢◌, ◌⊎◌, ℕ, Bool, true, false, List, [], Option, Result, Err, IsTrue, IfOk, IfErr}
 use Rattle.std.specs.Io.KnownBytes.{Appends}
 use Rattle.sqlite_trees.specs.declared.store.Store.{Ghosts}
 use Rattle.sqlite.specs.Held.{Held, state}
@@ -7,7 +7,7 @@ use Rattle.review_tables.specs.Desk.{schema_0}
 use Rattle.review_words.specs.declared.command.Delivery.{Delivery}
 use Rattle.review_words.specs.declared.reply.Reply.{Reply}
 use Rattle.review_rows.specs.Shelf.{Shown}
-use Rattle.review_lines.specs.Answers.{answers, deliveries, HasLines, HasFirst, all_done, is_complete, IsRunOf, IsLeftBy}
+use Rattle.review_lines.specs.Answers.{WasRun, WereAnswered}
 use Rattle.review_lines.specs.declared.fault.Fault.{Fault}
 use Rattle.review_lines.specs.declared.fault.Outcome.{Outcome}
 use Rattle.review_showing.specs.declared.fault.ShowFault.{ShowFault}
@@ -44,10 +44,7 @@ IsRefusedDesk g before after old new ended =
 abbrev pub TookLines : Option (List ℕ) → Option (List ℕ) → Option (List ℕ) → Result Outcome ProgramFault → Shown → Shown → Type 0
 TookLines input before after ended s t =
     (told : Result Outcome Fault) × (ended ≡ lines_outcome told) × (t.is_honest → s.is_honest)
-    × ((lines : List (List ℕ)) × (replies : List Reply) × HasFirst input lines × (length replies ≡ length (deliveries lines)) × IsRunOf lines replies s t
-    × (text : List ℕ) × Appends before after text
-    × IfOk told (λ outcome. HasLines input lines × (text ≡ answers lines replies) × (is_complete outcome ≡ all_done lines replies))
-    × IfErr told (λ fault. IsLeftBy fault lines replies text))
+    × WereAnswered (λ ds replies. WasRun ds replies s t) input before after told
 
 -- questions were asked, and the page of their replies was written, as `show_lines` and `joined_lines` say
 abbrev pub Showed : {X : Type 0} → List Delivery → (List Reply → Result (List ℕ) ShowFault) → Option (List ℕ) → Option (List ℕ) → Result X ShowFault → Shown → Shown → Type 0

@@ -1,7 +1,7 @@
 -- What the lines of an input ask for, and what is answered to them.
-use Rattle.std.specs.Prelude.{◌≡◌, ◌==◌, ◌≤◌, ℕ, ◌++◌, ◌&&◌, Bool, true, false, List, [], ◌∷◌, length, nat_lt, if◌then◌else◌, Option, Some, None, codes}
+use Rattle.std.specs.Prelude.{◌≡◌, ◌==◌, ◌≤◌, ℕ, ◌++◌, ◌&&◌, Bool, true, false, List, [], ◌∷◌, length, nat_lt, if◌then◌else◌, Option, Some, None, Result, IfOk, IfErr, codes}
 use Rattle.std.specs.List.{list_all}
-use Rattle.std.specs.Io.KnownBytes.{IsAtEnd}
+use Rattle.std.specs.Io.KnownBytes.{Appends, IsAtEnd}
 use Rattle.serde_json.specs.Written.{compact_text}
 use Rattle.review_words.specs.declared.command.Delivery.{Delivery}
 use Rattle.review_words.specs.declared.reply.Reply.{Reply}
@@ -121,6 +121,14 @@ abbrev pub IsLeftBy : Fault → List (List ℕ) → List Reply → List ℕ → 
 IsLeftBy fault.Input lines rs text = text ≡ answers lines rs
 IsLeftBy fault.Memory lines rs text = (before last : List (List ℕ)) × (lines ≡ before ++ last) × (length last ≤ 1) × (text ≡ answers before rs)
 IsLeftBy fault.Output lines rs text = IsPartOf text (answers lines rs)
+
+-- The first lines of an input, all where no fault came, asked for deliveries to which this was done, each with a reply; what was written are their answers, all of them unless a fault says otherwise.
+abbrev pub WereAnswered : (List Delivery → List Reply → Type 0) → Option (List ℕ) → Option (List ℕ) → Option (List ℕ) → Result Outcome Fault → Type 0
+WereAnswered Did input before after told =
+    (lines : List (List ℕ)) × (replies : List Reply) × HasFirst input lines × (length replies ≡ length (deliveries lines)) × Did (deliveries lines) replies
+    × (text : List ℕ) × Appends before after text
+    × IfOk told (λ outcome. HasLines input lines × (text ≡ answers lines replies) × (is_complete outcome ≡ all_done lines replies))
+    × IfErr told (λ fault. IsLeftBy fault lines replies text)
 
 -- the reply of a run of one delivery, which has none where there was no memory to begin
 abbrev pub first_or_stopped : List Reply → Reply

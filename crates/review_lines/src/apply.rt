@@ -4,7 +4,7 @@ ghost use Rattle.std.specs.List.{list_all};
 ghost use Rattle.std.specs.Io.KnownBytes.{Appends, prepend_known};
 ghost use Rattle.review_words.specs.declared.reply.Reply.{Reply};
 ghost use Rattle.review_lines.specs.Lines.{is_space, IsLineOf};
-ghost use Rattle.review_lines.specs.Answers.{asked, with_asked, reply_line, bad_line, answered, answers, deliveries, HasLines, HasFirst, is_taken, is_done, all_done, is_complete, WasRun, IsRunOf, IsLeftBy, IsNextAsked, first_or_stopped};
+ghost use Rattle.review_lines.specs.Answers.{asked, with_asked, reply_line, bad_line, answered, answers, deliveries, HasLines, HasFirst, is_taken, is_done, all_done, is_complete, WasRun, IsRunOf, IsLeftBy, WereAnswered, IsNextAsked, first_or_stopped};
 
 use crate::fault::{Fault, Outcome};
 use crate::lines::{Line, Lines};
@@ -198,10 +198,7 @@ pub fn apply_lines<R: Read, W: Write, S: Shelf, D: Rules>(
     rules: &mut D,
 ) -> Result<Outcome, Fault>
     ensures honest { (S.state shelf.new).is_honest → (S.state shelf.old).is_honest }
-    ensures ran { (lines : List (List ℕ)) × (replies : List Reply) × HasFirst (R.remaining reader.old) lines × (length replies ≡ length (deliveries lines)) × IsRunOf lines replies (S.state shelf.old) (S.state shelf.new)
-        × (text : List ℕ) × Appends (W.contents writer.old) (W.contents writer.new) text
-        × IfOk result (λ outcome. HasLines (R.remaining reader.old) lines × (text ≡ answers lines replies) × (is_complete outcome ≡ all_done lines replies))
-        × IfErr result (λ fault. IsLeftBy fault lines replies text) }
+    ensures ran { WereAnswered (λ ds replies. WasRun ds replies (S.state shelf.old) (S.state shelf.new)) (R.remaining reader.old) (W.contents writer.old) (W.contents writer.new) result }
 {
     let mut output = Output::new(alloc);
     let outcome = answer_lines(alloc, reader, writer, &mut output, shelf, rules);

@@ -1,12 +1,11 @@
 -- What the lines of an input do to an empty desk in memory.
-use Rattle.std.specs.Prelude.{◌≡◌, ◌⊎◌, ℕ, List, [], Option, Result, Err, IfOk, IfErr, length}
+use Rattle.std.specs.Prelude.{◌≡◌, ◌⊎◌, ℕ, List, [], Option, Result, Err}
 use Rattle.std.specs.Io.KnownBytes.{Appends}
-use Rattle.review_words.specs.declared.reply.Reply.{Reply}
 use Rattle.review_rows.specs.Rows.{Tables}
 use Rattle.review_rows.specs.Shelf.{in_memory}
 use Rattle.review_rows.specs.View.{IsView}
 use Rattle.review_deliveries.specs.Replies.{IsRun}
-use Rattle.review_lines.specs.Answers.{answers, deliveries, HasLines, HasFirst, all_done, is_complete, IsLeftBy}
+use Rattle.review_lines.specs.Answers.{WereAnswered}
 use Rattle.review_lines.specs.declared.fault.Fault.{Fault}
 use Rattle.review_lines.specs.declared.fault.Fault.TheVariants as fault
 use Rattle.review_lines.specs.declared.fault.Outcome.{Outcome}
@@ -18,11 +17,7 @@ HadNoMemory before after told = (told ≡ Err fault.Memory) × Appends before af
 -- The first lines of an input, all where no fault came, were a run from the history of no request, with no premise on a store, and were answered.
 abbrev pub RanFromNothing : Option (List ℕ) → Option (List ℕ) → Option (List ℕ) → Result Outcome Fault → Type 0
 RanFromNothing input before after told =
-    (first last : Tables) × IsView [] first × (lines : List (List ℕ)) × (replies : List Reply) × HasFirst input lines × (length replies ≡ length (deliveries lines))
-    × IsRun [] (deliveries lines) replies (in_memory first) (in_memory last)
-    × (text : List ℕ) × Appends before after text
-    × IfOk told (λ outcome. HasLines input lines × (text ≡ answers lines replies) × (is_complete outcome ≡ all_done lines replies))
-    × IfErr told (λ fault. IsLeftBy fault lines replies text)
+    (first last : Tables) × IsView [] first × WereAnswered (λ ds replies. IsRun [] ds replies (in_memory first) (in_memory last)) input before after told
 
 -- what `apply :memory:` did
 abbrev pub RanInMemory : Option (List ℕ) → Option (List ℕ) → Option (List ℕ) → Result Outcome Fault → Type 0

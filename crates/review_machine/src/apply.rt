@@ -1,8 +1,5 @@
 //! Deliveries by the line.
-ghost use Rattle.std.specs.Prelude.{◌≡◌, ℕ, List, length, IfOk, IfErr};
-ghost use Rattle.std.specs.Io.KnownBytes.{Appends};
-ghost use Rattle.review_words.specs.declared.reply.Reply.{Reply};
-ghost use Rattle.review_lines.specs.Answers.{answers, deliveries, HasLines, HasFirst, all_done, is_complete, IsRunOf, IsLeftBy};
+ghost use Rattle.review_lines.specs.Answers.{WasRun, WereAnswered};
 ghost use Rattle.review_machine.specs.Branches.{BranchesAreSound};
 
 use crate::rules::DeskRules;
@@ -36,10 +33,7 @@ pub fn apply_lines<R: Read, W: Write, S: Shelf>(
     shelf: &mut S,
 ) -> Result<Outcome, Fault>
     ensures honest { (S.state shelf.new).is_honest → (S.state shelf.old).is_honest }
-    ensures ran { (lines : List (List ℕ)) × (replies : List Reply) × HasFirst (R.remaining reader.old) lines × (length replies ≡ length (deliveries lines)) × IsRunOf lines replies (S.state shelf.old) (S.state shelf.new)
-        × (text : List ℕ) × Appends (W.contents writer.old) (W.contents writer.new) text
-        × IfOk result (λ outcome. HasLines (R.remaining reader.old) lines × (text ≡ answers lines replies) × (is_complete outcome ≡ all_done lines replies))
-        × IfErr result (λ fault. IsLeftBy fault lines replies text) }
+    ensures ran { WereAnswered (λ ds replies. WasRun ds replies (S.state shelf.old) (S.state shelf.new)) (R.remaining reader.old) (W.contents writer.old) (W.contents writer.new) result }
     ensures branches { BranchesAreSound }
 {
     review_lines::apply_lines(alloc, reader, writer, shelf, &mut DeskRules::new(alloc))

@@ -1,5 +1,5 @@
 -- Laws of places and rows.
-use Rattle.std.proofs.Common.{◌≡◌, List, [], ◌∷◌, ◌++◌, Option, Some, None, Bool, true, false, cond, refl, ap, sym, ◌∙◌, append-nil, length, length-append, arith, ◌&&◌, not}
+use Rattle.std.proofs.Common.{◌≡◌, ◌≤◌, map, subst, List, [], ◌∷◌, ◌++◌, Option, Some, None, Bool, true, false, cond, refl, ap, sym, ◌∙◌, append-nil, length, length-append, arith, ◌&&◌, not}
 use Rattle.std.specs.declared.cmp.Ordering.{Ordering}
 use Rattle.std.specs.declared.cmp.Ordering.TheVariants.{Less, Equal, Greater}
 use Rattle.std.specs.Ordering.{is_eq, match_ordering, eq_by_cmp}
@@ -18,10 +18,14 @@ use Rattle.std.proofs.lemmas.Map.Lookups.{CmpEqualImpliesEq}
 use Rattle.std.proofs.lemmas.Map.Views.{tells_apart, Contains-from_lookup, lookup-from_Contains}
 use Rattle.std.proofs.lemmas.Map.{NonePasses, lookup-none, none_passes_from_lookup}
 use Rattle.std.proofs.lemmas.Map.Keys.{IsDistinct-head, IsDistinct-tail, IsDistinct-cons, IsDistinct-from_sorted}
-use Rattle.std.proofs.lemmas.Map.Entries.{none_past_head, lookup-filter-keys}
-use Rattle.std.specs.BTreeMap.{is_at, insert_entry}
+use Rattle.std.proofs.lemmas.Map.Entries.{length-keys_of, none_past_head, lookup-filter-keys}
+use Rattle.std.specs.BTreeMap.{BTreeMap, btree_map_len, is_at, insert_entry, IsFromIterResult}
+use Rattle.std.specs.Set.{distinct_count}
+use Rattle.std.specs.Option.{option_map}
+use Rattle.std.proofs.lemmas.Map.Made.{distinct_count-le, distinct_count-from_IsDistinct, IsDistinct-from_count, update_all_none, lookup-map_values, keys_of-map_values}
+use Rattle.std.proofs.lemmas.Map.Views.{btree_map_len-from_list}
 use Rattle.review_table.specs.declared.table.Change.{Change}
-use Rattle.review_table.specs.Rows.{flat, row_at, row_in, with_row, rows_of, changed, change_of, after_change, has_place, placed, HavePlaces}
+use Rattle.review_table.specs.Rows.{place_of, flat, row_at, row_in, with_row, rows_of, changed, change_of, after_change, has_place, placed, HavePlaces}
 
 inserted : {K X : Type 0} (o : Ordering) (k : K) (e : K × Option X) (t rest : List (K × Option X)) (l : Option (Option X)) → cond (is_eq o) (Some e.1) l ≡ None
     → (l ≡ None → rows_of rest ≡ rows_of t) → rows_of (match_ordering o ((k, None) ∷ e ∷ t) ((e.0, None) ∷ t) (e ∷ rest)) ≡ rows_of (e ∷ t)
@@ -231,3 +235,31 @@ pub select_none : {K X : Type 0} {R : K → K → Ordering} → IsTotalOrder R �
 select_none {R = R} o from to rows greater =
     let less : R to from ≡ Less = o.antisymm to from ∙ ap ordering_reverse greater in
     filter_none (λ e. range_contains R (Included from) (Included to) e.0) rows (λ e. none_between o from to e.0 less (R from e.0) refl)
+
+-- a map that was made of the places of rows
+pub map_length : {K X : Type 0} {R : K → K → Ordering} (o : IsTotalOrder R) (rows : List (K × X)) (m : BTreeMap K (Option X)) → IsFromIterResult R (map place_of rows) m → btree_map_len m ≡ distinct_count (eq_by_cmp R) (keys_of rows)
+map_length {R = R} o rows m from = btree_map_len-from_list o (map place_of rows) m from ∙ ap (distinct_count (eq_by_cmp R)) (keys_of-map_values (λ v. Some v) rows)
+
+pub distinct_by_length : {K X : Type 0} {R : K → K → Ordering} (o : IsTotalOrder R) (rows : List (K × X)) (m : BTreeMap K (Option X)) → IsFromIterResult R (map place_of rows) m → length rows ≤ btree_map_len m → IsDistinct (eq_by_cmp R) (keys_of rows)
+distinct_by_length {R = R} o rows m from all =
+    let is = map_length o rows m from in
+    let most = distinct_count-le (eq_by_cmp R) (keys_of rows) in
+    let count = length-keys_of rows in
+    IsDistinct-from_count (eq_by_cmp_equiv o) (keys_of rows) (search arith)
+
+pub length_by_distinct : {K X : Type 0} {R : K → K → Ordering} (o : IsTotalOrder R) (rows : List (K × X)) (m : BTreeMap K (Option X)) → IsFromIterResult R (map place_of rows) m → IsDistinct (eq_by_cmp R) (keys_of rows) → btree_map_len m ≡ length rows
+length_by_distinct {R = R} o rows m from distinct = map_length o rows m from ∙ (distinct_count-from_IsDistinct (eq_by_cmp_equiv o) (keys_of rows) distinct ∙ length-keys_of rows)
+
+pub map_place : {K X : Type 0} {R : K → K → Ordering} (o : IsTotalOrder R) (rows : List (K × X)) (m : BTreeMap K (Option X)) → IsFromIterResult R (map place_of rows) m → IsDistinct (eq_by_cmp R) (keys_of rows)
+    → (q : K) → lookup (is_at (R q)) m.entries ≡ option_map (λ v. Some v) (lookup (is_at (R q)) rows)
+map_place {R = R} o rows m from distinct q =
+    from.0 q ∙ (update_all_none (eq_by_cmp_equiv o) (eq_by_cmp R) (λ x y. refl) (map place_of rows) q (subst (IsDistinct (eq_by_cmp R)) (sym (keys_of-map_values (λ v. Some v) rows)) distinct)
+    ∙ lookup-map_values (λ v. Some v) (is_at (R q)) rows)
+
+pub flat_some : {X : Type 0} (o : Option X) → flat (option_map (λ v. Some v) o) ≡ o
+flat_some None = refl
+flat_some (Some v) = refl
+
+pub never_empty : {X : Type 0} (o : Option X) → option_map (λ v. Some v) o ≡ Some None → ⊥
+never_empty None is = cc
+never_empty (Some v) is = cc

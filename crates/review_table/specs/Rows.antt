@@ -20,6 +20,10 @@ abbrev pub with_row : {K X : Type 0} → K → Option X → List (K × X) → Li
 with_row k None rows = rows
 with_row k (Some v) rows = (k, v) ∷ rows
 
+-- the place of a row
+abbrev pub place_of : {K X : Type 0} → K × X → K × Option X
+place_of e = (e.0, Some e.1)
+
 -- the rows, in the order of their keys
 abbrev pub rows_of : {K X : Type 0} → List (K × Option X) → List (K × X)
 rows_of [] = []

@@ -4,11 +4,11 @@ ghost use Rattle.std.specs.List.{All, IsDistinct, filter};
 ghost use Rattle.std.specs.List.Sorted.{IsStrictlySortedBy};
 ghost use Rattle.std.specs.Map.{lookup, keys_of};
 ghost use Rattle.std.specs.Map.Iter.{deref_pair};
-ghost use Rattle.std.specs.BTreeMap.{is_at};
+ghost use Rattle.std.specs.BTreeMap.{is_at, IsFromIterResult};
 ghost use Rattle.std.specs.BTreeMap.Range.{IsLeBy, range_contains};
 ghost use Rattle.std.specs.declared.ops.Bound.TheVariants.{Included};
 ghost use Rattle.std.specs.declared.cmp.Ordering.TheVariants.{Less};
-ghost use Rattle.review_table.specs.Rows.{row_at, row_in, rows_of, HasEmptyOnly, HasNoEmptyPlace, HasPlace, HavePlaces, IsEmptyPlace, changed, has_place, is_named, place_at, placed};
+ghost use Rattle.review_table.specs.Rows.{place_of, row_at, row_in, rows_of, HasEmptyOnly, HasNoEmptyPlace, HasPlace, HavePlaces, IsEmptyPlace, changed, has_place, is_named, place_at, placed};
 ghost use Rattle.review_table.specs.declared.table.BadRows.TheVariants.{Double};
 
 use review_key::Key;
@@ -124,21 +124,6 @@ impl<K: Key, V: Drop> Table<K, V> {
     {
         if let Some(place) = self.places.get_mut(&key) {
             *place = row;
-        }
-    }
-
-    /// Adds a row with a new key.
-    fn add(&mut self, key: K, row: V) -> Result<(), BadRows>
-        ensures ok { OnOk result ((row_at K.cmp self.old key ≡ None) × ((q : K) → row_at K.cmp self.new q ≡ (if is_at (K.cmp key) q then Some row else row_at K.cmp self.old q))) }
-        ensures double { IfErr result (λ e. e ≡ Double → IsSome (row_at K.cmp self.old key)) }
-        ensures kept { HasNoEmptyPlace K.cmp self.old → HasNoEmptyPlace K.cmp self.new }
-    {
-        if self.at(&key).is_some() {
-            return Err(BadRows::Double);
-        }
-        match self.places.insert(key, Some(row)) {
-            Ok(_) => Ok(()),
-            Err(_) => Err(BadRows::Memory),
         }
     }
 
@@ -291,20 +276,22 @@ impl<K: Key, V: Drop> Table<K, V> {
         }
     }
 
-    /// The table of rows with different keys.
+    /// The table of rows with different keys. It takes the number of rows where they are in the order of their keys, and that number times
+    /// its logarithm otherwise.
     pub fn from_vec(alloc: Global, rows: Vec<(K, V)>) -> Result<Table<K, V>, BadRows>
-        ensures ok { IfOk result (λ t. IsDistinct (eq_by_cmp K.cmp) (keys_of rows.items) × ((q : K) → row_at K.cmp t q ≡ lookup (is_at (K.cmp q)) rows.items)) }
+        ensures ok { IfOk result (λ t. IsDistinct (eq_by_cmp K.cmp) (keys_of rows.items) × ((q : K) → row_in K.cmp (rows_of t) q ≡ row_in K.cmp rows.items q)) }
         ensures double { IfErr result (λ e. e ≡ Double → IsDistinct (eq_by_cmp K.cmp) (keys_of rows.items) → ⊥) }
         ensures full { IfOk result (λ t. HasNoEmptyPlace K.cmp t) }
     {
-        let mut table = Table::new(alloc);
-        let mut left = rows;
-        while let Some((key, row)) = left.pop() {
-            match table.add(key, row) {
-                Ok(()) => {}
-                Err(error) => return Err(error),
-            }
+        let count = rows.len();
+        let Ok(places) = map_of(alloc, rows) else {
+            return Err(BadRows::Memory);
+        };
+        if places.len() < count {
+            return Err(BadRows::Double);
         }
+        let table = Table { places };
+        table.once();
         Ok(table)
     }
 
@@ -417,4 +404,39 @@ impl<K: Key, V: Drop> Table<K, V> {
         }
         None
     }
+}
+
+/// Places that hold these rows.
+fn filled<K: Drop, V: Drop>(
+    alloc: Global,
+    rows: Vec<(K, V)>,
+) -> Result<Vec<(K, Option<V>)>, AllocError>
+    ensures { IfOk result (λ places. places.items ≡ map place_of rows.items) }
+{
+    let mut places = Vec::new(alloc);
+    for (key, row) in rows {
+        places.push((key, Some(row)))?;
+    }
+    Ok(places)
+}
+
+/// The map of these places. Of those with one key it has the last.
+fn map_from<K: Key, V: Drop>(
+    alloc: Global,
+    places: Vec<(K, Option<V>)>,
+) -> Result<BTreeMap<K, Option<V>>, AllocError>
+    ensures { IfOk result (IsFromIterResult K.cmp places.items) }
+{
+    places.into_iter().collect(alloc)
+}
+
+/// The map of the places that hold these rows.
+fn map_of<K: Key, V: Drop>(
+    alloc: Global,
+    rows: Vec<(K, V)>,
+) -> Result<BTreeMap<K, Option<V>>, AllocError>
+    ensures { IfOk result (IsFromIterResult K.cmp (map place_of rows.items)) }
+{
+    let places = filled(alloc, rows)?;
+    map_from(alloc, places)
 }

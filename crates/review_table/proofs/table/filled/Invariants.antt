@@ -1,0 +1,6 @@
+use Rattle.std.proofs.Common.{◌≡◌, map}
+use Rattle.review_table.specs.Rows.{place_of}
+use Rattle.review_table.proofs.table.filled.Given as goal
+
+abbrev pub invariant-loop-key : goal.invariant-loop-key
+invariant-loop-key g l = l.places.items ≡ map place_of l.yielded
