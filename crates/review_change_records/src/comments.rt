@@ -4,7 +4,7 @@ use crate::values::{
     account_number, answers_at, answers_number, comment_at, flag_at, flag_number, patch_at,
     patch_number, small, small_at,
 };
-use review_changes::CommentRow;
+use review_changes::{Comment, CommentRow};
 use review_records::names::{account_at, name_at};
 use review_records::numbers::to_sql;
 use review_tables::columns::number_at;
@@ -25,7 +25,7 @@ impl Front for Comments {
 
     type Part = CommentNo;
 
-    type Item = CommentRow;
+    type Item = Comment;
 
     ghost search = { comments };
 
@@ -35,7 +35,7 @@ impl Front for Comments {
         tx.query_all(texts::FIND_COMMENTS, params![owner.get()])
     }
 
-    fn read(alloc: Global, row: &Row) -> Result<Option<(CommentNo, CommentRow)>, AllocError> {
+    fn read(alloc: Global, row: &Row) -> Result<Option<(CommentNo, Comment)>, AllocError> {
         let Some(path) = name_at(alloc, row, 2)? else {
             return Ok(None);
         };
@@ -65,6 +65,7 @@ impl Front for Comments {
             answers,
             request,
         };
+        let comment = Comment::new(alloc, comment)?;
         Ok(Some((number, comment)))
     }
 
@@ -82,8 +83,9 @@ impl Parts for Comments {
         _alloc: Global,
         owner: &ChangeNo,
         part: &CommentNo,
-        row: &CommentRow,
+        row: &Comment,
     ) -> Result<usize, Error> {
+        let row = row.row();
         let request = to_sql(row.request)?;
         tx.execute(
             texts::INSERT_COMMENT,

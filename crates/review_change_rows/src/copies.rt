@@ -8,7 +8,7 @@ ghost use Rattle.review_changes.specs.Seen.{seen, vote_cmp};
 ghost use Rattle.review_changes.specs.declared.rows.VoteKey.{VoteKey};
 
 use crate::rows::Copied;
-use review_changes::{Called, ChangeRows, CommentRow, Header, PatchRow, Vote, VoteKey};
+use review_changes::{Called, ChangeRows, Comment, Header, PatchRow, Vote, VoteKey};
 use review_table::{BadRows, Key, Table};
 use review_words::{AccountNo, NewChange, NewPatch, Role};
 use std::alloc::{AllocError, Global};
@@ -111,31 +111,15 @@ pub fn copied_patch_row(alloc: Global, patch: &PatchRow) -> Result<PatchRow, All
     })
 }
 
-/// A comment once more. An error where there was no memory for it.
-pub fn copied_comment(alloc: Global, comment: &CommentRow) -> Result<CommentRow, AllocError>
-    ensures { IfOk result (λ c. c ≡ comment.now) }
-{
-    Ok(CommentRow {
-        patch: comment.patch,
-        path: comment.path.copy(alloc)?,
-        line: comment.line,
-        author: comment.author,
-        message: comment.message.copy(alloc)?,
-        unresolved: comment.unresolved,
-        answers: comment.answers,
-        request: comment.request,
-    })
-}
-
 impl Copied for PatchRow {
     fn copied(&self, alloc: Global) -> Result<PatchRow, AllocError> {
         copied_patch_row(alloc, self)
     }
 }
 
-impl Copied for CommentRow {
-    fn copied(&self, alloc: Global) -> Result<CommentRow, AllocError> {
-        copied_comment(alloc, self)
+impl Copied for Comment {
+    fn copied(&self, alloc: Global) -> Result<Comment, AllocError> {
+        self.copy(alloc)
     }
 }
 
@@ -149,12 +133,12 @@ fn copied_patches(alloc: Global, patches: &[PatchRow]) -> Result<Vec<PatchRow>, 
     Ok(copies)
 }
 
-fn copied_comments(alloc: Global, comments: &[CommentRow]) -> Result<Vec<CommentRow>, AllocError>
+fn copied_comments(alloc: Global, comments: &[Comment]) -> Result<Vec<Comment>, AllocError>
     ensures { IfOk result (λ v. v.items ≡ comments.now) }
 {
-    let mut copies = Vec::new(alloc);
+    let mut copies = Vec::with_capacity(alloc, comments.len())?;
     for comment in comments {
-        copies.push(copied_comment(alloc, comment)?)?;
+        copies.push(comment.copy(alloc)?)?;
     }
     Ok(copies)
 }

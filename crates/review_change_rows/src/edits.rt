@@ -11,9 +11,9 @@ ghost use Rattle.review_rows.specs.Decisions.{NamesOnce, NamesRowsOnce};
 ghost use Rattle.review_rows.specs.Rows.{part_change};
 ghost use Rattle.review_change_rows.specs.Edits.{GoesOn};
 
-use crate::copies::{copied_comment, copied_header, copied_patch_row};
+use crate::copies::{copied_header, copied_patch_row};
 use crate::differences::difference;
-use review_changes::{Called, ChangeRows, CommentRow, PatchRow, Vote, VoteKey};
+use review_changes::{Called, ChangeRows, Comment, PatchRow, Vote, VoteKey};
 use review_rows::ChangeEdit;
 use review_table::{Change, Table};
 use review_words::{AccountNo, ChangeNo, CommentNo, PatchNo, Role};
@@ -138,9 +138,9 @@ fn more_patches(
 
 fn more_comments(
     alloc: Global,
-    old: &[CommentRow],
-    new: &[CommentRow],
-) -> Result<Vec<Change<CommentNo, CommentRow>>, AllocError>
+    old: &[Comment],
+    new: &[Comment],
+) -> Result<Vec<Change<CommentNo, Comment>>, AllocError>
     requires { GoesOn most_comments old.now new.now }
     ensures becomes { IfOk result (λ d. (n : ℕ) → changed nat_cmp d.items n (of_number old.now n) ≡ of_number new.now n) }
     ensures once { IfOk result (λ d. NamesOnce nat_cmp d.items) }
@@ -152,7 +152,7 @@ fn more_comments(
         };
         more.push(Change {
             key,
-            row: Some(copied_comment(alloc, &new[index])?),
+            row: Some(new[index].copy(alloc)?),
         })?;
     }
     Ok(more)

@@ -15,4 +15,6 @@ pub mod laws;
 pub mod rows;
 
 pub use laws::{begins_sound, joins_sound, stays_sound, voters_are_eligible};
-pub use rows::{Called, ChangeRows, CommentRow, Header, PatchRow, Post, Vote, VoteKey, Why};
+pub use rows::{
+    Called, ChangeRows, Comment, CommentRow, Header, PatchRow, Post, Vote, VoteKey, Why,
+};

@@ -10,6 +10,7 @@ use review_words::{
 };
 use std::alloc::{AllocError, Global};
 use std::marker::Model;
+use std::rc::Rc;
 
 /// What there is once of a change.
 #[derive(Drop)]
@@ -95,7 +96,7 @@ impl Vote {
     }
 }
 
-/// A comment. Its number is its place among the change's comments, from 1.
+/// The row of a comment. Its number is its place among the change's comments, from 1.
 #[derive(Drop)]
 pub struct CommentRow {
     pub patch: PatchNo,
@@ -108,6 +109,45 @@ pub struct CommentRow {
     pub answers: Option<CommentNo>,
     /// The number of the request that it came with.
     pub request: u64,
+}
+
+/// A comment that is shared: contracts see its row, and its copies have one row together, so that the comments of a change are soon copied.
+#[derive(Drop)]
+pub struct Comment {
+    row: Rc<CommentRow>,
+}
+
+impl Model for Comment {
+    ghost use Rattle.review_changes.specs.declared.rows.CommentRow.{CommentRow};
+
+    ghost Value = { CommentRow };
+
+    ghost view = { λ c. c.row.value };
+}
+
+impl Comment {
+    /// The comment of a row. An error where there was no memory for it.
+    pub fn new(alloc: Global, row: CommentRow) -> Result<Comment, AllocError>
+        ensures { IfOk result (λ c. c ≡ row) }
+    {
+        let row = Rc::new(alloc, row)?;
+        Ok(Comment { row })
+    }
+
+    /// The row.
+    pub fn row(&self) -> &CommentRow
+        ensures { result.now ≡ self.now }
+    {
+        self.row.as_ref()
+    }
+
+    /// The same comment once more, which shares the row and takes no memory. An error where there are as many copies as can be counted.
+    pub fn copy(&self, _alloc: Global) -> Result<Comment, AllocError>
+        ensures { IfOk result (λ c. c ≡ self.now) }
+    {
+        let row = self.row.clone()?;
+        Ok(Comment { row })
+    }
 }
 
 /// What a thread has of a comment: who wrote it, the number of the thread's first comment, and whether it leaves the thread
@@ -152,6 +192,6 @@ pub struct ChangeRows {
     pub patches: Vec<PatchRow>,
     pub votes: Table<VoteKey, Vote>,
     pub roles: Table<AccountNo, Role>,
-    pub comments: Vec<CommentRow>,
+    pub comments: Vec<Comment>,
     pub attention: Table<AccountNo, Called>,
 }

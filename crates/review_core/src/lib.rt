@@ -18,5 +18,7 @@ mod states;
 mod uploading;
 
 pub use file::{ChangeFile, RowsFault};
-pub use review_changes::{Called, ChangeRows, CommentRow, Header, PatchRow, Vote, VoteKey};
+pub use review_changes::{
+    Called, ChangeRows, Comment, CommentRow, Header, PatchRow, Vote, VoteKey,
+};
 pub use uploading::Copied;

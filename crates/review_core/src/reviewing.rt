@@ -7,7 +7,7 @@ ghost use Rattle.review_words.specs.declared.command.ChangeCommand.TheVariants.{
 
 use crate::roles::{current_patch, who_for};
 use crate::states::is_open;
-use review_changes::{Called, ChangeRows, CommentRow, PatchRow, Post};
+use review_changes::{Called, ChangeRows, Comment, PatchRow, Post};
 use review_parts::{
     Origin, WhenReviewed, Who, call_eligible, drop_called, give, new_comments, posts, review_roles,
 };
@@ -32,7 +32,7 @@ fn call_reviewed(
     state: State,
     stored: &[Post],
     given: &[NewComment],
-    new: &[CommentRow],
+    new: &[Comment],
     request: u64,
 ) -> Result<(), AllocError>
     ensures { OnOk result ((u : ℕ) → of_account attention.new u ≡ kept_or (if (who.now.caller == u) && (not (is_open state) || not who.now.wip) then None else of_account attention.old u) (if ((who.now.owner == u) || ((who.now.uploader == u) || is_some (of_account roles.now u))) && (not (who.now.caller == u) && not who.now.wip) then (if is_open state then why_replied stored.now given.now who.now.caller who.now.owner who.now.uploader u else why_commented new.now who.now.caller who.now.owner u) else None) request) }

@@ -9,7 +9,7 @@ ghost use Rattle.review_changes.specs.Sound.{are_in_order};
 ghost use Rattle.review_changes.specs.Votes.{voted};
 ghost use Rattle.review_core.specs.Tests.{are_counted, is_called_in_place, is_earlier, is_in_place};
 
-use review_changes::{Called, CommentRow, PatchRow, Vote, VoteKey};
+use review_changes::{Called, Comment, PatchRow, Vote, VoteKey};
 use review_parts::is_eligible;
 use review_table::Table;
 use review_words::{AccountNo, Role};
@@ -24,7 +24,7 @@ fn is_within(most: usize, number: usize) -> bool
 }
 
 /// Whether there are as many patch sets and comments as there may be, and a patch set at all.
-pub fn are_counted(patches: &[PatchRow], comments: &[CommentRow]) -> bool
+pub fn are_counted(patches: &[PatchRow], comments: &[Comment]) -> bool
     ensures { result ≡ are_counted (length patches.now) (length comments.now) }
 {
     is_within(1_000, patches.len()) && comments.len() <= 10_000
@@ -79,23 +79,23 @@ pub fn are_in_place(
     Ok(true)
 }
 
-fn answers_earlier(comment: &CommentRow, before: usize) -> bool
+fn answers_earlier(comment: &Comment, before: usize) -> bool
     ensures { result ≡ option_map_or (λ k. is_within before k) comment.now.answers true }
 {
-    match comment.answers {
+    match comment.row().answers {
         Some(number) => is_within(before, number.get() as usize),
         None => true,
     }
 }
 
 /// Whether a comment, before which there are so many, is on a patch set that is there and answers none but an earlier one.
-fn is_earlier(comment: &CommentRow, current: usize, before: usize) -> bool
+fn is_earlier(comment: &Comment, current: usize, before: usize) -> bool
     ensures { result ≡ is_earlier current before comment.now }
 {
-    is_within(current, comment.patch.get() as usize) && answers_earlier(comment, before)
+    is_within(current, comment.row().patch.get() as usize) && answers_earlier(comment, before)
 }
 
-pub fn are_in_order(comments: &[CommentRow], current: usize) -> bool
+pub fn are_in_order(comments: &[Comment], current: usize) -> bool
     ensures { result ≡ are_in_order current 0 comments.now }
 {
     for (before, comment) in comments.iter().enumerate() {

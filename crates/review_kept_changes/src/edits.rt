@@ -7,7 +7,7 @@ ghost use Rattle.review_table.specs.Rows.{changed, row_in, rows_of};
 ghost use Rattle.review_kept_changes.specs.Kept.{part_in, AreEdited};
 
 use review_change_rows::{Copied, copied_header, copied_table};
-use review_changes::{Called, CommentRow, Header, PatchRow, Vote, VoteKey};
+use review_changes::{Called, Comment, Header, PatchRow, Vote, VoteKey};
 use review_rows::ChangeEdit;
 use review_table::{Change, Key, Table};
 use review_words::{AccountNo, CommentNo, PatchNo, Role};
@@ -20,7 +20,7 @@ pub struct ChangeTables {
     pub patches: Table<PatchNo, PatchRow>,
     pub votes: Table<VoteKey, Vote>,
     pub roles: Table<AccountNo, Role>,
-    pub comments: Table<CommentNo, CommentRow>,
+    pub comments: Table<CommentNo, Comment>,
     pub attention: Table<AccountNo, Called>,
 }
 

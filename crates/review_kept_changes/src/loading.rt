@@ -8,7 +8,7 @@ ghost use Rattle.review_kept_changes.specs.Loads.{AreInOrder, HaveFault, IsGap, 
 
 use crate::edits::{ChangeTables, Marks};
 use review_change_rows::{Copied, copied_header, copied_table};
-use review_changes::{ChangeRows, CommentRow, PatchRow};
+use review_changes::{ChangeRows, Comment, PatchRow};
 use review_rows::ShelfFault;
 use review_table::Table;
 use review_words::{CommentNo, PatchNo};
@@ -101,8 +101,8 @@ fn patches_in_order(
 
 fn comments_in_order(
     alloc: Global,
-    table: &Table<CommentNo, CommentRow>,
-) -> Result<Vec<CommentRow>, ChangeFault>
+    table: &Table<CommentNo, Comment>,
+) -> Result<Vec<Comment>, ChangeFault>
     ensures rows { IfOk result (λ comments. AreInOrder (rows_of table.now) comments.items) }
     ensures fault { IfErr result (IsGap (rows_of table.now)) }
 {

@@ -18,7 +18,7 @@ use review_change_records::headers::{Headers, LastChange};
 use review_change_records::patches::Patches;
 use review_change_records::roles::Roles;
 use review_change_records::votes::Votes;
-use review_changes::{Called, CommentRow, Header, PatchRow, Vote, VoteKey};
+use review_changes::{Called, Comment, Header, PatchRow, Vote, VoteKey};
 use review_kept_changes::loading::change_rows;
 use review_kept_changes::{ChangeFault, ChangeTables};
 use review_rows::Rows;
@@ -42,7 +42,7 @@ pub struct FoundSets {
 #[derive(Drop)]
 pub struct FoundTalk {
     pub roles: Option<Table<AccountNo, Role>>,
-    pub comments: Option<Table<CommentNo, CommentRow>>,
+    pub comments: Option<Table<CommentNo, Comment>>,
     pub attention: Option<Table<AccountNo, Called>>,
 }
 

@@ -3,7 +3,7 @@ ghost use Rattle.std.specs.Prelude.{◌≡◌, ◌++◌, ◌∷◌, [], List, ma
 ghost use Rattle.review_changes.specs.Change as change;
 ghost use Rattle.review_changes.specs.Change.{answered, message_of, said, stored_as};
 
-use review_changes::CommentRow;
+use review_changes::{Comment, CommentRow};
 use review_words::{AccountNo, CommentNo, Message, NewComment, PatchNo, Review, patch_set_level};
 use std::alloc::{AllocError, Global};
 
@@ -15,7 +15,7 @@ pub fn of_number<T>(items: &[T], number: CommentNo) -> Option<&T>
 }
 
 /// The stored comment that a new one answers.
-pub fn answered<'c>(stored: &'c [CommentRow], new: &NewComment) -> Option<&'c CommentRow>
+pub fn answered<'c>(stored: &'c [Comment], new: &NewComment) -> Option<&'c Comment>
     ensures { option_copied result ≡ answered stored.now new.now }
 {
     match new.in_reply_to {
@@ -34,19 +34,19 @@ pub struct Origin {
 
 fn stored_as(
     alloc: Global,
-    stored: &[CommentRow],
+    stored: &[Comment],
     origin: &Origin,
     new: &NewComment,
-) -> Result<CommentRow, AllocError>
+) -> Result<Comment, AllocError>
     ensures { IfOk result (λ row. row ≡ stored_as stored.now origin.now.patch origin.now.author origin.now.request new.now) }
 {
     let path = new.path.copy(alloc)?;
     let message = new.message.copy(alloc)?;
     let unresolved = match answered(stored, new) {
-        Some(row) => row.unresolved,
+        Some(comment) => comment.row().unresolved,
         None => false,
     };
-    Ok(CommentRow {
+    let row = CommentRow {
         patch: origin.patch,
         path,
         line: new.line,
@@ -55,15 +55,16 @@ fn stored_as(
         unresolved: new.unresolved.unwrap_or(unresolved),
         answers: new.in_reply_to,
         request: origin.request,
-    })
+    };
+    Comment::new(alloc, row)
 }
 
 /// Stores a new comment after those that stand in the rows.
 fn store_one(
     alloc: Global,
-    stored: &[CommentRow],
+    stored: &[Comment],
     origin: &Origin,
-    rows: &mut Vec<CommentRow>,
+    rows: &mut Vec<Comment>,
     new: &NewComment,
 ) -> Result<(), AllocError>
     ensures { OnOk result (rows.new.items ≡ rows.old.items ++ (stored_as stored.now origin.now.patch origin.now.author origin.now.request new.now ∷ [])) }
@@ -75,9 +76,9 @@ fn store_one(
 
 fn store_all(
     alloc: Global,
-    stored: &[CommentRow],
+    stored: &[Comment],
     origin: &Origin,
-    rows: &mut Vec<CommentRow>,
+    rows: &mut Vec<Comment>,
     new: &[NewComment],
 ) -> Result<(), AllocError>
     ensures { OnOk result (rows.new.items ≡ rows.old.items ++ map (stored_as stored.now origin.now.patch origin.now.author origin.now.request) new.now) }
@@ -91,10 +92,10 @@ fn store_all(
 /// The new comments of a review, as they are stored.
 pub fn new_comments(
     alloc: Global,
-    stored: &[CommentRow],
+    stored: &[Comment],
     origin: &Origin,
     review: &Review,
-) -> Result<Vec<CommentRow>, AllocError>
+) -> Result<Vec<Comment>, AllocError>
     ensures { IfOk result (λ v. v.items ≡ map (stored_as stored.now origin.now.patch origin.now.author origin.now.request) (said review.now)) }
 {
     let mut said = Vec::new(alloc);

@@ -10,7 +10,7 @@ ghost use Rattle.review_parts.specs.Copies.{has_lost, lost_label};
 
 use crate::attention::Rule;
 use crate::comments::of_number;
-use review_changes::{CommentRow, Post, VoteKey, Why};
+use review_changes::{Comment, Post, VoteKey, Why};
 use review_file::Label;
 use review_table::Table;
 use review_words::{AccountNo, LabelName, NewComment, Role};
@@ -61,7 +61,7 @@ pub struct WhenReviewed<'a> {
     pub stored: &'a [Post],
     /// The comments of the review, as they were given and as they are stored.
     pub given: &'a [NewComment],
-    pub new: &'a [CommentRow],
+    pub new: &'a [Comment],
     pub caller: AccountNo,
     pub owner: AccountNo,
     pub uploader: AccountNo,
@@ -101,10 +101,16 @@ fn why_commented(rule: &WhenReviewed<'_>, account: AccountNo) -> Option<Why>
     None
 }
 
-fn any_unresolved(rows: &[CommentRow]) -> bool
+fn any_unresolved(rows: &[Comment]) -> bool
     ensures { result ≡ list_any (λ x. x.unresolved) rows.now }
 {
-    rows.iter().any(|row| row.unresolved)
+    rows.iter().any(is_unresolved)
+}
+
+fn is_unresolved(comment: &Comment) -> bool
+    ensures { result ≡ comment.now.unresolved }
+{
+    comment.row().unresolved
 }
 
 fn answers_root(stored: &[Post], new: &NewComment, root: u64) -> bool

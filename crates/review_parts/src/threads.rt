@@ -4,14 +4,14 @@ ghost use Rattle.std.specs.List.{list_any};
 ghost use Rattle.review_changes.specs.Change.{has_unresolved, posts, root_of};
 
 use crate::comments::of_number;
-use review_changes::{CommentRow, Post};
+use review_changes::{Comment, Post};
 use std::alloc::{AllocError, Global};
 
-fn root_of(earlier: &[Post], comment: &CommentRow) -> u64
+fn root_of(earlier: &[Post], comment: &Comment) -> u64
     ensures { result ≡ root_of earlier.now comment.now }
 {
     let own = earlier.len() as u64 + 1;
-    let Some(number) = comment.answers else {
+    let Some(number) = comment.row().answers else {
         return own;
     };
     match of_number(earlier, number) {
@@ -21,16 +21,17 @@ fn root_of(earlier: &[Post], comment: &CommentRow) -> u64
 }
 
 /// The comments with the threads that they are in.
-pub fn posts(alloc: Global, comments: &[CommentRow]) -> Result<Vec<Post>, AllocError>
+pub fn posts(alloc: Global, comments: &[Comment]) -> Result<Vec<Post>, AllocError>
     ensures { IfOk result (λ v. v.items ≡ posts comments.now) }
 {
     let mut posts = Vec::new(alloc);
     for comment in comments {
         let root = root_of(&posts, comment);
+        let row = comment.row();
         posts.push(Post {
-            author: comment.author,
+            author: row.author,
             root,
-            unresolved: comment.unresolved,
+            unresolved: row.unresolved,
         })?;
     }
     Ok(posts)

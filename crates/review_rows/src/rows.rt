@@ -2,7 +2,7 @@
 ghost use Rattle.std.specs.Prelude.{◌≡◌, IfOk};
 
 use review_chain::Standing;
-use review_changes::{Called, ChangeRows, CommentRow, Header, PatchRow, Vote, VoteKey};
+use review_changes::{Called, ChangeRows, Comment, Header, PatchRow, Vote, VoteKey};
 use review_table::{Change, Key, Table};
 use review_words::{
     AccountName, AccountNo, Bases, BranchName, ChangeNo, CommentNo, CommitName, FileText,
@@ -87,7 +87,7 @@ pub struct ChangeEdit {
     pub patches: Vec<Change<PatchNo, PatchRow>>,
     pub votes: Vec<Change<VoteKey, Vote>>,
     pub roles: Vec<Change<AccountNo, Role>>,
-    pub comments: Vec<Change<CommentNo, CommentRow>>,
+    pub comments: Vec<Change<CommentNo, Comment>>,
     pub attention: Vec<Change<AccountNo, Called>>,
 }
 

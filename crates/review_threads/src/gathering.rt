@@ -4,7 +4,7 @@ ghost use Rattle.review_names.specs.Forms.{most_comments};
 ghost use Rattle.review_changes.specs.Threads.{shown_comment, threads};
 ghost use Rattle.review_threads.specs.Gathered.{place_of, put_in, thread_so_far};
 
-use review_changes::CommentRow;
+use review_changes::Comment;
 use review_parts::of_number;
 use review_words::{CommentNo, Listed, ShownComment, Thread};
 use std::alloc::{AllocError, Global};
@@ -29,9 +29,10 @@ fn number_after(count: usize) -> CommentNo
     }
 }
 
-fn shown(alloc: Global, number: CommentNo, comment: &CommentRow) -> Result<ShownComment, AllocError>
+fn shown(alloc: Global, number: CommentNo, comment: &Comment) -> Result<ShownComment, AllocError>
     ensures { IfOk result (λ x. x ≡ shown_comment number comment.now) }
 {
+    let comment = comment.row();
     let path = comment.path.copy(alloc)?;
     let message = comment.message.copy(alloc)?;
     Ok(ShownComment {
@@ -47,10 +48,10 @@ fn shown(alloc: Global, number: CommentNo, comment: &CommentRow) -> Result<Shown
 }
 
 /// The place of a comment's thread, by those of the comments before it: that of the one which it answers, or else the next.
-fn place_of(places: &[usize], next: usize, comment: &CommentRow) -> usize
+fn place_of(places: &[usize], next: usize, comment: &Comment) -> usize
     ensures { result ≡ place_of places.now next comment.now }
 {
-    let Some(number) = comment.answers else {
+    let Some(number) = comment.row().answers else {
         return next;
     };
     match of_number(places, number) {
@@ -93,7 +94,7 @@ fn put_in(
     Ok(())
 }
 
-fn gather(alloc: Global, comments: &[CommentRow]) -> Result<Vec<Gathered>, AllocError>
+fn gather(alloc: Global, comments: &[Comment]) -> Result<Vec<Gathered>, AllocError>
     requires { nat_le (length comments.now) most_comments ≡ true }
     ensures { IfOk result (λ v. map thread_so_far v.items ≡ threads comments.now) }
 {
@@ -124,7 +125,7 @@ fn finished(alloc: Global, gathered: Vec<Gathered>) -> Result<Vec<Thread>, Alloc
 }
 
 /// The threads of a change's comments, by their first comments, each with its comments in order. An error is want of memory.
-pub fn threads(alloc: Global, comments: &[CommentRow]) -> Result<Listed<Thread>, AllocError>
+pub fn threads(alloc: Global, comments: &[Comment]) -> Result<Listed<Thread>, AllocError>
     requires { nat_le (length comments.now) most_comments ≡ true }
     ensures { IfOk result (λ v. v ≡ threads comments.now) }
 {

@@ -2,7 +2,7 @@
 ghost use Rattle.std.specs.Prelude.{◌≡◌, IfOk};
 ghost use Rattle.review_changes.specs.Change.{has_unresolved, posts};
 
-use review_changes::{CommentRow, Post};
+use review_changes::{Comment, Post};
 use review_parts::posts;
 use std::alloc::{AllocError, Global};
 use std::collections::BTreeSet;
@@ -24,7 +24,7 @@ fn ends_unresolved(alloc: Global, posts: Vec<Post>) -> Result<bool, AllocError>
 
 /// Whether a thread of a change's comments is unresolved: where the comment with its greatest number is. This is Gerrit's. An error is
 /// want of memory.
-pub fn has_unresolved(alloc: Global, comments: &[CommentRow]) -> Result<bool, AllocError>
+pub fn has_unresolved(alloc: Global, comments: &[Comment]) -> Result<bool, AllocError>
     ensures { IfOk result (λ b. b ≡ has_unresolved (posts comments.now)) }
 {
     let posts = posts(alloc, comments)?;
