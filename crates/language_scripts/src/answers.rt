@@ -59,10 +59,15 @@ pub fn reading(alloc: Global, read: Result<Expr, ParseFault>) -> Result<String, 
     }
 }
 
+/// The answer to whether something is so.
+pub fn yes_or_no(alloc: Global, is_so: bool) -> Result<String, Fault> {
+    Ok(String::from_str(alloc, if is_so { "yes" } else { "no" })?)
+}
+
 /// Whether an expression holds.
 fn judged(alloc: Global, expr: &Expr, facts: &Facts) -> Result<String, Fault> {
     let held = eval(alloc, expr, facts)?;
-    Ok(String::from_str(alloc, if held { "yes" } else { "no" })?)
+    yes_or_no(alloc, held)
 }
 
 /// Whether a text that was read holds.

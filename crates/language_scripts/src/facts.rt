@@ -138,15 +138,17 @@ fn each_account(alloc: Global, text: &str) -> Result<Vec<AccountNo>, Fault> {
     Ok(accounts)
 }
 
-fn members(alloc: Global, text: &str) -> Result<Members, Fault> {
-    let accounts = each_account(alloc, text)?;
-    Ok(Members::from_vec(alloc, accounts)?)
+/// A group that words say, and its members.
+pub fn group(alloc: Global, words: &str) -> Result<(GroupName, Members), Fault> {
+    let (name, numbers) = cut(words)?;
+    let accounts = each_account(alloc, numbers)?;
+    let members = Members::from_vec(alloc, accounts)?;
+    let name = GroupName::read(alloc, name)?;
+    Ok((name, members))
 }
 
 fn put_group(alloc: Global, groups: &mut Groups, text: &str) -> Result<(), Fault> {
-    let (name, numbers) = cut(text)?;
-    let name = GroupName::read(alloc, name)?;
-    let members = members(alloc, numbers)?;
+    let (name, members) = group(alloc, text)?;
     groups.0.insert(name, members)?;
     Ok(())
 }

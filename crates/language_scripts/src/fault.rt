@@ -17,6 +17,8 @@ pub enum Fault {
     Output,
     /// A line is of none of the forms, or has a name or a number that is none.
     Form,
+    /// A question needs a project file, and the text is none.
+    NoFile,
 }
 
 impl Fault {
@@ -63,6 +65,7 @@ impl Display for Fault {
             Fault::Input => "input fault",
             Fault::Output => "output fault",
             Fault::Form => "a line of no form",
+            Fault::NoFile => "a question about a text that is no project file",
         })
     }
 }

@@ -1,98 +1,165 @@
-//! Scripts on the language of submit requirements and copy conditions: a transcript that a person reads from top to bottom.
+//! Scripts on the languages of a project: expressions and project files. A transcript that a person reads from top to bottom.
 //!
-//! Standard input has scripts, standard output the same lines, each with its answer beneath it, behind `=> `. A line is
+//! Standard input has scripts, standard output the same lines, with the answer to each question beneath it, behind `=> `. A line is
 //!
 //! - `### TEXT`, a heading, `# TEXT`, a remark, or nothing;
-//! - `== NAME`: a script begins, whose facts are those of `Facts` below until its lines say otherwise;
-//! - a question about an expression:
-//!   - `requirement TEXT`, `copy TEXT`: TEXT is read as a submit requirement, as a copy condition. The answer is the text that it is
-//!     printed as, or that text's length where it has more than 200 bytes, and beneath it the labels that it names, if any;
-//!   - `holds TEXT`, `copies TEXT`: whether that requirement holds for the change, that condition for the vote. The answer is yes
-//!     or no;
-//!   - `change-copies TEXT`, `vote-holds TEXT`: a condition asked of the change, a requirement of the vote;
-//! - or a fact, which has no answer. Both kinds of facts have
-//!   - `uploader A`: account A sent the current patch set; in copying, the new one;
-//!   - `group G A A ..`: the accounts of a group.
+//! - `@ expressions` or `@ project files`: what the scripts below are on, at first expressions;
+//! - `== NAME`: a script begins, which knows nothing of those above it;
+//! - any other line: as the modules `expressions` and `files` say.
 //!
-//!   A change has besides
-//!   - `owner A`, `branch B`, `paths P, P, ..`, `threads resolved`, `threads unresolved`;
-//!   - `label L LEAST GREATEST`: the values of a label;
-//!   - `votes L A VALUE, A VALUE, ..`: what each account voted on it.
-//!
-//!   A vote on the patch set before a new one has besides
-//!   - `voter A`, `value VALUE`, `range LEAST GREATEST`: the values of its label;
-//!   - `kind K`: the new patch set's kind; `files same`, `files changed`: whether both patch sets have the same paths.
-//!
-//! A text that is no expression is answered by its fault and place. In the text of a question `{N:PART}` is PART N times, and `\t`,
-//! `\r` and `\n` are a tab, a carriage return and a line feed; any other brace or backslash is itself.
-//!
-//! # Facts
-//!
-//! At first account 1 made a change for the branch main and sent its patch set, which has no paths, votes or threads; and account 1
-//! voted 2 on a label from -2 to 2, and sends a rework of other paths. There are no labels and no groups.
+//! With words it reads no scripts, but does a piece of work with an expression, to be timed from outside: `language_scripts WORK
+//! COUNT PATHS TEXT` does it COUNT times, at most 1,000,000, and prints how many times the expression was read or held. WORK is `parse`
+//! (reads TEXT as a submit requirement), `eval` (evaluates it, read once, for a change with 20 votes on Code-Review and so many paths in
+//! `src`, at most 500) or `compile` (reads TEXT as a pattern). `bench/expressions` times it, and `bench/refuse_allocations` refuses its
+//! allocations.
 #![tactic(auto)]
 
 mod answers;
+mod contents;
+mod expressions;
 mod facts;
 mod fault;
-mod script;
+mod file_readings;
+mod files;
+mod satisfied;
 mod texts;
+mod work;
 
+use expressions::ExpressionScript;
 use fault::Fault;
-use script::Script;
+use files::FileScript;
+use std::alloc::Global;
+use std::env;
 use std::io;
 use std::io::{BufRead, BufReader};
 use std::process::ExitCode;
 
+/// What scripts are on.
+#[derive(Clone, Copy)]
+enum Language {
+    Expressions,
+    ProjectFiles,
+}
+
+/// The script that has begun, in each language.
+#[derive(Drop)]
+struct Scripts {
+    language: Language,
+    expressions: ExpressionScript,
+    files: FileScript,
+}
+
+impl Scripts {
+    fn new(alloc: Global, language: Language) -> Result<Scripts, Fault> {
+        let expressions = ExpressionScript::new(alloc)?;
+        let files = FileScript::new(alloc);
+        Ok(Scripts {
+            language,
+            expressions,
+            files,
+        })
+    }
+
+    /// Begins a script.
+    fn begin(&mut self, alloc: Global, language: Language) -> Result<(), Fault> {
+        *self = Scripts::new(alloc, language)?;
+        Ok(())
+    }
+
+    /// Takes a line that is no remark: its answer, if it asks something.
+    fn take(&mut self, alloc: Global, line: &str) -> Result<Option<String>, Fault> {
+        if line.starts_with("== ") {
+            self.begin(alloc, self.language)?;
+            return Ok(None);
+        }
+        match self.language {
+            Language::Expressions => self.expressions.take(alloc, line),
+            Language::ProjectFiles => self.files.take(alloc, line),
+        }
+    }
+}
+
+/// The language that a line names.
+fn language(line: &str) -> Option<Language> {
+    match line {
+        "@ expressions" => Some(Language::Expressions),
+        "@ project files" => Some(Language::ProjectFiles),
+        _ => None,
+    }
+}
+
 /// Prints what a line of a script is answered.
-fn answer(rt: &HostRuntime, script: &mut Script, line: &str) -> Result<(), Fault> {
-    if let Some(answer) = script.take(rt.alloc(), line)? {
+fn answer(rt: &HostRuntime, scripts: &mut Scripts, line: &str) -> Result<(), Fault> {
+    if let Some(answer) = scripts.take(rt.alloc(), line)? {
         println!(rt; "=> {answer}").map_err(Fault::of_output)?;
     }
     Ok(())
 }
 
 /// Prints a line, and does what it says.
-fn step(rt: &HostRuntime, script: &mut Script, line: &str) -> Result<(), Fault> {
+fn step(rt: &HostRuntime, scripts: &mut Scripts, line: &str) -> Result<(), Fault> {
     println!(rt; "{line}").map_err(Fault::of_output)?;
     if line.is_empty() || line.starts_with("#") {
         return Ok(());
     }
-    if line.starts_with("== ") {
-        return script.begin(rt.alloc());
+    match language(line) {
+        Some(language) => scripts.begin(rt.alloc(), language),
+        None => answer(rt, scripts, line),
     }
-    answer(rt, script, line)
 }
 
 /// Takes a line as it was read.
 fn read_step(
     rt: &HostRuntime,
-    script: &mut Script,
+    scripts: &mut Scripts,
     line: Result<String, io::Error>,
 ) -> Result<(), Fault> {
     let line = line.map_err(Fault::of_input)?;
-    step(rt, script, line.as_str())
+    step(rt, scripts, line.as_str())
 }
 
-fn transcribe_with(rt: &HostRuntime, script: &mut Script) -> Result<(), Fault> {
+fn transcribe_with(rt: &HostRuntime, scripts: &mut Scripts) -> Result<(), Fault> {
     let reader = BufReader::new(rt.alloc(), rt.reader()).map_err(Fault::of_input)?;
     for line in reader.lines(rt.alloc()) {
-        read_step(rt, script, line)?;
+        read_step(rt, scripts, line)?;
     }
     Ok(())
 }
 
 fn transcribe(rt: &HostRuntime) -> Result<(), Fault> {
-    let mut script = Script::new(rt.alloc())?;
-    transcribe_with(rt, &mut script)
+    let mut scripts = Scripts::new(rt.alloc(), Language::Expressions)?;
+    transcribe_with(rt, &mut scripts)
 }
 
-fn main(rt: HostRuntime) -> ExitCode {
-    match transcribe(&rt) {
+fn transcript(rt: &HostRuntime) -> ExitCode {
+    match transcribe(rt) {
         Ok(()) => ExitCode::SUCCESS,
         Err(fault) => {
             let _ = eprintln!(rt; "language_scripts: {fault}");
             ExitCode::FAILURE
         }
+    }
+}
+
+/// Prints how many times a work was done, if words ask for one.
+fn count(rt: &HostRuntime, done: Option<u64>) -> ExitCode {
+    let Some(done) = done else {
+        let _ = eprintln!(rt; "usage: language_scripts [parse|eval|compile COUNT PATHS TEXT]");
+        return ExitCode::from(2);
+    };
+    match println!(rt; "{done}") {
+        Ok(()) => ExitCode::SUCCESS,
+        Err(_) => ExitCode::FAILURE,
+    }
+}
+
+fn main(rt: HostRuntime) -> ExitCode {
+    let Ok(mut words) = env::args(&rt) else {
+        return count(&rt, None);
+    };
+    let _ = words.next();
+    match words.next() {
+        Some(name) => count(&rt, work::done(rt.alloc(), name.as_str(), &mut words)),
+        None => transcript(&rt),
     }
 }

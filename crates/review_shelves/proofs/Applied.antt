@@ -34,9 +34,9 @@ use Rattle.review_shelves.specs.declared.keys.NameKey.{NameKey}
 use Rattle.review_shelves.specs.declared.keys.StoredAnswer.{StoredAnswer}
 use Rattle.review_shelves.specs.declared.tables.MemoryTables.{MemoryTables}
 use Rattle.review_shelves.specs.Desk.{Desk, desk_of, tables_of, row_of, count_of, stored_row, file_changes, answer_cmp, name_cmp, IsNumber, AreInUse, IsIndexed, IsNumbered, IsBounded, IsSound, IsGiven, IsHeld, AreIndexed, KeepsNames, AreChangesOf, AreApplied, IsWithBase, HasRoom, HasRoomOnlyFor, with_branches, with_changes}
-use Rattle.review_shelves.specs.Branches.{BranchesView, place_cmp, base_at, total_in, place_of}
-use Rattle.review_shelves.specs.declared.keys.PlaceKey.{PlaceKey}
-use Rattle.review_shelves.proofs.Based.{at_place_of}
+use Rattle.review_kept_branches.specs.Branches.{BranchesView, place_cmp, base_at, total_in, place_of}
+use Rattle.review_kept_branches.specs.declared.keys.PlaceKey.{PlaceKey}
+use Rattle.review_kept_branches.proofs.Based.{at_place_of}
 use Rattle.review_shelves.proofs.Orders.{exact_member, exact_answer, at_answer}
 
 -- names that are listed stay so

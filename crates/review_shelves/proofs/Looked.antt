@@ -1,26 +1,31 @@
 -- What look-ups in tables in memory find.
-use Rattle.std.proofs.Common.{◌≡◌, Option, Some, None, Result, Ok, Err, refl, sym, subst, Bor}
-use Rattle.std.specs.Option.{is_some, option_copied}
+use Rattle.std.proofs.Common.{◌≡◌, ℕ, List, Option, Result, Ok, Err, sym, subst}
 use Rattle.std.specs.Prelude.{IfErr, OnOk}
 use Rattle.std.specs.declared.alloc.AllocError.{AllocError}
 use Rattle.std.specs.Result.{IsErr, IsErrAnd}
 use Rattle.review_rows.specs.declared.rows.BranchKey.{BranchKey}
 use Rattle.review_rows.specs.declared.rows.Rows.{Rows}
 use Rattle.review_rows.specs.declared.rows.Want.{Want}
-use Rattle.review_rows.specs.Rows.{Tables}
-use Rattle.review_rows.specs.Known.{Found, IsFound, Learns}
-use Rattle.review_shelves.specs.declared.branches.BasesFault.{BasesFault}
-use Rattle.review_shelves.specs.declared.branches.BasesFault.TheVariants as bases
+use Rattle.review_words.specs.History.{bases as bases_in}
+use Rattle.review_rows.specs.Rows.{Tables, BaseKey}
+use Rattle.review_rows.specs.Shelf.{IsDamaged}
+use Rattle.review_rows.proofs.Readings.{reading_of}
+use Rattle.review_rows.specs.Known.{Found, IsFound, Learns, at_place}
+use Rattle.review_kept_branches.specs.declared.branches.BasesFault.{BasesFault}
+use Rattle.review_kept_branches.specs.declared.branches.BasesFault.TheVariants as bases
 use Rattle.review_rows.specs.declared.shelf.ShelfFault.{ShelfFault}
-use Rattle.review_shelves.specs.Branches.{IsUnlisted}
+use Rattle.review_kept_branches.specs.Branches.{IsUnlisted, AreBases, base_at}
 use Rattle.review_shelves.specs.Desk.{Desk, tables_of}
 use Rattle.review_kept_changes.specs.Looked.{LearnsFound}
 use Rattle.review_shelves.specs.Loads.{IsUnread, fault_of}
-use Rattle.review_shelves.proofs.Placed.{unlisted_damaged}
+use Rattle.review_kept_changes.proofs.Looked.{based_from}
 
-pub copied_some : {X : Type 0} (o : Option (Bor X)) → is_some (option_copied o) ≡ is_some o
-copied_some None = refl
-copied_some (Some x) = refl
+-- a branch whose bases make no list is that of no history
+unlisted_damaged : (d : Desk) (key : BranchKey) → ((commits : List (List ℕ)) → AreBases d.branches.bases key commits → ⊥) → IsDamaged (tables_of d)
+unlisted_damaged d key none h hist v =
+    let read = reading_of h hist in
+    none (bases_in h key.project key.branch)
+    (λ n. based_from (base_at d.branches.bases key.project key.branch n) (at_place (bases_in h key.project key.branch) n) ((v read.0 read.1).row_is (BaseKey key.project key.branch n)))
 
 -- bases that are not given are those of no history
 pub bases_unread : (d : Desk) (key : BranchKey) (f : BasesFault) → IsUnlisted d.branches.bases key f → IsUnread (tables_of d) (fault_of f)

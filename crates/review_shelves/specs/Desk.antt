@@ -16,7 +16,7 @@ use Rattle.review_rows.specs.Rows.{Key, AccountKey, MemberKey, FileKey, BaseKey,
 use Rattle.review_rows.specs.View.{tables_version}
 use Rattle.review_kept_changes.specs.declared.edits.ChangeTables.{ChangeTables}
 use Rattle.review_kept_changes.specs.Kept.{KeptView, HasRoomFor, IsFull, part_at}
-use Rattle.review_shelves.specs.Branches.{BranchesView, IsPut, base_at, total_in}
+use Rattle.review_kept_branches.specs.Branches.{BranchesView, IsPut, base_at, total_in}
 use Rattle.review_shelves.specs.declared.keys.NameKey.{NameKey}
 use Rattle.review_shelves.specs.declared.keys.AnswerKey.{AnswerKey}
 use Rattle.review_shelves.specs.declared.keys.StoredAnswer.{StoredAnswer}

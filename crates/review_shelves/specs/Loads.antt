@@ -3,8 +3,8 @@ use Rattle.review_rows.specs.declared.shelf.ShelfFault.{ShelfFault}
 use Rattle.review_rows.specs.declared.shelf.ShelfFault.TheVariants.{Memory, Store, Damaged}
 use Rattle.review_rows.specs.Rows.{Tables}
 use Rattle.review_rows.specs.Shelf.{IsDamaged}
-use Rattle.review_shelves.specs.declared.branches.BasesFault.{BasesFault}
-use Rattle.review_shelves.specs.declared.branches.BasesFault.TheVariants as bases
+use Rattle.review_kept_branches.specs.declared.branches.BasesFault.{BasesFault}
+use Rattle.review_kept_branches.specs.declared.branches.BasesFault.TheVariants as bases
 
 -- why tables in memory are not read: want of memory, or that they are those of no history
 abbrev pub IsUnread : Tables → ShelfFault → Type 0

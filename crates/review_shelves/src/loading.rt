@@ -11,10 +11,10 @@ ghost use Rattle.review_shelves.specs.Desk.{tables_of, desk_of, row_of, IsIndexe
 ghost use Rattle.review_kept_changes.specs.Looked.{LearnsFound};
 ghost use Rattle.review_shelves.specs.Loads.{IsUnread};
 
-use crate::branches::BasesFault;
 use crate::keys::NameKey;
 use crate::tables::MemoryTables;
 use review_chain::Standing;
+use review_kept_branches::BasesFault;
 use review_rows::{Base, BranchKey, Counted, MemberKey, Need, Rows, ShelfFault, Want};
 use review_table::{Key, Table};
 use review_words::{AccountName, AccountNo, ChangeNo, FileText, GroupName, ProjectName};

@@ -13,9 +13,9 @@ ghost use Rattle.review_shelves.specs.Desk.{tables_of, desk_of, row_of, name_cmp
 ghost use Rattle.review_shelves.specs.First.{HasAccount, HasName, HasMember};
 ghost use Rattle.review_kept_changes.specs.Kept.{IsFull, IsFullBut, IsReady};
 
-use crate::branches::Branches;
 use crate::changes::{Changes, names_given, names_held};
 use crate::keys::{AnswerKey, NameKey, StoredAnswer};
+use review_kept_branches::Branches;
 use review_kept_changes::{KeptChanges, Prepared};
 use review_rows::{BaseRow, Delta, Kept, MemberKey, ProjectRow};
 use review_table::{Key, Table};

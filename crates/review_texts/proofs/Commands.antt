@@ -24,7 +24,7 @@ use Rattle.review_words.specs.declared.command.ChangeCommand.TheVariants as aske
 use Rattle.review_words.specs.declared.command.Command.{Command}
 use Rattle.review_words.specs.declared.command.Command.TheVariants.{CreateAccount, PutGroup, PutProject, RecordBase, CreateChange, OnChange, Submit}
 use Rattle.review_words.specs.Texts.{asked_fields, asked_name, command_fields, comment_fields, given_fields, role_name, role_named, shown_flag, shown_link, shown_patch, shown_truth, signed}
-use Rattle.review_texts.specs.Reading.{at}
+use Rattle.review_fields.specs.Cutting.{at}
 
 -- What fields are read as; whatever where they are none of a command.
 abbrev pub truth_of : List ℕ → Bool

@@ -12,7 +12,7 @@ use Rattle.review_words.specs.Refusals.{refusal_number}
 use Rattle.review_names.specs.Numerals.{shown_digits, numeral}
 use Rattle.review_words.specs.Texts.{expr_fields, fault_fields, most_joined, refusal_fields, reply_fields, IsPlaced, IsRefusalOf, IsStored}
 use Rattle.review_texts.specs.declared.reading.BadReply.{BadReply}
-use Rattle.review_texts.specs.Cutting.{AreShort}
+use Rattle.review_fields.specs.Cutting.{AreShort}
 use Rattle.review_names.specs.Numerals.{◌>>=◌, number_of}
 use Rattle.review_texts.specs.Reading.{expr_fault_of, file_fault_of, label_of, list_of, new_change_of, new_patch_of, number_within, numbers_in, plain_answer_of, refusal_of, reply_of, unsatisfied_of, Gives}
 use Rattle.review_words.specs.declared.reply.Reply.{Reply}

@@ -5,9 +5,9 @@ ghost use Rattle.review_words.specs.Texts.{asked_fields, asked_name, comment_fie
 ghost use Rattle.review_words.specs.declared.command.Command.TheVariants.{CreateAccount, CreateChange, OnChange, PutGroup};
 ghost use Rattle.review_words.specs.declared.command.ChangeCommand.TheVariants.{Upload};
 ghost use Rattle.review_words.specs.declared.command.ChangeCommand.TheVariants as asked;
-ghost use Rattle.review_texts.specs.Shown.{shown};
+ghost use Rattle.review_fields.specs.Shown.{shown};
 
-use crate::pieces::{Piece, joined};
+use review_fields::{Piece, joined};
 use review_names::{
     AccountName, AccountNo, ChangeNo, CommentNo, GroupName, Members, PatchNo, Path,
 };

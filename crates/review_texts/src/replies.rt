@@ -4,9 +4,9 @@ ghost use Rattle.review_names.specs.Numerals.{numeral};
 ghost use Rattle.review_words.specs.Texts.{fault_fields, refusal_fields, reply_text};
 ghost use Rattle.review_words.specs.declared.reply.Answer.TheVariants.{Reviewed, Submitted};
 ghost use Rattle.review_words.specs.declared.reply.Reply.TheVariants.{Done, Refused};
-ghost use Rattle.review_texts.specs.Shown.{shown};
+ghost use Rattle.review_fields.specs.Shown.{shown};
 
-use crate::pieces::{Piece, joined};
+use review_fields::{Piece, joined};
 use review_names::{ChangeNo, CommentNo};
 use review_words::{Answer, CommentNumbers, FileFault, Refusal, Reply};
 use std::alloc::{AllocError, Global};

@@ -1,0 +1,108 @@
+//! Expressions at work, to be timed from outside.
+
+use review_expr::{Expr, Facts, eval, parse_requirement};
+use review_judging::{ChangeFacts, ValueRange};
+use review_terms::Pattern;
+use review_words::{AccountNo, BranchName, Groups, LabelName, Path, Paths};
+use std::alloc::Global;
+use std::collections::BTreeMap;
+use std::env::Args;
+
+/// Votes 1 of 19 accounts, and 2 of another.
+fn votes(alloc: Global) -> Option<BTreeMap<AccountNo, i8>> {
+    let mut votes = BTreeMap::new(alloc);
+    for number in 2..21u64 {
+        votes.insert(AccountNo::from_number(number)?, 1i8).ok()?;
+    }
+    votes.insert(AccountNo::last(), 2i8).ok()?;
+    Some(votes)
+}
+
+/// So many paths in `src`.
+fn paths(alloc: Global, count: u64) -> Option<Paths> {
+    let mut paths = Vec::new(alloc);
+    for number in 0..count.min(500) {
+        let text = format!(in alloc; "src/page-{number}.md").ok()?;
+        paths.push(Path::read(alloc, text.as_str()).ok()?).ok()?;
+    }
+    Paths::from_vec(alloc, paths).ok()
+}
+
+/// A change with 20 votes on Code-Review, and so many paths.
+fn change(alloc: Global, count: u64) -> Option<Facts> {
+    let mut labels = BTreeMap::new(alloc);
+    labels
+        .insert(LabelName::read(alloc, "Code-Review").ok()?, votes(alloc)?)
+        .ok()?;
+    let mut ranges = BTreeMap::new(alloc);
+    let range = ValueRange {
+        least: -2,
+        greatest: 2,
+    };
+    ranges
+        .insert(LabelName::read(alloc, "Code-Review").ok()?, range)
+        .ok()?;
+    Some(Facts::Change(ChangeFacts {
+        votes: labels,
+        ranges,
+        paths: paths(alloc, count)?,
+        owner: AccountNo::first(),
+        uploader: AccountNo::first(),
+        branch: BranchName::read(alloc, "main").ok()?,
+        unresolved: false,
+        groups: Groups(BTreeMap::new(alloc)),
+    }))
+}
+
+fn parsed(alloc: Global, text: &str, count: u64) -> u64 {
+    let mut read = 0u64;
+    for _ in 0..count {
+        if parse_requirement(alloc, text).is_ok() {
+            read = read.saturating_add(1);
+        }
+    }
+    read
+}
+
+fn compiled(alloc: Global, text: &str, count: u64) -> u64 {
+    let mut read = 0u64;
+    for _ in 0..count {
+        if Pattern::read(alloc, text).is_ok() {
+            read = read.saturating_add(1);
+        }
+    }
+    read
+}
+
+fn held(alloc: Global, expression: &Expr, facts: &Facts, count: u64) -> u64 {
+    let mut held = 0u64;
+    for _ in 0..count {
+        if matches!(eval(alloc, expression, facts), Ok(true)) {
+            held = held.saturating_add(1);
+        }
+    }
+    held
+}
+
+fn evaluated(alloc: Global, text: &str, count: u64, paths: u64) -> Option<u64> {
+    let expression = parse_requirement(alloc, text).ok()?;
+    let facts = change(alloc, paths)?;
+    Some(held(alloc, &expression, &facts, count))
+}
+
+fn work(alloc: Global, work: &str, count: u64, paths: u64, text: &str) -> Option<u64> {
+    match work {
+        "parse" => Some(parsed(alloc, text, count)),
+        "compile" => Some(compiled(alloc, text, count)),
+        "eval" => evaluated(alloc, text, count, paths),
+        _ => None,
+    }
+}
+
+/// How many times the expression was read or held in the work that words ask for, if they are words.
+pub fn done(alloc: Global, name: &str, words: &mut Args<Global>) -> Option<u64> {
+    let count = words.next()?.parse::<u64>().ok()?;
+    let paths = words.next()?.parse::<u64>().ok()?;
+    let text = words.next()?;
+    work(alloc, name, count.min(1_000_000), paths, text.as_str())
+}

@@ -1,0 +1,3 @@
+pub mod Cutting
+mod Splitting
+pub mod Signed

@@ -1,0 +1,4 @@
+pub mod Based
+pub mod Listed
+pub mod Options
+pub mod Placed
