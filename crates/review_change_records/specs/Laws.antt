@@ -31,9 +31,9 @@ use Rattle.review_changes.specs.declared.rows.PatchRow.{PatchRow}
 use Rattle.review_changes.specs.declared.rows.VoteKey.{VoteKey}
 use Rattle.review_changes.specs.Seen.{vote_cmp}
 use Rattle.review_tables.specs.Columns.{number_in, text_in}
-use Rattle.review_tables.specs.Content.{has_key}
+use Rattle.review_statements.specs.Content.{has_key}
 use Rattle.review_tables.specs.Fronts.{IsExact, IsFront}
-use Rattle.review_tables.specs.Search.{IsLawful, reads}
+use Rattle.review_statements.specs.Search.{IsLawful, reads}
 use Rattle.review_tables.proofs.Keys.{equal_is, itself, same_int, same_text}
 use Rattle.review_records.specs.Forms.{where_is}
 use Rattle.review_records.specs.Laws.{at_number, both_are, numbers_exact, one_number, passed, reads_text}

@@ -10,7 +10,7 @@ use review_rows::BranchKey;
 use review_tables::columns::number_at;
 use review_tables::greatest::Greatest;
 use review_tables::table::{Lookup, Table};
-use review_tables::texts;
+use review_statements::texts;
 use review_words::ChangeNo;
 use sqlite::{Alter, Error, Row, Transaction, params};
 use std::alloc::{AllocError, Global};

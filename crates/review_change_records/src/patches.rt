@@ -11,7 +11,7 @@ use review_tables::columns::text_at;
 use review_tables::fronts::{Front, Parts};
 use review_tables::greatest::Greatest;
 use review_tables::table::Lookup;
-use review_tables::texts;
+use review_statements::texts;
 use review_words::{ChangeNo, PatchNo};
 use sqlite::{Alter, Error, Row, Transaction, params};
 use std::alloc::{AllocError, Global};

@@ -2,7 +2,7 @@
 
 use crate::values::{change_at, patch_at};
 use review_tables::table::Lookup;
-use review_tables::texts;
+use review_statements::texts;
 use review_words::{ChangeNo, CommitName, PatchNo};
 use sqlite::{Alter, Error, Row, Transaction, params};
 use std::alloc::{AllocError, Global};

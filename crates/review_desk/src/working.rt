@@ -3,7 +3,7 @@
 //! Tables that `create` made are opened as ours, of which all is claimed that a shelf promises, and others as those of others, of which nothing is.
 ghost use Rattle.std.specs.Prelude.{◌≡◌, ◌⊎◌, Bool, true, false};
 ghost use Rattle.sqlite.specs.Held.{Held};
-ghost use Rattle.review_tables.specs.Desk.{schema_0};
+ghost use Rattle.review_statements.specs.Desk.{schema_0};
 ghost use Rattle.review_sql.specs.Shelf.{IsClosed, ShelfView, shown};
 ghost use Rattle.review_showing.specs.Told.{branch_questions, change_page, change_questions, joined_page};
 ghost use Rattle.review_desk.specs.Faults.{lines_outcome, shown_outcome};

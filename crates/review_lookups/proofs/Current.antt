@@ -8,9 +8,9 @@ use Rattle.review_changes.specs.Parts.{APatch, PatchOf}
 use Rattle.review_changes.specs.declared.rows.PatchRow.{PatchRow}
 use Rattle.review_rows.specs.Known.{IsCurrent, IsLast}
 use Rattle.review_rows.specs.Rows.{APart, PartKey, Row}
-use Rattle.review_tables.specs.Content.{has_key}
-use Rattle.review_tables.specs.Greatest.{HasGreatest}
-use Rattle.review_tables.specs.Search.{only, reads, row_at, rows_at}
+use Rattle.review_statements.specs.Content.{has_key}
+use Rattle.review_statements.specs.Greatest.{HasGreatest}
+use Rattle.review_statements.specs.Search.{only, reads, row_at, rows_at}
 use Rattle.review_records.specs.Laws.{passed}
 use Rattle.review_change_records.specs.Forms.{patch_numbers, patches}
 use Rattle.review_lookups.specs.Senders.{IsLastSet, KnowsIf}

@@ -21,11 +21,11 @@ use Rattle.review_rows.specs.declared.rows.BranchKey.{BranchKey}
 use Rattle.review_rows.specs.Known.{HaveJoined, IsAtPlace, IsBefore, IsCurrent, IsJoinedAt}
 use Rattle.review_rows.specs.Rows.{APart}
 use Rattle.review_kept_changes.proofs.Listed.{one_joined, one_place}
-use Rattle.review_tables.specs.Content.{has_key}
+use Rattle.review_statements.specs.Content.{has_key}
 use Rattle.review_tables.specs.Fronts.{Knows}
-use Rattle.review_tables.specs.Greatest.{HasGreatest}
-use Rattle.review_tables.specs.Ran.{Looks}
-use Rattle.review_tables.specs.Search.{only, reads, row_at, rows_at}
+use Rattle.review_statements.specs.Greatest.{HasGreatest}
+use Rattle.review_statements.specs.Ran.{Looks}
+use Rattle.review_statements.specs.Search.{only, reads, row_at, rows_at}
 use Rattle.review_tables.proofs.Found.{look_both, look_on}
 use Rattle.review_tables.proofs.Keys.{itself}
 use Rattle.review_records.specs.declared.rows.PlaceKey.{PlaceKey}

@@ -15,9 +15,9 @@ use Rattle.review_changes.specs.declared.rows.Header.{Header}
 use Rattle.review_rows.specs.declared.rows.BranchKey.{BranchKey}
 use Rattle.review_rows.specs.Known.{IsAtPlace, IsLastJoined}
 use Rattle.review_rows.specs.Rows.{APart}
-use Rattle.review_tables.specs.Content.{has_key}
-use Rattle.review_tables.specs.Greatest.{HasGreatest}
-use Rattle.review_tables.specs.Search.{reads, row_at, rows_at}
+use Rattle.review_statements.specs.Content.{has_key}
+use Rattle.review_statements.specs.Greatest.{HasGreatest}
+use Rattle.review_statements.specs.Search.{reads, row_at, rows_at}
 use Rattle.review_records.specs.Laws.{both_are, number_is, passed}
 use Rattle.review_change_records.specs.Forms.{change_places, headed, headers, is_small}
 use Rattle.review_change_records.specs.Laws.{at_text}

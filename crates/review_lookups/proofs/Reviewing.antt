@@ -21,11 +21,11 @@ use Rattle.review_rows.specs.Known.{HasChange, IsLast, header_key, part_of}
 use Rattle.review_rows.specs.Rows.{PartKey, APart, vote_row}
 use Rattle.review_rows.specs.Shelf.{IsDamaged}
 use Rattle.review_rows.proofs.Readings.{reading_of}
-use Rattle.review_tables.specs.Content.{has_key}
+use Rattle.review_statements.specs.Content.{has_key}
 use Rattle.review_tables.specs.Fronts.{HaveRows, Knows}
-use Rattle.review_tables.specs.Greatest.{HasGreatest}
-use Rattle.review_tables.specs.Search.{only, reads, rows_at}
-use Rattle.review_tables.proofs.Meaning.{all_pass}
+use Rattle.review_statements.specs.Greatest.{HasGreatest}
+use Rattle.review_statements.specs.Search.{only, reads, rows_at}
+use Rattle.review_statements.proofs.Meaning.{all_pass}
 use Rattle.review_change_records.specs.Forms.{headers, patches, votes, roles, comments, calls, change_numbers}
 use Rattle.review_rows.specs.declared.rows.Rows.{Rows}
 use Rattle.review_rows.specs.declared.rows.Want.{Want}

@@ -18,10 +18,10 @@ use Rattle.review_rows.specs.declared.rows.Base.{Base}
 use Rattle.review_rows.specs.Known.{IsBaseOrNot, IsInBranch, IsMergedWith, IsSender, IsSentBy, StandsAs}
 use Rattle.review_rows.specs.Rows.{APart}
 use Rattle.review_chain.specs.declared.links.Standing.TheVariants.{InBranch, PatchSet, Nowhere}
-use Rattle.review_tables.specs.Content.{has_key}
+use Rattle.review_statements.specs.Content.{has_key}
 use Rattle.review_tables.specs.Fronts.{Knows}
-use Rattle.review_tables.specs.Ran.{Looks}
-use Rattle.review_tables.specs.Search.{AreFound, reads, row_at, rows_at}
+use Rattle.review_statements.specs.Ran.{Looks}
+use Rattle.review_statements.specs.Search.{AreFound, reads, row_at, rows_at}
 use Rattle.review_tables.proofs.Found.{look_on, look_both}
 use Rattle.review_change_records.specs.Forms.{headers, patches, sent}
 use Rattle.review_change_records.specs.Laws.{same_bytes, sent_by_key, sent_is}

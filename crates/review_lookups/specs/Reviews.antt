@@ -9,7 +9,7 @@ use Rattle.review_kept_changes.specs.declared.edits.ChangeTables.{ChangeTables}
 use Rattle.review_kept_changes.specs.Kept as kept
 use Rattle.review_rows.specs.Rows.{APart, OddRow}
 use Rattle.review_tables.specs.Fronts.{HaveRows, Knows}
-use Rattle.review_tables.specs.Search.{row_at}
+use Rattle.review_statements.specs.Search.{row_at}
 use Rattle.review_change_records.specs.Forms.{headers, patches, votes, roles, comments, calls}
 use Rattle.review_lookups.specs.declared.loading.Sight.{Sight}
 use Rattle.review_lookups.specs.declared.loading.Sight.TheVariants.{Learnt, NoMemory, Damaged, Odd}

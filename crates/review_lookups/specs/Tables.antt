@@ -5,7 +5,7 @@ use Rattle.sqlite_trees.specs.Tree.{Trees}
 use Rattle.review_words.specs.History.{Identity}
 use Rattle.review_changes.specs.Parts.{Part, TheHeader, PatchOf, VoteOf, RoleOf, CommentOf, AttentionOf, AHeader, APatch, ARole, AComment, ACall}
 use Rattle.review_rows.specs.Rows.{Key, AccountKey, MemberKey, FileKey, BaseKey, PartKey, OddKey, Row, AccountRow, MemberRow, FileRow, BaseRow, APart, OddRow, vote_row, Count, Projects, BasesOf, Stored, Answered, OddAnswer, Tables}
-use Rattle.review_tables.specs.Search.{rows_at, row_at}
+use Rattle.review_statements.specs.Search.{rows_at, row_at}
 use Rattle.review_records.specs.declared.rows.DeskRow.{DeskRow}
 use Rattle.review_records.specs.declared.rows.Answered.{Answered as Rest}
 use Rattle.review_change_records.specs.Forms.{headers, patches, votes, roles, comments, calls}

@@ -7,9 +7,9 @@ ghost use Rattle.review_table.specs.Rows.{rows_of};
 ghost use Rattle.review_rows.specs.declared.rows.Want.TheVariants as want;
 ghost use Rattle.review_records.specs.Forms.{accounts, account_names, account_numbers, member_parts, members};
 ghost use Rattle.review_tables.specs.Fronts.{HaveRows, Knows};
-ghost use Rattle.review_tables.specs.Greatest.{HasGreatest};
-ghost use Rattle.review_tables.specs.Ran.{Looks};
-ghost use Rattle.review_tables.specs.Search.{row_at};
+ghost use Rattle.review_statements.specs.Greatest.{HasGreatest};
+ghost use Rattle.review_statements.specs.Ran.{Looks};
+ghost use Rattle.review_statements.specs.Search.{row_at};
 ghost use Rattle.review_lookups.specs.Loads.{HasLearnt, Sees};
 
 use crate::learning::{last, learn_group, learn_holder, learn_member, learnt, whole};

@@ -3,9 +3,9 @@ ghost use Rattle.std.specs.Prelude.{◌≡◌, true, Some, None, IfOk};
 ghost use Rattle.sqlite.specs.Held.{state};
 ghost use Rattle.sqlite_trees.specs.Tree.{Trees};
 ghost use Rattle.review_rows.specs.declared.rows.Want.TheVariants as want;
-ghost use Rattle.review_tables.specs.Greatest.{HasGreatest};
-ghost use Rattle.review_tables.specs.Ran.{Looks};
-ghost use Rattle.review_tables.specs.Search.{row_at};
+ghost use Rattle.review_statements.specs.Greatest.{HasGreatest};
+ghost use Rattle.review_statements.specs.Ran.{Looks};
+ghost use Rattle.review_statements.specs.Search.{row_at};
 ghost use Rattle.review_change_records.specs.Forms.{change_places, headers};
 ghost use Rattle.review_lookups.specs.Loads.{HasLearnt, Sees};
 

@@ -15,7 +15,7 @@ use Rattle.review_records.specs.declared.rows.Answered.{Answered}
 use Rattle.review_records.specs.declared.rows.DeskRow.{DeskRow}
 use Rattle.review_rows.specs.declared.rows.MemberKey.{MemberKey}
 use Rattle.review_tables.specs.Columns.{number_in, text_in}
-use Rattle.review_tables.specs.Search.{Search, Form}
+use Rattle.review_statements.specs.Search.{Search, Form}
 
 -- a value that passes a test
 abbrev pub where_is : {X : Type 0} → (X → Bool) → Option X → Option X

@@ -12,7 +12,7 @@ use Rattle.sqlite_value.specs.Order.{column, value_cmp}
 use Rattle.review_names.specs.Names.{is_word, is_account_number}
 use Rattle.review_tables.specs.Columns.{number_in, text_in}
 use Rattle.review_tables.specs.Fronts.{IsExact, IsFront}
-use Rattle.review_tables.specs.Search.{IsLawful}
+use Rattle.review_statements.specs.Search.{IsLawful}
 use Rattle.review_tables.proofs.Keys.{equal_is, itself, same_int, same_text}
 use Rattle.review_records.specs.Forms.{where_is, alone, both, member_parts, group_members, base_parts, branch_bases, accounts, account_form, members, member_form, projects, project_form, bases, base_form, answers, answer_form, desk, desk_form}
 use Rattle.review_names.specs.Forms.{is_commit}

@@ -6,7 +6,7 @@ use crate::rows::{Answered, RequestKey, Text};
 use review_rows::Kept;
 use review_tables::columns::{number_at, text_at};
 use review_tables::table::{Lookup, Records};
-use review_tables::texts;
+use review_statements::texts;
 use sqlite::{Alter, Error, Row, Transaction, params};
 use std::alloc::{AllocError, Global};
 

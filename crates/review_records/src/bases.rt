@@ -2,9 +2,9 @@
 ghost use Rattle.std.specs.Prelude.{◌≡◌, ◌∷◌, [], length, nat_lt};
 ghost use Rattle.sqlite.specs.Held.{state};
 ghost use Rattle.sqlite_value.specs.declared.value.Value.TheVariants.{Text};
-ghost use Rattle.review_tables.specs.Greatest.{ShowsBeyond};
-ghost use Rattle.review_tables.specs.Ran.{Looks};
-ghost use Rattle.review_tables.specs.Search.{rows_at};
+ghost use Rattle.review_statements.specs.Greatest.{ShowsBeyond};
+ghost use Rattle.review_statements.specs.Ran.{Looks};
+ghost use Rattle.review_statements.specs.Search.{rows_at};
 
 use crate::names::{name_at, place_at};
 use crate::numbers::to_sql;
@@ -14,7 +14,7 @@ use review_tables::columns::number_at;
 use review_tables::fronts::Front;
 use review_tables::greatest::Greatest;
 use review_tables::table::{Lookup, Records};
-use review_tables::texts;
+use review_statements::texts;
 use review_words::{CommitName, ProjectName};
 use sqlite::{Alter, Error, Row, Transaction, params};
 use std::alloc::{AllocError, Global};

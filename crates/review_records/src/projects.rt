@@ -1,14 +1,14 @@
 //! The projects and their files.
 ghost use Rattle.std.specs.Prelude.{◌≡◌, [], length, nat_lt};
 ghost use Rattle.sqlite.specs.Held.{state};
-ghost use Rattle.review_tables.specs.Greatest.{ShowsBeyond};
-ghost use Rattle.review_tables.specs.Ran.{Looks};
-ghost use Rattle.review_tables.specs.Search.{rows_at};
+ghost use Rattle.review_statements.specs.Greatest.{ShowsBeyond};
+ghost use Rattle.review_statements.specs.Ran.{Looks};
+ghost use Rattle.review_statements.specs.Search.{rows_at};
 
 use review_rows::ProjectRow;
 use review_tables::columns::text_at;
 use review_tables::table::{Lookup, Records};
-use review_tables::texts;
+use review_statements::texts;
 use review_words::{FileText, ProjectName};
 use sqlite::{Alter, Error, Row, Transaction, params};
 use std::alloc::{AllocError, Global};

@@ -5,8 +5,8 @@ use Rattle.sqlite_trees.specs.declared.store.Store.{Ghosts}
 use Rattle.sqlite.specs.Effect.{Database}
 use Rattle.sqlite.specs.State.{State}
 use Rattle.sqlite.specs.Held.{Held, state}
-use Rattle.review_tables.specs.Ran.{IsReady}
-use Rattle.review_tables.specs.Search.{row_at}
+use Rattle.review_statements.specs.Ran.{IsReady}
+use Rattle.review_statements.specs.Search.{row_at}
 use Rattle.review_records.specs.declared.rows.DeskRow.{DeskRow}
 use Rattle.review_records.specs.Forms.{desk}
 use Rattle.review_sql.specs.declared.faults.DeskFault.{DeskFault}

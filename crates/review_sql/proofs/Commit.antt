@@ -20,10 +20,10 @@ use Rattle.review_rows.specs.declared.rows.BaseRow.{BaseRow as PlacedBase}
 use Rattle.review_rows.specs.Rows.{Key, AccountKey, MemberKey, FileKey, BaseKey, PartKey, OddKey, Row, AccountRow, MemberRow, FileRow, BaseRow, APart, edited, Count, Projects, BasesOf, Answered, member_cmp, member_change, account_change, file_after, base_after, kept_row, after, count_after, projects_after, bases_after}
 use Rattle.review_rows.specs.Shelf.{IsCommitted}
 use Rattle.review_records.specs.declared.rows.PlaceKey.{PlaceKey}
-use Rattle.review_tables.specs.Content.{Then, has_key}
-use Rattle.review_tables.specs.Desk.{is_tree}
-use Rattle.review_tables.specs.Ran.{OnDesk}
-use Rattle.review_tables.specs.Search.{row_at, rows_at, only, reads, SetsAny}
+use Rattle.review_statements.specs.Content.{Then, has_key}
+use Rattle.review_statements.specs.Desk.{is_tree}
+use Rattle.review_statements.specs.Ran.{OnDesk}
+use Rattle.review_statements.specs.Search.{row_at, rows_at, only, reads, SetsAny}
 use Rattle.review_tables.specs.Fronts.{IsExact}
 use Rattle.review_tables.proofs.Changed.{rows_changed, rows_spare, any_spares}
 use Rattle.review_tables.proofs.Keys.{equal_is, same_text}

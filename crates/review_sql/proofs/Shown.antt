@@ -16,7 +16,7 @@ use Rattle.review_rows.proofs.Readings.{reading_of}
 use Rattle.review_rows.specs.declared.shelf.ShelfFault.{ShelfFault}
 use Rattle.review_rows.specs.declared.shelf.ShelfFault.TheVariants.{Memory, Store, Damaged}
 use Rattle.review_rows.specs.Shelf.{Blames, LeavesBy, StaysOrShuts, Shows, IsCommitted, IsDamaged, cause_of}
-use Rattle.review_tables.specs.Ran.{IsReady, IsDeskIfOpen, Serves, Transacts}
+use Rattle.review_statements.specs.Ran.{IsReady, IsDeskIfOpen, Serves, Transacts}
 use Rattle.review_lookups.specs.Tables.{tables_at, IsDesk}
 use Rattle.review_sql.specs.Commits.{AreSingle, Commits}
 use Rattle.review_sql.specs.Shelf.{Holds, Stays, tables_of, stops_of}

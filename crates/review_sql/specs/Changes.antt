@@ -8,9 +8,9 @@ use Rattle.review_rows.specs.declared.rows.Kept.{Kept}
 use Rattle.review_rows.specs.declared.rows.ProjectRow.{ProjectRow}
 use Rattle.review_rows.specs.declared.rows.BaseRow.{BaseRow}
 use Rattle.std.specs.Prelude.{string_bytes}
-use Rattle.review_tables.specs.Content.{Then}
+use Rattle.review_statements.specs.Content.{Then}
 use Rattle.review_tables.specs.Fronts.{SetsParts}
-use Rattle.review_tables.specs.Search.{SetsRow, SetsRows, SetsAny}
+use Rattle.review_statements.specs.Search.{SetsRow, SetsRows, SetsAny}
 use Rattle.review_records.specs.declared.rows.PlaceKey.{PlaceKey}
 use Rattle.review_change_records.specs.Forms.{headers, patches, votes, roles, comments, calls}
 use Rattle.review_records.specs.Forms.{accounts, members, projects, bases, answers, desk}

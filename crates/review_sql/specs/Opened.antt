@@ -7,10 +7,10 @@ use Rattle.sqlite_trees.specs.declared.store.Store.{Ghosts}
 use Rattle.sqlite.specs.State.{State, HasCleanDisk}
 use Rattle.sqlite.specs.Held.{Held, state}
 use Rattle.sqlite.specs.declared.error.Error.{Error}
-use Rattle.review_tables.specs.Content.{AreApart}
-use Rattle.review_tables.specs.Desk.{desk_schema}
-use Rattle.review_tables.specs.Ran.{IsDeskIfOpen, IsReady}
-use Rattle.review_tables.specs.Search.{row_at}
+use Rattle.review_statements.specs.Content.{AreApart}
+use Rattle.review_statements.specs.Desk.{desk_schema}
+use Rattle.review_statements.specs.Ran.{IsDeskIfOpen, IsReady}
+use Rattle.review_statements.specs.Search.{row_at}
 use Rattle.review_records.specs.declared.rows.DeskRow.{DeskRow}
 use Rattle.review_sql.specs.declared.seen.Peeked.{Peeked}
 use Rattle.review_sql.specs.declared.seen.Seen.{Seen}

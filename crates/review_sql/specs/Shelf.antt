@@ -2,7 +2,7 @@
 use Rattle.std.specs.Prelude.{ℕ, ◌≡◌, ◌≤◌, map, false, Bool, List, Option, Some, None, Ok, IsTrue, if◌then◌else◌, refl, min}
 use Rattle.std.proofs.Math.Nat.{min-le_right}
 use Rattle.std.specs.List.{Contains}
-use Rattle.review_tables.specs.declared.texts.TheConstants.{ANY_ROW}
+use Rattle.review_statements.specs.declared.texts.TheConstants.{ANY_ROW}
 use Rattle.std.specs.Coded.{Coded, code_by, coded×, coded_ℕ}
 use Rattle.sqlite_trees.specs.declared.store.Store.{Ghosts}
 use Rattle.sqlite_trees.specs.Tree.{Trees}
@@ -15,7 +15,7 @@ use Rattle.sqlite.specs.Held.{Held, held_code, state}
 use Rattle.review_rows.specs.Count.{greatest_count}
 use Rattle.review_rows.specs.Rows.{Tables}
 use Rattle.review_rows.specs.Shelf.{Shown}
-use Rattle.review_tables.specs.Ran.{IsReady}
+use Rattle.review_statements.specs.Ran.{IsReady}
 use Rattle.review_sql.specs.First.{MakesDesk}
 use Rattle.review_lookups.specs.Tables.{tables_at, IsDesk}
 

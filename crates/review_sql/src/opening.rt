@@ -1,8 +1,8 @@
 //! What is seen of tables before a desk is opened.
 ghost use Rattle.std.specs.Prelude.{◌≡◌, ◌≢◌, ◌⊎◌, true, false, IsTrue, IfOk, IfErr};
 ghost use Rattle.sqlite.specs.Held.{state};
-ghost use Rattle.review_tables.specs.Desk.{desk_schema};
-ghost use Rattle.review_tables.specs.Ran.{Looks};
+ghost use Rattle.review_statements.specs.Desk.{desk_schema};
+ghost use Rattle.review_statements.specs.Ran.{Looks};
 ghost use Rattle.review_sql.specs.Shelf.{Stays};
 ghost use Rattle.review_sql.specs.Opened.{IsPeeked, Peeks, IsSeen, IsRefused, IsNoDesk, IsOtherVersion};
 

@@ -1,8 +1,8 @@
 //! The calls of a shelf.
 ghost use Rattle.std.specs.Prelude.{◌≡◌, false};
 ghost use Rattle.sqlite.specs.Held.{state};
-ghost use Rattle.review_tables.specs.Ran.{Serves};
-ghost use Rattle.review_tables.specs.Search.{row_at};
+ghost use Rattle.review_statements.specs.Ran.{Serves};
+ghost use Rattle.review_statements.specs.Search.{row_at};
 ghost use Rattle.review_records.specs.Forms.{answers};
 
 use review_records::answers::Answers;

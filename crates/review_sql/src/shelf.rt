@@ -5,7 +5,7 @@ ghost use Rattle.sqlite.specs.Held.{state};
 ghost use Rattle.sqlite.specs.State.{HasCleanDisk};
 ghost use Rattle.review_rows.specs.Rows.{kept_row};
 ghost use Rattle.review_rows.specs.Shelf.{IsCounted, greatest_count};
-ghost use Rattle.review_tables.specs.Desk.{schema_0};
+ghost use Rattle.review_statements.specs.Desk.{schema_0};
 ghost use Rattle.review_sql.specs.Shelf.{Stays};
 
 use crate::creating::make_desk;

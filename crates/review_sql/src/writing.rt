@@ -1,7 +1,7 @@
 //! What a delivery changes is written, all of it or nothing.
 ghost use Rattle.std.specs.Prelude.{◌≡◌, [], ◌+◌, ◌<◌, ◌^◌, false};
 ghost use Rattle.sqlite.specs.Held.{state};
-ghost use Rattle.review_tables.specs.Ran.{Inside, Within, Opens, Transacts};
+ghost use Rattle.review_statements.specs.Ran.{Inside, Within, Opens, Transacts};
 ghost use Rattle.review_sql.specs.Changes.{SetsDelta, SetsEdit, SetsEdits, SetsFour, SetsUnless, is_named};
 ghost use Rattle.review_sql.specs.Commits.{Commits};
 

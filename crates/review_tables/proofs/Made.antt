@@ -3,10 +3,10 @@ use Rattle.std.proofs.Common.{◌≡◌, ℕ, List, [], false, None, Ok, refl, s
 use Rattle.std.proofs.Common.{◌∷◌, ◌++◌, true, inl, inr, eqb, eqb-true}
 use Rattle.std.proofs.lemmas.Bool.{or_cases}
 use Rattle.sqlite_trees.specs.Tree.{Trees}
-use Rattle.review_tables.specs.Content.{AreApart}
-use Rattle.review_tables.specs.Desk.{desk_schema}
-use Rattle.review_tables.specs.Desk.{accounts, members, projects, bases, changes, patches, votes, reviewers, comments, attention, answers, desk, schema_0, schema_1, schema_2, schema_3, schema_4, schema_5, schema_6, schema_7, schema_8, schema_9, schema_10, schema_11, schema_12}
-use Rattle.review_tables.specs.declared.texts.TheConstants.{CREATE_ACCOUNTS, CREATE_MEMBERS, CREATE_PROJECTS, CREATE_BASES, CREATE_CHANGES, CREATE_PATCHES, CREATE_VOTES, CREATE_REVIEWERS, CREATE_COMMENTS, CREATE_ATTENTION, CREATE_ANSWERS, CREATE_DESK}
+use Rattle.review_statements.specs.Content.{AreApart}
+use Rattle.review_statements.specs.Desk.{desk_schema}
+use Rattle.review_statements.specs.Desk.{accounts, members, projects, bases, changes, patches, votes, reviewers, comments, attention, answers, desk, schema_0, schema_1, schema_2, schema_3, schema_4, schema_5, schema_6, schema_7, schema_8, schema_9, schema_10, schema_11, schema_12}
+use Rattle.review_statements.specs.declared.texts.TheConstants.{CREATE_ACCOUNTS, CREATE_MEMBERS, CREATE_PROJECTS, CREATE_BASES, CREATE_CHANGES, CREATE_PATCHES, CREATE_VOTES, CREATE_REVIEWERS, CREATE_COMMENTS, CREATE_ATTENTION, CREATE_ANSWERS, CREATE_DESK}
 use Rattle.sqlite_schema.specs.declared.schema.Table.{Table}
 use Rattle.sqlite_schema.specs.declared.schema.Schema.{Schema}
 use Rattle.sqlite_schema.specs.declared.command.Command.TheVariants.{CreateTable}
@@ -25,11 +25,11 @@ use Rattle.sqlite_trees.specs.declared.memory.MemStore.{MemStore}
 use Rattle.sqlite.specs.Held.{Held, state}
 use Rattle.sqlite.specs.Steps.{over_memory, IsEmpty}
 use Rattle.sqlite.proofs.Callers.{memory_is_clean}
-use Rattle.review_tables.specs.Desk.{simple}
+use Rattle.review_statements.specs.Desk.{simple}
 use Rattle.review_tables.specs.Plain.{IsPlainColumn, IsPlainForm, IsPlainSchema}
-use Rattle.review_tables.specs.Ran.{IsReady, Transacts}
+use Rattle.review_statements.specs.Ran.{IsReady, Transacts}
 use Rattle.std.specs.List.{AllByRecursion, list_any}
-use Rattle.review_tables.proofs.Statements.{went, same_value}
+use Rattle.review_statements.proofs.Statements.{went, same_value}
 use Rattle.review_tables.proofs.Sequences.{Next}
 
 -- a table is made, and the others keep their rows

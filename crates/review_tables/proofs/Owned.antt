@@ -12,9 +12,9 @@ use Rattle.sqlite_trees.specs.Tree.{Trees}
 use Rattle.sqlite_keyed.proofs.ListLemmas.{IsPermutation-filter, filter-map, filter-filter, map-map, all_unmap}
 use Rattle.sqlite.proofs.Callers.{one_permutation}
 use Rattle.review_table.specs.Rows.{row_in, rows_of}
-use Rattle.review_tables.specs.Content.{has_key}
+use Rattle.review_statements.specs.Content.{has_key}
 use Rattle.review_tables.specs.Fronts.{IsFront, IsExact, WereApart, HaveRows, Knows, at_key}
-use Rattle.review_tables.specs.Search.{Search, reads, only, rows_at, Finds}
+use Rattle.review_statements.specs.Search.{Search, reads, only, rows_at, Finds}
 
 -- whether something that was read has the key
 abbrev pub has : {K X : Type 0} → (K → K → Ordering) → K → Option (K × X) → Bool

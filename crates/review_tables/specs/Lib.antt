@@ -1,9 +1,4 @@
-pub mod Desk
-pub mod Content
-pub mod Ran
-pub mod Search
 pub mod Fronts
-pub mod Greatest
 pub mod Made
 pub mod Plain
 pub mod Rowids

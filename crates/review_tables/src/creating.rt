@@ -2,12 +2,12 @@
 ghost use Rattle.std.specs.Prelude.{◌≡◌, false, IfOk};
 ghost use Rattle.std.specs.Bool.{Decides};
 ghost use Rattle.sqlite.specs.Held.{state};
-ghost use Rattle.review_tables.specs.Desk.{schema_0, schema_4, schema_8, desk_schema};
+ghost use Rattle.review_statements.specs.Desk.{schema_0, schema_4, schema_8, desk_schema};
 ghost use Rattle.review_tables.specs.Made.{MakesBy, Grows};
-ghost use Rattle.review_tables.specs.Ran.{Within, Opens, Transacts};
+ghost use Rattle.review_statements.specs.Ran.{Within, Opens, Transacts};
 
 use crate::schemas::is_same_schema;
-use crate::texts;
+use review_statements::texts;
 use sqlite::{Alter, Connection, Error, Transaction};
 use sqlite_schema::schema::Schema;
 use std::alloc::Global;

@@ -2,10 +2,10 @@
 ghost use Rattle.std.specs.Prelude.{◌≡◌, IfOk, OnOk};
 ghost use Rattle.sqlite.specs.Held.{state};
 ghost use Rattle.review_table.specs.Rows.{rows_of};
-ghost use Rattle.review_tables.specs.Content.{Removes};
+ghost use Rattle.review_statements.specs.Content.{Removes};
 ghost use Rattle.review_tables.specs.Fronts.{HaveRows, Knows, WereApart, SetsParts};
-ghost use Rattle.review_tables.specs.Ran.{Inside, Looks, Opens};
-ghost use Rattle.review_tables.specs.Search.{Finds, Puts, SetsRow};
+ghost use Rattle.review_statements.specs.Ran.{Inside, Looks, Opens};
+ghost use Rattle.review_statements.specs.Search.{Finds, Puts, SetsRow};
 
 use review_table::{Change, Key, Table as Rows};
 use sqlite::{Alter, Error, Row, Transaction};
@@ -14,7 +14,7 @@ use std::alloc::{AllocError, Global};
 /// A look-up of all rows of an owner, each with the rest of its key.
 pub trait Front {
     ghost use Rattle.std.specs.Prelude.{◌≡◌};
-    ghost use Rattle.review_tables.specs.Search.{Search};
+    ghost use Rattle.review_statements.specs.Search.{Search};
     ghost use Rattle.review_tables.specs.Fronts.{IsFront};
 
     /// What the keys of the rows begin with.
@@ -48,7 +48,7 @@ pub trait Front {
 /// A table whose rows belong to an owner.
 pub trait Parts: Front {
     ghost use Rattle.std.specs.Prelude.{true};
-    ghost use Rattle.review_tables.specs.Search.{Form, IsLawful};
+    ghost use Rattle.review_statements.specs.Search.{Form, IsLawful};
 
     /// How a row is stored.
     ghost form: { Form (Self.Owner × Self.Part) Self.Item };

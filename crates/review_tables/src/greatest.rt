@@ -1,8 +1,8 @@
 //! The row with the greatest value of a column is looked up, and whether there are more than so many rows.
 ghost use Rattle.std.specs.Prelude.{◌≡◌, IfOk};
 ghost use Rattle.sqlite.specs.Held.{state};
-ghost use Rattle.review_tables.specs.Greatest.{first_as, FindsGreatest, HasGreatest};
-ghost use Rattle.review_tables.specs.Ran.{Looks};
+ghost use Rattle.review_statements.specs.Greatest.{first_as, FindsGreatest, HasGreatest};
+ghost use Rattle.review_statements.specs.Ran.{Looks};
 
 use sqlite::{Alter, Error, Row, Transaction};
 use std::alloc::{AllocError, Global};
@@ -10,7 +10,7 @@ use std::alloc::{AllocError, Global};
 /// A look-up of the row with the greatest value of a column.
 pub trait Greatest {
     ghost use Rattle.std.specs.Prelude.{ℕ};
-    ghost use Rattle.review_tables.specs.Search.{Search};
+    ghost use Rattle.review_statements.specs.Search.{Search};
 
     /// The values that are asked for.
     type Key;

@@ -10,5 +10,4 @@ pub mod reads;
 pub mod rowids;
 mod schemas;
 pub mod table;
-pub mod texts;
 pub mod trees;

@@ -4,9 +4,9 @@ ghost use Rattle.std.specs.Bool.{Decides};
 ghost use Rattle.std.specs.List.{AllByRecursion, IsDistinct};
 ghost use Rattle.std.specs.Ordering.{int_eq};
 ghost use Rattle.sqlite.specs.Held.{state};
-ghost use Rattle.review_tables.specs.Content.{AreApart};
-ghost use Rattle.review_tables.specs.Desk.{desk_schema};
-ghost use Rattle.review_tables.specs.Ran.{Looks};
+ghost use Rattle.review_statements.specs.Content.{AreApart};
+ghost use Rattle.review_statements.specs.Desk.{desk_schema};
+ghost use Rattle.review_statements.specs.Ran.{Looks};
 ghost use Rattle.review_tables.specs.Rowids.{AreIds, AreOwn, IsIdOf, firsts};
 
 use crate::trees::{

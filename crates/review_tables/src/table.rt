@@ -1,16 +1,16 @@
 //! Tables: how their rows are looked up, put and taken away.
 ghost use Rattle.std.specs.Prelude.{◌≡◌, true, IfOk, OnOk};
 ghost use Rattle.sqlite.specs.Held.{state};
-ghost use Rattle.review_tables.specs.Content.{Removes};
-ghost use Rattle.review_tables.specs.Ran.{Inside, Looks, Opens};
-ghost use Rattle.review_tables.specs.Search.{Finds, Puts};
+ghost use Rattle.review_statements.specs.Content.{Removes};
+ghost use Rattle.review_statements.specs.Ran.{Inside, Looks, Opens};
+ghost use Rattle.review_statements.specs.Search.{Finds, Puts};
 
 use sqlite::{Alter, Error, Row, Transaction};
 use std::alloc::{AllocError, Global};
 
 /// A look-up of rows by the values of some columns.
 pub trait Lookup {
-    ghost use Rattle.review_tables.specs.Search.{Search};
+    ghost use Rattle.review_statements.specs.Search.{Search};
 
     /// The values that are asked for.
     type Key;
@@ -33,7 +33,7 @@ pub trait Lookup {
 
 /// A table, whose rows are looked up by their keys.
 pub trait Table: Lookup {
-    ghost use Rattle.review_tables.specs.Search.{Form, IsLawful};
+    ghost use Rattle.review_statements.specs.Search.{Form, IsLawful};
 
     /// How a row is stored.
     ghost form: { Form Self.Key Self.Item };
@@ -61,7 +61,7 @@ pub trait Table: Lookup {
 
 /// A table whose rows are put as whole records, which have their keys in them.
 pub trait Records: Lookup {
-    ghost use Rattle.review_tables.specs.Search.{Form, IsLawful};
+    ghost use Rattle.review_statements.specs.Search.{Form, IsLawful};
 
     /// A row with its key.
     type Record;

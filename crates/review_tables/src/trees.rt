@@ -1,10 +1,10 @@
 //! The trees of the tables, of which each has its rowids.
 ghost use Rattle.std.specs.Prelude.{◌≡◌};
 ghost use Rattle.sqlite.specs.Held.{state};
-ghost use Rattle.review_tables.specs.Ran.{Looks};
-ghost use Rattle.review_tables.specs.Search.{FindsIds};
+ghost use Rattle.review_statements.specs.Ran.{Looks};
+ghost use Rattle.review_statements.specs.Search.{FindsIds};
 
-use crate::texts;
+use review_statements::texts;
 use sqlite::{Alter, Error, Row, Transaction};
 
 /// A table as a tree of rows by their rowids.

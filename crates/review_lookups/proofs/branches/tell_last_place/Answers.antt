@@ -2,7 +2,7 @@ use Rattle.std.proofs.Common.{refl, ◌≡◌, Some, None, subst, rules}
 use Rattle.review_rows.specs.declared.rows.Want.TheVariants as want
 use Rattle.review_rows.specs.Known.{Number}
 use Rattle.review_records.specs.Forms.{base_places}
-use Rattle.review_tables.specs.Greatest.{HasGreatest}
+use Rattle.review_statements.specs.Greatest.{HasGreatest}
 use Rattle.review_lookups.specs.Tables.{tables_at}
 use Rattle.review_lookups.proofs.Telling.{tells_as, last_place, no_place}
 use Rattle.review_lookups.proofs.branches.tell_last_place.Goals as goal

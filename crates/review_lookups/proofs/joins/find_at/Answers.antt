@@ -5,7 +5,7 @@ use Rattle.review_changes.specs.declared.rows.Header.{Header}
 use Rattle.review_changes.specs.declared.rows.PatchRow.{PatchRow}
 use Rattle.review_rows.specs.Known.{IsCurrent}
 use Rattle.review_tables.specs.Fronts.{Knows}
-use Rattle.review_tables.specs.Search.{row_at}
+use Rattle.review_statements.specs.Search.{row_at}
 use Rattle.review_tables.proofs.Found.{look_both, look_on}
 use Rattle.review_change_records.specs.Forms.{changes_at, headers}
 use Rattle.review_lookups.specs.Tables.{tables_at}

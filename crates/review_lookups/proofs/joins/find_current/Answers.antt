@@ -2,8 +2,8 @@ use Rattle.std.proofs.Common.{◌≡◌, ℕ, Option, Some, Ok, subst, rules}
 use Rattle.sqlite.specs.Held.{state}
 use Rattle.sqlite_trees.specs.Tree.{Trees}
 use Rattle.review_changes.specs.declared.rows.PatchRow.{PatchRow}
-use Rattle.review_tables.specs.Greatest.{HasGreatest}
-use Rattle.review_tables.specs.Search.{row_at}
+use Rattle.review_statements.specs.Greatest.{HasGreatest}
+use Rattle.review_statements.specs.Search.{row_at}
 use Rattle.review_tables.proofs.Found.{look_both, look_on}
 use Rattle.review_change_records.specs.Forms.{patch_numbers, patches}
 use Rattle.review_lookups.proofs.joins.find_current.Goals as goal

@@ -1,5 +1,5 @@
 use Rattle.std.proofs.Common.{◌≡◌, Some, None, subst, sym, rules}
-use Rattle.review_tables.specs.Greatest.{HasGreatest}
+use Rattle.review_statements.specs.Greatest.{HasGreatest}
 use Rattle.review_change_records.specs.Forms.{change_places}
 use Rattle.review_lookups.specs.Joins.{NoneAbove}
 use Rattle.review_lookups.proofs.Joining.{none_above, none_at_all}

@@ -8,7 +8,7 @@ use Rattle.review_changes.specs.declared.rows.PatchRow.{PatchRow}
 use Rattle.review_changes.specs.declared.rows.VoteKey.{VoteKey}
 use Rattle.review_changes.specs.Seen.{vote_cmp}
 use Rattle.review_tables.specs.Fronts.{HaveRows, Knows}
-use Rattle.review_tables.specs.Search.{row_at}
+use Rattle.review_statements.specs.Search.{row_at}
 use Rattle.review_tables.proofs.Found.{look_both, look_on}
 use Rattle.review_change_records.specs.Forms.{headers, patches, votes}
 use Rattle.review_lookups.specs.Reviews.{AreFoundSets}

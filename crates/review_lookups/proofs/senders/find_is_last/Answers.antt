@@ -1,7 +1,7 @@
 use Rattle.std.proofs.Common.{ℕ, Option, Ok}
 use Rattle.sqlite.specs.Held.{state}
 use Rattle.sqlite_trees.specs.Tree.{Trees}
-use Rattle.review_tables.specs.Greatest.{HasGreatest}
+use Rattle.review_statements.specs.Greatest.{HasGreatest}
 use Rattle.review_tables.proofs.Found.{look_on}
 use Rattle.review_change_records.specs.Forms.{patch_numbers}
 use Rattle.review_lookups.proofs.senders.find_is_last.Goals as goal

@@ -1,6 +1,6 @@
 use Rattle.std.proofs.Common.{◌≡◌, ◌∙◌, Some, true, false, Ok, subst, rules, arith}
 use Rattle.sqlite.specs.Held.{state}
-use Rattle.review_tables.specs.Ran.{Looks}
+use Rattle.review_statements.specs.Ran.{Looks}
 use Rattle.review_lookups.specs.Senders.{Examines}
 use Rattle.review_lookups.proofs.Sending.{seen_all, seen_more, seen_sent}
 use Rattle.review_lookups.proofs.senders.find_sent.Goals as goal

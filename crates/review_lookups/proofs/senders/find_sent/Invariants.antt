@@ -1,6 +1,6 @@
 use Rattle.std.proofs.Common.{◌≡◌, Ok}
 use Rattle.sqlite.specs.Held.{state}
-use Rattle.review_tables.specs.Ran.{Looks}
+use Rattle.review_statements.specs.Ran.{Looks}
 use Rattle.review_lookups.proofs.Sending.{Seen}
 use Rattle.review_lookups.proofs.senders.find_sent.Given as goal
 

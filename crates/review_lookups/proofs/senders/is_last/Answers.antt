@@ -1,5 +1,5 @@
 use Rattle.std.proofs.Common.{◌≡◌, Some, None, subst, rules}
-use Rattle.review_tables.specs.Greatest.{HasGreatest}
+use Rattle.review_statements.specs.Greatest.{HasGreatest}
 use Rattle.review_change_records.specs.Forms.{patch_numbers}
 use Rattle.review_lookups.proofs.Current.{alone_told, last_told}
 use Rattle.review_lookups.proofs.senders.is_last.Goals as goal

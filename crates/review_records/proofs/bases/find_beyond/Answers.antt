@@ -1,5 +1,5 @@
 use Rattle.sqlite.specs.Held.{state}
-use Rattle.review_tables.proofs.LastTexts.{base_beyond_plain, base_beyond_found}
+use Rattle.review_statements.proofs.LastTexts.{base_beyond_plain, base_beyond_found}
 use Rattle.review_tables.proofs.Sequences.{look}
 use Rattle.review_records.proofs.bases.find_beyond.Goals as goal
 

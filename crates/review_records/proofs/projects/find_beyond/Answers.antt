@@ -1,5 +1,5 @@
 use Rattle.sqlite.specs.Held.{state}
-use Rattle.review_tables.proofs.LastTexts.{project_beyond_plain, project_beyond_found}
+use Rattle.review_statements.proofs.LastTexts.{project_beyond_plain, project_beyond_found}
 use Rattle.review_tables.proofs.Sequences.{look}
 use Rattle.review_records.proofs.projects.find_beyond.Goals as goal
 

@@ -2,8 +2,8 @@ use Rattle.std.proofs.Common.{rules, ◌≡◌, ◌∙◌, sym, ap, not, subst, 
 use Rattle.sqlite.specs.Held.{Held, state}
 use Rattle.sqlite.proofs.StateLemmas.{clean_if_open}
 use Rattle.sqlite_trees.specs.Tree.{Trees}
-use Rattle.review_tables.specs.Ran.{Serves}
-use Rattle.review_tables.specs.Search.{row_at}
+use Rattle.review_statements.specs.Ran.{Serves}
+use Rattle.review_statements.specs.Search.{row_at}
 use Rattle.review_tables.proofs.Sequences.{look_failed, look_ended}
 use Rattle.review_records.specs.declared.rows.Answered.{Answered}
 use Rattle.review_records.specs.Forms.{answers}

@@ -1,6 +1,6 @@
 use Rattle.std.proofs.Common.{rules, Some, None}
 use Rattle.sqlite.specs.Held.{state}
-use Rattle.review_tables.specs.Search.{SetsRow}
+use Rattle.review_statements.specs.Search.{SetsRow}
 use Rattle.review_tables.proofs.Sequences.{next, told}
 use Rattle.review_tables.proofs.Keys.{row_gone, row_put}
 use Rattle.review_tables.proofs.changes.change.Goals as goal

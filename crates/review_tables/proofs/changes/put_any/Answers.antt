@@ -1,6 +1,6 @@
 use Rattle.std.proofs.Common.{rules, refl, None}
 use Rattle.sqlite.specs.Held.{state}
-use Rattle.review_tables.specs.Search.{SetsAny}
+use Rattle.review_statements.specs.Search.{SetsAny}
 use Rattle.review_tables.proofs.Sequences.{still}
 use Rattle.review_tables.proofs.changes.put_any.Goals as goal
 

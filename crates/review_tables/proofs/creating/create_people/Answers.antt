@@ -1,6 +1,6 @@
 use Rattle.sqlite.specs.Held.{state}
 use Rattle.review_tables.specs.Made.{Grows}
-use Rattle.review_tables.specs.Desk.{schema_0, schema_4}
+use Rattle.review_statements.specs.Desk.{schema_0, schema_4}
 use Rattle.review_tables.proofs.Sequences.{follow, settled_as}
 use Rattle.review_tables.proofs.Made.{made_people}
 use Rattle.review_tables.proofs.creating.create_people.Goals as goal

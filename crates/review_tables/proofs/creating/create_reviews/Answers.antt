@@ -1,6 +1,6 @@
 use Rattle.sqlite.specs.Held.{state}
 use Rattle.review_tables.specs.Made.{Grows}
-use Rattle.review_tables.specs.Desk.{schema_4, schema_8}
+use Rattle.review_statements.specs.Desk.{schema_4, schema_8}
 use Rattle.review_tables.proofs.Sequences.{follow, settled_as}
 use Rattle.review_tables.proofs.Made.{made_reviews}
 use Rattle.review_tables.proofs.creating.create_reviews.Goals as goal

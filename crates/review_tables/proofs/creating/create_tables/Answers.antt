@@ -1,6 +1,6 @@
 use Rattle.sqlite.specs.Held.{state}
 use Rattle.review_tables.specs.Made.{Grows}
-use Rattle.review_tables.specs.Desk.{schema_0, desk_schema}
+use Rattle.review_statements.specs.Desk.{schema_0, desk_schema}
 use Rattle.review_tables.proofs.Sequences.{follow, retold}
 use Rattle.review_tables.proofs.creating.create_tables.Goals as goal
 

@@ -3,7 +3,7 @@ use Rattle.std.specs.Bool.{Decides}
 use Rattle.std.specs.List.{AllByRecursion}
 use Rattle.sqlite.specs.Held.{state}
 use Rattle.sqlite_trees.specs.Tree.{Trees}
-use Rattle.review_tables.specs.Content.{AreApart}
+use Rattle.review_statements.specs.Content.{AreApart}
 use Rattle.review_tables.proofs.Found.{look_on, look_both}
 use Rattle.review_tables.proofs.Ids.{decides_all}
 use Rattle.review_tables.proofs.rowids.are_all_apart.Goals as goal

@@ -2,7 +2,7 @@ use Rattle.std.proofs.Common.{ℕ, Bool, Ok, ◌&&◌}
 use Rattle.std.specs.Bool.{Decides}
 use Rattle.sqlite.specs.Held.{state}
 use Rattle.sqlite_trees.specs.Tree.{Trees}
-use Rattle.review_tables.specs.Content.{AreApart}
+use Rattle.review_statements.specs.Content.{AreApart}
 use Rattle.review_tables.proofs.Found.{look_on, look_both}
 use Rattle.review_tables.proofs.Ids.{decides_four}
 use Rattle.review_tables.proofs.rowids.four_are_apart.Goals as goal

@@ -1,6 +1,6 @@
 use Rattle.std.proofs.Common.{pos, to_z-of_z, w64}
 use Rattle.sqlite.specs.Held.{state}
-use Rattle.review_tables.proofs.FrontTexts.{change_at_found, change_at_plain}
+use Rattle.review_statements.proofs.FrontTexts.{change_at_found, change_at_plain}
 use Rattle.review_tables.proofs.Sequences.{look}
 use Rattle.review_change_records.proofs.branches.ChangeAtLookup.select.Goals as goal
 

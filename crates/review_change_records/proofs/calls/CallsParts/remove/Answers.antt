@@ -1,5 +1,5 @@
 use Rattle.std.proofs.Common.{pos}
-use Rattle.review_tables.proofs.AttentionTexts.{removes}
+use Rattle.review_statements.proofs.AttentionTexts.{removes}
 use Rattle.review_tables.proofs.Sequences.{one_inside, opened}
 use Rattle.sqlite.specs.Held.{state}
 use Rattle.review_change_records.proofs.calls.CallsParts.remove.Goals as goal

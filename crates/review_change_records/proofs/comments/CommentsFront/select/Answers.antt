@@ -1,5 +1,5 @@
 use Rattle.std.proofs.Common.{pos}
-use Rattle.review_tables.proofs.FrontTexts.{comments_plain, comments_found}
+use Rattle.review_statements.proofs.FrontTexts.{comments_plain, comments_found}
 use Rattle.review_tables.proofs.Sequences.{look}
 use Rattle.sqlite.specs.Held.{state}
 use Rattle.review_change_records.proofs.comments.CommentsFront.select.Goals as goal

@@ -1,5 +1,5 @@
 use Rattle.std.proofs.Common.{pos}
-use Rattle.review_tables.proofs.ChangeTexts.{find_plain, found}
+use Rattle.review_statements.proofs.ChangeTexts.{find_plain, found}
 use Rattle.review_tables.proofs.Sequences.{look}
 use Rattle.sqlite.specs.Held.{state}
 use Rattle.review_change_records.proofs.headers.HeadersLookup.select.Goals as goal

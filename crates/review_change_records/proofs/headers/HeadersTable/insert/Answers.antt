@@ -1,7 +1,7 @@
 use Rattle.std.proofs.Common.{pos, subst, IsUtf8, to_z-of_z, w64}
 use Rattle.std.proofs.lemmas.Bool.{and_from}
 use Rattle.std.proofs.lemmas.Str.{is_utf8-from_IsUtf8}
-use Rattle.review_tables.proofs.ChangeTexts.{adds}
+use Rattle.review_statements.proofs.ChangeTexts.{adds}
 use Rattle.review_tables.proofs.Sequences.{one_inside, opened}
 use Rattle.review_records.proofs.Good.{on_ok}
 use Rattle.review_change_records.specs.Forms.{flag_number, state_name}

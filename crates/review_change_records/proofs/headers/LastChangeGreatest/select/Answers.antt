@@ -1,4 +1,4 @@
-use Rattle.review_tables.proofs.LastTexts.{last_change_plain, last_change_found}
+use Rattle.review_statements.proofs.LastTexts.{last_change_plain, last_change_found}
 use Rattle.review_tables.proofs.Sequences.{look}
 use Rattle.sqlite.specs.Held.{state}
 use Rattle.review_change_records.proofs.headers.LastChangeGreatest.select.Goals as goal

@@ -1,4 +1,4 @@
-use Rattle.review_tables.proofs.LastTexts.{last_joined_plain, last_joined_found}
+use Rattle.review_statements.proofs.LastTexts.{last_joined_plain, last_joined_found}
 use Rattle.review_tables.proofs.Sequences.{look}
 use Rattle.sqlite.specs.Held.{state}
 use Rattle.review_change_records.proofs.headers.LastJoinedGreatest.select.Goals as goal

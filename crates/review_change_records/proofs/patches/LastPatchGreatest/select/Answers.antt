@@ -1,5 +1,5 @@
 use Rattle.std.proofs.Common.{pos}
-use Rattle.review_tables.proofs.LastTexts.{last_patch_plain, last_patch_found}
+use Rattle.review_statements.proofs.LastTexts.{last_patch_plain, last_patch_found}
 use Rattle.review_tables.proofs.Sequences.{look}
 use Rattle.sqlite.specs.Held.{state}
 use Rattle.review_change_records.proofs.patches.LastPatchGreatest.select.Goals as goal

@@ -1,5 +1,5 @@
 use Rattle.std.proofs.Common.{pos}
-use Rattle.review_tables.proofs.FrontTexts.{patches_plain, patches_found}
+use Rattle.review_statements.proofs.FrontTexts.{patches_plain, patches_found}
 use Rattle.review_tables.proofs.Sequences.{look}
 use Rattle.sqlite.specs.Held.{state}
 use Rattle.review_change_records.proofs.patches.PatchesFront.select.Goals as goal

@@ -3,7 +3,7 @@ use Rattle.std.proofs.lemmas.Bool.{and_from}
 use Rattle.std.proofs.lemmas.Str.{is_utf8-from_IsUtf8}
 use Rattle.sqlite.specs.Held.{state}
 use Rattle.review_names.specs.Kinds.{kind_name}
-use Rattle.review_tables.proofs.PatchTexts.{adds}
+use Rattle.review_statements.proofs.PatchTexts.{adds}
 use Rattle.review_tables.proofs.Sequences.{one_inside, opened}
 use Rattle.review_records.proofs.Good.{on_ok}
 use Rattle.review_change_records.specs.Paths.{are_read_back, paths_text}

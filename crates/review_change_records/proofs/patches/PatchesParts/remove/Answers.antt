@@ -1,5 +1,5 @@
 use Rattle.std.proofs.Common.{pos}
-use Rattle.review_tables.proofs.PatchTexts.{removes}
+use Rattle.review_statements.proofs.PatchTexts.{removes}
 use Rattle.review_tables.proofs.Sequences.{one_inside, opened}
 use Rattle.sqlite.specs.Held.{state}
 use Rattle.review_change_records.proofs.patches.PatchesParts.remove.Goals as goal

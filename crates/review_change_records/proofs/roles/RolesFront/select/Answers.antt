@@ -1,5 +1,5 @@
 use Rattle.std.proofs.Common.{pos}
-use Rattle.review_tables.proofs.FrontTexts.{reviewers_plain, reviewers_found}
+use Rattle.review_statements.proofs.FrontTexts.{reviewers_plain, reviewers_found}
 use Rattle.review_tables.proofs.Sequences.{look}
 use Rattle.sqlite.specs.Held.{state}
 use Rattle.review_change_records.proofs.roles.RolesFront.select.Goals as goal

@@ -1,5 +1,5 @@
 use Rattle.std.proofs.Common.{pos}
-use Rattle.review_tables.proofs.ReviewerTexts.{adds}
+use Rattle.review_statements.proofs.ReviewerTexts.{adds}
 use Rattle.review_tables.proofs.Sequences.{one_inside, opened}
 use Rattle.review_words.specs.Texts.{role_name}
 use Rattle.sqlite.specs.Held.{state}

@@ -1,5 +1,5 @@
 use Rattle.sqlite.specs.Held.{state}
-use Rattle.review_tables.proofs.FrontTexts.{sent_found, sent_plain}
+use Rattle.review_statements.proofs.FrontTexts.{sent_found, sent_plain}
 use Rattle.review_tables.proofs.Sequences.{look}
 use Rattle.review_change_records.proofs.sent.SentLookup.select.Goals as goal
 

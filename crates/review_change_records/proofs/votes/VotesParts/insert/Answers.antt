@@ -1,5 +1,5 @@
 use Rattle.std.proofs.Common.{pos, to_z-of_z, w64}
-use Rattle.review_tables.proofs.VoteTexts.{adds}
+use Rattle.review_statements.proofs.VoteTexts.{adds}
 use Rattle.review_tables.proofs.Sequences.{one_inside, opened}
 use Rattle.review_records.proofs.Good.{on_ok}
 use Rattle.sqlite.specs.Held.{state}

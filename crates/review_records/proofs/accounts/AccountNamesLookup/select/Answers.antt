@@ -1,5 +1,5 @@
 use Rattle.sqlite.specs.Held.{state}
-use Rattle.review_tables.proofs.LookupTexts.{account_named_plain, account_named_found}
+use Rattle.review_statements.proofs.LookupTexts.{account_named_plain, account_named_found}
 use Rattle.review_tables.proofs.Sequences.{look}
 use Rattle.review_records.proofs.accounts.AccountNamesLookup.select.Goals as goal
 

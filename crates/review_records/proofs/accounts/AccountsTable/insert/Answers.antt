@@ -1,6 +1,6 @@
 use Rattle.std.proofs.Common.{pos}
 use Rattle.sqlite.specs.Held.{state}
-use Rattle.review_tables.proofs.AccountTexts.{adds}
+use Rattle.review_statements.proofs.AccountTexts.{adds}
 use Rattle.review_tables.proofs.Sequences.{one_inside, opened}
 use Rattle.std.proofs.Common.{subst, IsUtf8}
 use Rattle.std.proofs.lemmas.Bool.{and_from}

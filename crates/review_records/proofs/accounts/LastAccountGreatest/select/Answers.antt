@@ -1,5 +1,5 @@
 use Rattle.sqlite.specs.Held.{state}
-use Rattle.review_tables.proofs.LastTexts.{last_account_plain, last_account_found}
+use Rattle.review_statements.proofs.LastTexts.{last_account_plain, last_account_found}
 use Rattle.review_tables.proofs.Sequences.{look}
 use Rattle.review_records.proofs.accounts.LastAccountGreatest.select.Goals as goal
 

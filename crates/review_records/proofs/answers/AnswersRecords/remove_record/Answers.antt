@@ -1,6 +1,6 @@
 use Rattle.std.proofs.Common.{pos}
 use Rattle.sqlite.specs.Held.{state}
-use Rattle.review_tables.proofs.AnswerTexts.{removes}
+use Rattle.review_statements.proofs.AnswerTexts.{removes}
 use Rattle.review_tables.proofs.Sequences.{one_inside, opened}
 use Rattle.review_records.proofs.answers.AnswersRecords.remove_record.Goals as goal
 

@@ -1,5 +1,5 @@
 use Rattle.sqlite.specs.Held.{state}
-use Rattle.review_tables.proofs.LookupTexts.{base_commit_plain, base_commit_found}
+use Rattle.review_statements.proofs.LookupTexts.{base_commit_plain, base_commit_found}
 use Rattle.review_tables.proofs.Sequences.{look}
 use Rattle.review_records.proofs.bases.BaseCommitsLookup.select.Goals as goal
 

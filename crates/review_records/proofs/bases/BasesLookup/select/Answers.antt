@@ -1,6 +1,6 @@
 use Rattle.std.proofs.Common.{pos, to_z-of_z, w64}
 use Rattle.sqlite.specs.Held.{state}
-use Rattle.review_tables.proofs.BaseTexts.{find_plain, found}
+use Rattle.review_statements.proofs.BaseTexts.{find_plain, found}
 use Rattle.review_tables.proofs.Sequences.{look}
 use Rattle.review_records.proofs.bases.BasesLookup.select.Goals as goal
 

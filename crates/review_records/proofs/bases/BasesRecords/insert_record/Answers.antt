@@ -1,6 +1,6 @@
 use Rattle.std.proofs.Common.{pos, to_z-of_z, w64}
 use Rattle.sqlite.specs.Held.{state}
-use Rattle.review_tables.proofs.BaseTexts.{adds}
+use Rattle.review_statements.proofs.BaseTexts.{adds}
 use Rattle.review_tables.proofs.Sequences.{one_inside, opened}
 use Rattle.std.proofs.Common.{subst, IsUtf8}
 use Rattle.std.proofs.lemmas.Bool.{and_from}

@@ -1,6 +1,6 @@
 use Rattle.std.proofs.Common.{pos, to_z-of_z, w64}
 use Rattle.sqlite.specs.Held.{state}
-use Rattle.review_tables.proofs.BaseTexts.{removes}
+use Rattle.review_statements.proofs.BaseTexts.{removes}
 use Rattle.review_tables.proofs.Sequences.{one_inside, opened}
 use Rattle.review_records.proofs.bases.BasesRecords.remove_record.Goals as goal
 

@@ -1,5 +1,5 @@
 use Rattle.sqlite.specs.Held.{state}
-use Rattle.review_tables.proofs.LookupTexts.{branch_plain, branch_found}
+use Rattle.review_statements.proofs.LookupTexts.{branch_plain, branch_found}
 use Rattle.review_tables.proofs.Sequences.{look}
 use Rattle.review_records.proofs.bases.BranchBasesFront.select.Goals as goal
 

@@ -1,5 +1,5 @@
 use Rattle.sqlite.specs.Held.{state}
-use Rattle.review_tables.proofs.LastTexts.{last_place_plain, last_place_found}
+use Rattle.review_statements.proofs.LastTexts.{last_place_plain, last_place_found}
 use Rattle.review_tables.proofs.Sequences.{look}
 use Rattle.review_records.proofs.bases.LastPlaceGreatest.select.Goals as goal
 

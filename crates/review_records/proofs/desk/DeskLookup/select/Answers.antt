@@ -1,5 +1,5 @@
 use Rattle.sqlite.specs.Held.{state}
-use Rattle.review_tables.proofs.DeskTexts.{find_plain, found}
+use Rattle.review_statements.proofs.DeskTexts.{find_plain, found}
 use Rattle.review_tables.proofs.Sequences.{look}
 use Rattle.review_records.proofs.desk.DeskLookup.select.Goals as goal
 

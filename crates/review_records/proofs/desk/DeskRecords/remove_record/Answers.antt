@@ -1,5 +1,5 @@
 use Rattle.sqlite.specs.Held.{state}
-use Rattle.review_tables.proofs.DeskTexts.{removes}
+use Rattle.review_statements.proofs.DeskTexts.{removes}
 use Rattle.review_tables.proofs.Sequences.{one_inside, opened}
 use Rattle.review_records.proofs.desk.DeskRecords.remove_record.Goals as goal
 

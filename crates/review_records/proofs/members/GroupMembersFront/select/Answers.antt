@@ -1,5 +1,5 @@
 use Rattle.sqlite.specs.Held.{state}
-use Rattle.review_tables.proofs.LookupTexts.{group_plain, group_found}
+use Rattle.review_statements.proofs.LookupTexts.{group_plain, group_found}
 use Rattle.review_tables.proofs.Sequences.{look}
 use Rattle.review_records.proofs.members.GroupMembersFront.select.Goals as goal
 

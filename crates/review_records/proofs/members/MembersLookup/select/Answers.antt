@@ -1,6 +1,6 @@
 use Rattle.std.proofs.Common.{pos}
 use Rattle.sqlite.specs.Held.{state}
-use Rattle.review_tables.proofs.MemberTexts.{find_plain, found}
+use Rattle.review_statements.proofs.MemberTexts.{find_plain, found}
 use Rattle.review_tables.proofs.Sequences.{look}
 use Rattle.review_records.proofs.members.MembersLookup.select.Goals as goal
 

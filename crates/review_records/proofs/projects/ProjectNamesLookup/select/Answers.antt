@@ -1,5 +1,5 @@
 use Rattle.sqlite.specs.Held.{state}
-use Rattle.review_tables.proofs.LookupTexts.{project_name_plain, project_name_found}
+use Rattle.review_statements.proofs.LookupTexts.{project_name_plain, project_name_found}
 use Rattle.review_tables.proofs.Sequences.{look}
 use Rattle.review_records.proofs.projects.ProjectNamesLookup.select.Goals as goal
 

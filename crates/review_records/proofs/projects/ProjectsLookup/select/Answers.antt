@@ -1,5 +1,5 @@
 use Rattle.sqlite.specs.Held.{state}
-use Rattle.review_tables.proofs.ProjectTexts.{find_plain, found}
+use Rattle.review_statements.proofs.ProjectTexts.{find_plain, found}
 use Rattle.review_tables.proofs.Sequences.{look}
 use Rattle.review_records.proofs.projects.ProjectsLookup.select.Goals as goal
 

@@ -1,5 +1,5 @@
 use Rattle.sqlite.specs.Held.{state}
-use Rattle.review_tables.proofs.ProjectTexts.{removes}
+use Rattle.review_statements.proofs.ProjectTexts.{removes}
 use Rattle.review_tables.proofs.Sequences.{one_inside, opened}
 use Rattle.review_records.proofs.projects.ProjectsRecords.remove_record.Goals as goal
 

@@ -4,7 +4,7 @@ use Rattle.sqlite.proofs.StateLemmas.{clean_if_open}
 use Rattle.review_rows.specs.Known.{AreAsked, Agrees}
 use Rattle.review_rows.specs.Rows.{Tables}
 use Rattle.review_rows.specs.Shelf.{Shows, IsDamaged}
-use Rattle.review_tables.specs.Ran.{Serves}
+use Rattle.review_statements.specs.Ran.{Serves}
 use Rattle.review_lookups.specs.declared.loading.Loaded.TheVariants as loaded
 use Rattle.review_lookups.specs.Loads.{AreLoaded, WereAsked}
 use Rattle.review_sql.specs.Shelf.{ShelfView, tables_of, stops_of}

@@ -1,5 +1,5 @@
 use Rattle.sqlite.specs.Held.{state}
-use Rattle.review_tables.proofs.ChangeTexts.{ids_plain, ids_found}
+use Rattle.review_statements.proofs.ChangeTexts.{ids_plain, ids_found}
 use Rattle.review_tables.proofs.Sequences.{look}
 use Rattle.review_tables.proofs.trees.ChangesTree.select_ids.Goals as goal
 

@@ -5,7 +5,7 @@ use Rattle.std.specs.Ordering.{is_gt}
 use Rattle.sqlite_value.specs.Order.{Row as Raw, column, value_cmp}
 use Rattle.sqlite_rules.specs.Lists.{Has}
 use Rattle.sqlite_trees.specs.Tree.{Trees}
-use Rattle.review_tables.specs.Search.{Search, reads, rows_at}
+use Rattle.review_statements.specs.Search.{Search, reads, rows_at}
 
 -- the row is one of these, and none of them has more in the column, as SQL orders values
 pub record IsGreatest (place : ℕ) (rows : List Raw) (r : Raw) : Type 0 where

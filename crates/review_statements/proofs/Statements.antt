@@ -22,7 +22,7 @@ use Rattle.std.specs.List.{AllByRecursion}
 use Rattle.sqlite.specs.Listing.{understood}
 use Rattle.sqlite.specs.State.{State, Executes}
 use Rattle.sqlite.proofs.Callers.{IsPlain, command_of, statement_of, runs_as, one_step}
-use Rattle.review_tables.specs.Desk.{simple}
+use Rattle.review_statements.specs.Desk.{simple}
 use Rattle.std.proofs.Common.{not, map, filter, eqb, eqb-true}
 use Rattle.std.specs.List.{list_any}
 use Rattle.std.specs.List.Sorted.{IsPermutation}
@@ -37,11 +37,11 @@ use Rattle.sqlite_sql.specs.Term.{col}
 use Rattle.sqlite_sql.specs.Program.{overlay}
 use Rattle.sqlite_rules.specs.Edit.{id_in, have_rowids, are_fresh, left_by, put_all, is_taken}
 use Rattle.sqlite_keyed.proofs.ListLemmas.{map-map, filter_same}
-use Rattle.review_tables.specs.Desk.{desk_schema, is_tree}
-use Rattle.review_tables.specs.Content.{AreApart, IsAdded, Adds, Removes, SparesOthers, has_key}
-use Rattle.review_tables.specs.Ran.{IsReady}
-use Rattle.review_tables.proofs.Lists.{id_of, added, removed, apart_put, apart_filter}
-use Rattle.review_tables.proofs.Queries.{over_table, passes, shows, selects}
+use Rattle.review_statements.specs.Desk.{desk_schema, is_tree}
+use Rattle.review_statements.specs.Content.{AreApart, IsAdded, Adds, Removes, SparesOthers, has_key}
+use Rattle.review_statements.specs.Ran.{IsReady}
+use Rattle.review_statements.proofs.Lists.{id_of, added, removed, apart_put, apart_filter}
+use Rattle.review_statements.proofs.Queries.{over_table, passes, shows, selects}
 use Rattle.sqlite_schema.specs.declared.schema.Column.{Column}
 use Rattle.sqlite_value.specs.declared.keys.Order.{Order}
 

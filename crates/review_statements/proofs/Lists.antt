@@ -14,7 +14,7 @@ use Rattle.sqlite_trees.specs.View.{is_int}
 use Rattle.sqlite_rules.specs.Edit.{id_in, is_taken, without_all}
 use Rattle.sqlite_rules.proofs.TableLemmas.{int_is}
 use Rattle.sqlite_keyed.proofs.ListLemmas.{IsPermutation-filter, none_counted, filter_same}
-use Rattle.review_tables.specs.Content.{AreApart, IsAdded}
+use Rattle.review_statements.specs.Content.{AreApart, IsAdded}
 
 module _ (new : Row) (p : Row → Bool) where
   abbrev Put : Ordering → Row → List Row → List Row

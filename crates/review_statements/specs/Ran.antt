@@ -4,8 +4,8 @@ use Rattle.sqlite_trees.specs.Tree.{Trees}
 use Rattle.sqlite.specs.Effect.{Database}
 use Rattle.sqlite.specs.State.{State, HasCleanDisk, Survives, KeepsCommit}
 use Rattle.sqlite.specs.declared.error.Error.{Error}
-use Rattle.review_tables.specs.Desk.{desk_schema, is_tree}
-use Rattle.review_tables.specs.Content.{AreApart}
+use Rattle.review_statements.specs.Desk.{desk_schema, is_tree}
+use Rattle.review_statements.specs.Content.{AreApart}
 
 -- the tables are those that `create` makes, and the rows of each have rowids of their own
 pub record IsReady (db : Database) : Type 0 where

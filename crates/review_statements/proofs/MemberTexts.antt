@@ -12,13 +12,13 @@ use Rattle.sqlite_tied.specs.Compute.{everything}
 use Rattle.sqlite.specs.Listing.{understood, reads_listing}
 use Rattle.sqlite.specs.State.{State, Executes, Shown}
 use Rattle.sqlite.proofs.Callers.{IsPlain, command_of}
-use Rattle.review_tables.specs.declared.texts.TheConstants.{INSERT_MEMBER, DELETE_MEMBER, FIND_MEMBER, MEMBER_IDS}
-use Rattle.review_tables.specs.Desk.{desk_schema, members}
-use Rattle.review_tables.specs.Content.{has_key, AddsValues, Removes}
-use Rattle.review_tables.specs.Ran.{IsReady}
-use Rattle.review_tables.proofs.Queries.{over_table, passes}
-use Rattle.review_tables.proofs.Statements.{inserts, deletes}
-use Rattle.review_tables.proofs.Meaning.{cast_null, cast_int, text_is, number_is, tested_text, tested_number, finds, finds_ids}
+use Rattle.review_statements.specs.declared.texts.TheConstants.{INSERT_MEMBER, DELETE_MEMBER, FIND_MEMBER, MEMBER_IDS}
+use Rattle.review_statements.specs.Desk.{desk_schema, members}
+use Rattle.review_statements.specs.Content.{has_key, AddsValues, Removes}
+use Rattle.review_statements.specs.Ran.{IsReady}
+use Rattle.review_statements.proofs.Queries.{over_table, passes}
+use Rattle.review_statements.proofs.Statements.{inserts, deletes}
+use Rattle.review_statements.proofs.Meaning.{cast_null, cast_int, text_is, number_is, tested_text, tested_number, finds, finds_ids}
 
 abbrev insert_terms : List Term
 insert_terms = lit Null ∷ col 0 0 ∷ col 0 1 ∷ []

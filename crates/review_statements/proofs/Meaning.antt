@@ -21,9 +21,9 @@ use Rattle.sqlite_keyed.proofs.ListLemmas.{filter_same}
 use Rattle.sqlite.specs.Listing.{understood, reads_listing}
 use Rattle.sqlite.specs.State.{State, Shown}
 use Rattle.sqlite.proofs.Callers.{IsPlain, command_of, reads_as}
-use Rattle.review_tables.specs.Desk.{desk_schema}
-use Rattle.review_tables.specs.Content.{has_key}
-use Rattle.review_tables.proofs.Queries.{over_table, passes, shows, selects}
+use Rattle.review_statements.specs.Desk.{desk_schema}
+use Rattle.review_statements.specs.Content.{has_key}
+use Rattle.review_statements.proofs.Queries.{over_table, passes, shows, selects}
 
 either : (b : Bool) (x : Value) → cond b x x ≡ x
 either true x = refl

@@ -8,13 +8,13 @@ use Rattle.sqlite_tied.specs.Compute.{everything}
 use Rattle.sqlite.specs.Listing.{understood, reads_listing}
 use Rattle.sqlite.specs.State.{State, Shown}
 use Rattle.sqlite.proofs.Callers.{IsPlain, command_of}
-use Rattle.review_tables.specs.declared.texts.TheConstants.{FIND_LAST_ACCOUNT, FIND_LAST_PLACE, FIND_LAST_CHANGE, FIND_LAST_JOINED, FIND_LAST_PATCH, FIND_PROJECT_BEYOND, FIND_BASE_BEYOND}
-use Rattle.review_tables.specs.Desk.{desk_schema}
-use Rattle.review_tables.specs.Content.{has_key}
-use Rattle.review_tables.specs.Greatest.{ShowsGreatest, ShowsBeyond}
-use Rattle.review_tables.proofs.Queries.{passes}
-use Rattle.review_tables.proofs.Cut.{last_of, finds_last, beyond, finds_beyond}
-use Rattle.review_tables.proofs.Meaning.{number_is, tested_number, text_is, tested_text}
+use Rattle.review_statements.specs.declared.texts.TheConstants.{FIND_LAST_ACCOUNT, FIND_LAST_PLACE, FIND_LAST_CHANGE, FIND_LAST_JOINED, FIND_LAST_PATCH, FIND_PROJECT_BEYOND, FIND_BASE_BEYOND}
+use Rattle.review_statements.specs.Desk.{desk_schema}
+use Rattle.review_statements.specs.Content.{has_key}
+use Rattle.review_statements.specs.Greatest.{ShowsGreatest, ShowsBeyond}
+use Rattle.review_statements.proofs.Queries.{passes}
+use Rattle.review_statements.proofs.Cut.{last_of, finds_last, beyond, finds_beyond}
+use Rattle.review_statements.proofs.Meaning.{number_is, tested_number, text_is, tested_text}
 
 -- ---- last account
 

@@ -11,13 +11,13 @@ use Rattle.sqlite_tied.specs.Compute.{everything}
 use Rattle.sqlite.specs.Listing.{understood, reads_listing}
 use Rattle.sqlite.specs.State.{State, Executes, Shown}
 use Rattle.sqlite.proofs.Callers.{IsPlain, command_of}
-use Rattle.review_tables.specs.declared.texts.TheConstants.{INSERT_ACCOUNT, DELETE_ACCOUNT, FIND_ACCOUNT, ACCOUNT_IDS}
-use Rattle.review_tables.specs.Desk.{desk_schema, accounts}
-use Rattle.review_tables.specs.Content.{has_key, Adds, Removes}
-use Rattle.review_tables.specs.Ran.{IsReady}
-use Rattle.review_tables.proofs.Queries.{over_table, passes}
-use Rattle.review_tables.proofs.Statements.{inserts, deletes}
-use Rattle.review_tables.proofs.Meaning.{cast_null, cast_int, text_is, tested_id, finds, finds_ids}
+use Rattle.review_statements.specs.declared.texts.TheConstants.{INSERT_ACCOUNT, DELETE_ACCOUNT, FIND_ACCOUNT, ACCOUNT_IDS}
+use Rattle.review_statements.specs.Desk.{desk_schema, accounts}
+use Rattle.review_statements.specs.Content.{has_key, Adds, Removes}
+use Rattle.review_statements.specs.Ran.{IsReady}
+use Rattle.review_statements.proofs.Queries.{over_table, passes}
+use Rattle.review_statements.proofs.Statements.{inserts, deletes}
+use Rattle.review_statements.proofs.Meaning.{cast_null, cast_int, text_is, tested_id, finds, finds_ids}
 
 abbrev insert_terms : List Term
 insert_terms = col 0 0 ∷ lit Null ∷ col 0 1 ∷ []

@@ -9,11 +9,11 @@ use Rattle.sqlite_tied.specs.Compute.{everything}
 use Rattle.sqlite.specs.Listing.{understood, reads_listing}
 use Rattle.sqlite.specs.State.{State, Shown}
 use Rattle.sqlite.proofs.Callers.{IsPlain, command_of}
-use Rattle.review_tables.specs.declared.texts.TheConstants.{FIND_ACCOUNT_NAMED, FIND_GROUP, FIND_PROJECT_NAME, FIND_BASE_COMMIT, FIND_BRANCH}
-use Rattle.review_tables.specs.Desk.{desk_schema}
-use Rattle.review_tables.specs.Content.{has_key}
-use Rattle.review_tables.proofs.Queries.{over_table, passes}
-use Rattle.review_tables.proofs.Meaning.{text_is, tested_text, finds}
+use Rattle.review_statements.specs.declared.texts.TheConstants.{FIND_ACCOUNT_NAMED, FIND_GROUP, FIND_PROJECT_NAME, FIND_BASE_COMMIT, FIND_BRANCH}
+use Rattle.review_statements.specs.Desk.{desk_schema}
+use Rattle.review_statements.specs.Content.{has_key}
+use Rattle.review_statements.proofs.Queries.{over_table, passes}
+use Rattle.review_statements.proofs.Meaning.{text_is, tested_text, finds}
 
 -- ---- account named
 

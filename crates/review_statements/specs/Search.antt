@@ -6,7 +6,7 @@ use Rattle.sqlite_value.specs.declared.value.Value.{Value}
 use Rattle.sqlite_value.specs.Order.{Row as Raw}
 use Rattle.sqlite_trees.specs.Tree.{Trees, rowid}
 use Rattle.review_table.specs.declared.table.Change.{Change}
-use Rattle.review_tables.specs.Content.{has_key, SparesOthers, Adds}
+use Rattle.review_statements.specs.Content.{has_key, SparesOthers, Adds}
 
 -- places of columns, and the values that a row has there
 abbrev pub At : Type 0

@@ -25,10 +25,10 @@ use Rattle.sqlite_keyed.proofs.ListLemmas.{all_weaker, all_map, all_unmap, filte
 use Rattle.sqlite.specs.Listing.{understood, reads_listing}
 use Rattle.sqlite.specs.State.{State, Shown}
 use Rattle.sqlite.proofs.Callers.{IsPlain, command_of, reads_as}
-use Rattle.review_tables.specs.Desk.{desk_schema}
-use Rattle.review_tables.specs.Content.{has_key}
-use Rattle.review_tables.specs.Greatest.{ShowsGreatest, ShowsBeyond}
-use Rattle.review_tables.proofs.Queries.{over_table, passes, shows, staged_is}
+use Rattle.review_statements.specs.Desk.{desk_schema}
+use Rattle.review_statements.specs.Content.{has_key}
+use Rattle.review_statements.specs.Greatest.{ShowsGreatest, ShowsBeyond}
+use Rattle.review_statements.proofs.Queries.{over_table, passes, shows, staged_is}
 
 -- ---- the first of rows in order is at most each
 

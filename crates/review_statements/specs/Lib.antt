@@ -1,0 +1,5 @@
+pub mod Desk
+pub mod Content
+pub mod Ran
+pub mod Search
+pub mod Greatest
