@@ -29,10 +29,9 @@ use expressions::ExpressionScript;
 use fault::Fault;
 use files::FileScript;
 use std::alloc::Global;
-use std::env;
-use std::io;
 use std::io::{BufRead, BufReader};
 use std::process::ExitCode;
+use std::{env, io};
 
 /// What scripts are on.
 #[derive(Clone, Copy)]
@@ -80,7 +79,7 @@ impl Scripts {
 }
 
 /// The language that a line names.
-fn language(line: &str) -> Option<Language> {
+fn language_named(line: &str) -> Option<Language> {
     match line {
         "@ expressions" => Some(Language::Expressions),
         "@ project files" => Some(Language::ProjectFiles),
@@ -102,7 +101,7 @@ fn step(rt: &HostRuntime, scripts: &mut Scripts, line: &str) -> Result<(), Fault
     if line.is_empty() || line.starts_with("#") {
         return Ok(());
     }
-    match language(line) {
+    match language_named(line) {
         Some(language) => scripts.begin(rt.alloc(), language),
         None => answer(rt, scripts, line),
     }

@@ -8,7 +8,7 @@ ghost use Rattle.review_kept_branches.specs.declared.keys.CommitKey.{CommitKey};
 ghost use Rattle.review_kept_branches.specs.Branches.{place_cmp, commit_cmp, base_at, total_in, IsLastPlace, IsPut, place_of, commit_at, is_stale, AreBases, IsCommitThere, IsUnlisted, PutsBase, HasNoSpare, HasSpareOnly};
 
 use crate::keys::{CommitKey, PlaceKey};
-use review_rows::{Base, BaseRow, BranchKey};
+use review_rows::{Base, BaseRow, BranchKey, ShelfFault};
 use review_table::{Change, Key, Table};
 use review_words::{Bases, CommitName, ProjectName};
 use std::alloc::{AllocError, Global};
@@ -40,6 +40,20 @@ impl From<AllocError> for BasesFault {
 
     fn from(_error: AllocError) -> BasesFault {
         BasesFault::Memory
+    }
+}
+
+impl From<BasesFault> for ShelfFault {
+    ghost use Rattle.std.specs.Prelude.{◌≡◌};
+    ghost use Rattle.review_kept_branches.specs.Loads.{fault_of};
+
+    ghost from_gives = { λ f e. e ≡ fault_of f };
+
+    fn from(fault: BasesFault) -> ShelfFault {
+        match fault {
+            BasesFault::Memory => ShelfFault::Memory,
+            BasesFault::Gap => ShelfFault::Damaged,
+        }
     }
 }
 

@@ -14,7 +14,6 @@ ghost use Rattle.review_shelves.specs.Loads.{IsUnread};
 use crate::keys::NameKey;
 use crate::tables::MemoryTables;
 use review_chain::Standing;
-use review_kept_branches::BasesFault;
 use review_rows::{Base, BranchKey, Counted, MemberKey, Need, Rows, ShelfFault, Want};
 use review_table::{Key, Table};
 use review_words::{AccountName, AccountNo, ChangeNo, FileText, GroupName, ProjectName};
@@ -25,20 +24,6 @@ const MOST_PROJECTS: u64 = 1_000;
 
 /// The most bases of a project, over all its branches.
 const MOST_BASES: u64 = 100_000;
-
-impl From<BasesFault> for ShelfFault {
-    ghost use Rattle.std.specs.Prelude.{◌≡◌};
-    ghost use Rattle.review_shelves.specs.Loads.{fault_of};
-
-    ghost from_gives = { λ f e. e ≡ fault_of f };
-
-    fn from(fault: BasesFault) -> ShelfFault {
-        match fault {
-            BasesFault::Memory => ShelfFault::Memory,
-            BasesFault::Gap => ShelfFault::Damaged,
-        }
-    }
-}
 
 impl MemoryTables {
     /// What the look-ups of a need find, and of no others. Damaged where the bases of a branch or the rows of a change that is asked for
