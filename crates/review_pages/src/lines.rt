@@ -112,7 +112,7 @@ fn plus(value: i8) -> &'static str
     if value.is_negative() { "" } else { "+" }
 }
 
-#[tactic(auto, using(review_texts::proofs::Signed::signed_decimal_pos, review_texts::proofs::Signed::signed_decimal_neg))]
+#[tactic(auto, using(review_fields::proofs::Signed::signed_decimal_pos, review_fields::proofs::Signed::signed_decimal_neg))]
 fn signed_text(alloc: Global, value: i8) -> Result<String, AllocError>
     ensures { IfOk result (λ text. string_bytes text ≡ signed value) }
 {
