@@ -3,8 +3,8 @@
 use crate::values::change_at;
 use review_records::numbers::to_sql;
 use review_records::rows::PlaceKey;
-use review_tables::table::Lookup;
 use review_statements::texts;
+use review_tables::table::Lookup;
 use review_words::ChangeNo;
 use sqlite::{Alter, Error, Row, Transaction, params};
 use std::alloc::{AllocError, Global};

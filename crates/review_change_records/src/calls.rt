@@ -3,9 +3,9 @@
 use review_changes::Called;
 use review_records::names::{account_at, name_at};
 use review_records::numbers::to_sql;
+use review_statements::texts;
 use review_tables::columns::number_at;
 use review_tables::fronts::{Front, Parts};
-use review_statements::texts;
 use review_words::{AccountNo, ChangeNo};
 use sqlite::{Alter, Error, Row, Transaction, params};
 use std::alloc::{AllocError, Global};

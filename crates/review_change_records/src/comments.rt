@@ -7,9 +7,9 @@ use crate::values::{
 use review_changes::{Comment, CommentRow};
 use review_records::names::{account_at, name_at};
 use review_records::numbers::to_sql;
+use review_statements::texts;
 use review_tables::columns::number_at;
 use review_tables::fronts::{Front, Parts};
-use review_statements::texts;
 use review_words::{ChangeNo, CommentNo};
 use sqlite::{Alter, Error, Row, Transaction, params};
 use std::alloc::{AllocError, Global};

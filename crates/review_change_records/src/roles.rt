@@ -2,8 +2,8 @@
 
 use crate::values::role_at;
 use review_records::names::account_at;
-use review_tables::fronts::{Front, Parts};
 use review_statements::texts;
+use review_tables::fronts::{Front, Parts};
 use review_words::{AccountNo, ChangeNo, Role};
 use sqlite::{Alter, Error, Row, Transaction, params};
 use std::alloc::{AllocError, Global};

@@ -1,8 +1,8 @@
 //! The patch sets that have a commit.
 
 use crate::values::{change_at, patch_at};
-use review_tables::table::Lookup;
 use review_statements::texts;
+use review_tables::table::Lookup;
 use review_words::{ChangeNo, CommitName, PatchNo};
 use sqlite::{Alter, Error, Row, Transaction, params};
 use std::alloc::{AllocError, Global};

@@ -3,8 +3,8 @@
 use crate::values::{patch_at, vote_at, vote_value};
 use review_changes::{Vote, VoteKey};
 use review_records::names::{account_at, name_at};
-use review_tables::fronts::{Front, Parts};
 use review_statements::texts;
+use review_tables::fronts::{Front, Parts};
 use review_words::ChangeNo;
 use sqlite::{Alter, Error, Row, Transaction, params};
 use std::alloc::{AllocError, Global};

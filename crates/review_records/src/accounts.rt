@@ -1,10 +1,10 @@
 //! The accounts, by their numbers and by their names.
 
 use crate::names::{account_at, name_at};
+use review_statements::texts;
 use review_tables::columns::number_at;
 use review_tables::greatest::Greatest;
 use review_tables::table::{Lookup, Table};
-use review_statements::texts;
 use review_words::{AccountName, AccountNo};
 use sqlite::{Alter, Error, Row, Transaction, params};
 use std::alloc::{AllocError, Global};

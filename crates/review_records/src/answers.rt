@@ -4,9 +4,9 @@ ghost use Rattle.std.specs.Prelude.{string_bytes};
 use crate::numbers::to_sql;
 use crate::rows::{Answered, RequestKey, Text};
 use review_rows::Kept;
+use review_statements::texts;
 use review_tables::columns::{number_at, text_at};
 use review_tables::table::{Lookup, Records};
-use review_statements::texts;
 use sqlite::{Alter, Error, Row, Transaction, params};
 use std::alloc::{AllocError, Global};
 

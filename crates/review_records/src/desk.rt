@@ -2,9 +2,9 @@
 
 use crate::numbers::to_sql;
 use crate::rows::DeskRow;
+use review_statements::texts;
 use review_tables::columns::number_at;
 use review_tables::table::{Lookup, Records};
-use review_statements::texts;
 use sqlite::{Alter, Error, Row, Transaction, params};
 use std::alloc::{AllocError, Global};
 

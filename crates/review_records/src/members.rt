@@ -2,9 +2,9 @@
 
 use crate::names::account_at;
 use review_rows::MemberKey;
+use review_statements::texts;
 use review_tables::fronts::Front;
 use review_tables::table::{Lookup, Table};
-use review_statements::texts;
 use review_words::{AccountNo, GroupName};
 use sqlite::{Alter, Error, Row, Transaction, params};
 use std::alloc::{AllocError, Global};

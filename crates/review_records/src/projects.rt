@@ -6,9 +6,9 @@ ghost use Rattle.review_statements.specs.Ran.{Looks};
 ghost use Rattle.review_statements.specs.Search.{rows_at};
 
 use review_rows::ProjectRow;
+use review_statements::texts;
 use review_tables::columns::text_at;
 use review_tables::table::{Lookup, Records};
-use review_statements::texts;
 use review_words::{FileText, ProjectName};
 use sqlite::{Alter, Error, Row, Transaction, params};
 use std::alloc::{AllocError, Global};
