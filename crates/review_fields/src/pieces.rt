@@ -52,7 +52,7 @@ fn put(alloc: Global, out: &mut String, piece: &Piece) -> Result<(), AllocError>
     }
 }
 
-/// The text whose fields the pieces are.
+/// The text whose fields the pieces are. An error is want of memory.
 #[tactic(auto, unfolding(review_words::specs::Texts::text_of))]
 pub fn joined(alloc: Global, pieces: &[Piece]) -> Result<String, AllocError>
     ensures { IfOk result (λ t. string_bytes t ≡ text_of (map shown pieces.now)) }
@@ -94,8 +94,8 @@ fn first(bytes: &[u8]) -> Option<(&[u8], &[u8])>
     None
 }
 
-/// The fields of a text, if it is one: what is written of fields is cut into those fields.
-/// Each is below 10^9 bytes.
+/// The fields of a text, if it is one: what is written of fields, each below 10^9 bytes, is cut into those fields. Of other bytes nothing is
+/// claimed: whoever reads fields writes what they tell once more, and compares. An error is want of memory.
 pub fn cut(alloc: Global, bytes: &[u8]) -> Result<Option<Vec<&[u8]>>, AllocError>
     ensures { IfOk result (λ o. (fs : List (List ℕ)) → AreShort fs → text_of fs ≡ bytes.now → option_map (λ v. map (λ f. f.now) v.items) o ≡ Some fs) }
 {

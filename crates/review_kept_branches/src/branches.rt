@@ -27,6 +27,7 @@ pub struct Branches {
 /// Why the bases of a branch are not given.
 #[derive(Clone, Copy, Debug, PartialEq, Eq, Drop)]
 pub enum BasesFault {
+    /// There was no memory for them.
     Memory,
     /// A place has none, or place 0 has one.
     Gap,
@@ -91,7 +92,7 @@ impl Branches {
         }
     }
 
-    /// The bases of a branch in the order of their places, or that these have a gap.
+    /// The bases of a branch in the order of their places, none where it has none, or that these have a gap.
     pub fn bases_of(&self, alloc: Global, branch: &BranchKey) -> Result<Bases, BasesFault>
         ensures bases { IfOk result (AreBases self.now.bases branch.now) }
         ensures gap { IfErr result (IsUnlisted self.now.bases branch.now) }
@@ -115,7 +116,7 @@ impl Branches {
         Ok(bases)
     }
 
-    /// Whether a commit is a base of a branch.
+    /// Whether a commit is a base of a branch. An error is want of memory.
     pub fn has(&self, alloc: Global, base: &Base) -> Result<bool, AllocError>
         ensures { IfOk result (IsCommitThere self.now.bases base.now) }
     {
@@ -151,7 +152,7 @@ impl Branches {
         }
     }
 
-    /// Puts a base at its place, or changes nothing.
+    /// Puts a base at its place, in place of one that stands there. Where there is no memory for it that is the error, and nothing changes.
     pub fn put(&mut self, alloc: Global, base: &BaseRow) -> Result<(), AllocError>
         requires { total_in self.old.totals base.now.project < 2 ^ 64 - 1 }
         ensures put { OnOk result (IsPut base.now self.old self.new) }
