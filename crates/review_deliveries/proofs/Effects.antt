@@ -120,15 +120,6 @@ stored_counts (Refused r) before after s same = same
 stored_counts IdentityReused before after s same = absurd s
 stored_counts (NotTaken c) before after s same = absurd s
 
--- one step more
-pub steps-push : (ds : List Delivery) (rs : List Reply) (d : Delivery) (r : Reply) (old mid new : Option Tables) →
-    AreSteps ds rs old mid → KeepsUntaken d r mid new → StoresOnce d r mid new → AreSteps (ds ++ d ∷ []) (rs ++ r ∷ []) old new
-steps-push [] [] d r old mid new steps left once =
-    (new, subst (λ m. KeepsUntaken d r m new) steps left, subst (λ m. StoresOnce d r m new) steps once, refl)
-steps-push [] (s ∷ rs) d r old mid new steps left once = absurd steps
-steps-push (c ∷ ds) [] d r old mid new steps left once = absurd steps
-steps-push (c ∷ ds) (s ∷ rs) d r old mid new steps left once = (steps.0, steps.1, steps.2, steps-push ds rs d r steps.0 mid new steps.3 left once)
-
 -- a fault that a call of the shelf counted
 pub fault_counts : (f : ShelfFault) (before after : ℕ) → IsCounted f before after → CountsReply (NotTaken (cause_of f)) before after
 fault_counts fault.Memory before after c = c

@@ -14,9 +14,10 @@ ghost use Rattle.review_rows.specs.Rows.{HasNoEffect, Tables, kept_row};
 ghost use Rattle.review_rows.specs.Shelf.{BlamesTables, CountsFaults, IsCommitted, LeavesUndone, Shows, StopLeavesOwnTables, Views};
 ghost use Rattle.review_rows.specs.Steps.{OfCommand};
 ghost use Rattle.review_rows.specs.View.{AreEnough, IsDecided};
+ghost use Rattle.review_deliveries.specs.Delivered.{IsDelivered};
 ghost use Rattle.review_deliveries.specs.Gathered.{IsUnstored};
 ghost use Rattle.review_deliveries.specs.Kept.{row_for};
-ghost use Rattle.review_deliveries.specs.Replies.{IsServed, IsToldAgain, KeepsUntaken, StoresOnce, CountsReply, StopGoesOnFrom, StopHasEntry, history_after, reply_of};
+ghost use Rattle.review_deliveries.specs.Replies.{IsServed, IsToldAgain, KeepsUntaken, StoresOnce, CountsReply, reply_of};
 
 use crate::gathering::gathered;
 use crate::rules::Rules;
@@ -52,14 +53,7 @@ pub fn deliver<S: Shelf, R: Rules>(
     rules: &mut R,
     delivery: &Delivery,
 ) -> Reply
-    ensures honest { (S.state shelf.new).is_honest → (S.state shelf.old).is_honest }
-    ensures served { (S.state shelf.new).is_honest → (h : List Entry) → IsHistory h → Views h (S.state shelf.old).tables →
-        IsServed h delivery.now result (S.state shelf.old) (S.state shelf.new) }
-    ensures unchanged { (S.state shelf.new).is_honest → KeepsUntaken delivery.now result (S.state shelf.old).tables (S.state shelf.new).tables }
-    ensures once { (S.state shelf.new).is_honest → StoresOnce delivery.now result (S.state shelf.old).tables (S.state shelf.new).tables }
-    ensures counted { CountsReply result (S.state shelf.old).faults (S.state shelf.new).faults }
-    ensures stopped { (S.state shelf.new).is_honest → (h : List Entry) → IsHistory h → Views h (S.state shelf.old).tables → StopGoesOnFrom h (S.state shelf.old) →
-        StopGoesOnFrom (history_after h (delivery.now ∷ []) (result ∷ [])) (S.state shelf.new) × StopHasEntry delivery.now result (S.state shelf.new) }
+    ensures { IsDelivered delivery.now result (S.state shelf.old) (S.state shelf.new) }
 {
     serve(alloc, shelf, rules, delivery)
 }

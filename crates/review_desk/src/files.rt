@@ -1,25 +1,23 @@
 //! Jobs on a file, which is opened once and closed at the end, when its log is copied into it.
 ghost use Rattle.std.specs.Prelude.{◌≡◌, false, IfOk};
 
-use crate::fault::ProgramFault;
-use crate::working;
-use review_machine::Outcome;
-use review_names::{BranchName, ChangeNo, ProjectName};
-use sqlite::{Connection, FileFrom, FileStore, Start};
+use review_machine::{DeskRules, Outcome};
+use review_work::{ProgramFault, Task, create, work};
+use sqlite::{Connection, FileFrom, FileStore, Unknown};
 
-type FileConnection<S> = Connection<FileStore<FileFrom<S>>>;
+type FileConnection = Connection<FileStore<FileFrom<Unknown>>>;
 
-fn open<S: Start>(rt: &HostRuntime, file: &str, start: S) -> Result<FileConnection<S>, ProgramFault>
+fn open(rt: &HostRuntime, file: &str) -> Result<FileConnection, ProgramFault>
     ensures { IfOk result (λ conn. conn.in_transaction ≡ false) }
 {
-    match Connection::open_from(rt, file, false, start) {
+    match Connection::open_from(rt, file, false, Unknown) {
         Ok(conn) => Ok(conn),
         Err((error, _)) => Err(ProgramFault::of_store(error)),
     }
 }
 
 /// Copies the log into the file, and closes both.
-fn close<S: Start>(conn: FileConnection<S>) -> Result<(), ProgramFault> {
+fn close(conn: FileConnection) -> Result<(), ProgramFault> {
     match conn.close_files() {
         Ok(_) => Ok(()),
         Err((error, store)) => {
@@ -30,8 +28,8 @@ fn close<S: Start>(conn: FileConnection<S>) -> Result<(), ProgramFault> {
 }
 
 /// How a job ended whose file is now closed. Where both failed, the job's fault is told.
-fn close_after<S: Start, T: Drop>(
-    conn: FileConnection<S>,
+fn close_after<T: Drop>(
+    conn: FileConnection,
     ended: Result<T, ProgramFault>,
 ) -> Result<T, ProgramFault> {
     let closed = close(conn);
@@ -41,9 +39,9 @@ fn close_after<S: Start, T: Drop>(
 }
 
 /// Makes an empty desk in a new file, and says so once the file is closed.
-pub fn init<S: Start>(rt: &HostRuntime, file: &str, start: S) -> Result<Outcome, ProgramFault> {
-    let conn = open(rt, file, start)?;
-    let (conn, made) = working::create(rt.alloc(), conn);
+pub fn init(rt: &HostRuntime, file: &str) -> Result<Outcome, ProgramFault> {
+    let conn = open(rt, file)?;
+    let (conn, made) = create(rt.alloc(), conn);
     close_after(conn, made)?;
     match println!(rt; "desk created") {
         Ok(()) => Ok(Outcome::Complete),
@@ -51,34 +49,17 @@ pub fn init<S: Start>(rt: &HostRuntime, file: &str, start: S) -> Result<Outcome,
     }
 }
 
-/// Takes the deliveries of standard input.
-pub fn apply<S: Start>(rt: &HostRuntime, file: &str, start: S) -> Result<Outcome, ProgramFault> {
-    let conn = open(rt, file, start)?;
-    let (conn, ended) = working::apply(rt.alloc(), &mut rt.stdin(), &mut rt.stdout(), conn);
+/// Does a task on the desk in a file, from standard input and to standard output.
+pub fn work_on(rt: &HostRuntime, file: &str, task: &Task) -> Result<Outcome, ProgramFault> {
+    let conn = open(rt, file)?;
+    let mut rules = DeskRules::new(rt.alloc());
+    let (conn, ended) = work(
+        rt.alloc(),
+        &mut rt.stdin(),
+        &mut rt.stdout(),
+        conn,
+        &mut rules,
+        task,
+    );
     close_after(conn, ended)
-}
-
-/// Shows a change.
-pub fn show<S: Start>(
-    rt: &HostRuntime,
-    file: &str,
-    start: S,
-    change: ChangeNo,
-) -> Result<Outcome, ProgramFault> {
-    let conn = open(rt, file, start)?;
-    let (conn, shown) = working::show(rt.alloc(), &mut rt.stdout(), conn, change);
-    close_after(conn, shown)
-}
-
-/// Shows which changes joined a branch.
-pub fn joined<S: Start>(
-    rt: &HostRuntime,
-    file: &str,
-    start: S,
-    project: &ProjectName,
-    branch: &BranchName,
-) -> Result<Outcome, ProgramFault> {
-    let conn = open(rt, file, start)?;
-    let (conn, shown) = working::joined(rt.alloc(), &mut rt.stdout(), conn, project, branch);
-    close_after(conn, shown)
 }

@@ -6,14 +6,11 @@
 //! standard error names; and with 2 where its words ask for something else.
 #![tactic(auto)]
 
-mod fault;
 mod files;
-mod working;
 
-use fault::ProgramFault;
 use review_jobs::{Job, WordsFault, job_of};
 use review_machine::Outcome;
-use sqlite::Unknown;
+use review_work::{ProgramFault, Task};
 use std::env;
 use std::io::ErrorKind;
 use std::process::ExitCode;
@@ -34,17 +31,17 @@ fn apply_in_memory(rt: &HostRuntime) -> Result<Outcome, ProgramFault> {
     }
 }
 
-fn run(rt: &HostRuntime, job: &Job<'_>) -> Result<Outcome, ProgramFault> {
+fn run(rt: &HostRuntime, job: Job<'_>) -> Result<Outcome, ProgramFault> {
     match job {
-        Job::Init { file } => files::init(rt, file, Unknown),
-        Job::Apply { file } if *file == ":memory:" => apply_in_memory(rt),
-        Job::Apply { file } => files::apply(rt, file, Unknown),
-        Job::Show { file, change } => files::show(rt, file, Unknown, *change),
+        Job::Init { file } => files::init(rt, file),
+        Job::Apply { file } if file == ":memory:" => apply_in_memory(rt),
+        Job::Apply { file } => files::work_on(rt, file, &Task::Apply),
+        Job::Show { file, change } => files::work_on(rt, file, &Task::Show { change }),
         Job::Joined {
             file,
             project,
             branch,
-        } => files::joined(rt, file, Unknown, project, branch),
+        } => files::work_on(rt, file, &Task::Joined { project, branch }),
     }
 }
 
@@ -85,7 +82,7 @@ fn main(rt: HostRuntime) -> ExitCode {
         Err(fault) => return refuse_words(&rt, fault),
     };
     match job_of(rt.alloc(), &words) {
-        Ok(job) => status_of(&rt, run(&rt, &job)),
+        Ok(job) => status_of(&rt, run(&rt, job)),
         Err(fault) => refuse_words(&rt, fault),
     }
 }

@@ -1,21 +1,16 @@
 -- The answers to lines, one by one.
-use Rattle.std.proofs.Common.{◌≡◌, ◌++◌, ◌&&◌, Bool, true, false, ℕ, List, [], ◌∷◌, length, refl, Option, arith, sym, ap, subst, ◌∙◌, append_assoc, append-nil, length-append, take, inl}
+use Rattle.std.proofs.Common.{◌≡◌, ◌++◌, ◌&&◌, Bool, true, false, ℕ, List, [], ◌∷◌, length, refl, Option, arith, sym, ap, subst, ◌∙◌, append_assoc, append-nil, length-append}
 use Rattle.std.specs.Io.KnownBytes.{Appends}
 use Rattle.std.proofs.KnownBytes.{Appends-nil, Appends-trans}
 use Rattle.review_words.specs.declared.command.Delivery.{Delivery}
-use Rattle.review_words.specs.declared.command.Delivery.TheVariants.{Write, Read}
 use Rattle.review_words.specs.declared.reply.Reply.{Reply}
-use Rattle.review_words.specs.declared.reply.Reply.TheVariants.{NotTaken}
-use Rattle.review_words.specs.declared.reply.NotTaken.TheVariants.{Memory}
-use Rattle.review_words.specs.History.{Entry}
-use Rattle.review_rows.specs.Rows.{Tables}
 use Rattle.review_rows.specs.Shelf.{Shown}
-use Rattle.review_deliveries.specs.Replies.{IsRun, AreSteps, history_after}
-use Rattle.review_deliveries.proofs.Going.{run_none, run_one, run-append}
+use Rattle.review_deliveries.specs.Delivered.{WasRun}
+use Rattle.review_deliveries.proofs.Ran.{ran_none, ran-append}
 use Rattle.review_lines.specs.declared.apply.Asked.{Asked}
 use Rattle.review_lines.specs.declared.apply.Asked.TheVariants.{Nothing, Unreadable, Asks}
 use Rattle.review_lines.specs.Lines.{HasNoEnd, GaveLine}
-use Rattle.review_lines.specs.Answers.{asked, with_asked, deliveries, answered, answers, bad_line, reply_line, WasRun, IsRunOf, first_or_stopped, is_taken, is_done, all_done}
+use Rattle.review_lines.specs.Answers.{asked, with_asked, deliveries, answered, answers, bad_line, reply_line, IsRunOf, is_taken, is_done, all_done}
 use Rattle.review_lines.proofs.LinesOf.{GaveLines, gave_more, gave_none}
 
 -- These lines were read, what they ask for was done, and their answers were sent or wait.
@@ -77,7 +72,7 @@ started input left output waiting s same none = record {
   sent = [];
   written = Appends-nil output;
   whole = none;
-  ran = λ honest. ((λ h hist v. run_none h s hist v), refl);
+  ran = ran_none s;
   done = refl;
 }
 
@@ -100,41 +95,24 @@ counted lines more rs qs one other =
     let all : length (deliveries (lines ++ more)) ≡ length (deliveries lines ++ deliveries more) = ap length (deliveries-append lines more) in
     omega (arith, one, other, all, length-append rs qs, length-append (deliveries lines) (deliveries more))
 
--- the steps of a run and then those of another
-steps-append : (ds es : List Delivery) (rs ss : List Reply) (old mid new : Option Tables) → AreSteps ds rs old mid → AreSteps es ss mid new → AreSteps (ds ++ es) (rs ++ ss) old new
-steps-append [] es [] ss old mid new one two = subst (λ (t : Option Tables). AreSteps es ss t new) one two
-steps-append [] es (r ∷ rs) ss old mid new one two = absurd one
-steps-append (d ∷ ds) es [] ss old mid new one two = absurd one
-steps-append (d ∷ ds) es (r ∷ rs) ss old mid new one two = (one.0, one.1, one.2, steps-append ds es rs ss one.0 mid new one.3 two)
-
 -- one run more
 pub ran_more : (lines : List (List ℕ)) (rs qs : List Reply) (bytes : List ℕ) (a : Asked) (old mid new : Shown) → IsRunOf lines rs old mid → a ≡ asked bytes
-    → (new.is_honest → mid.is_honest)
     → WasRun (with_asked a []) qs mid new
     → IsRunOf (lines ++ bytes ∷ []) (rs ++ qs) old new
-ran_more lines rs qs bytes a old mid new was same honest ran = λ fair.
-    let before = was (honest fair) in
-    let now = ran fair in
+ran_more lines rs qs bytes a old mid new was same ran =
     let both : deliveries lines ++ with_asked a [] ≡ deliveries (lines ++ bytes ∷ []) =
-    ap (λ x. deliveries lines ++ with_asked x []) same ∙ sym (deliveries-append lines (bytes ∷ [])) in (
-      λ h hist v.
-          let first = before.0 h hist v in
-          let next = now.0 (history_after h (deliveries lines) rs) first.history first.view in
-          subst (λ (ds : List Delivery). IsRun h ds (rs ++ qs) old new) both (run-append h (deliveries lines) (with_asked a []) rs qs old mid new first next),
-      subst (λ (ds : List Delivery). AreSteps ds (rs ++ qs) old.tables new.tables) both
-          (steps-append (deliveries lines) (with_asked a []) rs qs old.tables mid.tables new.tables before.1 now.1),
-    )
+    ap (λ x. deliveries lines ++ with_asked x []) same ∙ sym (deliveries-append lines (bytes ∷ [])) in
+    subst (λ (ds : List Delivery). WasRun ds (rs ++ qs) old new) both (ran-append (deliveries lines) (with_asked a []) rs qs old mid new was ran)
 
 -- one line more, with its answer
 pub one_more : (lines : List (List ℕ)) (rs qs : List Reply) (bytes : List ℕ) (a : Asked) (done now all : Bool) (input left after before output : Option (List ℕ)) (waiting more : List ℕ) (old mid new : Shown)
     → AreAnswered lines rs done input left before output waiting old mid → a ≡ asked bytes → HasNoEnd bytes → GaveLine left after bytes
     → length qs ≡ length (with_asked a [])
-    → (new.is_honest → mid.is_honest)
     → WasRun (with_asked a []) qs mid new
     → (more ≡ waiting ++ answered a qs (answers [])) × (now ≡ is_done a qs (all_done []))
     → all ≡ (done && now)
     → AreAnswered (lines ++ bytes ∷ []) (rs ++ qs) all input after before output more old new
-one_more lines rs qs bytes a done now all input left after before output waiting more old mid new was same plain gave count honest ran added both =
+one_more lines rs qs bytes a done now all input left after before output waiting more old mid new was same plain gave count ran added both =
     let text : more ≡ waiting ++ answers (bytes ∷ []) qs = added.0 ∙ ap (λ x. waiting ++ answered x qs (answers [])) same in
     record {
       count = counted lines (bytes ∷ []) rs qs was.count (count ∙ ap (λ x. length (with_asked x [])) same);
@@ -143,7 +121,7 @@ one_more lines rs qs bytes a done now all input left after before output waiting
       written = was.written;
       whole = ap (λ l. was.sent ++ l) text ∙ sym (append_assoc was.sent waiting (answers (bytes ∷ []) qs)) ∙ ap (λ l. l ++ answers (bytes ∷ []) qs) was.whole
           ∙ sym (answers-append lines (bytes ∷ []) qs rs was.count);
-      ran = ran_more lines rs qs bytes a old mid new was.ran same honest ran;
+      ran = ran_more lines rs qs bytes a old mid new was.ran same ran;
       done = all_done-append lines (bytes ∷ []) qs rs was.count
           ∙ ((λ i. was.done i && (ap (λ x. is_done x qs (all_done [])) (sym same) ∙ sym added.1) i) ∙ sym both);
     }
@@ -176,47 +154,9 @@ Did a s t Q = (replies : List Reply) × (length replies ≡ length (with_asked a
 pub did_nothing : (a b : Asked) (s : Shown) (Q : List Reply → Type 0) → b ≡ a → with_asked b [] ≡ [] → Q [] → Did a s s Q
 did_nothing a b s Q same none q =
     subst (λ (x : Asked). Did x s s Q) same
-    ([], sym (ap length none), subst (λ (ds : List Delivery). WasRun ds [] s s) (sym none) (λ honest. ((λ h hist v. run_none h s hist v), refl)), q)
+    ([], sym (ap length none), subst (λ (ds : List Delivery). WasRun ds [] s s) (sym none) (ran_none s), q)
 
 -- it asked for a delivery
 pub did_one : (a : Asked) (d : Delivery) (r : Reply) (s t : Shown) (Q : List Reply → Type 0) → Asks d ≡ a
     → WasRun (d ∷ []) (r ∷ []) s t → Q (r ∷ []) → Did a s t Q
 did_one a d r s t Q same ran q = subst (λ (x : Asked). Did x s t Q) same (r ∷ [], refl, ran, q)
-
--- a delivery that was not begun
-not_begun : (h : List Entry) (d : Delivery) (old new : Shown) → IsRun h [] [] old new → IsRun h (d ∷ []) (NotTaken Memory ∷ []) old new
-not_begun h (Read caller query) old new was =
-    run-append h [] (Read caller query ∷ []) [] (NotTaken Memory ∷ []) old new new was (run_one h (Read caller query) (NotTaken Memory) new new was.history
-    (record { right = refl; history = was.history; view = was.view; stops = λ t s. inl s; alone = λ n s. absurd s }))
-not_begun h (Write caller id command) old new was =
-    run-append h [] (Write caller id command ∷ []) [] (NotTaken Memory ∷ []) old new new was (run_one h (Write caller id command) (NotTaken Memory) new new was.history
-    (record { right = refl; history = was.history; view = was.view; stops = λ t s. inl s; alone = λ n s. absurd s }))
-
--- the reply of a run of one delivery
-pub ran_one : (h : List Entry) (d : Delivery) (rs : List Reply) (old new : Shown) → IsRun h (d ∷ []) rs old new → IsRun h (d ∷ []) (first_or_stopped rs ∷ []) old new
-ran_one h d [] old new was = absurd (omega (arith, was.right.replies))
-ran_one h d (r ∷ []) old new was = was
-ran_one h d (r ∷ (q ∷ rs)) old new was = absurd (omega (arith, was.right.replies))
-
--- the same where the run stopped
-pub stopped_one : (h : List Entry) (d : Delivery) (rs : List Reply) (old new : Shown) → IsRun h (take (length rs) (d ∷ [])) rs old new → IsRun h (d ∷ []) (first_or_stopped rs ∷ []) old new
-stopped_one h d [] old new was = not_begun h d old new was
-stopped_one h d (r ∷ []) old new was = was
-stopped_one h d (r ∷ (q ∷ rs)) old new was = absurd (omega (arith, was.right.replies))
-
--- the step of a run of one delivery
-pub step_one : (d : Delivery) (rs : List Reply) (old new : Option Tables) → AreSteps (d ∷ []) rs old new → AreSteps (d ∷ []) (first_or_stopped rs ∷ []) old new
-step_one d [] old new was = absurd was
-step_one d (r ∷ []) old new was = was
-step_one d (r ∷ (q ∷ rs)) old new was = absurd was.3
-
--- the same of a delivery that was not begun
-step_not_begun : (d : Delivery) (old new : Option Tables) → new ≡ old → AreSteps (d ∷ []) (NotTaken Memory ∷ []) old new
-step_not_begun (Read caller query) old new same = (new, same, tt, refl)
-step_not_begun (Write caller id command) old new same = (new, (tt, same), tt, refl)
-
--- the same where the run stopped
-pub step_stopped : (d : Delivery) (rs : List Reply) (old new : Option Tables) → AreSteps (take (length rs) (d ∷ [])) rs old new → AreSteps (d ∷ []) (first_or_stopped rs ∷ []) old new
-step_stopped d [] old new was = step_not_begun d old new was
-step_stopped d (r ∷ []) old new was = was
-step_stopped d (r ∷ (q ∷ rs)) old new was = absurd was.3

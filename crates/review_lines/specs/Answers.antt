@@ -6,11 +6,8 @@ use Rattle.serde_json.specs.Written.{compact_text}
 use Rattle.review_words.specs.declared.command.Delivery.{Delivery}
 use Rattle.review_words.specs.declared.reply.Reply.{Reply}
 use Rattle.review_words.specs.declared.reply.Reply.TheVariants.{NotTaken}
-use Rattle.review_words.specs.declared.reply.NotTaken.TheVariants.{Memory}
-use Rattle.review_words.specs.History.{Entry}
-use Rattle.review_rows.specs.Answer.{IsHistory}
-use Rattle.review_rows.specs.Shelf.{Shown, Views}
-use Rattle.review_deliveries.specs.Replies.{IsRun, AreSteps}
+use Rattle.review_rows.specs.Shelf.{Shown}
+use Rattle.review_deliveries.specs.Delivered.{WasRun}
 use Rattle.review_json.specs.Line.{delivery_spelled}
 use Rattle.review_json.specs.Answer.{reply_data}
 use Rattle.review_lines.specs.declared.fault.Fault.{Fault}
@@ -102,11 +99,6 @@ abbrev pub HasFirst : Option (List ℕ) → List (List ℕ) → Type 0
 HasFirst None lines = Unit {0}
 HasFirst (Some xs) lines = (more : List (List ℕ)) × (lines_of xs ≡ lines ++ more)
 
--- Deliveries were a run with these replies: from the tables of any history a right one, and on any tables whatever made of steps, one a delivery.
-abbrev pub WasRun : List Delivery → List Reply → Shown → Shown → Type 0
-WasRun ds rs old new =
-    new.is_honest → ((h : List Entry) → IsHistory h → Views h old.tables → IsRun h ds rs old new) × AreSteps ds rs old.tables new.tables
-
 -- the deliveries of these lines were a run with these replies
 abbrev pub IsRunOf : List (List ℕ) → List Reply → Shown → Shown → Type 0
 IsRunOf lines replies old new = WasRun (deliveries lines) replies old new
@@ -123,17 +115,16 @@ IsLeftBy fault.Memory lines rs text = (before last : List (List ℕ)) × (lines 
 IsLeftBy fault.Output lines rs text = IsPartOf text (answers lines rs)
 
 -- The first lines of an input, all where no fault came, asked for deliveries to which this was done, each with a reply; what was written are their answers, all of them unless a fault says otherwise.
-abbrev pub WereAnswered : (List Delivery → List Reply → Type 0) → Option (List ℕ) → Option (List ℕ) → Option (List ℕ) → Result Outcome Fault → Type 0
-WereAnswered Did input before after told =
-    (lines : List (List ℕ)) × (replies : List Reply) × HasFirst input lines × (length replies ≡ length (deliveries lines)) × Did (deliveries lines) replies
-    × (text : List ℕ) × Appends before after text
-    × IfOk told (λ outcome. HasLines input lines × (text ≡ answers lines replies) × (is_complete outcome ≡ all_done lines replies))
-    × IfErr told (λ fault. IsLeftBy fault lines replies text)
-
--- the reply of a run of one delivery, which has none where there was no memory to begin
-abbrev pub first_or_stopped : List Reply → Reply
-first_or_stopped [] = NotTaken Memory
-first_or_stopped (r ∷ rs) = r
+pub record WereAnswered (Did : List Delivery → List Reply → Type 0) (input before after : Option (List ℕ)) (told : Result Outcome Fault) : Type 0 where
+  pub lines : List (List ℕ)
+  pub replies : List Reply
+  pub first : HasFirst input lines
+  pub each : length replies ≡ length (deliveries lines)
+  pub did : Did (deliveries lines) replies
+  pub text : List ℕ
+  pub written : Appends before after text
+  pub whole : IfOk told (λ outcome. HasLines input lines × (text ≡ answers lines replies) × (is_complete outcome ≡ all_done lines replies))
+  pub left : IfErr told (λ fault. IsLeftBy fault lines replies text)
 
 -- what the next line of an input asks for, or none where it has ended
 abbrev pub IsNextAsked : Option (List ℕ) → Option (List ℕ) → Option Asked → Type 0

@@ -3,16 +3,17 @@ ghost use Rattle.std.specs.Prelude.{◌≡◌, ◌++◌, ◌∷◌, [], ℕ, Lis
 ghost use Rattle.std.specs.List.{list_all};
 ghost use Rattle.std.specs.Io.KnownBytes.{Appends, prepend_known};
 ghost use Rattle.review_words.specs.declared.reply.Reply.{Reply};
+ghost use Rattle.review_deliveries.specs.Delivered.{WasRun};
 ghost use Rattle.review_lines.specs.Lines.{is_space, IsLineOf};
-ghost use Rattle.review_lines.specs.Answers.{asked, with_asked, reply_line, bad_line, answered, answers, deliveries, HasLines, HasFirst, is_taken, is_done, all_done, is_complete, WasRun, IsRunOf, IsLeftBy, WereAnswered, IsNextAsked, first_or_stopped};
+ghost use Rattle.review_lines.specs.Answers.{asked, with_asked, reply_line, bad_line, answered, answers, deliveries, HasLines, HasFirst, is_taken, is_done, all_done, is_complete, IsRunOf, IsLeftBy, WereAnswered, IsNextAsked};
 
 use crate::fault::{Fault, Outcome};
 use crate::lines::{Line, Lines};
 use crate::output::Output;
-use review_deliveries::{Rules, run};
+use review_deliveries::{Rules, deliver};
 use review_json::{BadBody, answer_text, delivery_of_line};
 use review_rows::Shelf;
-use review_words::{Delivery, NotTaken, Reply};
+use review_words::{Delivery, Reply};
 use std::alloc::{AllocError, Global};
 use std::io::{Read, Write};
 
@@ -55,31 +56,6 @@ fn asked_by(alloc: Global, line: &Line) -> Result<Asked, AllocError>
     }
 }
 
-/// The reply of a run of one delivery. It has none where there was no memory to begin.
-fn first_or_stopped(replies: Vec<Reply>) -> Reply
-    ensures { result ≡ first_or_stopped replies.items }
-{
-    match replies.into_iter().next() {
-        Some(reply) => reply,
-        None => Reply::NotTaken(NotTaken::Memory),
-    }
-}
-
-fn reply_to<S: Shelf, D: Rules>(
-    alloc: Global,
-    shelf: &mut S,
-    rules: &mut D,
-    delivery: Delivery,
-) -> Reply
-    ensures honest { (S.state shelf.new).is_honest → (S.state shelf.old).is_honest }
-    ensures ran { WasRun (delivery ∷ []) (result ∷ []) (S.state shelf.old) (S.state shelf.new) }
-{
-    match run(alloc, shelf, rules, &[delivery]) {
-        Ok(replies) => first_or_stopped(replies),
-        Err(stopped) => first_or_stopped(stopped.replies),
-    }
-}
-
 #[tactic(auto, unfolding(crate::specs::Answers::reply_line))]
 fn reply_line(alloc: Global, reply: &Reply) -> Result<String, AllocError>
     ensures { IfOk result (λ text. string_bytes text ≡ reply_line reply.now) }
@@ -116,7 +92,6 @@ fn answer<S: Shelf, D: Rules>(
     output: &mut Output,
     asked: Asked,
 ) -> Result<Outcome, AllocError>
-    ensures honest { (S.state shelf.new).is_honest → (S.state shelf.old).is_honest }
     ensures answered { (replies : List Reply) × (length replies ≡ length (with_asked asked []))
         × WasRun (with_asked asked []) replies (S.state shelf.old) (S.state shelf.new)
         × IfOk result (λ outcome. (output.new.waiting.items ≡ output.old.waiting.items ++ answered asked replies (answers [])) × (is_complete outcome ≡ is_done asked replies (all_done []))) }
@@ -129,7 +104,7 @@ fn answer<S: Shelf, D: Rules>(
             Ok(Outcome::Incomplete)
         }
         Asked::Asks(delivery) => {
-            let reply = reply_to(alloc, shelf, rules, delivery);
+            let reply = deliver(alloc, shelf, rules, &delivery);
             add_reply(alloc, output, &reply)?;
             Ok(outcome_of(reply))
         }
@@ -157,8 +132,7 @@ fn answer_lines<R: Read + Drop, W: Write, S: Shelf, D: Rules>(
     rules: &mut D,
 ) -> Result<Outcome, Fault>
     requires { output.old.waiting.items ≡ [] }
-    ensures honest { (S.state shelf.new).is_honest → (S.state shelf.old).is_honest }
-    ensures ran { (lines : List (List ℕ)) × (replies : List Reply) × HasFirst (R.remaining reader) lines × (length replies ≡ length (deliveries lines)) × IsRunOf lines replies (S.state shelf.old) (S.state shelf.new)
+    ensures { (lines : List (List ℕ)) × (replies : List Reply) × HasFirst (R.remaining reader) lines × (length replies ≡ length (deliveries lines)) × IsRunOf lines replies (S.state shelf.old) (S.state shelf.new)
         × (sent : List ℕ) × Appends (W.contents writer.old) (W.contents writer.new) sent
         × IfOk result (λ outcome. HasLines (R.remaining reader) lines
         × (sent ++ output.new.waiting.items ≡ answers lines replies)
@@ -190,6 +164,11 @@ fn answer_lines<R: Read + Drop, W: Write, S: Shelf, D: Rules>(
 /// order, each delivery's with its reply: all of them where no fault came or the input failed, all but at most the last where there was no memory, and some
 /// first part of them where the writer failed. This is said of readers and writers whose bytes are known; of standard input and
 /// output `std` knows none.
+///
+/// Of the history that they leave: each change joined its branch at most once and has its place there; it stands on a base of the branch or
+/// on a change that joined before it; and just before its submit it was open, not in work in progress, and no requirement was unsatisfied.
+///
+/// Premises: what is said of tables is said where the store returned what was written to it, and once a fault has shut it nothing is said of them.
 pub fn apply_lines<R: Read, W: Write, S: Shelf, D: Rules>(
     alloc: Global,
     reader: &mut R,
@@ -197,8 +176,7 @@ pub fn apply_lines<R: Read, W: Write, S: Shelf, D: Rules>(
     shelf: &mut S,
     rules: &mut D,
 ) -> Result<Outcome, Fault>
-    ensures honest { (S.state shelf.new).is_honest → (S.state shelf.old).is_honest }
-    ensures ran { WereAnswered (λ ds replies. WasRun ds replies (S.state shelf.old) (S.state shelf.new)) (R.remaining reader.old) (W.contents writer.old) (W.contents writer.new) result }
+    ensures { WereAnswered (λ ds replies. WasRun ds replies (S.state shelf.old) (S.state shelf.new)) (R.remaining reader.old) (W.contents writer.old) (W.contents writer.new) result }
 {
     let mut output = Output::new(alloc);
     let outcome = answer_lines(alloc, reader, writer, &mut output, shelf, rules);

@@ -4,7 +4,10 @@ use Rattle.std.specs.Io.KnownBytes.{Appends}
 use Rattle.review_rows.specs.Rows.{Tables}
 use Rattle.review_rows.specs.Shelf.{in_memory}
 use Rattle.review_rows.specs.View.{IsView}
-use Rattle.review_deliveries.specs.Replies.{IsRun}
+use Rattle.review_words.specs.declared.command.Delivery.{Delivery}
+use Rattle.review_words.specs.declared.reply.Reply.{Reply}
+use Rattle.review_branch_laws.specs.Sound.{AreSoundBranches}
+use Rattle.review_deliveries.specs.Replies.{IsRun, history_after}
 use Rattle.review_lines.specs.Answers.{WereAnswered}
 use Rattle.review_lines.specs.declared.fault.Fault.{Fault}
 use Rattle.review_lines.specs.declared.fault.Fault.TheVariants as fault
@@ -14,10 +17,14 @@ use Rattle.review_lines.specs.declared.fault.Outcome.{Outcome}
 abbrev pub HadNoMemory : Option (List ℕ) → Option (List ℕ) → Result Outcome Fault → Type 0
 HadNoMemory before after told = (told ≡ Err fault.Memory) × Appends before after []
 
--- The first lines of an input, all where no fault came, were a run from the history of no request, with no premise on a store, and were answered.
+-- Deliveries were a run from the history of no request, with no premise on a store, and the branches that it left are sound.
+abbrev pub RunsFromNothing : Tables → Tables → List Delivery → List Reply → Type 0
+RunsFromNothing first last ds replies = IsRun [] ds replies (in_memory first) (in_memory last) × AreSoundBranches (history_after [] ds replies)
+
+-- The first lines of an input, all where no fault came, were such a run, and were answered.
 abbrev pub RanFromNothing : Option (List ℕ) → Option (List ℕ) → Option (List ℕ) → Result Outcome Fault → Type 0
 RanFromNothing input before after told =
-    (first last : Tables) × IsView [] first × WereAnswered (λ ds replies. IsRun [] ds replies (in_memory first) (in_memory last)) input before after told
+    (first last : Tables) × IsView [] first × WereAnswered (RunsFromNothing first last) input before after told
 
 -- what `apply :memory:` did
 abbrev pub RanInMemory : Option (List ℕ) → Option (List ℕ) → Option (List ℕ) → Result Outcome Fault → Type 0

@@ -1,6 +1,6 @@
 //! Deliveries by the line.
-ghost use Rattle.review_lines.specs.Answers.{WasRun, WereAnswered};
-ghost use Rattle.review_machine.specs.Branches.{BranchesAreSound};
+ghost use Rattle.review_deliveries.specs.Delivered.{WasRun};
+ghost use Rattle.review_lines.specs.Answers.{WereAnswered};
 
 use crate::rules::DeskRules;
 use review_lines::{Fault, Outcome};
@@ -22,19 +22,17 @@ use std::io::{Read, Write};
 /// first part of them where the writer failed. This is said of readers and writers whose bytes are known; of standard input and
 /// output `std` knows none.
 ///
-/// Premises: the clauses on tables hold where the store returned what was written to it, and once a fault has shut it nothing is said of tables.
+/// Of the history that they leave: each change joined its branch at most once and has its place there; it stands on a base of the branch or
+/// on a change that joined before it; and just before its submit it was open, not in work in progress, and no requirement was unsatisfied.
 ///
-/// Of the history that the run leaves, as of each: each change joined its branch at most once and has its place there; it stands on a base of the
-/// branch or on a change that joined before it; and just before its submit it was open, not in work in progress, and no requirement was unsatisfied.
+/// Premises: what is said of tables is said where the store returned what was written to it, and once a fault has shut it nothing is said of them.
 pub fn apply_lines<R: Read, W: Write, S: Shelf>(
     alloc: Global,
     reader: &mut R,
     writer: &mut W,
     shelf: &mut S,
 ) -> Result<Outcome, Fault>
-    ensures honest { (S.state shelf.new).is_honest → (S.state shelf.old).is_honest }
-    ensures ran { WereAnswered (λ ds replies. WasRun ds replies (S.state shelf.old) (S.state shelf.new)) (R.remaining reader.old) (W.contents writer.old) (W.contents writer.new) result }
-    ensures branches { BranchesAreSound }
+    ensures { WereAnswered (λ ds replies. WasRun ds replies (S.state shelf.old) (S.state shelf.new)) (R.remaining reader.old) (W.contents writer.old) (W.contents writer.new) result }
 {
     review_lines::apply_lines(alloc, reader, writer, shelf, &mut DeskRules::new(alloc))
 }

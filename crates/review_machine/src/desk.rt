@@ -1,10 +1,6 @@
 //! Deliveries, over any shelf.
-ghost use Rattle.std.specs.Prelude.{◌≡◌, ◌<◌, List, [], ◌∷◌, MatchResult, IfErr, take, length};
-ghost use Rattle.review_words.specs.History.{Entry};
-ghost use Rattle.review_rows.specs.Answer.{IsHistory};
-ghost use Rattle.review_rows.specs.Shelf.{Views};
-ghost use Rattle.review_deliveries.specs.Replies.{IsServed, IsRun, AreSteps, KeepsUntaken, StoresOnce, CountsReply, StopGoesOnFrom, StopHasEntry, history_after};
-ghost use Rattle.review_machine.specs.Branches.{AreSoundBranches};
+ghost use Rattle.std.specs.Prelude.{◌≡◌, ◌<◌, [], MatchResult, IfErr, take, length};
+ghost use Rattle.review_deliveries.specs.Delivered.{IsDelivered, WasRun};
 
 use crate::rules::DeskRules;
 use review_deliveries::Stopped;
@@ -30,14 +26,7 @@ use std::alloc::Global;
 /// Premises: the clauses on tables hold where the store returned what was written to it, and once a fault has shut it nothing is
 /// said of tables; the clause on counts holds always.
 pub fn deliver<S: Shelf>(alloc: Global, shelf: &mut S, delivery: &Delivery) -> Reply
-    ensures honest { (S.state shelf.new).is_honest → (S.state shelf.old).is_honest }
-    ensures served { (S.state shelf.new).is_honest → (h : List Entry) → IsHistory h → Views h (S.state shelf.old).tables →
-        IsServed h delivery.now result (S.state shelf.old) (S.state shelf.new) }
-    ensures unchanged { (S.state shelf.new).is_honest → KeepsUntaken delivery.now result (S.state shelf.old).tables (S.state shelf.new).tables }
-    ensures once { (S.state shelf.new).is_honest → StoresOnce delivery.now result (S.state shelf.old).tables (S.state shelf.new).tables }
-    ensures counted { CountsReply result (S.state shelf.old).faults (S.state shelf.new).faults }
-    ensures stopped { (S.state shelf.new).is_honest → (h : List Entry) → IsHistory h → Views h (S.state shelf.old).tables → StopGoesOnFrom h (S.state shelf.old) →
-        StopGoesOnFrom (history_after h (delivery.now ∷ []) (result ∷ [])) (S.state shelf.new) × StopHasEntry delivery.now result (S.state shelf.new) }
+    ensures { IsDelivered delivery.now result (S.state shelf.old) (S.state shelf.new) }
 {
     review_deliveries::deliver(alloc, shelf, &mut DeskRules::new(alloc), delivery)
 }
@@ -58,16 +47,9 @@ pub fn run<S: Shelf>(
     shelf: &mut S,
     deliveries: &[Delivery],
 ) -> Result<Vec<Reply>, Stopped>
-    ensures honest { (S.state shelf.new).is_honest → (S.state shelf.old).is_honest }
-    ensures acts_once { (S.state shelf.new).is_honest → (h : List Entry) → IsHistory h → Views h (S.state shelf.old).tables → MatchResult result
-        (λ replies. IsRun h deliveries.now replies.items (S.state shelf.old) (S.state shelf.new))
-        (λ stopped. IsRun h (take (length stopped.replies.items) deliveries.now) stopped.replies.items (S.state shelf.old) (S.state shelf.new)) }
-    ensures step_by_step { (S.state shelf.new).is_honest → MatchResult result
-        (λ replies. AreSteps deliveries.now replies.items (S.state shelf.old).tables (S.state shelf.new).tables)
-        (λ stopped. AreSteps (take (length stopped.replies.items) deliveries.now) stopped.replies.items (S.state shelf.old).tables (S.state shelf.new).tables) }
-    ensures branches { (S.state shelf.new).is_honest → (h : List Entry) → IsHistory h → Views h (S.state shelf.old).tables → MatchResult result
-        (λ replies. AreSoundBranches (history_after h deliveries.now replies.items))
-        (λ stopped. AreSoundBranches (history_after h (take (length stopped.replies.items) deliveries.now) stopped.replies.items)) }
+    ensures ran { MatchResult result
+        (λ replies. WasRun deliveries.now replies.items (S.state shelf.old) (S.state shelf.new))
+        (λ stopped. WasRun (take (length stopped.replies.items) deliveries.now) stopped.replies.items (S.state shelf.old) (S.state shelf.new)) }
     ensures stopped { IfErr result (λ stopped. (stopped.replies.items ≡ []) × (0 < length deliveries.now)) }
 {
     review_deliveries::run(alloc, shelf, &mut DeskRules::new(alloc), deliveries)

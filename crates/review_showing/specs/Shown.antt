@@ -1,9 +1,11 @@
 -- What was asked and written.
-use Rattle.std.specs.Prelude.{◌≡◌, ℕ, List, [], Result, Ok, Err, length, take}
+use Rattle.std.specs.Prelude.{◌≡◌, ℕ, List, [], Option, Result, Ok, Err, length, take}
+use Rattle.std.specs.Io.KnownBytes.{Appends}
 use Rattle.review_words.specs.declared.command.Delivery.{Delivery}
 use Rattle.review_words.specs.declared.reply.Reply.{Reply}
 use Rattle.review_rows.specs.Shelf.{Shown}
-use Rattle.review_lines.specs.Answers.{IsPartOf, WasRun}
+use Rattle.review_deliveries.specs.Delivered.{WasRun}
+use Rattle.review_lines.specs.Answers.{IsPartOf}
 use Rattle.review_showing.specs.declared.fault.ShowFault.{ShowFault}
 use Rattle.review_showing.specs.declared.fault.ShowFault.TheVariants.{Memory, Output}
 
@@ -23,3 +25,11 @@ IsWritten page text (Ok done) = page ≡ Ok text
 IsWritten page text (Err Output) = (whole : List ℕ) × (page ≡ Ok whole) × IsPartOf text whole
 IsWritten page text (Err Memory) = text ≡ []
 IsWritten page text (Err fault) = (page ≡ Err fault) × (text ≡ [])
+
+-- Questions were asked, and what their replies make of a page was written.
+pub record Showed (questions : List Delivery) (page : List Reply → Result (List ℕ) ShowFault) (before after : Option (List ℕ)) (told : Result (Unit {0}) ShowFault) (old new : Shown) : Type 0 where
+  pub replies : List Reply
+  pub asked : WereAsked questions replies old new
+  pub text : List ℕ
+  pub written : Appends before after text
+  pub is : IsWritten (page replies) text told

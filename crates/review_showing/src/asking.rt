@@ -4,7 +4,7 @@ ghost use Rattle.review_showing.specs.Told.{about, calls_told, change_page, chan
 ghost use Rattle.review_showing.specs.Shown.{IsPage, WereAsked};
 
 use crate::fault::ShowFault;
-use review_machine::run;
+use review_deliveries::{Rules, run};
 use review_pages::{change_text, joined_text};
 use review_rows::Shelf;
 use review_words::{
@@ -24,11 +24,15 @@ pub fn about(change: ChangeNo, query: ChangeQuery) -> Delivery
 }
 
 /// The replies to questions. There is none where there was no memory for their list.
-pub fn replies_to<S: Shelf>(alloc: Global, shelf: &mut S, questions: &[Delivery]) -> Vec<Reply>
-    ensures honest { (S.state shelf.new).is_honest → (S.state shelf.old).is_honest }
-    ensures asked { WereAsked questions.now result.items (S.state shelf.old) (S.state shelf.new) }
+pub fn replies_to<S: Shelf, D: Rules>(
+    alloc: Global,
+    shelf: &mut S,
+    rules: &mut D,
+    questions: &[Delivery],
+) -> Vec<Reply>
+    ensures { WereAsked questions.now result.items (S.state shelf.old) (S.state shelf.new) }
 {
-    match run(alloc, shelf, questions) {
+    match run(alloc, shelf, rules, questions) {
         Ok(replies) => replies,
         Err(stopped) => stopped.replies,
     }

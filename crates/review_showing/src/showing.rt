@@ -1,13 +1,13 @@
 //! Pages asked for and written.
 ghost use Rattle.std.specs.Prelude.{◌≡◌, ◌∷◌, ℕ, List, [], IfOk};
 ghost use Rattle.std.specs.Io.KnownBytes.{Appends};
-ghost use Rattle.review_words.specs.declared.reply.Reply.{Reply};
 ghost use Rattle.review_showing.specs.Told.{branch_questions, change_page, change_questions, joined_page};
-ghost use Rattle.review_showing.specs.Shown.{IsWritten, WereAsked};
+ghost use Rattle.review_showing.specs.Shown.{IsWritten, Showed};
 
 use crate::asking::{about, change_page, joined_page, replies_to};
 use crate::fault::ShowFault;
 use crate::output::write_page;
+use review_deliveries::Rules;
 use review_rows::Shelf;
 use review_words::{
     AccountNo, BranchName, ChangeNo, ChangeQuery, Delivery, ProjectName, Query, Reply,
@@ -21,19 +21,19 @@ use std::io::Write;
 /// The questions are asked as `run` takes them, and change nothing; the page is that of their replies. Nothing is written where a
 /// question is refused or not taken, and the first such reply says why; nor where there is no memory. A writer that fails or takes no byte
 /// has some first part of the page. What is said of bytes is said of writers whose bytes are known; of standard output `std` knows none.
-pub fn show_lines<S: Shelf, W: Write>(
+pub fn show_lines<S: Shelf, D: Rules, W: Write>(
     alloc: Global,
     shelf: &mut S,
+    rules: &mut D,
     change: ChangeNo,
     writer: &mut W,
 ) -> Result<(), ShowFault>
-    ensures honest { (S.state shelf.new).is_honest → (S.state shelf.old).is_honest }
-    ensures shown { (replies : List Reply) × WereAsked (change_questions change) replies (S.state shelf.old) (S.state shelf.new)
-        × (text : List ℕ) × Appends (W.contents writer.old) (W.contents writer.new) text × IsWritten (change_page replies) text result }
+    ensures { Showed (change_questions change) change_page (W.contents writer.old) (W.contents writer.new) result (S.state shelf.old) (S.state shelf.new) }
 {
     let replies = replies_to(
         alloc,
         shelf,
+        rules,
         &[
             about(change, ChangeQuery::Change),
             about(change, ChangeQuery::Requirements),
@@ -71,21 +71,20 @@ fn branch_question(
 /// joined, as `1 1` and the commit.
 ///
 /// What is said of `show_lines` holds here too.
-pub fn joined_lines<S: Shelf, W: Write>(
+pub fn joined_lines<S: Shelf, D: Rules, W: Write>(
     alloc: Global,
     shelf: &mut S,
+    rules: &mut D,
     project: &ProjectName,
     branch: &BranchName,
     writer: &mut W,
 ) -> Result<(), ShowFault>
-    ensures honest { (S.state shelf.new).is_honest → (S.state shelf.old).is_honest }
-    ensures shown { (replies : List Reply) × WereAsked (branch_questions project.now branch.now) replies (S.state shelf.old) (S.state shelf.new)
-        × (text : List ℕ) × Appends (W.contents writer.old) (W.contents writer.new) text × IsWritten (joined_page replies) text result }
+    ensures { Showed (branch_questions project.now branch.now) joined_page (W.contents writer.old) (W.contents writer.new) result (S.state shelf.old) (S.state shelf.new) }
 {
     let Ok(question) = branch_question(alloc, project, branch) else {
         return Err(ShowFault::Memory);
     };
-    let replies = replies_to(alloc, shelf, &[question]);
+    let replies = replies_to(alloc, shelf, rules, &[question]);
     write_joined(alloc, &replies, writer)
 }
 

@@ -1,7 +1,7 @@
 use Rattle.std.proofs.Common.{rules, ◌++◌, ◌∷◌, ◌∙◌, [], refl, ap, length, sym, subst, Some, None, Option}
 use Rattle.std.specs.Io.KnownBytes.{prepend_known}
 use Rattle.std.proofs.KnownBytes.{Appends-nil, Appends-trans}
-use Rattle.review_deliveries.proofs.Going.{run_none}
+use Rattle.review_deliveries.proofs.Ran.{ran_none}
 use Rattle.review_lines.specs.declared.apply.Asked.{Asked}
 use Rattle.review_lines.specs.declared.fault.Fault.TheVariants as fault
 use Rattle.review_lines.specs.Answers.{IsNextAsked, with_asked}
@@ -10,17 +10,16 @@ use Rattle.review_lines.proofs.Answering.{counted, started, kept, one_more, ran_
 use Rattle.review_lines.proofs.Left.{all_left, any_left, if_err, memory_left, output_left}
 use Rattle.review_lines.proofs.apply.answer_lines.Goals as goal
 
-pub returns-in_err-lines-clause-ran : goal.returns-in_err-lines-clause-ran
-returns-in_err-lines-clause-ran g c = ([], [], nothing_first _, refl, (λ honest. ((λ h hist v. run_none h _ hist v), refl)), [], Appends-nil _, search rules, any_left _ [] [] _ c.requires)
+pub returns-in_err-lines : goal.returns-in_err-lines
+returns-in_err-lines g c = ([], [], nothing_first _, refl, ran_none _, [], Appends-nil _, search rules, any_left _ [] [] _ c.requires)
 
 pub loop-init : goal.loop-init
 loop-init g c = record {
-  honest = λ h. h;
   so_far = ([], [], started _ _ _ _ _ c.in_ok-lines.ensures c.requires);
 }
 
-pub returns-in_err-send_unless-clause-ran : goal.returns-in_err-send_unless-clause-ran
-returns-in_err-send_unless-clause-ran g c =
+pub returns-in_err-send_unless : goal.returns-in_err-send_unless
+returns-in_err-send_unless g c =
     let was = c.loop.invariant.so_far in
     let failed = c.in_err-send_unless.ensures in (
       was.0,
@@ -35,19 +34,19 @@ returns-in_err-send_unless-clause-ran g c =
           (λ f is. output_left f was.0 was.1 _ _ _ _ (is ∙ failed.cause) failed.part.1 was.2.whole failed.none),
     )
 
-pub returns-in_err-asked-clause-ran : goal.returns-in_err-asked-clause-ran
-returns-in_err-asked-clause-ran g c =
+pub returns-in_err-asked : goal.returns-in_err-asked
+returns-in_err-asked g c =
     let was = c.loop.invariant.so_far in
     let now = kept _ _ _ _ _ _ _ _ _ _ _ _ _ was.2 c.in_ok-send_unless.ensures.sent.1 c.in_ok-send_unless.ensures.sent.2 in
     (was.0, was.1, gave_first _ _ _ was.2.read, was.2.count, was.2.ran, now.sent, now.written, search rules, any_left _ was.0 was.1 _ now.whole)
 
-pub returns-clause-ran : goal.returns-clause-ran
-returns-clause-ran g c =
+pub returns : goal.returns
+returns g c =
     let was = c.loop.invariant.so_far in
     (was.0, was.1, gave_first _ _ _ was.2.read, was.2.count, was.2.ran, was.2.sent, was.2.written, tt, all_left fault.Input was.0 was.1 _ was.2.whole)
 
-pub returns-in_default-clause-ran : goal.returns-in_default-clause-ran
-returns-in_default-clause-ran g c =
+pub returns-in_default : goal.returns-in_default
+returns-in_default g c =
     let was = c.loop.invariant.so_far in
     let now = kept _ _ _ _ _ _ _ _ _ _ _ _ _ was.2 c.in_ok-send_unless.ensures.sent.1 c.in_ok-send_unless.ensures.sent.2 in
     let left = prepend_known c.loop.lines.piece (g.R.Read.remaining c.loop.lines.reader) in
@@ -55,8 +54,8 @@ returns-in_default-clause-ran g c =
     let end : IsNextAsked left rest None = subst (λ (o : Option Asked). IsNextAsked left rest o) c.in_default.is c.in_ok-asked.ensures in
     (was.0, was.1, gave_first _ _ _ was.2.read, was.2.count, was.2.ran, now.sent, now.written, (gave_all _ _ _ was.2.read end.0, now.whole, sym was.2.done), tt)
 
-pub returns-in_err-answer-clause-ran : goal.returns-in_err-answer-clause-ran
-returns-in_err-answer-clause-ran g c =
+pub returns-in_err-answer : goal.returns-in_err-answer
+returns-in_err-answer g c =
     let was = c.loop.invariant.so_far in
     let now = kept _ _ _ _ _ _ _ _ _ _ _ _ _ was.2 c.in_ok-send_unless.ensures.sent.1 c.in_ok-send_unless.ensures.sent.2 in
     let left = prepend_known c.loop.lines.piece (g.R.Read.remaining c.loop.lines.reader) in
@@ -67,7 +66,7 @@ returns-in_err-answer-clause-ran g c =
       was.1 ++ did.0,
       gave_first _ _ _ (gave_more _ _ _ _ _ was.2.read next.2 next.3),
       counted was.0 (next.0 ∷ []) was.1 did.0 was.2.count (did.1 ∙ ap (λ x. length (with_asked x [])) next.1),
-      ran_more was.0 was.1 did.0 next.0 c.in-Some.asked _ _ _ was.2.ran next.1 c.answer.ensures.honest did.2,
+      ran_more was.0 was.1 did.0 next.0 c.in-Some.asked _ _ _ was.2.ran next.1 did.2,
       now.sent,
       now.written,
       search rules,
@@ -84,10 +83,9 @@ loop-preserved g c =
     let next : IsNextAsked left rest (Some c.in-Some.asked) = subst (λ (o : Option Asked). IsNextAsked left rest o) c.in-Some.is c.in_ok-asked.ensures in
     let did = c.in_ok-answer.ensures.answered in
     record {
-      honest = λ honest. c.loop.invariant.honest (c.in_ok-answer.ensures.honest honest);
       so_far = (
         was.0 ++ next.0 ∷ [],
         was.1 ++ did.0,
-        one_more _ _ _ next.0 c.in-Some.asked _ _ _ _ _ _ _ _ _ _ _ _ _ now next.1 next.2 next.3 did.1 c.in_ok-answer.ensures.honest did.2 did.3 c.and-outcome.ensures,
+        one_more _ _ _ next.0 c.in-Some.asked _ _ _ _ _ _ _ _ _ _ _ _ _ now next.1 next.2 next.3 did.1 did.2 did.3 c.and-outcome.ensures,
       );
     }

@@ -8,7 +8,6 @@ use Rattle.review_lines.proofs.apply.answer_lines.Given as goal
 -- the lines so far are answered, in what was sent and what waits
 abbrev pub invariant-loop : goal.invariant-loop
 invariant-loop g l = record {
-  honest : (g.S.Shelf.state l.shelf).is_honest → (g.S.Shelf.state l.fn.shelf).is_honest;
   so_far : (lines : List (List ℕ)) × (replies : List Reply)
       × AreAnswered lines replies (is_complete l.outcome) (g.R.Read.remaining l.fn.reader) (prepend_known l.lines.piece (g.R.Read.remaining l.lines.reader))
       (g.W.Write.contents l.fn.writer) (g.W.Write.contents l.writer) l.output.waiting.items

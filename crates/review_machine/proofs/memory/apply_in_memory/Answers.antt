@@ -4,6 +4,17 @@ use Rattle.review_machine.proofs.memory.apply_in_memory.Goals as goal
 
 pub returns : goal.returns
 returns g c =
-    let ran = c.apply_lines.ensures.ran in
+    let all = c.apply_lines.ensures in
     let view = c.in_ok-shelf.ensures.view in
-    record { ran = inr (tables_of c.in_ok-shelf.shelf, tables_of c.apply_lines.new.shelf, view, (ran.0, ran.1, ran.2, ran.3, (ran.4 tt).0 [] tt view, ran.5, ran.6, ran.7, ran.8)) }
+    let answered = record {
+      lines = all.lines;
+      replies = all.replies;
+      first = all.first;
+      each = all.each;
+      did = (all.did.acts_once tt [] tt view, all.did.branches tt [] tt view);
+      text = all.text;
+      written = all.written;
+      whole = all.whole;
+      left = all.left;
+    } in
+    record { ran = inr (tables_of c.in_ok-shelf.shelf, tables_of c.apply_lines.new.shelf, view, answered) }

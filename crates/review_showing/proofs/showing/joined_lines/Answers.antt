@@ -4,5 +4,11 @@ use Rattle.review_showing.specs.Told.{branch_questions}
 use Rattle.review_showing.proofs.Replies.{none_asked}
 use Rattle.review_showing.proofs.showing.joined_lines.Goals as goal
 
-pub returns-in_default-clause-shown : goal.returns-in_default-clause-shown
-returns-in_default-clause-shown g c = ([], none_asked (branch_questions c.args.project.now c.args.branch.now) _, [], Appends-nil _, refl)
+pub returns-in_default : goal.returns-in_default
+returns-in_default g c = record {
+  replies = [];
+  asked = none_asked (branch_questions c.args.project.now c.args.branch.now) _;
+  text = [];
+  written = Appends-nil _;
+  is = refl;
+}

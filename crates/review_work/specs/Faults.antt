@@ -8,8 +8,8 @@ use Rattle.review_showing.specs.declared.fault.ShowFault.{ShowFault}
 use Rattle.review_showing.specs.declared.fault.ShowFault.TheVariants as shown
 use Rattle.review_sql.specs.declared.faults.DeskFault.{DeskFault}
 use Rattle.review_sql.specs.declared.faults.DeskFault.TheVariants as desk
-use Rattle.review_desk.specs.declared.fault.ProgramFault.{ProgramFault}
-use Rattle.review_desk.specs.declared.fault.ProgramFault.TheVariants.{NotADesk, WrongVersion, Store, NotEmpty, Memory, Input, Output, Damaged, Pattern, NoChange, NoProject, NoBranch}
+use Rattle.review_work.specs.declared.fault.ProgramFault.{ProgramFault}
+use Rattle.review_work.specs.declared.fault.ProgramFault.TheVariants.{NotADesk, WrongVersion, Store, NotEmpty, Memory, Input, Output, Damaged, Pattern, NoChange, NoProject, NoBranch}
 
 -- why a desk is not made or opened
 abbrev pub desk_fault : DeskFault → ProgramFault

@@ -1,5 +1,5 @@
 //! Why the program ends with status 1.
-use review_machine::Fault;
+use review_lines::Fault;
 use review_showing::ShowFault;
 use review_sql::faults::DeskFault;
 use sqlite::Error;
@@ -41,7 +41,7 @@ impl ProgramFault {
 
 impl From<DeskFault> for ProgramFault {
     ghost use Rattle.std.specs.Prelude.{◌≡◌};
-    ghost use Rattle.review_desk.specs.Faults.{desk_fault};
+    ghost use Rattle.review_work.specs.Faults.{desk_fault};
 
     ghost from_gives = { λ fault e. e ≡ desk_fault fault };
 
@@ -58,7 +58,7 @@ impl From<DeskFault> for ProgramFault {
 
 impl From<Fault> for ProgramFault {
     ghost use Rattle.std.specs.Prelude.{◌≡◌};
-    ghost use Rattle.review_desk.specs.Faults.{line_fault};
+    ghost use Rattle.review_work.specs.Faults.{line_fault};
 
     ghost from_gives = { λ fault e. e ≡ line_fault fault };
 
@@ -73,7 +73,7 @@ impl From<Fault> for ProgramFault {
 
 impl From<ShowFault> for ProgramFault {
     ghost use Rattle.std.specs.Prelude.{◌≡◌};
-    ghost use Rattle.review_desk.specs.Faults.{show_fault};
+    ghost use Rattle.review_work.specs.Faults.{show_fault};
 
     ghost from_gives = { λ fault e. e ≡ show_fault fault };
 

@@ -6,7 +6,6 @@ use Rattle.review_words.specs.declared.command.Command.TheVariants.{Submit}
 use Rattle.review_words.specs.declared.reply.Answer.{Answer}
 use Rattle.review_words.specs.declared.reply.Reply.TheVariants.{Done}
 use Rattle.review_changes.specs.Change.{Change}
-use Rattle.review_rows.specs.Answer.{IsHistory}
 use Rattle.review_rows.specs.Changes.{Reading, Reads, change, joined, joined_in, place_in}
 use Rattle.review_branch_laws.specs.Accepted.{MayJoin}
 use Rattle.review_branch_laws.specs.Joined.{HasJoined}
@@ -29,7 +28,3 @@ WereReady reading h = (later : List Entry) (e : Entry) (earlier : List Entry) (n
 pub record AreSoundBranches (h : List Entry) : Type 0 where
   pub branches : (reading : Reading) → Reads reading h → (project branch : List ℕ) → IsSoundBranch reading h project branch
   pub ready : (reading : Reading) → Reads reading h → WereReady reading h
-
--- so it is in every history
-abbrev pub BranchesAreSound : Type 0
-BranchesAreSound = (h : List Entry) → IsHistory h → AreSoundBranches h

@@ -1,5 +1,5 @@
 use Rattle.std.proofs.Common.{inl}
-use Rattle.review_desk.proofs.working.create_as.Goals as goal
+use Rattle.review_work.proofs.working.create_as.Goals as goal
 
 pub returns-in-Ok-clause-made : goal.returns-in-Ok-clause-made
 returns-in-Ok-clause-made g c = ((c.in-Ok.shelf, c.in-Ok.ensures.created, c.close.ensures.closed), tt)

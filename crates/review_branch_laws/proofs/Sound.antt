@@ -1,6 +1,5 @@
 -- The branches of a history are sound.
-use Rattle.std.proofs.Common.{◌≡◌, ℕ, List, [], ◌∷◌, ◌++◌, Result, Ok, Err, subst}
-use Rattle.std.specs.Prelude.{MatchResult}
+use Rattle.std.proofs.Common.{◌≡◌, ℕ, List, [], ◌∷◌, ◌++◌, subst}
 use Rattle.review_words.specs.History.{Entry}
 use Rattle.review_rows.specs.Answer.{IsHistory}
 use Rattle.review_rows.specs.Changes.{Reading, Reads}
@@ -8,7 +7,7 @@ use Rattle.review_branch_laws.proofs.Joined.{joined_distinct, joined_merged}
 use Rattle.review_branch_laws.proofs.Parents.{joined_stands}
 use Rattle.review_branch_laws.proofs.Placed.{placed}
 use Rattle.review_branch_laws.proofs.Ready.{entry_may_join}
-use Rattle.review_machine.specs.Branches.{AreSoundBranches}
+use Rattle.review_branch_laws.specs.Sound.{AreSoundBranches}
 
 history_from : (later earlier : List Entry) → IsHistory (later ++ earlier) → IsHistory earlier
 history_from [] earlier history = history
@@ -29,8 +28,3 @@ sound_branches h history = record {
   ready = λ reading reads later e earlier n a c is submit done there.
       entry_may_join reading e earlier n a c (history_from later (e ∷ earlier) (subst IsHistory is history)) (reads_from reading later (e ∷ earlier) (subst (Reads reading) is reads)).1 submit done there;
 }
-
--- what holds of either outcome
-pub either : {T E : Type 0} (r : Result T E) (P P' : T → Type 0) (Q Q' : E → Type 0) → ((x : T) → P x → P' x) → ((e : E) → Q e → Q' e) → MatchResult r P Q → MatchResult r P' Q'
-either (Ok x) P P' Q Q' f g m = f x m
-either (Err e) P P' Q Q' f g m = g e m

@@ -1,0 +1,33 @@
+-- What a delivery and a run of deliveries do, over any shelf: on the tables of a history, and on any tables whatever.
+use Rattle.std.specs.Prelude.{◌≡◌, List, [], ◌∷◌, length}
+use Rattle.review_words.specs.declared.command.Delivery.{Delivery}
+use Rattle.review_words.specs.declared.reply.Reply.{Reply}
+use Rattle.review_words.specs.History.{Entry}
+use Rattle.review_rows.specs.Answer.{IsHistory}
+use Rattle.review_rows.specs.Shelf.{Shown, Views}
+use Rattle.review_branch_laws.specs.Sound.{AreSoundBranches}
+use Rattle.review_deliveries.specs.Replies.{IsServed, IsRun, AreSteps, KeepsUntaken, StoresOnce, CountsReply, StopGoesOnFrom, StopHasEntry, history_after}
+
+-- One delivery got this reply. What is said of tables is said where the store returned what was written to it.
+pub record IsDelivered (d : Delivery) (reply : Reply) (old new : Shown) : Type 0 where
+  pub honest : new.is_honest → old.is_honest
+  -- from the tables of a history, the right reply and the tables of the history after it
+  pub served : new.is_honest → (h : List Entry) → IsHistory h → Views h old.tables → IsServed h d reply old new
+  -- on any tables whatever
+  pub unchanged : new.is_honest → KeepsUntaken d reply old.tables new.tables
+  pub once : new.is_honest → StoresOnce d reply old.tables new.tables
+  pub counted : CountsReply reply old.faults new.faults
+  -- a stop leaves tables from which the history goes on; after an answer, tables that have the request
+  pub stopped : new.is_honest → (h : List Entry) → IsHistory h → Views h old.tables → StopGoesOnFrom h old →
+      StopGoesOnFrom (history_after h (d ∷ []) (reply ∷ [])) new × StopHasEntry d reply new
+
+-- Deliveries, one after the other, got these replies.
+pub record WasRun (ds : List Delivery) (replies : List Reply) (old new : Shown) : Type 0 where
+  pub each : length replies ≡ length ds
+  pub honest : new.is_honest → old.is_honest
+  -- from the tables of any history, right replies and the tables of the history in which each request stands once, at its first arrival
+  pub acts_once : new.is_honest → (h : List Entry) → IsHistory h → Views h old.tables → IsRun h ds replies old new
+  -- of the history that it leaves: each change joined its branch once, at its place, after what it stands on, and was ready just before
+  pub branches : new.is_honest → (h : List Entry) → IsHistory h → Views h old.tables → AreSoundBranches (history_after h ds replies)
+  -- on any tables whatever, made of steps, one a delivery
+  pub steps : new.is_honest → AreSteps ds replies old.tables new.tables

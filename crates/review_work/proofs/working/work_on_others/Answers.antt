@@ -1,0 +1,22 @@
+use Rattle.std.proofs.Common.{Err, ap, inl, inr}
+use Rattle.std.proofs.KnownBytes.{Appends-nil}
+use Rattle.review_work.proofs.working.work_on_others.Goals as goal
+
+pub returns-in-Ok-clause-done : goal.returns-in-Ok-clause-done
+returns-in-Ok-clause-done g c = inl (record {
+  opened = c.in-Ok.shelf;
+  left = c.work_on_shelf.ensures.done.0;
+  is_opened = c.in-Ok.ensures.opened;
+  goes_on = c.in-Ok.ensures.goes_on;
+  did = c.work_on_shelf.ensures.done.1;
+  closed = c.work_on_shelf.ensures.done.2;
+})
+
+pub returns-in-Err-clause-done : goal.returns-in-Err-clause-done
+returns-in-Err-clause-done g c = inr (record {
+  fault = c.in-Err.fault;
+  ends = ap Err c.from.ensures;
+  stays = c.in-Err.ensures.refused;
+  cause = c.in-Err.ensures.cause;
+  written = Appends-nil _;
+})

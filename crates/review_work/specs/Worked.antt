@@ -1,0 +1,84 @@
+-- What a task on the tables of a connection did.
+use Rattle.std.specs.Prelude.{◌≡◌, ◌≢◌, ◌⊎◌, ℕ, Bool, true, false, List, [], Option, Result, Err, IsTrue, IfOk, IfErr}
+use Rattle.std.specs.Io.KnownBytes.{Appends}
+use Rattle.sqlite_trees.specs.declared.store.Store.{Ghosts}
+use Rattle.sqlite.specs.Held.{Held, state}
+use Rattle.review_statements.specs.Desk.{schema_0}
+use Rattle.review_words.specs.declared.command.Delivery.{Delivery}
+use Rattle.review_words.specs.declared.reply.Reply.{Reply}
+use Rattle.review_rows.specs.Shelf.{Shown}
+use Rattle.review_deliveries.specs.Delivered.{WasRun}
+use Rattle.review_lines.specs.Answers.{WereAnswered}
+use Rattle.review_lines.specs.declared.fault.Fault.{Fault}
+use Rattle.review_lines.specs.declared.fault.Outcome.{Outcome}
+use Rattle.review_showing.specs.declared.fault.ShowFault.{ShowFault}
+use Rattle.review_showing.specs.Shown.{Showed}
+use Rattle.review_showing.specs.Told.{branch_questions, change_page, change_questions, joined_page}
+use Rattle.review_sql.specs.Shelf.{ShelfView, Stays, shown, IsAnyThere, IsClosed, IsUnmade}
+use Rattle.review_sql.specs.Reopened.{ReopensLast}
+use Rattle.review_sql.specs.Opened.{IsOpened, IsRefused}
+use Rattle.review_sql.specs.Created.{IsCreated}
+use Rattle.review_sql.specs.declared.faults.DeskFault.{DeskFault}
+use Rattle.review_sql.specs.declared.faults.DeskFault.TheVariants.{NotADesk, WrongVersion, NotEmpty, NotOurs}
+use Rattle.review_work.specs.Faults.{desk_fault, lines_outcome, shown_outcome}
+use Rattle.review_work.specs.declared.fault.ProgramFault.{ProgramFault}
+use Rattle.review_work.specs.declared.task.Task.{Task}
+use Rattle.review_work.specs.declared.task.Task.TheVariants.{Apply, Show, Joined}
+
+-- lines of an input were taken and answered, as `apply_lines` says
+pub record TookLines (input before after : Option (List ℕ)) (ended : Result Outcome ProgramFault) (s t : Shown) : Type 0 where
+  pub told : Result Outcome Fault
+  pub ends : ended ≡ lines_outcome told
+  pub answered : WereAnswered (λ ds replies. WasRun ds replies s t) input before after told
+
+-- questions were asked and the page of their replies was written, as `show_lines` and `joined_lines` say
+pub record EndsShown (questions : List Delivery) (page : List Reply → Result (List ℕ) ShowFault) (before after : Option (List ℕ)) (ended : Result Outcome ProgramFault) (s t : Shown) : Type 0 where
+  pub told : Result (Unit {0}) ShowFault
+  pub ends : ended ≡ shown_outcome told
+  pub showed : Showed questions page before after told s t
+
+-- what a task did on a shelf, from the bytes of a reader, to those of a writer, and how it ended
+abbrev pub HasDone : Task → Option (List ℕ) → Option (List ℕ) → Option (List ℕ) → Result Outcome ProgramFault → Shown → Shown → Type 0
+HasDone Apply input before after ended s t = TookLines input before after ended s t
+HasDone (Show change) input before after ended s t = EndsShown (change_questions change) change_page before after ended s t
+HasDone (Joined project branch) input before after ended s t = EndsShown (branch_questions project branch) joined_page before after ended s t
+
+-- A shelf was opened over the connection, as the one that was closed last; this was done on it, and it was closed.
+pub record OnShelf {S : Type 0} (g : Ghosts S) (is_ours : Bool) (Did : Shown → Shown → Type 0) (old new : Held S) : Type 0 where
+  pub opened : ShelfView S
+  pub left : ShelfView S
+  pub is_opened : IsOpened g old opened
+  pub goes_on : ReopensLast g is_ours old opened
+  pub did : Did (shown g is_ours opened) (shown g is_ours left)
+  pub closed : IsClosed g is_ours left new
+
+-- the tables were refused as not ours, and stayed
+pub record IsNotOurs {S : Type 0} (g : Ghosts S) (old new : Held S) : Type 0 where
+  pub stays : Stays (state g old) (state g new)
+  pub cause : IsTrue (state g new).is_open → IsRefused (state g old) NotOurs
+
+-- No desk was opened: the tables are as they were, and nothing was written.
+pub record IsRefusedDesk {S : Type 0} (g : Ghosts S) (before after : Option (List ℕ)) (old new : Held S) (ended : Result Outcome ProgramFault) : Type 0 where
+  pub fault : DeskFault
+  pub ends : ended ≡ Err (desk_fault fault)
+  pub stays : Stays (state g old) (state g new)
+  pub cause : IsTrue (state g new).is_open → IsRefused (state g old) fault
+  pub written : Appends before after []
+
+-- This was done on a shelf of ours, or no desk was opened; where the tables are not ours, it was done on a shelf over them, or no desk was opened.
+abbrev pub IsDoneOn : {S : Type 0} → Ghosts S → (Shown → Shown → Type 0) → (Held S → Held S → Type 0) → Held S → Held S → Type 0
+IsDoneOn {S} g Did Refuses old new =
+    OnShelf g true Did old new ⊎ (Refuses old new ⊎ ((between : Held S) × IsNotOurs g old between × (OnShelf g false Did between new ⊎ Refuses between new)))
+
+-- Why no desk was made: not for what stands there as a desk; where it was for a table of one of the twelve names, one is there, and nothing was touched; and
+-- not as not ours but where one of ours was to be made, in a store with tables.
+abbrev pub IsCauseOf : {S : Type 0} → Ghosts S → Bool → Held S → Held S → DeskFault → Type 0
+IsCauseOf g is_ours old new cause =
+    (cause ≢ NotADesk) × (cause ≢ WrongVersion) × (cause ≡ NotEmpty → Stays (state g old) (state g new) × (IsTrue (state g new).is_open → IsAnyThere old.schema))
+    × (cause ≡ NotOurs → IsTrue is_ours × (IsTrue (state g new).is_open → old.schema ≡ schema_0 → ⊥))
+
+-- A desk was made as `create` says, and closed, or refused with the tables as they were.
+abbrev pub Made : {S X : Type 0} → Ghosts S → Bool → Held S → Held S → Result X ProgramFault → Type 0
+Made {S} g is_ours old new made =
+    IfOk made (λ done. (shelf : ShelfView S) × IsCreated g is_ours old shelf × IsClosed g is_ours shelf new)
+    × IfErr made (λ fault. IsUnmade (state g old) (state g new) × ((cause : DeskFault) × (fault ≡ desk_fault cause) × IsCauseOf g is_ours old new cause))
