@@ -21,6 +21,14 @@ project = record (new_rule (codes "project")) { long = Some (codes "project"); r
 abbrev pub branch : Rule
 branch = record (new_rule (codes "branch")) { long = Some (codes "branch"); required = true; action = Some Set }
 
+-- --port P
+abbrev pub port : Rule
+port = record (new_rule (codes "port")) { long = Some (codes "port"); required = true; action = Some Set }
+
+-- --count N
+abbrev pub count : Rule
+count = record (new_rule (codes "count")) { long = Some (codes "count"); required = true; action = Some Set }
+
 -- init FILE
 abbrev pub init : App
 init = with_rule (new_app (codes "init")) file
@@ -28,6 +36,10 @@ init = with_rule (new_app (codes "init")) file
 -- apply FILE
 abbrev pub apply : App
 apply = with_rule (new_app (codes "apply")) file
+
+-- serve FILE --port P --count N
+abbrev pub serve : App
+serve = with_rule (with_rule (with_rule (new_app (codes "serve")) file) port) count
 
 -- show FILE --change N
 abbrev pub show : App
@@ -43,7 +55,7 @@ top = record (new_app (codes "review_desk")) { top = record (new_app (codes "rev
 
 -- the program with the commands that may change a desk
 abbrev pub changing : App
-changing = with_subcommand (with_subcommand top init.top) apply.top
+changing = with_subcommand (with_subcommand (with_subcommand top init.top) apply.top) serve.top
 
 -- the program with all its commands
 abbrev pub desk : App

@@ -1,11 +1,11 @@
 -- Which words ask for which job.
-use Rattle.std.specs.Prelude.{◌≡◌, ℕ, List, [], ◌∷◌, Option, Some, None, option_map, option_and_then, codes, if◌then◌else◌, Result, Ok, Err}
+use Rattle.std.specs.Prelude.{◌≡◌, ◌&&◌, ℕ, nat_le, List, [], ◌∷◌, Option, Some, None, option_map, option_and_then, codes, if◌then◌else◌, Result, Ok, Err}
 use Rattle.std.specs.Str.{bytes_eq}
 use Rattle.clap.specs.Words.{Row, Text, Kinds, first_of, subcommand_of, fault_of}
 use Rattle.review_names.specs.Forms.{is_slashed_name, is_within, most_changes}
 use Rattle.review_names.specs.Numerals.{number_of}
 use Rattle.review_jobs.specs.declared.job.Job.{Job}
-use Rattle.review_jobs.specs.declared.job.Job.TheVariants.{Init, Apply, Show, Joined}
+use Rattle.review_jobs.specs.declared.job.Job.TheVariants.{Init, Apply, Serve, Show, Joined}
 use Rattle.review_jobs.specs.declared.job.WordsFault.{WordsFault}
 use Rattle.review_jobs.specs.declared.job.WordsFault.TheVariants.{Usage, Memory}
 use Rattle.review_jobs.specs.CommandLine.{desk}
@@ -14,6 +14,7 @@ use Rattle.review_jobs.specs.CommandLine.{desk}
 pub data Spelled : Type 0 where
   to_init : Text → Spelled
   to_apply : Text → Spelled
+  to_serve : Text → ℕ → ℕ → Spelled
   to_show : Text → ℕ → Spelled
   to_join : Text → Text → Text → Spelled
 
@@ -21,6 +22,7 @@ pub data Spelled : Type 0 where
 abbrev pub spelled : Job → Spelled
 spelled (Init file) = to_init file.now
 spelled (Apply file) = to_apply file.now
+spelled (Serve file port count) = to_serve file.now port count
 spelled (Show file change) = to_show file.now change
 spelled (Joined file project branch) = to_join file.now project branch
 
@@ -32,9 +34,34 @@ change_numbered n = if is_within most_changes n then Some n else None
 unfoldable pub change_of : Text → Option ℕ
 change_of text = option_and_then change_numbered (number_of text)
 
+-- the port of a number, 1 to 65,535
+abbrev pub port_numbered : ℕ → Option ℕ
+port_numbered n = if nat_le 1 n && nat_le n 65535 then Some n else None
+
+-- the port whose number a text is, in decimal without leading zeros
+unfoldable pub port_of : Text → Option ℕ
+port_of text = option_and_then port_numbered (number_of text)
+
+-- the count of a number, 0 to 4,294,967,295
+abbrev pub count_numbered : ℕ → Option ℕ
+count_numbered n = if nat_le n 4294967295 then Some n else None
+
+-- the count whose number a text is, in decimal without leading zeros
+unfoldable pub count_of : Text → Option ℕ
+count_of text = option_and_then count_numbered (number_of text)
+
 -- the name of a project or a branch that a text is
 abbrev pub name_of : Text → Option Text
 name_of text = if is_slashed_name text then Some text else None
+
+-- the job of `serve` on a file, for a port and a count
+abbrev pub serve_from : Text → Text → Text → Option Spelled
+serve_from file port count = option_and_then (λ p. option_map (to_serve file p) (count_of count)) (port_of port)
+
+-- the job of `serve` on a file, from the values of its words
+abbrev pub serve_in : Text → List Row → Option Spelled
+serve_in file rows =
+    option_and_then (λ port. option_and_then (serve_from file port) (first_of (codes "count") rows)) (first_of (codes "port") rows)
 
 -- the job of `show` on a file, from the values of its words
 abbrev pub show_from : Text → List Row → Option Spelled
@@ -54,6 +81,7 @@ abbrev pub job_on : Text → List Row → Text → Option Spelled
 job_on name rows file =
     if bytes_eq name (codes "init") then Some (to_init file)
     else if bytes_eq name (codes "apply") then Some (to_apply file)
+    else if bytes_eq name (codes "serve") then serve_in file rows
     else if bytes_eq name (codes "show") then show_from file rows
     else if bytes_eq name (codes "joined") then joined_in file rows
     else None

@@ -1,7 +1,7 @@
 //! The command line of the program. Each call fails for want of memory alone.
 ghost use Rattle.std.specs.Prelude.{◌≡◌, IfOk, false};
 ghost use Rattle.clap.specs.Words.{app_of, rule_of};
-ghost use Rattle.review_jobs.specs.CommandLine.{IsLocal, apply, branch, change, changing, desk, file, init, joined, project, show, top};
+ghost use Rattle.review_jobs.specs.CommandLine.{IsLocal, apply, branch, change, changing, count, desk, file, init, joined, port, project, serve, show, top};
 
 use clap::{Arg, ArgAction, Command};
 use std::alloc::{AllocError, Global};
@@ -45,6 +45,26 @@ fn branch_arg<'a>(alloc: Global) -> Arg<'a>
         .action(ArgAction::Set)
 }
 
+fn port_arg<'a>(alloc: Global) -> Arg<'a>
+    ensures rule { rule_of result ≡ port }
+    ensures local { result.global ≡ false }
+{
+    Arg::new(alloc, "port")
+        .long("port")
+        .required(true)
+        .action(ArgAction::Set)
+}
+
+fn count_arg<'a>(alloc: Global) -> Arg<'a>
+    ensures rule { rule_of result ≡ count }
+    ensures local { result.global ≡ false }
+{
+    Arg::new(alloc, "count")
+        .long("count")
+        .required(true)
+        .action(ArgAction::Set)
+}
+
 fn init_command<'a>(alloc: Global) -> Result<Command<'a>, AllocError>
     ensures shape { IfOk result (λ c. app_of c ≡ init) }
     ensures local { IfOk result IsLocal }
@@ -57,6 +77,15 @@ fn apply_command<'a>(alloc: Global) -> Result<Command<'a>, AllocError>
     ensures local { IfOk result IsLocal }
 {
     Command::new(alloc, "apply").arg(file_arg(alloc))
+}
+
+fn serve_command<'a>(alloc: Global) -> Result<Command<'a>, AllocError>
+    ensures shape { IfOk result (λ c. app_of c ≡ serve) }
+    ensures local { IfOk result IsLocal }
+{
+    let with_file = Command::new(alloc, "serve").arg(file_arg(alloc))?;
+    let with_port = with_file.arg(port_arg(alloc))?;
+    with_port.arg(count_arg(alloc))
 }
 
 fn show_command<'a>(alloc: Global) -> Result<Command<'a>, AllocError>
@@ -91,7 +120,8 @@ fn changing_command<'a>(alloc: Global) -> Result<Command<'a>, AllocError>
     ensures local { IfOk result IsLocal }
 {
     let with_init = top_command(alloc).subcommand(init_command(alloc)?)?;
-    with_init.subcommand(apply_command(alloc)?)
+    let with_apply = with_init.subcommand(apply_command(alloc)?)?;
+    with_apply.subcommand(serve_command(alloc)?)
 }
 
 /// The program with all its commands.

@@ -13,6 +13,12 @@ pub enum Job<'a> {
     Apply {
         file: &'a str,
     },
+    /// Serves so many connections over HTTP on a port of 127.0.0.1, one after the other.
+    Serve {
+        file: &'a str,
+        port: u16,
+        count: u32,
+    },
     /// Shows a change.
     Show {
         file: &'a str,

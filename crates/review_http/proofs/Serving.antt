@@ -1,0 +1,43 @@
+-- From what was told of a request, and what was written, to how a connection was served.
+use Rattle.std.proofs.Common.{◌≡◌, ℕ, List, [], Bool, Option, Result, Ok, Err, inl, inr, refl}
+use Rattle.std.specs.Io.KnownBytes.{Appends}
+use Rattle.std.proofs.KnownBytes.{Appends-nil}
+use Rattle.review_words.specs.declared.command.Delivery.{Delivery}
+use Rattle.review_words.specs.declared.reply.Reply.{Reply}
+use Rattle.review_rows.specs.Shelf.{Shown}
+use Rattle.review_counted.specs.Bytes.{Gave}
+use Rattle.review_paths.specs.declared.fault.HttpFault.{HttpFault}
+use Rattle.review_requests.specs.declared.fault.RequestFault.{RequestFault}
+use Rattle.review_requests.specs.declared.fault.RequestFault.TheVariants as request
+use Rattle.review_requests.specs.Wire.{CallsFor}
+use Rattle.review_requests.specs.Told.{IsTold}
+use Rattle.review_http.specs.declared.serve.Served.{Served}
+use Rattle.review_http.specs.declared.serve.Served.TheVariants.{Answered, Empty}
+use Rattle.review_http.specs.declared.serve.ServeFault.{ServeFault}
+use Rattle.review_http.specs.declared.serve.ServeFault.TheVariants.{Read, Reads, Write, Memory}
+use Rattle.review_http.specs.Served.{IsWritten, IsToldOf, IsAnswered, IsUntouched, IsServedOnWire, WasServed}
+
+module _ {S : Type 0} (state : S → Shown) where
+  abbrev pub Wrote : Option (List ℕ) → Option (List ℕ) → Result Reply HttpFault → Result Served ServeFault → Type 0
+  Wrote v w told ending = (text : List ℕ) × Appends v w text × IsWritten told text ending
+
+  answered : (bytes : List ℕ) (ended : Bool) (text : List ℕ) (called : Result Delivery HttpFault) (told : Result Reply HttpFault) (ending : Result Served ServeFault) (old new : S)
+      → CallsFor bytes ended called → IsToldOf state called told old new → IsWritten told text ending → IsServedOnWire state bytes ended text ending old new
+  answered bytes ended text called told (Ok (Answered status)) old new c t w = record { called = called; calls = c; told = told; tells = t; written = w }
+  answered bytes ended text called told (Ok Empty) old new c t w = absurd w
+  answered bytes ended text called told (Err Read) old new c t w = absurd w
+  answered bytes ended text called told (Err Reads) old new c t w = absurd w
+  answered bytes ended text called told (Err Write) old new c t w = record { called = called; calls = c; told = told; tells = t; written = w }
+  answered bytes ended text called told (Err Memory) old new c t w = inr (record { called = called; calls = c; told = told; tells = t; written = w })
+
+  -- what the bytes called for was told
+  pub serves : (r s v w : Option (List ℕ)) (called : Result Delivery HttpFault) (told : Result Reply HttpFault) (ending : Result Served ServeFault) (old new : S)
+      → ((bytes : List ℕ) × (ended : Bool) × Gave r s bytes ended × CallsFor bytes ended called) → IsToldOf state called told old new → Wrote v w told ending
+      → WasServed state r s v w ending old new
+  serves r s v w called told ending old new read t wrote =
+      record { bytes = read.0; ended = read.1; text = wrote.0; gave = read.2; wrote = wrote.1; how = answered read.0 read.1 wrote.0 called told ending old new read.3 t wrote.2 }
+
+  -- nothing was done
+  pub untouched : (r s v : Option (List ℕ)) (ending : Result Served ServeFault) (old : S)
+      → ((bytes : List ℕ) × (ended : Bool) × Gave r s bytes ended × IsServedOnWire state bytes ended [] ending old old) → WasServed state r s v v ending old old
+  untouched r s v ending old h = record { bytes = h.0; ended = h.1; text = []; gave = h.2; wrote = Appends-nil v; how = h.3 }
