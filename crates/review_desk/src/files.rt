@@ -1,8 +1,9 @@
 //! Jobs on a file, which is opened once and closed at the end, when its log is copied into it.
 ghost use Rattle.std.specs.Prelude.{◌≡◌, false, IfOk};
 
+use crate::listening::Listening;
 use review_machine::{DeskRules, Outcome};
-use review_work::{ProgramFault, Task, create, work};
+use review_work::{Ends, ProgramFault, Task, create, work};
 use sqlite::{Connection, FileFrom, FileStore, Unknown};
 
 type FileConnection = Connection<FileStore<FileFrom<Unknown>>>;
@@ -49,17 +50,34 @@ pub fn init(rt: &HostRuntime, file: &str) -> Result<Outcome, ProgramFault> {
     }
 }
 
-/// Does a task on the desk in a file, from standard input and to standard output.
-pub fn work_on(rt: &HostRuntime, file: &str, task: &Task) -> Result<Outcome, ProgramFault> {
+/// Does a task on the desk in a file: from standard input, to standard output, and over connections on a port where it serves them.
+pub fn work_on(
+    rt: &HostRuntime,
+    file: &str,
+    port: u16,
+    task: &Task,
+) -> Result<Outcome, ProgramFault> {
     let conn = open(rt, file)?;
     let mut rules = DeskRules::new(rt.alloc());
-    let (conn, ended) = work(
-        rt.alloc(),
-        &mut rt.stdin(),
-        &mut rt.stdout(),
-        conn,
-        &mut rules,
-        task,
-    );
+    let mut ends = Ends {
+        input: rt.stdin(),
+        output: rt.stdout(),
+        connections: Listening::at(rt, port),
+    };
+    let (conn, ended) = work(rt.alloc(), &mut ends, conn, &mut rules, task);
     close_after(conn, ended)
+}
+
+/// Serves so many connections on a port, and says how many once the file is closed.
+pub fn serve(
+    rt: &HostRuntime,
+    file: &str,
+    port: u16,
+    count: u32,
+) -> Result<Outcome, ProgramFault> {
+    let outcome = work_on(rt, file, port, &Task::Serve { count })?;
+    match println!(rt; "served {count}") {
+        Ok(()) => Ok(outcome),
+        Err(_) => Err(ProgramFault::Output),
+    }
 }

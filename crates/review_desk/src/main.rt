@@ -1,12 +1,13 @@
 //! The program of the desk: `review_desk init FILE` makes an empty desk in a file, `apply FILE` takes the deliveries of its input, each a
 //! line of JSON, and writes a line with the answer to each, `show FILE --change N` and `joined FILE --project P --branch B` show a
-//! change and what joined a branch. With `apply :memory:` the desk is an empty one in memory.
+//! change and what joined a branch. `serve FILE --port P --count N` takes deliveries over HTTP on loopback. With `apply :memory:` the desk is an empty one in memory.
 //!
 //! It ends with status 0; with 1 where a line was no delivery or wasn't taken, or where a fault ended it early, which
 //! standard error names; and with 2 where its words ask for something else.
 #![tactic(auto)]
 
 mod files;
+mod listening;
 
 use review_jobs::{Job, WordsFault, job_of};
 use review_machine::Outcome;
@@ -19,6 +20,7 @@ const USAGE: &str = "usage: review_desk COMMAND FILE ..
 
   init FILE                            makes an empty desk in a new file
   apply FILE                           takes deliveries from standard input, each a line of JSON, and answers each by a line
+  serve FILE --port P --count N        serves N connections over HTTP on port P of 127.0.0.1, one after the other
   show FILE --change N                 shows a change
   joined FILE --project P --branch B   shows the changes that joined a branch
 
@@ -35,13 +37,14 @@ fn run(rt: &HostRuntime, job: Job<'_>) -> Result<Outcome, ProgramFault> {
     match job {
         Job::Init { file } => files::init(rt, file),
         Job::Apply { file } if file == ":memory:" => apply_in_memory(rt),
-        Job::Apply { file } => files::work_on(rt, file, &Task::Apply),
-        Job::Show { file, change } => files::work_on(rt, file, &Task::Show { change }),
+        Job::Apply { file } => files::work_on(rt, file, 0, &Task::Apply),
+        Job::Serve { file, port, count } => files::serve(rt, file, port, count),
+        Job::Show { file, change } => files::work_on(rt, file, 0, &Task::Show { change }),
         Job::Joined {
             file,
             project,
             branch,
-        } => files::work_on(rt, file, &Task::Joined { project, branch }),
+        } => files::work_on(rt, file, 0, &Task::Joined { project, branch }),
     }
 }
 

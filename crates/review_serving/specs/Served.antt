@@ -8,7 +8,6 @@ use Rattle.review_requests.specs.Wire.{CallsFor}
 use Rattle.review_http.specs.declared.serving.Served.{Served}
 use Rattle.review_http.specs.declared.serving.ServeFault.{ServeFault}
 use Rattle.review_http.specs.Served.{WasServed}
-use Rattle.review_serving.specs.declared.connections.NetworkFault.{NetworkFault}
 
 -- The next connection is the first of those to come, where they are known, and the others are to come after it.
 abbrev pub IsNext : Option (List (List ℕ)) → Option (List ℕ) → Option (List (List ℕ)) → Type 0
@@ -45,7 +44,7 @@ module _ {S : Type 0} (state : S → Shown) where
       (front back : List (Delivery × Reply)) × (between : S) × (taken ≡ front ++ back) × ServedOne input front old between × ServedEach inputs back between new
 
   -- So many connections were served, or fewer where one could not be accepted; and what was taken of them was a run.
-  pub record ServedAll (coming : Option (List (List ℕ))) (count : ℕ) {X : Type 0} (ended : Result X NetworkFault) (old new : S) : Type 0 where
+  pub record ServedAll (coming : Option (List (List ℕ))) (count : ℕ) {X E : Type 0} (ended : Result X E) (old new : S) : Type 0 where
     pub inputs : List (Option (List ℕ))
     pub came : CameFirst coming inputs
     pub few : length inputs ≤ count

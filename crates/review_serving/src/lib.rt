@@ -6,4 +6,4 @@
 
 mod connections;
 
-pub use connections::{Connections, NetworkFault, serve_connections};
+pub use connections::{Connections, ConnectionsFault, serve_connections};

@@ -4,12 +4,14 @@ use Rattle.review_lines.specs.declared.fault.Fault.{Fault}
 use Rattle.review_lines.specs.declared.fault.Fault.TheVariants as line
 use Rattle.review_lines.specs.declared.fault.Outcome.{Outcome}
 use Rattle.review_lines.specs.declared.fault.Outcome.TheVariants.{Complete}
+use Rattle.review_serving.specs.declared.connections.ConnectionsFault.{ConnectionsFault}
+use Rattle.review_serving.specs.declared.connections.ConnectionsFault.TheVariants as connections
 use Rattle.review_showing.specs.declared.fault.ShowFault.{ShowFault}
 use Rattle.review_showing.specs.declared.fault.ShowFault.TheVariants as shown
 use Rattle.review_sql.specs.declared.faults.DeskFault.{DeskFault}
 use Rattle.review_sql.specs.declared.faults.DeskFault.TheVariants as desk
 use Rattle.review_work.specs.declared.fault.ProgramFault.{ProgramFault}
-use Rattle.review_work.specs.declared.fault.ProgramFault.TheVariants.{NotADesk, WrongVersion, Store, NotEmpty, Memory, Input, Output, Damaged, Pattern, NoChange, NoProject, NoBranch}
+use Rattle.review_work.specs.declared.fault.ProgramFault.TheVariants.{NotADesk, WrongVersion, Store, NotEmpty, Memory, Input, Output, Network, Damaged, Pattern, NoChange, NoProject, NoBranch}
 
 -- why a desk is not made or opened
 abbrev pub desk_fault : DeskFault → ProgramFault
@@ -26,6 +28,11 @@ line_fault line.Memory = Memory
 line_fault line.Input = Input
 line_fault line.Output = Output
 
+-- why connections are not all served
+abbrev pub connections_fault : ConnectionsFault → ProgramFault
+connections_fault connections.Network = Network
+connections_fault connections.Output = Output
+
 -- why a page is not shown
 abbrev pub show_fault : ShowFault → ProgramFault
 show_fault shown.Memory = Memory
@@ -41,6 +48,11 @@ show_fault shown.Output = Output
 abbrev pub lines_outcome : Result Outcome Fault → Result Outcome ProgramFault
 lines_outcome (Ok outcome) = Ok outcome
 lines_outcome (Err fault) = Err (line_fault fault)
+
+-- how `serve` ends
+abbrev pub serve_outcome : {X : Type 0} → Result X ConnectionsFault → Result Outcome ProgramFault
+serve_outcome (Ok done) = Ok Complete
+serve_outcome (Err fault) = Err (connections_fault fault)
 
 -- how `show` and `joined` end
 abbrev pub shown_outcome : {X : Type 0} → Result X ShowFault → Result Outcome ProgramFault

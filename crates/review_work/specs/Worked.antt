@@ -11,6 +11,8 @@ use Rattle.review_deliveries.specs.Delivered.{WasRun}
 use Rattle.review_lines.specs.Answers.{WereAnswered}
 use Rattle.review_lines.specs.declared.fault.Fault.{Fault}
 use Rattle.review_lines.specs.declared.fault.Outcome.{Outcome}
+use Rattle.review_serving.specs.Served.{ServedAll}
+use Rattle.review_serving.specs.declared.connections.ConnectionsFault.{ConnectionsFault}
 use Rattle.review_showing.specs.declared.fault.ShowFault.{ShowFault}
 use Rattle.review_showing.specs.Shown.{Showed}
 use Rattle.review_showing.specs.Told.{branch_questions, change_page, change_questions, joined_page}
@@ -20,10 +22,11 @@ use Rattle.review_sql.specs.Opened.{IsOpened, IsRefused}
 use Rattle.review_sql.specs.Created.{IsCreated}
 use Rattle.review_sql.specs.declared.faults.DeskFault.{DeskFault}
 use Rattle.review_sql.specs.declared.faults.DeskFault.TheVariants.{NotADesk, WrongVersion, NotEmpty, NotOurs}
-use Rattle.review_work.specs.Faults.{desk_fault, lines_outcome, shown_outcome}
+use Rattle.review_work.specs.Faults.{desk_fault, lines_outcome, serve_outcome, shown_outcome}
 use Rattle.review_work.specs.declared.fault.ProgramFault.{ProgramFault}
+use Rattle.review_work.specs.declared.fault.ProgramFault.TheVariants.{Memory}
 use Rattle.review_work.specs.declared.task.Task.{Task}
-use Rattle.review_work.specs.declared.task.Task.TheVariants.{Apply, Show, Joined}
+use Rattle.review_work.specs.declared.task.Task.TheVariants.{Apply, Serve, Show, Joined}
 
 -- lines of an input were taken and answered, as `apply_lines` says
 pub record TookLines (input before after : Option (List ℕ)) (ended : Result Outcome ProgramFault) (s t : Shown) : Type 0 where
@@ -37,19 +40,31 @@ pub record EndsShown (questions : List Delivery) (page : List Reply → Result (
   pub ends : ended ≡ shown_outcome told
   pub showed : Showed questions page before after told s t
 
--- what a task did on a shelf, from the bytes of a reader, to those of a writer, and how it ended
-abbrev pub HasDone : Task → Option (List ℕ) → Option (List ℕ) → Option (List ℕ) → Result Outcome ProgramFault → Shown → Shown → Type 0
-HasDone Apply input before after ended s t = TookLines input before after ended s t
-HasDone (Show change) input before after ended s t = EndsShown (change_questions change) change_page before after ended s t
-HasDone (Joined project branch) input before after ended s t = EndsShown (branch_questions project branch) joined_page before after ended s t
+-- connections were served, as `serve_connections` says; or there was no memory for the table of paths, and nothing was done
+pub record EndsServed {X : Type 0} (state : X → Shown) (coming : Option (List (List ℕ))) (count : ℕ) (ended : Result Outcome ProgramFault) (old new : X) : Type 0 where
+  pub told : Result (Unit {0}) ConnectionsFault
+  pub ends : ended ≡ serve_outcome told
+  pub served : ServedAll state coming count told old new
+
+-- what came to a task: the bytes of the reader, and what the peers of connections send
+pub record Given : Type 0 where
+  pub input : Option (List ℕ)
+  pub coming : Option (List (List ℕ))
+
+-- what a task did on a shelf that shows its tables so, from what was given to it, to the bytes of a writer, and how it ended
+abbrev pub HasDone : {X : Type 0} → (X → Shown) → Task → Given → Option (List ℕ) → Option (List ℕ) → Result Outcome ProgramFault → X → X → Type 0
+HasDone state Apply given before after ended old new = TookLines given.input before after ended (state old) (state new)
+HasDone state (Serve count) given before after ended old new = ((ended ≡ Err Memory) × (new ≡ old)) ⊎ EndsServed state given.coming count ended old new
+HasDone state (Show change) given before after ended old new = EndsShown (change_questions change) change_page before after ended (state old) (state new)
+HasDone state (Joined project branch) given before after ended old new = EndsShown (branch_questions project branch) joined_page before after ended (state old) (state new)
 
 -- A shelf was opened over the connection, as the one that was closed last; this was done on it, and it was closed.
-pub record OnShelf {S : Type 0} (g : Ghosts S) (is_ours : Bool) (Did : Shown → Shown → Type 0) (old new : Held S) : Type 0 where
+pub record OnShelf {S : Type 0} (g : Ghosts S) (is_ours : Bool) (Did : (ShelfView S → Shown) → ShelfView S → ShelfView S → Type 0) (old new : Held S) : Type 0 where
   pub opened : ShelfView S
   pub left : ShelfView S
   pub is_opened : IsOpened g old opened
   pub goes_on : ReopensLast g is_ours old opened
-  pub did : Did (shown g is_ours opened) (shown g is_ours left)
+  pub did : Did (shown g is_ours) opened left
   pub closed : IsClosed g is_ours left new
 
 -- the tables were refused as not ours, and stayed
@@ -66,7 +81,7 @@ pub record IsRefusedDesk {S : Type 0} (g : Ghosts S) (before after : Option (Lis
   pub written : Appends before after []
 
 -- This was done on a shelf of ours, or no desk was opened; where the tables are not ours, it was done on a shelf over them, or no desk was opened.
-abbrev pub IsDoneOn : {S : Type 0} → Ghosts S → (Shown → Shown → Type 0) → (Held S → Held S → Type 0) → Held S → Held S → Type 0
+abbrev pub IsDoneOn : {S : Type 0} → Ghosts S → ((ShelfView S → Shown) → ShelfView S → ShelfView S → Type 0) → (Held S → Held S → Type 0) → Held S → Held S → Type 0
 IsDoneOn {S} g Did Refuses old new =
     OnShelf g true Did old new ⊎ (Refuses old new ⊎ ((between : Held S) × IsNotOurs g old between × (OnShelf g false Did between new ⊎ Refuses between new)))
 

@@ -1,5 +1,6 @@
 //! Why the program ends with status 1.
 use review_lines::Fault;
+use review_serving::ConnectionsFault;
 use review_showing::ShowFault;
 use review_sql::faults::DeskFault;
 use sqlite::Error;
@@ -23,6 +24,8 @@ pub enum ProgramFault {
     Input,
     /// Standard output failed.
     Output,
+    /// Listening for connections or accepting one failed.
+    Network,
     /// The tables are those of no history.
     Damaged,
     /// The pattern engine refused a pattern.
@@ -71,6 +74,20 @@ impl From<Fault> for ProgramFault {
     }
 }
 
+impl From<ConnectionsFault> for ProgramFault {
+    ghost use Rattle.std.specs.Prelude.{◌≡◌};
+    ghost use Rattle.review_work.specs.Faults.{connections_fault};
+
+    ghost from_gives = { λ fault e. e ≡ connections_fault fault };
+
+    fn from(fault: ConnectionsFault) -> ProgramFault {
+        match fault {
+            ConnectionsFault::Network => ProgramFault::Network,
+            ConnectionsFault::Output => ProgramFault::Output,
+        }
+    }
+}
+
 impl From<ShowFault> for ProgramFault {
     ghost use Rattle.std.specs.Prelude.{◌≡◌};
     ghost use Rattle.review_work.specs.Faults.{show_fault};
@@ -101,6 +118,7 @@ impl Display for ProgramFault {
             ProgramFault::Memory => "out of memory",
             ProgramFault::Input => "input fault",
             ProgramFault::Output => "output fault",
+            ProgramFault::Network => "network fault",
             ProgramFault::Damaged => "damaged",
             ProgramFault::Pattern => "pattern",
             ProgramFault::NoChange => "no such change",

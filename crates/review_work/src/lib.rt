@@ -1,6 +1,7 @@
 //! Tasks on the tables of a connection, whatever rules decide deliveries.
 //!
-//! `create` makes an empty desk, and `work` does a task on the desk that is there: it takes the lines of a reader, or shows a change or a branch.
+//! `create` makes an empty desk, and `work` does a task on the desk that is there: it takes the lines of a
+//! reader, serves connections over HTTP, or shows a change or a branch.
 //! Each hands the connection back, in no transaction. Their contracts say what was done to the tables and what was written, also where a
 //! fault ended it, which `ProgramFault` names.
 #![tactic(auto)]
@@ -10,5 +11,5 @@ mod task;
 mod working;
 
 pub use fault::ProgramFault;
-pub use task::Task;
+pub use task::{Ends, Task};
 pub use working::{create, work};

@@ -1,4 +1,4 @@
-//! What is to be done on a desk.
+//! What is to be done on a desk, and from where to where.
 use review_names::{BranchName, ChangeNo, ProjectName};
 
 /// What is to be done on a desk that is there.
@@ -6,6 +6,8 @@ use review_names::{BranchName, ChangeNo, ProjectName};
 pub enum Task {
     /// Takes the deliveries of the lines of the reader.
     Apply,
+    /// Serves so many connections over HTTP, one after the other.
+    Serve { count: u32 },
     /// Shows a change.
     Show {
         change: ChangeNo,
@@ -15,4 +17,12 @@ pub enum Task {
         project: ProjectName,
         branch: BranchName,
     },
+}
+
+/// From where a task takes what it is given, and to where it writes: lines come from a reader, lines and pages go to a writer, and requests over HTTP come
+/// and are answered over connections.
+pub struct Ends<R, W, C> {
+    pub input: R,
+    pub output: W,
+    pub connections: C,
 }

@@ -1,18 +1,21 @@
 //! Tasks on the tables of a connection, which is handed back in no transaction.
 //!
 //! Tables that `create` made are opened as ours, of which all is claimed that a shelf promises, and others as those of others, of which nothing is.
-ghost use Rattle.std.specs.Prelude.{◌≡◌, ◌⊎◌, Bool, true, false};
+ghost use Rattle.std.specs.Prelude.{◌≡◌, ◌⊎◌, Bool, true, false, Err};
 ghost use Rattle.sqlite.specs.Held.{Held};
 ghost use Rattle.review_statements.specs.Desk.{schema_0};
+ghost use Rattle.review_rows.specs.Shelf.{Shown};
 ghost use Rattle.review_sql.specs.Shelf.{IsClosed, ShelfView, shown};
-ghost use Rattle.review_work.specs.Faults.{lines_outcome, shown_outcome};
-ghost use Rattle.review_work.specs.Worked.{HasDone, IsDoneOn, IsRefusedDesk, Made, OnShelf};
+ghost use Rattle.review_work.specs.Faults.{lines_outcome, serve_outcome, shown_outcome};
+ghost use Rattle.review_work.specs.Worked.{EndsServed, HasDone, IsDoneOn, IsRefusedDesk, Made, OnShelf};
 
 use crate::fault::ProgramFault;
-use crate::task::Task;
+use crate::task::{Ends, Task};
 use review_deliveries::{Rules, restart_completes, runs_go_on};
 use review_lines::{Fault, Outcome, apply_lines};
+use review_paths::Routes;
 use review_rows::Shelf;
+use review_serving::{Connections, ConnectionsFault, serve_connections};
 use review_showing::{ShowFault, joined_lines, show_lines};
 use review_sql::faults::DeskFault;
 use review_sql::shelf::{Origin, Others, Ours, SqlShelf, is_blank};
@@ -53,62 +56,61 @@ fn create_as<S: Alter + Drop, O: Origin>(
 /// Does a task on the desk in the tables of a connection. Where it takes lines: with the runs that were made over this connection before, closed and opened
 /// again between them, it is one run (`runs_go_on`); the whole input sent again after a stop completes it (`restart_completes`).
 ///
-/// Errors: that no desk is there, or one of another version; what ends the task early, as [`apply_lines`], `show_lines` and `joined_lines` say.
-pub fn work<R: Read, W: Write, S: Alter + Drop, D: Rules>(
+/// Errors: that no desk is there, or one of another version; what ends the task early, as [`apply_lines`], [`serve_connections`], `show_lines` and
+/// `joined_lines` say; want of memory.
+pub fn work<R: Read, W: Write, C: Connections, S: Alter + Drop, D: Rules>(
     alloc: Global,
-    reader: &mut R,
-    writer: &mut W,
+    ends: &mut Ends<R, W, C>,
     conn: Connection<S>,
     rules: &mut D,
     task: &Task,
 ) -> (Connection<S>, Result<Outcome, ProgramFault>)
     requires mode { conn.in_transaction ≡ false }
     ensures mode { result.0.in_transaction ≡ false }
-    ensures done { IsDoneOn S.Store (HasDone task.now (R.remaining reader.old) (W.contents writer.old) (W.contents writer.new) result.1)
-        (λ (old new : Held S). IsRefusedDesk S.Store (W.contents writer.old) (W.contents writer.new) old new result.1) conn result.0 }
+    ensures done { IsDoneOn S.Store
+        (λ (state : ShelfView S → Shown) (old new : ShelfView S). HasDone state task.now (record { input = R.remaining ends.old.input; coming = C.coming ends.old.connections }) (W.contents ends.old.output) (W.contents ends.new.output) result.1 old new)
+        (λ (old new : Held S). IsRefusedDesk S.Store (W.contents ends.old.output) (W.contents ends.new.output) old new result.1) conn result.0 }
 {
     match SqlShelf::<S, Ours>::open(alloc, conn) {
-        Ok(shelf) => work_on_shelf(alloc, reader, writer, shelf, rules, task),
-        Err((conn, DeskFault::NotOurs)) => {
-            work_on_others(alloc, reader, writer, conn, rules, task)
-        }
+        Ok(shelf) => work_on_shelf(alloc, ends, shelf, rules, task),
+        Err((conn, DeskFault::NotOurs)) => work_on_others(alloc, ends, conn, rules, task),
         Err((conn, fault)) => (conn, Err(ProgramFault::from(fault))),
     }
 }
 
-fn work_on_others<R: Read, W: Write, S: Alter + Drop, D: Rules>(
+fn work_on_others<R: Read, W: Write, C: Connections, S: Alter + Drop, D: Rules>(
     alloc: Global,
-    reader: &mut R,
-    writer: &mut W,
+    ends: &mut Ends<R, W, C>,
     conn: Connection<S>,
     rules: &mut D,
     task: &Task,
 ) -> (Connection<S>, Result<Outcome, ProgramFault>)
     requires mode { conn.in_transaction ≡ false }
     ensures mode { result.0.in_transaction ≡ false }
-    ensures done { OnShelf S.Store false (HasDone task.now (R.remaining reader.old) (W.contents writer.old) (W.contents writer.new) result.1) conn result.0
-        ⊎ IsRefusedDesk S.Store (W.contents writer.old) (W.contents writer.new) conn result.0 result.1 }
+    ensures done { OnShelf S.Store false
+        (λ (state : ShelfView S → Shown) (old new : ShelfView S). HasDone state task.now (record { input = R.remaining ends.old.input; coming = C.coming ends.old.connections }) (W.contents ends.old.output) (W.contents ends.new.output) result.1 old new) conn result.0
+        ⊎ IsRefusedDesk S.Store (W.contents ends.old.output) (W.contents ends.new.output) conn result.0 result.1 }
 {
     match SqlShelf::<S, Others>::open(alloc, conn) {
-        Ok(shelf) => work_on_shelf(alloc, reader, writer, shelf, rules, task),
+        Ok(shelf) => work_on_shelf(alloc, ends, shelf, rules, task),
         Err((conn, fault)) => (conn, Err(ProgramFault::from(fault))),
     }
 }
 
-fn work_on_shelf<R: Read, W: Write, S: Alter + Drop, O: Origin, D: Rules>(
+fn work_on_shelf<R: Read, W: Write, C: Connections, S: Alter + Drop, O: Origin, D: Rules>(
     alloc: Global,
-    reader: &mut R,
-    writer: &mut W,
+    ends: &mut Ends<R, W, C>,
     shelf: SqlShelf<S, O>,
     rules: &mut D,
     task: &Task,
 ) -> (Connection<S>, Result<Outcome, ProgramFault>)
     ensures mode { result.0.in_transaction ≡ false }
-    ensures done { (left : ShelfView S) × HasDone task.now (R.remaining reader.old) (W.contents writer.old) (W.contents writer.new) result.1 (shown S.Store O.IS_OURS shelf) (shown S.Store O.IS_OURS left)
+    ensures done { (left : ShelfView S)
+        × HasDone (shown S.Store O.IS_OURS) task.now (record { input = R.remaining ends.old.input; coming = C.coming ends.old.connections }) (W.contents ends.old.output) (W.contents ends.new.output) result.1 shelf left
         × IsClosed S.Store O.IS_OURS left result.0 }
 {
     let mut shelf = shelf;
-    let ended = do_task(alloc, reader, writer, &mut shelf, rules, task);
+    let ended = do_task(alloc, ends, &mut shelf, rules, task);
     // By this law it is one run with those before it, after each of which the shelf was closed and opened again.
     runs_go_on::<SqlShelf<S, O>>();
     // By this one the whole input, sent again after a stop, completes what the first run began.
@@ -116,22 +118,50 @@ fn work_on_shelf<R: Read, W: Write, S: Alter + Drop, O: Origin, D: Rules>(
     (shelf.close(), ended)
 }
 
-fn do_task<R: Read, W: Write, S: Shelf, D: Rules>(
+fn do_task<R: Read, W: Write, C: Connections, S: Shelf, D: Rules>(
     alloc: Global,
-    reader: &mut R,
-    writer: &mut W,
+    ends: &mut Ends<R, W, C>,
     shelf: &mut S,
     rules: &mut D,
     task: &Task,
 ) -> Result<Outcome, ProgramFault>
-    ensures { HasDone task.now (R.remaining reader.old) (W.contents writer.old) (W.contents writer.new) result (S.state shelf.old) (S.state shelf.new) }
+    ensures { HasDone S.state task.now (record { input = R.remaining ends.old.input; coming = C.coming ends.old.connections }) (W.contents ends.old.output) (W.contents ends.new.output) result shelf.old shelf.new }
 {
     match task {
-        Task::Apply => lines_outcome(apply_lines(alloc, reader, writer, shelf, rules)),
-        Task::Show { change } => { shown_outcome(show_lines(alloc, shelf, rules, *change, writer)) }
-        Task::Joined { project, branch } => {
-            shown_outcome(joined_lines(alloc, shelf, rules, project, branch, writer))
+        Task::Apply => {
+            lines_outcome(apply_lines(alloc, &mut ends.input, &mut ends.output, shelf, rules))
         }
+        Task::Serve { count } => serve(alloc, &mut ends.connections, *count, shelf, rules),
+        Task::Show { change } => {
+            shown_outcome(show_lines(alloc, shelf, rules, *change, &mut ends.output))
+        }
+        Task::Joined { project, branch } => {
+            shown_outcome(joined_lines(alloc, shelf, rules, project, branch, &mut ends.output))
+        }
+    }
+}
+
+fn serve<C: Connections, S: Shelf, D: Rules>(
+    alloc: Global,
+    connections: &mut C,
+    count: u32,
+    shelf: &mut S,
+    rules: &mut D,
+) -> Result<Outcome, ProgramFault>
+    ensures { ((result ≡ Err ProgramFault.Memory) × (shelf.new ≡ shelf.old)) ⊎ EndsServed S.state (C.coming connections.old) count result shelf.old shelf.new }
+{
+    let Ok(routes) = Routes::new(alloc) else {
+        return Err(ProgramFault::Memory);
+    };
+    serve_outcome(serve_connections(alloc, &routes, connections, count, shelf, rules))
+}
+
+fn serve_outcome(served: Result<(), ConnectionsFault>) -> Result<Outcome, ProgramFault>
+    ensures { result ≡ serve_outcome served }
+{
+    match served {
+        Ok(()) => Ok(Outcome::Complete),
+        Err(fault) => Err(ProgramFault::from(fault)),
     }
 }
 

@@ -1,0 +1,174 @@
+//! Connections on loopback, each with a time of its own.
+use review_serving::{Connections, ConnectionsFault};
+use std::io;
+use std::io::{Error, ErrorKind, Read, Write};
+use std::net::{Shutdown, TcpListener, TcpStream};
+use std::time::{Duration, Instant};
+
+/// How many seconds a connection may take in all.
+const WHOLE_SECONDS: u64 = 30;
+
+/// How many seconds it may take without a byte.
+const QUIET_SECONDS: u64 = 10;
+
+/// How long an answered peer may take to say that it has the answer.
+const LAST_SECONDS: u64 = 1;
+
+/// Where the program listens for connections: on a port of 127.0.0.1, once it is asked to.
+#[derive(Drop)]
+pub struct Listening<'a> {
+    rt: &'a HostRuntime,
+    port: u16,
+    listener: Option<TcpListener>,
+}
+
+impl Listening<'_> {
+    /// A place that nothing listens at yet.
+    pub fn at(rt: &HostRuntime, port: u16) -> Listening<'_> {
+        Listening {
+            rt,
+            port,
+            listener: None,
+        }
+    }
+}
+
+/// A connection, with the moment at which its time ends.
+#[derive(Drop)]
+struct Timed<'a> {
+    rt: &'a HostRuntime,
+    stream: TcpStream,
+    begun: Instant,
+}
+
+impl Timed<'_> {
+    /// How long the next call may take: so many seconds, or what is left of the whole time. An error where nothing is left.
+    fn time_left(&self, seconds: u64) -> io::Result<Duration> {
+        let gone = self.begun.elapsed(self.rt)?;
+        let most = Duration::from_secs(seconds);
+        match Duration::from_secs(WHOLE_SECONDS).checked_sub(gone) {
+            Some(left) if left > most => Ok(most),
+            Some(left) if left > Duration::ZERO => Ok(left),
+            _ => Err(Error::from(ErrorKind::TimedOut)),
+        }
+    }
+
+    /// Reads once, and waits so many seconds at most.
+    fn read_within(&mut self, seconds: u64, buf: &mut [u8]) -> io::Result<usize> {
+        let left = self.time_left(seconds)?;
+        self.stream.set_read_timeout(Some(left))?;
+        self.stream.read(buf)
+    }
+}
+
+/// What a peer sends.
+pub struct Incoming<'a> {
+    timed: Timed<'a>,
+}
+
+impl Incoming<'_> {
+    /// Reads what the peer still sends, up to a mebibyte, until it says that it sends no more: if the connection were closed before, the answer
+    /// could be lost on its way.
+    fn finish(&mut self) {
+        let mut piece = [0u8; 4096];
+        for _ in 0..256u16 {
+            match self.timed.read_within(LAST_SECONDS, &mut piece) {
+                Ok(count) if count > 0 => {}
+                _ => return,
+            }
+        }
+    }
+}
+
+impl Read for Incoming<'_> {
+    fn read(&mut self, buf: &mut [u8]) -> io::Result<usize> {
+        self.timed.read_within(QUIET_SECONDS, buf)
+    }
+}
+
+impl Drop for Incoming<'_> {
+    fn drop(self) {
+        let mut incoming = self;
+        incoming.finish();
+        let Incoming { timed: _ } = incoming;
+    }
+}
+
+/// What a peer is sent.
+pub struct Outgoing<'a> {
+    timed: Timed<'a>,
+}
+
+impl Write for Outgoing<'_> {
+    fn write(&mut self, buf: &[u8]) -> io::Result<usize> {
+        let left = self.timed.time_left(QUIET_SECONDS)?;
+        self.timed.stream.set_write_timeout(Some(left))?;
+        self.timed.stream.write(buf)
+    }
+
+    fn flush(&mut self) -> io::Result<()> {
+        self.timed.stream.flush()
+    }
+}
+
+impl Drop for Outgoing<'_> {
+    fn drop(self) {
+        let Outgoing { timed } = self;
+        // The peer sees that the answer has ended; where it has gone away there is nobody to tell.
+        let _ = timed.stream.shutdown(Shutdown::Write);
+    }
+}
+
+impl<'a> Listening<'a> {
+    fn next(&self) -> io::Result<(Incoming<'a>, Outgoing<'a>)> {
+        let Some(listener) = &self.listener else {
+            return Err(Error::from(ErrorKind::NotConnected));
+        };
+        let (stream, _peer) = listener.accept()?;
+        let begun = Instant::now(self.rt)?;
+        let other = stream.try_clone()?;
+        let incoming = Incoming {
+            timed: Timed {
+                rt: self.rt,
+                stream,
+                begun,
+            },
+        };
+        let outgoing = Outgoing {
+            timed: Timed {
+                rt: self.rt,
+                stream: other,
+                begun,
+            },
+        };
+        Ok((incoming, outgoing))
+    }
+}
+
+impl<'a> Connections for Listening<'a> {
+    ghost use Rattle.std.specs.Prelude.{None};
+
+    ghost coming = { λ _. None };
+
+    type Reader = Incoming<'a>;
+
+    type Writer = Outgoing<'a>;
+
+    fn listen(&mut self) -> Result<(), ConnectionsFault> {
+        let Ok(listener) = TcpListener::bind(self.rt, ("127.0.0.1", self.port)) else {
+            return Err(ConnectionsFault::Network);
+        };
+        self.listener = Some(listener);
+        match println!(self.rt; "listening on 127.0.0.1:{}", self.port) {
+            Ok(()) => Ok(()),
+            Err(_) => Err(ConnectionsFault::Output),
+        }
+    }
+
+    fn accept(&mut self) -> Result<(Incoming<'a>, Outgoing<'a>), ConnectionsFault> {
+        match self.next() {
+            Ok(accepted) => Ok(accepted),
+            Err(_) => Err(ConnectionsFault::Network),
+        }
+    }
+}
