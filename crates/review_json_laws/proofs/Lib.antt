@@ -1,3 +1,4 @@
 pub mod Ordered
 pub mod Places
 pub mod Delivered
+pub mod Stay
