@@ -1,4 +1,3 @@
 pub mod Ordered
 pub mod Places
 pub mod Delivered
-pub mod Stay
