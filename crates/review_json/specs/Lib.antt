@@ -1,6 +1,4 @@
-pub mod Asked
-pub mod Commands
-pub mod Queries
+pub mod Routes
 pub mod Line
 pub mod Values
 pub mod Shown

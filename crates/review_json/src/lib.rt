@@ -1,4 +1,4 @@
-//! Deliveries and answers as JSON, over the bodies of `review_bodies`.
+//! Deliveries and answers as JSON, over the routes of `review_routes`.
 //!
 //! A delivery is a line such as `{"caller":1,"id":"a1","do":"CreateAccount","body":{"name":"ann"}}`, or for a query
 //! `{"caller":1,"do":"Branch","project":"tools","branch":"main"}`, and the answer to it a text such as `{"account":2}`,
@@ -8,10 +8,8 @@
 #![tactic(auto)]
 
 pub mod answer;
-pub mod asked;
-pub mod commands;
 pub mod line;
-pub mod queries;
+pub mod routes;
 pub mod shown;
 pub mod threads;
 

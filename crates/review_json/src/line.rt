@@ -1,40 +1,44 @@
 //! The delivery that a line spells.
-ghost use Rattle.std.specs.Prelude.{◌≡◌, Some, None, Err, IfOk, codes};
 ghost use Rattle.serde_json.specs.View.{view};
 ghost use Rattle.review_bodies.specs.Parts.{Gives};
-ghost use Rattle.review_json.specs.Line.{value_spelled, command_in, write_in, read_in, delivery_in, delivery_spelled};
+ghost use Rattle.review_json.specs.Line.{command_in_line, write_in, read_in, delivery_in, delivery_spelled};
 
-use crate::commands::command_named;
-use crate::queries::{is_query, query_named};
+use crate::routes::route_named;
 use review_bodies::{BadBody, account_at, name_at, text_at};
+use review_routes::{Route, command_in, is_question, query_of, value_of};
 use review_words::{AccountNo, Command, Delivery};
 use serde_json::{Map, Value};
 use std::alloc::Global;
 
-#[tactic(auto, unfolding(crate::specs::Line::command_in, crate::specs::Line::body_in))]
-fn command_in(alloc: Global, name: &str, line: &Value) -> Result<Command, BadBody>
-    ensures { Gives result (command_in name.now (view line.now)) }
+#[tactic(auto, unfolding(crate::specs::Line::command_in_line, crate::specs::Line::body_in))]
+fn command_in_line(alloc: Global, route: &Route, line: &Value) -> Result<Command, BadBody>
+    ensures { Gives result (command_in_line route.now (view line.now)) }
 {
     match line.get("body") {
         Some(body) => {
             if !body.is_object() {
                 return Err(BadBody::Form);
             }
-            command_named(alloc, name, line, body)
+            command_in(alloc, route, body)
         }
         None => {
             let empty = Value::Object(Map::new(alloc));
-            command_named(alloc, name, line, &empty)
+            command_in(alloc, route, &empty)
         }
     }
 }
 
 #[tactic(auto, unfolding(crate::specs::Line::write_in))]
-fn write_in(alloc: Global, caller: AccountNo, name: &str, line: &Value) -> Result<Delivery, BadBody>
-    ensures { Gives result (write_in caller name.now (view line.now)) }
+fn write_in(
+    alloc: Global,
+    caller: AccountNo,
+    route: &Route,
+    line: &Value,
+) -> Result<Delivery, BadBody>
+    ensures { Gives result (write_in caller route.now (view line.now)) }
 {
     let id = name_at(alloc, "id", line)?;
-    let command = command_in(alloc, name, line)?;
+    let command = command_in_line(alloc, route, line)?;
     Ok(Delivery::Write {
         caller,
         id,
@@ -43,10 +47,10 @@ fn write_in(alloc: Global, caller: AccountNo, name: &str, line: &Value) -> Resul
 }
 
 #[tactic(auto, unfolding(crate::specs::Line::read_in))]
-fn read_in(alloc: Global, caller: AccountNo, name: &str, line: &Value) -> Result<Delivery, BadBody>
-    ensures { Gives result (read_in caller name.now (view line.now)) }
+fn read_in(alloc: Global, caller: AccountNo, route: &Route) -> Result<Delivery, BadBody>
+    ensures { Gives result (read_in caller route.now) }
 {
-    let query = query_named(alloc, name, line)?;
+    let query = query_of(alloc, route)?;
     Ok(Delivery::Read { caller, query })
 }
 
@@ -56,30 +60,11 @@ fn delivery_in(alloc: Global, line: &Value) -> Result<Delivery, BadBody>
 {
     let caller = account_at("caller", line)?;
     let name = text_at("do", line).ok_or(BadBody::Form)?;
-    if is_query(name) {
-        read_in(alloc, caller, name, line)
+    let route = route_named(alloc, name, line)?;
+    if is_question(&route) {
+        read_in(alloc, caller, &route)
     } else {
-        write_in(alloc, caller, name, line)
-    }
-}
-
-/// The value of a text in UTF-8.
-pub fn value_of(alloc: Global, bytes: &[u8]) -> Result<Value, BadBody>
-    ensures ok { IfOk result (λ v. value_spelled bytes.now ≡ Some (view v)) }
-    ensures form { result ≡ Err BadBody.Form → value_spelled bytes.now ≡ None }
-{
-    let Ok(text) = str::from_utf8(bytes) else {
-        return Err(BadBody::Form);
-    };
-    match Value::from_str(alloc, text) {
-        Ok(value) => Ok(value),
-        Err(error) => {
-            if error.is_memory() {
-                Err(BadBody::Memory)
-            } else {
-                Err(BadBody::Form)
-            }
-        }
+        write_in(alloc, caller, &route, line)
     }
 }
 

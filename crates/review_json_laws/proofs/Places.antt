@@ -109,7 +109,7 @@ from_object d h =
     then_some GoByPlace GoByPlace written (λ cs p. either_some GoByPlace (all_written cs) (Some cs) None p tt) _
     (then_some MembersInOrder GoByPlace comments_from (λ ms p. from_members ms p) (as_object d) (object_in_order d h))
 
-absent_some : {X : Type 0} (P : Data → Type 0) (Q : X → Type 0) (absent : X) (spelled : Data → Option X) (o : Option Data) → Q absent → ((d : Data) → P d → IfSome (spelled d) Q) → IfSome o P → IfSome (or_absent absent spelled o) Q
+pub absent_some : {X : Type 0} (P : Data → Type 0) (Q : X → Type 0) (absent : X) (spelled : Data → Option X) (o : Option Data) → Q absent → ((d : Data) → P d → IfSome (spelled d) Q) → IfSome o P → IfSome (or_absent absent spelled o) Q
 absent_some P Q absent spelled None p q x = p
 absent_some P Q absent spelled (Some d) p q x = q d x
 

@@ -1,4 +1,4 @@
--- What is said of lines in other words than those by which they are read.
+-- What is said of lines and bodies in other words than those by which they are read.
 use Rattle.std.specs.Prelude.{ℕ, List, [], IfSome}
 use Rattle.std.specs.Cmp.Lexicographic.{slice_cmp}
 use Rattle.std.specs.List.Sorted.{IsSortedByKey}
@@ -10,6 +10,8 @@ use Rattle.review_words.specs.declared.command.Command.{Command}
 use Rattle.review_words.specs.declared.command.Command.TheVariants.{OnChange}
 use Rattle.review_words.specs.declared.command.Delivery.{Delivery}
 use Rattle.review_words.specs.declared.command.Delivery.TheVariants.{Write, Read}
+use Rattle.review_routes.specs.declared.route.Route.{Route}
+use Rattle.review_routes.specs.Commands.{command_of}
 use Rattle.review_json.specs.Line.{delivery_spelled}
 
 -- the comments that something asked of a change makes, which is a review alone
@@ -26,6 +28,10 @@ made_comments _ = []
 abbrev pub delivered_comments : Delivery → List NewComment
 delivered_comments (Write caller id command) = made_comments command
 delivered_comments (Read caller query) = []
+
+-- Whatever the order in a body, the comments of the command to which it completes a route go by the bytes of their places.
+abbrev pub CommentsOfBodiesGoByPlace : Type 0
+CommentsOfBodiesGoByPlace = (route : Route) (bytes : List ℕ) → IfSome (command_of route bytes) (λ command. IsSortedByKey (λ comment. comment.path) (slice_cmp nat_cmp) (made_comments command))
 
 -- Whatever the order in a line, the comments that it spells go by the bytes of their places.
 abbrev pub CommentsGoByPlace : Type 0

@@ -1,4 +1,4 @@
-//! Laws of lines, as contracts of calls that do nothing: the comments that a line spells go by the bytes of their places.
+//! Laws of lines and bodies, as contracts of calls that do nothing: the comments that they spell go by the bytes of their places.
 #![tactic(auto)]
 
 pub mod laws;

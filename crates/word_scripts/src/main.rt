@@ -1,4 +1,4 @@
-//! Scripts on the words of the desk: names and numbers, lines that ask, replies. A transcript that a person reads from top to bottom.
+//! Scripts on the words of the desk: names and numbers, lines that ask, bodies, replies. A transcript that a person reads from top to bottom.
 //!
 //! Standard input has lines, standard output the same lines, each with its answer beneath it, behind `=> `. A line is
 //!
@@ -21,6 +21,9 @@
 //!   the content text of the command;
 //! - `line LINE`: who asks for what by a line of JSON, under which id, and the content text of a command; or `no delivery`. In
 //!   `line-with-byte HEX LINE` each star of the line is the byte of two digits;
+//! - `route LINE`: whether the route of a line of JSON is a question, or a command whose body may be empty or not. `body LINE BODY`, where the
+//!   line has no space: the content text of the command to which the bytes of a body complete its route, or `no command`.
+//!   `request-id-with-byte HEX TEXT`: the id that these bytes are, or `no form`;
 //! - `reply TEXT`: the stored reply of a text: its JSON, the status of a refusal, and its text again; or `no stored reply`. Replies that
 //!   have no text are `branch-with COMMIT,.. CHANGE@COMMIT,..`, a branch's bases and what joined it, `not-taken CAUSE`,
 //!   `identity-reused`, and the answers to questions about a change:
@@ -34,6 +37,7 @@
 #![tactic(auto)]
 
 mod asked;
+mod bodies;
 mod commands;
 mod fault;
 mod lines;
@@ -73,6 +77,9 @@ fn told(alloc: Global, word: &str, text: &str) -> Result<String, Fault> {
         return Ok(answer);
     }
     if let Some(answer) = lines::line(alloc, word, text)? {
+        return Ok(answer);
+    }
+    if let Some(answer) = bodies::addressed(alloc, word, text)? {
         return Ok(answer);
     }
     replies::reply(alloc, word, text)?.ok_or(Fault::Form)
