@@ -10,12 +10,21 @@ use Rattle.review_paths.specs.declared.fault.HttpFault.{HttpFault}
 use Rattle.review_requests.specs.declared.fault.RequestFault.{RequestFault}
 use Rattle.review_requests.specs.declared.fault.RequestFault.TheVariants as request
 use Rattle.review_requests.specs.Wire.{CallsFor}
-use Rattle.review_requests.specs.Told.{IsTold}
+use Rattle.review_requests.specs.Told.{IsTold, WasTold}
 use Rattle.review_http.specs.declared.serve.Served.{Served}
 use Rattle.review_http.specs.declared.serve.Served.TheVariants.{Answered, Empty}
 use Rattle.review_http.specs.declared.serve.ServeFault.{ServeFault}
 use Rattle.review_http.specs.declared.serve.ServeFault.TheVariants.{Read, Reads, Write, Memory}
 use Rattle.review_http.specs.Served.{IsWritten, IsToldOf, IsAnswered, IsUntouched, IsServedOnWire, WasServed}
+
+-- what reading a request answers, from what its bytes call for
+abbrev pub asks : Result Delivery HttpFault → Result Delivery RequestFault
+asks (Ok d) = Ok d
+asks (Err f) = Err (request.Http f)
+
+calls : (bytes : List ℕ) (ended : Bool) (called : Result Delivery HttpFault) → IsTold bytes ended (asks called) → CallsFor bytes ended called
+calls bytes ended (Ok d) told = told
+calls bytes ended (Err f) told = told
 
 module _ {S : Type 0} (state : S → Shown) where
   abbrev pub Wrote : Option (List ℕ) → Option (List ℕ) → Result Reply HttpFault → Result Served ServeFault → Type 0
@@ -32,12 +41,12 @@ module _ {S : Type 0} (state : S → Shown) where
 
   -- what the bytes called for was told
   pub serves : (r s v w : Option (List ℕ)) (called : Result Delivery HttpFault) (told : Result Reply HttpFault) (ending : Result Served ServeFault) (old new : S)
-      → ((bytes : List ℕ) × (ended : Bool) × Gave r s bytes ended × CallsFor bytes ended called) → IsToldOf state called told old new → Wrote v w told ending
+      → WasTold r s (asks called) → IsToldOf state called told old new → Wrote v w told ending
       → WasServed state r s v w ending old new
   serves r s v w called told ending old new read t wrote =
-      record { bytes = read.0; ended = read.1; text = wrote.0; gave = read.2; wrote = wrote.1; how = answered read.0 read.1 wrote.0 called told ending old new read.3 t wrote.2 }
+      record { bytes = read.bytes; ended = read.ended; text = wrote.0; gave = read.gave; wrote = wrote.1; how = answered read.bytes read.ended wrote.0 called told ending old new (calls read.bytes read.ended called read.told) t wrote.2 }
 
   -- nothing was done
-  pub untouched : (r s v : Option (List ℕ)) (ending : Result Served ServeFault) (old : S)
-      → ((bytes : List ℕ) × (ended : Bool) × Gave r s bytes ended × IsServedOnWire state bytes ended [] ending old old) → WasServed state r s v v ending old old
-  untouched r s v ending old h = record { bytes = h.0; ended = h.1; text = []; gave = h.2; wrote = Appends-nil v; how = h.3 }
+  pub untouched : (r s v : Option (List ℕ)) (result : Result Delivery RequestFault) (ending : Result Served ServeFault) (old : S) → (read : WasTold r s result)
+      → IsServedOnWire state read.bytes read.ended [] ending old old → WasServed state r s v v ending old old
+  untouched r s v result ending old read how = record { bytes = read.bytes; ended = read.ended; text = []; gave = read.gave; wrote = Appends-nil v; how = how }

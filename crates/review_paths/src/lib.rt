@@ -1,0 +1,19 @@
+//! The paths of HTTP requests: which resource a path names, and which route a method makes of it.
+//!
+//! [`Routes`] is the table of paths, to be made once. [`resource_of`] gives what a path names, with its segments decoded to names and numbers;
+//! [`route_of`] gives what a method asks of that, or the methods that it takes. A path is routed before it is decoded, so
+//! `/projects/tools/branches/release%2F1.0` has the four segments that one sees, and names the branch `release/1.0`.
+//!
+//! [`HttpFault`] lists why a request may be no delivery; the first two of these causes in this crate's reach are NoRoute and then Method.
+#![tactic(auto)]
+
+pub mod fault;
+pub mod methods;
+pub mod resources;
+pub mod segments;
+pub mod table;
+
+pub use fault::HttpFault;
+pub use methods::{Methods, route_of};
+pub use resources::{Resource, resource_of};
+pub use table::{Place, Routes};

@@ -1,0 +1,25 @@
+-- Laws of what the bytes of a request call for.
+use Rattle.std.specs.Prelude.{◌≡◌, ◌⊎◌, ℕ, List, [], Bool, true, Option, Some, Result, Err}
+use Rattle.review_words.specs.declared.command.Delivery.{Delivery}
+use Rattle.review_counted.specs.Bytes.{Gave}
+use Rattle.review_paths.specs.declared.fault.HttpFault.{HttpFault}
+use Rattle.review_paths.specs.declared.fault.HttpFault.TheVariants.{BadHead, HeadTooLarge}
+use Rattle.review_requests.specs.Wire.{CallsFor}
+
+-- what the bytes call for that a reader gave, all its bytes call for
+abbrev pub CutsDoNotMatter : Type 0
+CutsDoNotMatter = (input bytes : List ℕ) (left : Option (List ℕ)) (ended : Bool) (outcome : Result Delivery HttpFault)
+    → Gave (Some input) left bytes ended → CallsFor bytes ended outcome → CallsFor input true outcome
+
+-- the head is malformed or too large
+abbrev pub IsHeadFault : Result Delivery HttpFault → Type 0
+IsHeadFault outcome = (outcome ≡ Err BadHead) ⊎ (outcome ≡ Err HeadTooLarge)
+
+-- bytes call for one thing; only where a head is malformed and too large is it open which of these two faults it is
+abbrev pub CallForOneThing : Type 0
+CallForOneThing = (bytes : List ℕ) (ended : Bool) (outcome other : Result Delivery HttpFault)
+    → CallsFor bytes ended outcome → CallsFor bytes ended other → (outcome ≡ other) ⊎ (IsHeadFault outcome × IsHeadFault other)
+
+-- no bytes, and the end of the input behind them, call for nothing: neither for a delivery nor for a fault
+abbrev pub NothingCallsForNothing : Type 0
+NothingCallsForNothing = (outcome : Result Delivery HttpFault) → CallsFor [] true outcome → ⊥

@@ -1,0 +1,75 @@
+-- From what a look at the front said to what is said of the bytes.
+use Rattle.std.proofs.Common.{◌≡◌, ◌<◌, ◌≤◌, ℕ, List, length, drop, length-take, Bool, true, Result, Ok, Err, inl, inr, refl, sym, ap, subst, ◌∙◌, arith}
+use Rattle.std.proofs.lemmas.List.{take_all}
+use Rattle.httparse.specs.Grammar.{RequestHead, HasNoRequest, print_request}
+use Rattle.httparse.proofs.GrammarLemmas.{request_unique}
+use Rattle.review_words.specs.declared.command.Delivery.{Delivery}
+use Rattle.review_requests.specs.declared.asked.Asked.{Asked}
+use Rattle.review_paths.specs.declared.fault.HttpFault.{HttpFault}
+use Rattle.review_paths.specs.declared.fault.HttpFault.TheVariants.{BadHead}
+use Rattle.review_requests.specs.declared.fault.RequestFault.{RequestFault}
+use Rattle.review_requests.specs.declared.fault.RequestFault.TheVariants as request
+use Rattle.review_requests.specs.Wire.{front, HasHead, body_of, Follows, CallsFor, IsNotWhole}
+use Rattle.review_requests.specs.Heads.{asked}
+use Rattle.review_requests.specs.declared.fault.Refused.{Refused}
+use Rattle.review_requests.specs.declared.fault.Refused.TheVariants as refused
+use Rattle.review_requests.specs.declared.judge.Look.{Look}
+use Rattle.review_requests.specs.declared.judge.Look.TheVariants.{Whole, Wants}
+use Rattle.review_requests.specs.Judged.{Stands, IsFaultOf, Finishes, Judges, HeadIs, request_fault}
+
+pub front_short : (bytes : List ℕ) → length bytes < 16384 → front bytes ≡ bytes
+front_short bytes short = take_all 16384 bytes (omega arith)
+
+pub head_stands : (bytes : List ℕ) (h : RequestHead) → Stands (front bytes) h → HasHead bytes h
+head_stands bytes h s = record { reads = s.0; few = s.1 }
+
+follows : (bytes : List ℕ) (h : RequestHead) (q : Result Asked HttpFault) (ended : Bool) (o : Result Delivery HttpFault) → Stands (front bytes) h → asked h ≡ q → Follows q (body_of bytes h) ended o → CallsFor bytes ended o
+follows bytes h q ended o s e f =
+    let P : Result Asked HttpFault → Type 0 = λ r. Follows r (body_of bytes h) ended o in
+    inl (h, head_stands bytes h s, subst P (sym e) f)
+
+-- a fault of the front is one of the bytes
+pub judged_fault : (bytes : List ℕ) (ended : Bool) (f : HttpFault) → IsFaultOf (front bytes) f → CallsFor bytes ended (Err f)
+judged_fault bytes ended f (inl w) = follows bytes w.0 (Err f) ended (Err f) w.1 w.2 refl
+judged_fault bytes ended f (inr (inl w)) = inr (inl (ap Err w.0, inl w.1))
+judged_fault bytes ended f (inr (inr w)) = inr (inr (ap Err w.0, inr w.1))
+
+shorter : (bytes : List ℕ) (h : RequestHead) (a b : Asked) → ◌≡◌ {A = Result Asked HttpFault} (Ok a) (Ok b) → length (body_of bytes h) < a.length → length (body_of bytes h) < b.length
+shorter bytes h a b e short =
+    let same : a ≡ b = cc in
+    let P : Asked → Type 0 = λ x. length (body_of bytes h) < x.length in
+    subst P same short
+
+not_whole : (bytes : List ℕ) (h : RequestHead) (a : Asked) → Stands (front bytes) h → asked h ≡ Ok a → length (body_of bytes h) < a.length → IsNotWhole bytes
+not_whole bytes h a s e short = λ k b has is.
+    let same = (request_unique (front bytes) h k _ _ s.0 has.reads).0 in
+    let P : RequestHead → Type 0 = λ x. (asked x ≡ Ok b) → length (body_of bytes x) < b.length in
+    subst P same (λ eb. shorter bytes h a b (sym e ∙ eb) short) is
+
+pub judged_head : (bytes : List ℕ) (h : RequestHead) (a : Asked) (ended : Bool) (r : Result Look RequestFault) → Stands (front bytes) h → asked h ≡ Ok a → Finishes a (body_of bytes h) ended r → Judges bytes ended r
+judged_head bytes h a ended (Ok (Whole d)) s e f = follows bytes h (Ok a) ended (Ok d) s e f
+judged_head bytes h a ended (Ok (Wants n)) s e f = (f.0, not_whole bytes h a s e f.1)
+judged_head bytes h a ended (Err request.Empty) s e f = absurd f
+judged_head bytes h a ended (Err (request.Http g)) s e f = follows bytes h (Ok a) ended (Err g) s e f
+judged_head bytes h a ended (Err request.Read) s e f = f
+judged_head bytes h a ended (Err request.Reads) s e f = f
+judged_head bytes h a ended (Err request.Memory) s e f = tt
+
+pub judged_refused : (bytes : List ℕ) (ended : Bool) (e : Refused) → HeadIs (front bytes) (Err e) → Judges bytes ended (Err (request_fault e))
+judged_refused bytes ended (refused.Http f) h = judged_fault bytes ended f h
+judged_refused bytes ended refused.Memory h = tt
+
+pub judged_body : (bytes : List ℕ) (n : ℕ) (a : Asked) (ended : Bool) (r : Result Look RequestFault)
+    → ((h : RequestHead) × Stands (front bytes) h × (n ≡ length (print_request h)) × (n ≤ length (front bytes)) × (asked h ≡ Ok a))
+    → Finishes a (drop n bytes) ended r → Judges bytes ended r
+judged_body bytes n a ended r w f =
+    let P : ℕ → Type 0 = λ m. Finishes a (drop m bytes) ended r in
+    judged_head bytes w.0 a ended r w.1 w.4 (subst P w.2 f)
+
+pub ended_in_head : (bytes : List ℕ) (ended : Bool) → ended ≡ true → 0 < length bytes → length bytes < 16384 → HasNoRequest (front bytes) → CallsFor bytes ended (Err BadHead)
+ended_in_head bytes ended e some short none =
+    let P : List ℕ → Type 0 = λ b. HasNoRequest b in
+    inr (inl (refl, inr (e, some, short, subst P (front_short bytes short) none)))
+
+pub front_within : (bytes : List ℕ) (n : ℕ) → n ≤ length (front bytes) → n ≤ length bytes
+front_within bytes n h = omega (arith, length-take 16384 bytes)

@@ -1,0 +1,4 @@
+pub mod Digits
+pub mod Judging
+pub mod Longer
+pub mod Telling

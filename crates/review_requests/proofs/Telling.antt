@@ -1,0 +1,87 @@
+-- From a look at the bytes to what is told of them.
+use Rattle.std.proofs.Common.{◌≡◌, ◌<◌, ◌≤◌, ◌+◌, ◌++◌, min, zero, suc, refl, arith, sym, ap, subst, ◌∙◌, ℕ, List, [], length, length-append, append-nil, Bool, true, false, not, true≢false, Option, Some, None, Result, Ok, Err, IfSome}
+use Rattle.review_words.specs.declared.command.Delivery.{Delivery}
+use Rattle.review_counted.specs.Bytes.{Gave, IsBrought}
+use Rattle.review_counted.specs.Counts.{greatest, one_more}
+use Rattle.review_counted.proofs.Given.{gave_more}
+use Rattle.review_requests.specs.Wire.{CallsFor, IsNotWhole}
+use Rattle.review_requests.specs.declared.judge.Look.{Look}
+use Rattle.review_requests.specs.Judged.{Judges, IsLook}
+use Rattle.review_requests.specs.Told.{IsTold, WasTold, IsToldOfInput}
+use Rattle.review_requests.specs.declared.fault.RequestFault.{RequestFault}
+use Rattle.review_requests.specs.declared.fault.RequestFault.TheVariants.{Empty, Http, Read, Reads, Memory}
+use Rattle.review_requests.proofs.Longer.{whole}
+
+-- what a look of this value says
+pub look_at : (bytes : List ℕ) (ended : Bool) (x y : Look) → x ≡ y → IsLook bytes ended (Ok x) → IsLook bytes ended (Ok y)
+look_at bytes ended x y e h = subst (λ (z : Look). IsLook bytes ended (Ok z)) e h
+
+pub judged_at : (bytes : List ℕ) (ended : Bool) (x y : Look) → x ≡ y → Judges bytes ended (Ok x) → Judges bytes ended (Ok y)
+judged_at bytes ended x y e h = subst (λ (z : Look). Judges bytes ended (Ok z)) e h
+
+-- a delivery that the bytes call for is what is told
+pub called : (a b : Option (List ℕ)) (bytes slice : List ℕ) (ended : Bool) (d : Delivery) → Gave a b bytes ended → slice ≡ bytes → CallsFor slice ended (Ok d) → WasTold a b (Ok d)
+called a b bytes slice ended d g e c = record { bytes = bytes; ended = ended; gave = g; told = subst (λ (x : List ℕ). CallsFor x ended (Ok d)) e c }
+
+judged : (a b : Option (List ℕ)) (bytes : List ℕ) (ended : Bool) (f : RequestFault) → Gave a b bytes ended → Judges bytes ended (Err f) → WasTold a b (Err f)
+judged a b bytes ended Empty g j = record { bytes = bytes; ended = ended; gave = g; told = j }
+judged a b bytes ended (Http f) g j = record { bytes = bytes; ended = ended; gave = g; told = j }
+judged a b bytes ended Read g j = absurd j
+judged a b bytes ended Reads g j = absurd j
+judged a b bytes ended Memory g j = record { bytes = bytes; ended = ended; gave = g; told = tt }
+
+-- so is a fault
+pub faulted : (a b : Option (List ℕ)) (bytes slice : List ℕ) (ended : Bool) (f : RequestFault) → Gave a b bytes ended → slice ≡ bytes → Judges slice ended (Err f) → WasTold a b (Err f)
+faulted a b bytes slice ended f g e j = judged a b bytes ended f g (subst (λ (x : List ℕ). Judges x ended (Err f)) e j)
+
+-- and that so many reads weren't enough
+pub unfinished : (a b : Option (List ℕ)) (bytes slice : List ℕ) (ended : Bool) (k : ℕ) → Gave a b bytes ended → slice ≡ bytes → (ended ≡ false → k ≤ length bytes) → 4096 ≤ k → (ended ≡ false) × IsNotWhole slice → WasTold a b (Err Reads)
+unfinished a b bytes slice ended k g e some many w =
+    let long = some w.0 in
+    record { bytes = bytes; ended = ended; gave = g; told = (w.0, omega (arith, long, many), subst (λ (x : List ℕ). IsNotWhole x) e w.1) }
+
+-- a read that brought nothing to keep
+pub stopped : (a b c : Option (List ℕ)) (bytes piece : List ℕ) (ended end : Bool) (f : RequestFault) → Gave a b bytes ended → Gave b c piece end → ((x : List ℕ) (e : Bool) → IsTold x e (Err f)) → WasTold a c (Err f)
+stopped a b c bytes piece ended end f g h t = record { bytes = bytes ++ piece; ended = end; gave = gave_more a b c bytes piece ended end g h; told = t _ _ }
+
+-- what came is put behind what was there
+pub gave_read : (a b c : Option (List ℕ)) (bytes piece new : List ℕ) (ended end came : Bool) → Gave a b bytes ended → Gave b c piece end → IsBrought (Ok came) piece end bytes new → Gave a c new (not came)
+gave_read a b c bytes piece new ended end true g h w =
+    let P : List ℕ → Type 0 = λ x. Gave a c x false in
+    let Q : Bool → Type 0 = λ x. Gave a c (bytes ++ piece) x in
+    subst P (sym w.2) (subst Q w.0 (gave_more a b c bytes piece ended end g h))
+gave_read a b c bytes piece new ended end false g h w =
+    let P : List ℕ → Type 0 = λ x. Gave a c x true in
+    let Q : Bool → Type 0 = λ x. Gave a c (bytes ++ piece) x in
+    let same : bytes ++ piece ≡ new = ap (λ x. bytes ++ x) w.1 ∙ (append-nil bytes ∙ sym w.2) in
+    subst P same (subst Q w.0 (gave_more a b c bytes piece ended end g h))
+
+-- each read that ended nothing gave a byte or more
+pub gave_some : (bytes piece new : List ℕ) (end came : Bool) (k : ℕ) → k ≤ length bytes → IsBrought (Ok came) piece end bytes new → not came ≡ false → k + 1 ≤ length new
+gave_some bytes piece new end true k some w e = omega (arith, some, w.1, ap length w.2, length-append bytes piece)
+gave_some bytes piece new end false k some w e = absurd (true≢false e)
+
+-- one read more
+pub one_read : (old now new k : ℕ) → (k ≡ 0 → now ≡ old) → (0 < k → now ≡ min (old + k) greatest) → new ≡ one_more now → new ≡ min (old + (k + 1)) greatest
+one_read old now new zero z s e = let f : now ≡ old = z refl in omega (arith, e, f)
+one_read old now new (suc k) z s e = let f : now ≡ min (old + suc k) greatest = s (omega arith) in omega (arith, e, f)
+
+none_left : (input bytes : List ℕ) (left : Option (List ℕ)) (ended : Bool) → Gave (Some input) left bytes ended → ended ≡ true → bytes ≡ [] → input ≡ []
+none_left input bytes None ended g e n = absurd g.gives
+none_left input bytes (Some rest) ended g e n =
+    let none : rest ≡ [] = g.end e in
+    g.gives ∙ (ap (λ r. bytes ++ r) none ∙ (append-nil bytes ∙ n))
+
+as_long : (input bytes : List ℕ) (left : Option (List ℕ)) (ended : Bool) → Gave (Some input) left bytes ended → 4096 ≤ length bytes → 4096 ≤ length input
+as_long input bytes None ended g h = absurd g.gives
+as_long input bytes (Some rest) ended g h = omega (arith, h, ap length g.gives, length-append bytes rest)
+
+-- what was told of the bytes that were read is so of the whole input
+pub told_whole : (a b : Option (List ℕ)) (r : Result Delivery RequestFault) → WasTold a b r → IfSome a (λ input. IsToldOfInput input r)
+told_whole None b r w = tt
+told_whole (Some input) b (Ok d) w = whole input w.bytes b w.ended (Ok d) w.gave w.told
+told_whole (Some input) b (Err Empty) w = none_left input w.bytes b w.ended w.gave w.told.0 w.told.1
+told_whole (Some input) b (Err (Http f)) w = whole input w.bytes b w.ended (Err f) w.gave w.told
+told_whole (Some input) b (Err Read) w = tt
+told_whole (Some input) b (Err Reads) w = as_long input w.bytes b w.ended w.gave w.told.1
+told_whole (Some input) b (Err Memory) w = tt

@@ -1,0 +1,98 @@
+-- What a head asks for, or the first of its faults.
+use Rattle.std.specs.Prelude.{ℕ, List, map, Bool, ◌==◌, nat_le, if◌then◌else◌, Option, Some, None, option_and_then, codes, Result, Ok, Err}
+use Rattle.std.specs.List.{before_first}
+use Rattle.httparse.specs.Grammar.{RequestHead}
+use Rattle.httparse.specs.Spans.{name_and_value}
+use Rattle.review_names.specs.Names.{is_word}
+use Rattle.review_names.specs.Numerals.{account_of}
+use Rattle.review_routes.specs.Texts.{name_of_bytes}
+use Rattle.review_routes.specs.Questions.{is_question, needs_body}
+use Rattle.review_routes.specs.declared.route.Route.{Route}
+use Rattle.review_paths.specs.Resources.{resource_of}
+use Rattle.review_paths.specs.Methods.{route_of}
+use Rattle.review_paths.specs.declared.fault.HttpFault.{HttpFault}
+use Rattle.review_paths.specs.declared.fault.HttpFault.TheVariants.{BadHead, NoRoute, Method, NoCaller, NoRequestId, LengthRequired, TooLarge}
+use Rattle.review_paths.specs.declared.methods.Methods.{Methods}
+use Rattle.review_paths.specs.declared.resources.Resource.{Resource}
+use Rattle.review_requests.specs.declared.asked.Asked.{Asked}
+use Rattle.review_requests.specs.Faults.{or_fault, ◌>>=◌}
+use Rattle.review_requests.specs.Fields.{Fields, Occurs, absent, once, again, occurs, one_value, number_shown}
+
+-- ---- where it goes
+
+-- the path of a target, up to a `?`
+abbrev pub path_of : List ℕ → List ℕ
+path_of target = before_first (λ b. b == 63) target
+
+-- the route, or that the method is none of the resource's
+abbrev pub or_method : Result Route Methods → Result Route HttpFault
+or_method (Ok route) = Ok route
+or_method (Err methods) = Err (Method methods)
+
+-- what a method asks of a resource
+abbrev pub method_of : List ℕ → Resource → Result Route HttpFault
+method_of method resource = or_method (route_of method resource)
+
+-- what the path names, and what the method asks of it
+abbrev pub routed : List ℕ → List ℕ → Result Route HttpFault
+routed method path = or_fault NoRoute (resource_of path) >>= method_of method
+
+-- the same by the target, of which the path is a part
+unfoldable pub routed_by : List ℕ → List ℕ → Result Route HttpFault
+routed_by method target = routed method (path_of target)
+
+-- ---- who asks, under which id
+
+-- one field `X-Account`, the number of an account
+unfoldable pub caller_of : Fields → Result ℕ HttpFault
+caller_of fields = or_fault NoCaller (option_and_then account_of (one_value (occurs (codes "x-account") fields)))
+
+-- one field `Request-Id`, of the form of a request's id
+unfoldable pub id_of : Fields → Result (List ℕ) HttpFault
+id_of fields = or_fault NoRequestId (option_and_then (name_of_bytes is_word) (one_value (occurs (codes "request-id") fields)))
+
+-- an id that is there
+abbrev pub some_id : List ℕ → Result (Option (List ℕ)) HttpFault
+some_id id = Ok (Some id)
+
+-- the id of a request; a question has none
+abbrev pub id_for : Route → Fields → Result (Option (List ℕ)) HttpFault
+id_for route fields = if is_question route then Ok None else id_of fields >>= some_id
+
+-- ---- how long its body is
+
+-- a body has at most 262,144 bytes
+abbrev pub capped : ℕ → Result ℕ HttpFault
+capped n = if nat_le n 262144 then Ok n else Err TooLarge
+
+-- one field `Content-Length` of digits, or none where no body is needed
+abbrev pub length_from : Bool → Occurs → Result ℕ HttpFault
+length_from is_needed absent = if is_needed then Err LengthRequired else Ok 0
+length_from is_needed (once value) = or_fault BadHead (number_shown value) >>= capped
+length_from is_needed again = Err BadHead
+
+-- a length, where there is no `Transfer-Encoding`
+abbrev pub unless_coded : Occurs → Result ℕ HttpFault → Result ℕ HttpFault
+unless_coded absent length = length
+unless_coded (once value) length = Err LengthRequired
+unless_coded again length = Err LengthRequired
+
+-- no field `Transfer-Encoding`, and a length
+unfoldable pub length_of : Bool → Fields → Result ℕ HttpFault
+length_of is_needed fields = unless_coded (occurs (codes "transfer-encoding") fields) (length_from is_needed (occurs (codes "content-length") fields))
+
+-- how many bytes the body has; a question has none, whatever is said of it
+abbrev pub length_for : Route → Fields → Result ℕ HttpFault
+length_for route fields = if is_question route then Ok 0 else length_of (needs_body route) fields
+
+-- ---- all of it
+
+-- what a head asks for; the first fault counts
+unfoldable pub asked_by : List ℕ → List ℕ → Fields → Result Asked HttpFault
+asked_by method target fields =
+    routed_by method target >>= λ route. caller_of fields >>= λ caller. id_for route fields >>= λ id. length_for route fields
+    >>= λ n. Ok (record { caller = caller; id = id; route = route; length = n })
+
+-- what a head asks for, by its method, its target and its fields
+abbrev pub asked : RequestHead → Result Asked HttpFault
+asked head = asked_by head.method head.target (map name_and_value head.fields)

@@ -1,0 +1,62 @@
+-- What a look at the bytes so far says of them.
+use Rattle.std.specs.Prelude.{◌≡◌, ◌≤◌, ◌⊎◌, ◌<◌, ℕ, List, [], length, drop, Bool, true, false, Result, Ok, Err}
+use Rattle.httparse.specs.Grammar.{RequestHead, ReadsRequest, HasNoRequest, NeverHasRequest, print_request}
+use Rattle.review_paths.specs.declared.fault.HttpFault.TheVariants as faults
+use Rattle.review_paths.specs.declared.fault.HttpFault.{HttpFault}
+use Rattle.review_requests.specs.declared.fault.Refused.{Refused}
+use Rattle.review_requests.specs.declared.fault.Refused.TheVariants.{Http, Memory}
+use Rattle.review_requests.specs.declared.asked.Asked.{Asked}
+use Rattle.review_requests.specs.declared.judge.Look.{Look}
+use Rattle.review_requests.specs.declared.judge.Look.TheVariants.{Whole, Wants}
+use Rattle.review_requests.specs.declared.judge.Head.{Head}
+use Rattle.review_requests.specs.declared.judge.Head.TheVariants.{Asks, Partial}
+use Rattle.review_requests.specs.declared.fault.RequestFault.{RequestFault}
+use Rattle.review_requests.specs.declared.fault.RequestFault.TheVariants as request
+use Rattle.review_requests.specs.Heads.{asked}
+use Rattle.review_requests.specs.Wire.{Follows, CallsFor, IsNotWhole, HasManyFields}
+
+-- a head of few fields stands at the front
+abbrev pub Stands : List ℕ → RequestHead → Type 0
+Stands buf h = ReadsRequest buf h (drop (length (print_request h)) buf) × (length h.fields ≤ 64)
+
+-- a fault of a head that stands there, or of one that can't
+abbrev pub IsFaultOf : List ℕ → HttpFault → Type 0
+IsFaultOf buf f =
+    ((h : RequestHead) × Stands buf h × (asked h ≡ Err f)) ⊎ ((f ≡ faults.BadHead) × NeverHasRequest buf)
+    ⊎ ((f ≡ faults.HeadTooLarge) × HasManyFields buf)
+
+abbrev pub HeadIs : List ℕ → Result Head Refused → Type 0
+HeadIs buf (Ok (Asks n a)) = (h : RequestHead) × Stands buf h × (n ≡ length (print_request h)) × (n ≤ length buf) × (asked h ≡ Ok a)
+HeadIs buf (Ok Partial) = HasNoRequest buf
+HeadIs buf (Err (Http f)) = IsFaultOf buf f
+HeadIs buf (Err Memory) = Unit {0}
+
+-- what the bytes after a head, and the end of the input, say of what it asked for
+abbrev pub Finishes : Asked → List ℕ → Bool → Result Look RequestFault → Type 0
+Finishes a rest ended (Ok (Whole d)) = Follows (Ok a) rest ended (Ok d)
+Finishes a rest ended (Ok (Wants n)) = (ended ≡ false) × (length rest < a.length)
+Finishes a rest ended (Err request.Empty) = ⊥
+Finishes a rest ended (Err (request.Http f)) = Follows (Ok a) rest ended (Err f)
+Finishes a rest ended (Err request.Read) = ⊥
+Finishes a rest ended (Err request.Reads) = ⊥
+Finishes a rest ended (Err request.Memory) = Unit {0}
+
+-- the delivery or the fault of the bytes, where they are enough for one
+abbrev pub Judges : List ℕ → Bool → Result Look RequestFault → Type 0
+Judges bytes ended (Ok (Whole d)) = CallsFor bytes ended (Ok d)
+Judges bytes ended (Ok (Wants n)) = (ended ≡ false) × IsNotWhole bytes
+Judges bytes ended (Err request.Empty) = (ended ≡ true) × (bytes ≡ [])
+Judges bytes ended (Err (request.Http f)) = CallsFor bytes ended (Err f)
+Judges bytes ended (Err request.Read) = ⊥
+Judges bytes ended (Err request.Reads) = ⊥
+Judges bytes ended (Err request.Memory) = Unit {0}
+
+abbrev pub request_fault : Refused → RequestFault
+request_fault (Http f) = request.Http f
+request_fault Memory = request.Memory
+
+-- a look at the bytes, which may wait for more where the reader has not ended
+abbrev pub IsLook : List ℕ → Bool → Result Look RequestFault → Type 0
+IsLook bytes ended (Ok (Whole d)) = CallsFor bytes ended (Ok d)
+IsLook bytes ended (Ok (Wants n)) = ended ≡ false
+IsLook bytes ended (Err fault) = Judges bytes ended (Err fault)

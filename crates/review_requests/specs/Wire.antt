@@ -1,0 +1,71 @@
+-- The delivery or the fault that the bytes of a request call for.
+use Rattle.std.specs.Prelude.{◌≡◌, ◌<◌, ◌≤◌, ◌⊎◌, ℕ, List, length, take, drop, Bool, true, Option, Some, None, option_map, Result, Ok, Err}
+use Rattle.httparse.specs.Grammar.{RequestHead, ReadsRequest, HasNoRequest, NeverHasRequest, print_request}
+use Rattle.httparse.specs.Spans.{RequestExceeds, RequestOverflows}
+use Rattle.review_words.specs.declared.command.Delivery.{Delivery}
+use Rattle.review_words.specs.declared.command.Delivery.TheVariants.{Write, Read}
+use Rattle.review_routes.specs.declared.route.Route.{Route}
+use Rattle.review_routes.specs.Commands.{command_of}
+use Rattle.review_routes.specs.Questions.{query_of}
+use Rattle.review_paths.specs.declared.fault.HttpFault.{HttpFault}
+use Rattle.review_paths.specs.declared.fault.HttpFault.TheVariants.{BadHead, HeadTooLarge, BadBody}
+use Rattle.review_requests.specs.declared.asked.Asked.{Asked}
+use Rattle.review_requests.specs.Faults.{or_fault}
+use Rattle.review_requests.specs.Heads.{asked}
+
+-- the question that a route is, or the command that a body completes it to
+abbrev pub delivered_by : ℕ → Option (List ℕ) → Route → List ℕ → Option Delivery
+delivered_by caller None route body = option_map (λ query. Read caller query) (query_of route)
+delivered_by caller (Some id) route body = option_map (λ command. Write caller id command) (command_of route body)
+
+-- the delivery that a body completes what was asked for to
+abbrev pub delivered : Asked → List ℕ → Option Delivery
+delivered a body = delivered_by a.caller a.id a.route body
+
+-- the same, or that the body is bad
+unfoldable pub delivery_of : Asked → List ℕ → Result Delivery HttpFault
+delivery_of a body = or_fault BadBody (delivered a body)
+
+-- the bytes that alone are looked at for a head
+abbrev pub front : List ℕ → List ℕ
+front bytes = take 16384 bytes
+
+-- a head of at most 64 fields stands at the front
+pub record HasHead (bytes : List ℕ) (head : RequestHead) : Type 0 where
+  pub reads : ReadsRequest (front bytes) head (drop (length (print_request head)) (front bytes))
+  pub few : length head.fields ≤ 64
+
+-- the bytes after the head
+abbrev pub body_of : List ℕ → RequestHead → List ℕ
+body_of bytes head = drop (length (print_request head)) bytes
+
+-- no bytes that can follow make a head of it, or the input ended within the head
+abbrev pub IsBadHead : List ℕ → Bool → Type 0
+IsBadHead bytes ended =
+    NeverHasRequest (front bytes) ⊎ ((ended ≡ true) × (0 < length bytes) × (length bytes < 16384) × HasNoRequest bytes)
+
+-- more than 64 fields stand in it, and whatever follows, in any head that it becomes
+abbrev pub HasManyFields : List ℕ → Type 0
+HasManyFields bytes = RequestExceeds 64 bytes × RequestOverflows 64 bytes
+
+-- no whole head in the first 16,384 bytes, or more than 64 fields
+abbrev pub IsHeadTooLarge : List ℕ → Type 0
+IsHeadTooLarge bytes = ((16384 ≤ length bytes) × HasNoRequest (front bytes)) ⊎ HasManyFields (front bytes)
+
+-- what follows from what a head asks for and the bytes after it: its fault; or what the body says, once it is there; or that the input ended within it
+abbrev pub Follows : Result Asked HttpFault → List ℕ → Bool → Result Delivery HttpFault → Type 0
+Follows (Err fault) rest ended outcome = outcome ≡ Err fault
+Follows (Ok a) rest ended outcome =
+    ((a.length ≤ length rest) × (outcome ≡ delivery_of a (take a.length rest)))
+    ⊎ ((length rest < a.length) × (ended ≡ true) × (outcome ≡ Err BadBody))
+
+-- The delivery or the fault that these bytes call for, where the reader ended after them or not. Where a head is malformed and also too large, it is either fault.
+abbrev pub CallsFor : List ℕ → Bool → Result Delivery HttpFault → Type 0
+CallsFor bytes ended outcome =
+    ((head : RequestHead) × HasHead bytes head × Follows (asked head) (body_of bytes head) ended outcome)
+    ⊎ ((outcome ≡ Err BadHead) × IsBadHead bytes ended)
+    ⊎ ((outcome ≡ Err HeadTooLarge) × IsHeadTooLarge bytes)
+
+-- the head isn't there, or its body isn't there in full
+abbrev pub IsNotWhole : List ℕ → Type 0
+IsNotWhole bytes = (head : RequestHead) (a : Asked) → HasHead bytes head → asked head ≡ Ok a → length (body_of bytes head) < a.length

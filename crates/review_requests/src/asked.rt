@@ -1,0 +1,15 @@
+//! What a head asks for.
+
+use review_routes::Route;
+use review_words::{AccountNo, RequestId};
+
+/// What a head asks for. Its body is still to come.
+#[derive(Debug, Drop)]
+pub struct Asked {
+    pub caller: AccountNo,
+    /// None of a question.
+    pub id: Option<RequestId>,
+    pub route: Route,
+    /// How many bytes the body has, at most 262,144.
+    pub length: usize,
+}
