@@ -69,12 +69,7 @@ pub fn work_on(
 }
 
 /// Serves so many connections on a port, and says how many once the file is closed.
-pub fn serve(
-    rt: &HostRuntime,
-    file: &str,
-    port: u16,
-    count: u32,
-) -> Result<Outcome, ProgramFault> {
+pub fn serve(rt: &HostRuntime, file: &str, port: u16, count: u32) -> Result<Outcome, ProgramFault> {
     let outcome = work_on(rt, file, port, &Task::Serve { count })?;
     match println!(rt; "served {count}") {
         Ok(()) => Ok(outcome),

@@ -35,5 +35,12 @@ pub fn serve_one<R: Read, W: Write, S: Shelf>(
     let Ok(routes) = Routes::new(alloc) else {
         return Err(ServeFault::Memory);
     };
-    serve_request(alloc, &routes, reader, writer, shelf, &mut DeskRules::new(alloc))
+    serve_request(
+        alloc,
+        &routes,
+        reader,
+        writer,
+        shelf,
+        &mut DeskRules::new(alloc),
+    )
 }

@@ -7,7 +7,9 @@ pub enum Task {
     /// Takes the deliveries of the lines of the reader.
     Apply,
     /// Serves so many connections over HTTP, one after the other.
-    Serve { count: u32 },
+    Serve {
+        count: u32,
+    },
     /// Shows a change.
     Show {
         change: ChangeNo,
