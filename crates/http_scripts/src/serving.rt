@@ -1,0 +1,138 @@
+//! A request, served twice.
+
+use crate::fault::Fault;
+use crate::peers::{Failing, Pieces, Written};
+use review_counted::Counted;
+use review_http::{ServeFault, Served};
+use review_machine::{FaultyShelf, MemoryShelf, serve_one};
+use review_names::{AccountNo, RequestId};
+use review_rows::Shelf;
+use std::alloc::{AllocError, Global};
+
+/// How a request is to be served.
+pub struct How<'a> {
+    piece: usize,
+    first: usize,
+    read: u64,
+    write: u64,
+    call: u64,
+    padding: usize,
+    text: &'a str,
+}
+
+/// The next word of a line as a number, and the rest.
+fn number(line: &str) -> Option<(u32, &str)> {
+    let (word, rest) = line.split_once(" ")?;
+    Some((word.parse().ok()?, rest))
+}
+
+impl How<'_> {
+    /// What a line says, if it is one.
+    pub fn read(line: &str) -> Option<How<'_>> {
+        let rest = line.strip_prefix("serve ")?;
+        let (piece, rest) = number(rest)?;
+        let (first, rest) = number(rest)?;
+        let (read, rest) = number(rest)?;
+        let (write, rest) = number(rest)?;
+        let (call, rest) = number(rest)?;
+        let (padding, text) = number(rest)?;
+        Some(How {
+            piece: piece as usize,
+            first: first as usize,
+            read: read as u64,
+            write: write as u64,
+            call: call as u64,
+            padding: padding as usize,
+            text,
+        })
+    }
+}
+
+/// The bytes that are sent.
+fn sent(alloc: Global, how: &How<'_>) -> Result<Vec<u8>, AllocError> {
+    let mut bytes = Vec::new(alloc);
+    for part in how.text.split("|") {
+        if !bytes.is_empty() {
+            bytes.extend_from_slice(b"\r\n")?;
+        }
+        bytes.extend_from_slice(part.as_bytes())?;
+    }
+    for _ in 0..how.padding {
+        bytes.push(b' ')?;
+    }
+    if how.first > 0 {
+        bytes.truncate(how.first);
+    }
+    Ok(bytes)
+}
+
+/// The JSON of a response: what stands between its last two line feeds.
+fn json_of(response: &str) -> &str {
+    let text = response.strip_suffix("\n").unwrap_or(response);
+    match text.rsplit_once("\n") {
+        Some((_, json)) => json,
+        None => text,
+    }
+}
+
+fn fault_word(fault: ServeFault) -> &'static str {
+    match fault {
+        ServeFault::Read => "read fault",
+        ServeFault::Reads => "too many reads",
+        ServeFault::Write => "write fault",
+        ServeFault::Memory => "no memory",
+    }
+}
+
+/// Serves a request on a shelf, and tells what came of it.
+fn told<S: Shelf>(
+    alloc: Global,
+    shelf: &mut S,
+    how: &How<'_>,
+    bytes: &[u8],
+    fails: bool,
+) -> Result<String, AllocError> {
+    let mut reader = Counted::new(Pieces {
+        bytes,
+        piece: how.piece,
+        failing: Failing::at(if fails { how.read } else { 0 }),
+    });
+    let mut written = Written {
+        bytes: Vec::new(alloc),
+        failing: Failing::at(if fails { how.write } else { 0 }),
+    };
+    let served = {
+        let mut writer = Counted::new(&mut written);
+        serve_one(alloc, &mut reader, &mut writer, shelf)
+    };
+    let count = written.bytes.len();
+    match served {
+        Ok(Served::Answered(status)) => {
+            let response = str::from_utf8(written.bytes.as_slice()).unwrap_or("no text");
+            format!(in alloc; "{status} {}", json_of(response))
+        }
+        Ok(Served::Empty) => format!(in alloc; "nothing, {count} bytes"),
+        Err(fault) => format!(in alloc; "{}, {count} bytes", fault_word(fault)),
+    }
+}
+
+/// Whether the request `a1` of account 1 is kept.
+fn kept_word<S: Shelf>(alloc: Global, shelf: &mut S) -> Result<&'static str, Fault> {
+    let id = RequestId::read(alloc, "a1")?;
+    match shelf.recall(alloc, AccountNo::first(), &id) {
+        Ok(Some(_)) => Ok("kept"),
+        Ok(None) => Ok("not kept"),
+        Err(_) => Ok("a fault"),
+    }
+}
+
+/// What two equal requests get, one after the other, of which the first meets what fails.
+pub fn both_told(alloc: Global, how: &How<'_>) -> Result<String, Fault> {
+    let bytes = sent(alloc, how)?;
+    let mut shelf = FaultyShelf::new(MemoryShelf::new(alloc)?, how.call);
+    let first = told(alloc, &mut shelf, how, bytes.as_slice(), true)?;
+    let first_kept = kept_word(alloc, &mut shelf)?;
+    let second = told(alloc, &mut shelf, how, bytes.as_slice(), false)?;
+    let second_kept = kept_word(alloc, &mut shelf)?;
+    Ok(format!(in alloc; "{first}, {first_kept}; {second}, {second_kept}")?)
+}
