@@ -1,9 +1,10 @@
 -- Parts of lines in the bytes that were read.
-use Rattle.std.proofs.Common.{◌≡◌, ◌<◌, ◌≤◌, ◌+◌, ◌-◌, ◌++◌, ℕ, List, ◌∷◌, length, take, drop, true, Some, None, arith, sym, ap, ◌∙◌, slice_range, drop-cons, drop-drop, add-one, length-take}
+use Rattle.std.proofs.Common.{◌≡◌, ◌<◌, ◌≤◌, ◌+◌, ◌-◌, ◌++◌, ℕ, List, ◌∷◌, length, take, drop, true, Option, Some, None, arith, sym, ap, ◌∙◌, slice_range, drop-cons, drop-drop, add-one, length-take}
 use Rattle.std.proofs.lemmas.List.{get_or_default, get_or-take, take-append-drop, drop-take}
 use Rattle.std.proofs.lemmas.Bool.{eqb-true, eq-eqb}
 use Rattle.memchr.specs.Find.{IsFirstByte, is_byte}
-use Rattle.review_lines.specs.Lines.{HasNoEnd, GavePart, line_feed}
+use Rattle.std.specs.Prelude.{is_some}
+use Rattle.review_lines.specs.Lines.{HasNoEnd, HoldsEnd, GavePart, line_feed}
 
 -- no line ends where no line feed was found
 pub none_found : (bytes : List ℕ) → IsFirstByte (is_byte 10) bytes None → HasNoEnd bytes
@@ -22,6 +23,11 @@ none_before bytes at found = λ k d lt is.
     let below : k < at = omega (arith, length-take at bytes) in
     let within : k < length bytes = omega (arith, found.0.high) in
     found.0.before k (omega arith) below (eq-eqb _ _ (get_or_default bytes k 0 d within ∙ sym (get_or-take at bytes k d below) ∙ is))
+
+-- whether a line ends, from whether a line feed was found
+pub holds_end : (bytes : List ℕ) (found : Option ℕ) → IsFirstByte (is_byte 10) bytes found → HoldsEnd (is_some found) bytes
+holds_end bytes None none = none_found bytes none
+holds_end bytes (Some at) found = λ none. none at 0 found.0.high (eqb-true _ _ found.1)
 
 -- what is left of a part of a list without some of its front
 pub advanced : (xs : List ℕ) (a e n : ℕ) → n ≤ length (slice_range xs a e) → slice_range xs (a + n) e ≡ drop n (slice_range xs a e)

@@ -7,4 +7,5 @@ use Rattle.review_lines.specs.declared.lines.LineFault.TheVariants as line
 -- why a line is not read, as the fault of the command
 abbrev pub fault_of : LineFault → Fault
 fault_of line.Input = Input
+fault_of line.Endless = Input
 fault_of line.Memory = Memory

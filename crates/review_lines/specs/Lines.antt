@@ -9,6 +9,10 @@ use Rattle.review_lines.specs.declared.lines.Line.TheVariants.{Whole, TooLong}
 abbrev pub most_bytes : ℕ
 most_bytes = 400000
 
+-- the most reads of an input
+abbrev pub most_reads : ℕ
+most_reads = 1000000000
+
 -- the byte that ends a line
 abbrev pub line_feed : ℕ
 line_feed = 10
@@ -25,6 +29,11 @@ IsLineOf TooLong given = most_bytes < length given
 -- no byte ends a line
 abbrev pub HasNoEnd : List ℕ → Type 0
 HasNoEnd bytes = All (λ b. b ≢ line_feed) bytes
+
+-- whether a byte ends a line
+abbrev pub HoldsEnd : Bool → List ℕ → Type 0
+HoldsEnd true bytes = HasNoEnd bytes → ⊥
+HoldsEnd false bytes = HasNoEnd bytes
 
 -- what is left of an input gave these bytes and then the end of a line, or these, at least one, and then the end of the input
 abbrev pub GaveLine : Option (List ℕ) → Option (List ℕ) → List ℕ → Type 0

@@ -35,7 +35,7 @@ impl From<LineFault> for Fault {
 
     fn from(fault: LineFault) -> Fault {
         match fault {
-            LineFault::Input => Fault::Input,
+            LineFault::Input | LineFault::Endless => Fault::Input,
             LineFault::Memory => Fault::Memory,
         }
     }

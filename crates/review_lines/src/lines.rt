@@ -1,7 +1,7 @@
 //! The lines of an input.
-ghost use Rattle.std.specs.Prelude.{◌≡◌, ◌≤◌, ◌++◌, ◌∷◌, [], ℕ, List, length, drop, ◌==◌, true, false, IfOk, OnOk, OnErr};
+ghost use Rattle.std.specs.Prelude.{◌≡◌, ◌≤◌, ◌+◌, ◌++◌, ◌∷◌, [], ℕ, List, length, drop, ◌==◌, true, false, Err, IfOk, OnOk, OnErr};
 ghost use Rattle.std.specs.Io.KnownBytes.{Consumes, IsAtEnd, Keeps, prepend_known};
-ghost use Rattle.review_lines.specs.Lines.{IsLineOf, HasNoEnd, IsNext, GavePart};
+ghost use Rattle.review_lines.specs.Lines.{IsLineOf, HasNoEnd, HoldsEnd, IsNext, GavePart, most_reads};
 
 use memchr::memchr;
 use std::alloc::{AllocError, Global};
@@ -142,8 +142,10 @@ impl Piece {
 /// Why no line was read.
 #[derive(Clone, Copy, Debug, PartialEq, Eq)]
 pub enum LineFault {
-    /// The reader failed, or gave no end in 1,000,000,000 reads.
+    /// The reader failed.
     Input,
+    /// The reader gave no end in 1,000,000,000 reads.
+    Endless,
     /// There was no memory for the line.
     Memory,
 }
@@ -184,9 +186,11 @@ impl<R: Read + Drop> Lines<R> {
         requires taken { self.old.piece ≡ [] }
         ensures kept { OnOk result (Consumes (prepend_known self.old.piece (R.remaining self.old.reader)) (prepend_known self.new.piece (R.remaining self.new.reader)) []) }
         ensures end { IfOk result (λ came. came ≡ false → IsAtEnd (prepend_known self.new.piece (R.remaining self.new.reader))) }
+        ensures counted { OnOk result (self.new.reads ≡ self.old.reads + 1) }
+        ensures endless { result ≡ Err LineFault.Endless → (self.new.reads ≡ self.old.reads) × (most_reads ≤ self.old.reads) }
     {
         if self.reads >= MOST_READS {
-            return Err(LineFault::Input);
+            return Err(LineFault::Endless);
         }
         self.reads += 1;
         match self.piece.fill(&mut self.reader) {
@@ -196,7 +200,9 @@ impl<R: Read + Drop> Lines<R> {
     }
 
     /// Whether the end of the next line was read.
-    pub fn holds_line(&self) -> bool {
+    pub fn holds_line(&self) -> bool
+        ensures { HoldsEnd result self.now.piece }
+    {
         memchr(b'\n', self.piece.as_slice()).is_some()
     }
 
@@ -218,6 +224,6 @@ impl<R: Read + Drop> Lines<R> {
                 return Ok(Some(line));
             }
         }
-        Err(LineFault::Input)
+        Err(LineFault::Endless)
     }
 }

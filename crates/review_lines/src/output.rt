@@ -1,5 +1,5 @@
 //! Answers on their way out.
-ghost use Rattle.std.specs.Prelude.{◌≡◌, ◌≤◌, ◌++◌, [], ℕ, List, IfErr, OnOk, OnErr, drop, length};
+ghost use Rattle.std.specs.Prelude.{◌≡◌, ◌≤◌, ◌++◌, [], ℕ, List, false, IfErr, OnOk, OnErr, drop, length};
 ghost use Rattle.review_lines.specs.declared.fault.Fault.TheVariants as fault;
 ghost use Rattle.std.specs.Io.KnownBytes.{Appends};
 ghost use Rattle.review_lines.specs.Answers.{IsPartOf};
@@ -87,6 +87,7 @@ impl Output {
     pub fn send_unless<W: Write>(&mut self, is_at_hand: bool, writer: &mut W) -> Result<(), Fault>
         ensures sent { OnOk result ((text : List ℕ) × (self.old.waiting.items ≡ text ++ self.new.waiting.items) × Appends (W.contents writer.old) (W.contents writer.new) text) }
         ensures none { OnErr result (self.new.waiting.items ≡ []) }
+        ensures all { is_at_hand ≡ false → self.new.waiting.items ≡ [] }
         ensures part { OnErr result ((part : List ℕ) × IsPartOf part self.old.waiting.items × Appends (W.contents writer.old) (W.contents writer.new) part) }
         ensures cause { IfErr result (λ e. e ≡ fault.Output) }
     {
