@@ -4,6 +4,6 @@
 //! were read to those that were written, however they were cut.
 #![tactic(auto)]
 
-mod serving;
+mod serve;
 
-pub use serving::{ServeFault, Served, serve_request};
+pub use serve::{ServeFault, Served, serve_request};

@@ -1,5 +1,5 @@
 -- No bytes, and their end, call for nothing.
-use Rattle.std.proofs.Common.{◌≡◌, ◌<◌, ◌++◌, ◌∷◌, [], length, drop, true, Result, inl, inr, refl, sym, ap, ◌∙◌, arith, append-nil, length-append, lit<, lit≤, IsTrue}
+use Rattle.std.proofs.Common.{◌≡◌, ◌⊎◌, ◌<◌, ◌++◌, ◌∷◌, [], length, drop, true, Result, Ok, Err, inl, inr, refl, sym, ap, ◌∙◌, arith, append-nil, length-append, lit<, lit≤, IsTrue}
 use Rattle.std.proofs.lemmas.List.{take_all}
 use Rattle.std.proofs.lemmas.List.Elements.{All-nil, All-cons}
 use Rattle.std.proofs.lemmas.Str.{IsUtf8-from_ascii}
@@ -8,6 +8,9 @@ use Rattle.httparse.specs.Grammar.{RequestHead, IsRequestHead, ReadsRequest, crl
 use Rattle.httparse.proofs.GrammarLemmas.{print_request-append}
 use Rattle.review_words.specs.declared.command.Delivery.{Delivery}
 use Rattle.review_paths.specs.declared.fault.HttpFault.{HttpFault}
+use Rattle.review_requests.specs.declared.fault.RequestFault.{RequestFault}
+use Rattle.review_requests.specs.declared.fault.RequestFault.TheVariants.{Empty, Http, Read, Reads, Memory}
+use Rattle.review_requests.specs.Told.{IsToldOfInput}
 use Rattle.review_requests.specs.Wire.{front, HasHead, CallsFor, IsBadHead, IsHeadTooLarge}
 
 -- a head, `G / HTTP/1.1`
@@ -60,3 +63,11 @@ pub nothing : (o : Result Delivery HttpFault) → CallsFor [] true o → ⊥
 nothing o (inl x) = no_head x.0 x.1
 nothing o (inr (inl x)) = no_bad x.1
 nothing o (inr (inr x)) = no_large x.1
+
+pub empty : (r : Result Delivery RequestFault) → IsToldOfInput [] r → (r ≡ Err Empty) ⊎ (r ≡ Err Read) ⊎ (r ≡ Err Memory)
+empty (Ok d) h = absurd (nothing (Ok d) h)
+empty (Err Empty) h = inl refl
+empty (Err (Http f)) h = absurd (nothing (Err f) h)
+empty (Err Read) h = inr (inl refl)
+empty (Err Reads) h = absurd (omega (arith, h))
+empty (Err Memory) h = inr (inr refl)

@@ -4,7 +4,10 @@ use Rattle.review_words.specs.declared.command.Delivery.{Delivery}
 use Rattle.review_counted.specs.Bytes.{Gave}
 use Rattle.review_paths.specs.declared.fault.HttpFault.{HttpFault}
 use Rattle.review_paths.specs.declared.fault.HttpFault.TheVariants.{BadHead, HeadTooLarge}
+use Rattle.review_requests.specs.declared.fault.RequestFault.{RequestFault}
+use Rattle.review_requests.specs.declared.fault.RequestFault.TheVariants.{Empty, Read, Memory}
 use Rattle.review_requests.specs.Wire.{CallsFor}
+use Rattle.review_requests.specs.Told.{IsToldOfInput}
 
 -- what the bytes call for that a reader gave, all its bytes call for
 abbrev pub CutsDoNotMatter : Type 0
@@ -23,3 +26,7 @@ CallForOneThing = (bytes : List ℕ) (ended : Bool) (outcome other : Result Deli
 -- no bytes, and the end of the input behind them, call for nothing: neither for a delivery nor for a fault
 abbrev pub NothingCallsForNothing : Type 0
 NothingCallsForNothing = (outcome : Result Delivery HttpFault) → CallsFor [] true outcome → ⊥
+
+-- an input without a byte is told as empty, unless the reader failed or memory ran out
+abbrev pub NothingIsEmpty : Type 0
+NothingIsEmpty = (result : Result Delivery RequestFault) → IsToldOfInput [] result → (result ≡ Err Empty) ⊎ (result ≡ Err Read) ⊎ (result ≡ Err Memory)

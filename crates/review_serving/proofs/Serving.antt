@@ -8,10 +8,10 @@ use Rattle.review_deliveries.specs.Delivered.{WasRun}
 use Rattle.review_deliveries.proofs.Ran.{ran_none, ran_one, ran-append}
 use Rattle.review_paths.specs.declared.fault.HttpFault.{HttpFault}
 use Rattle.review_requests.specs.Wire.{CallsFor}
-use Rattle.review_http.specs.declared.serving.Served.{Served}
-use Rattle.review_http.specs.declared.serving.Served.TheVariants.{Answered, Empty}
-use Rattle.review_http.specs.declared.serving.ServeFault.{ServeFault}
-use Rattle.review_http.specs.declared.serving.ServeFault.TheVariants.{Read, Reads, Write, Memory}
+use Rattle.review_http.specs.declared.serve.Served.{Served}
+use Rattle.review_http.specs.declared.serve.Served.TheVariants.{Answered, Empty}
+use Rattle.review_http.specs.declared.serve.ServeFault.{ServeFault}
+use Rattle.review_http.specs.declared.serve.ServeFault.TheVariants.{Read, Reads, Write, Memory}
 use Rattle.review_http.specs.Served.{IsToldOf, IsAnswered, IsServedOnWire, WasServed}
 use Rattle.review_serving.specs.Served.{IsNext, CameFirst, TookOf, ServedOne, ServedEach}
 

@@ -5,8 +5,8 @@ use Rattle.review_words.specs.declared.reply.Reply.{Reply}
 use Rattle.review_rows.specs.Shelf.{Shown}
 use Rattle.review_deliveries.specs.Delivered.{IsDelivered, WasRun}
 use Rattle.review_requests.specs.Wire.{CallsFor}
-use Rattle.review_http.specs.declared.serving.Served.{Served}
-use Rattle.review_http.specs.declared.serving.ServeFault.{ServeFault}
+use Rattle.review_http.specs.declared.serve.Served.{Served}
+use Rattle.review_http.specs.declared.serve.ServeFault.{ServeFault}
 use Rattle.review_http.specs.Served.{WasServed}
 
 -- The next connection is the first of those to come, where they are known, and the others are to come after it.

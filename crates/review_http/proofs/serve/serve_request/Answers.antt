@@ -1,6 +1,6 @@
 use Rattle.std.proofs.Common.{Ok}
 use Rattle.review_http.proofs.Serving.{serves}
-use Rattle.review_http.proofs.serving.serve_request.Goals as goal
+use Rattle.review_http.proofs.serve.serve_request.Goals as goal
 
 pub returns-in-Ok-clause-served : goal.returns-in-Ok-clause-served
 returns-in-Ok-clause-served g c =
