@@ -32,7 +32,7 @@ pub trait Connections {
 
     /// The next connection.
     fn accept(&mut self) -> Result<(Self::Reader, Self::Writer), ConnectionsFault>
-        ensures { IfOk result (λ accepted. IsNext (coming self.old) (Reader.remaining accepted.0) (coming self.new)) };
+        ensures { IfOk result (λ accepted. IsNext (coming self.old) (Self.Reader.remaining accepted.0) (coming self.new)) };
 }
 
 /// Why no more connections are served.

@@ -9,7 +9,7 @@ abbrev pub invariant-loop : goal.invariant-loop
 invariant-loop g l = record {
   so_far : (inputs : List (Option (List ℕ))) × (taken : Taken)
       × Came (g.C.Connections.coming l.fn.connections) inputs (g.C.Connections.coming l.connections)
-      × (length inputs ≡ l.loop-index)
+      × (length inputs ≡ l.counter)
       × ServedEach g.S.Shelf.state inputs taken l.fn.shelf l.shelf
       × WasRun (asked taken) (told taken) (g.S.Shelf.state l.fn.shelf) (g.S.Shelf.state l.shelf);
 }
