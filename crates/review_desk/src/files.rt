@@ -3,7 +3,7 @@ ghost use Rattle.std.specs.Prelude.{◌≡◌, false, IfOk};
 
 use crate::listening::Listening;
 use review_machine::{DeskRules, Outcome};
-use review_work::{Ends, ProgramFault, Task, create, work};
+use review_work::{Ends, ProgramFault, Task, after_closing, create, work};
 use sqlite::{Connection, FileFrom, FileStore, Unknown};
 
 type FileConnection = Connection<FileStore<FileFrom<Unknown>>>;
@@ -28,22 +28,11 @@ fn close(conn: FileConnection) -> Result<(), ProgramFault> {
     }
 }
 
-/// How a job ended whose file is now closed. Where both failed, the job's fault is told.
-fn close_after<T: Drop>(
-    conn: FileConnection,
-    ended: Result<T, ProgramFault>,
-) -> Result<T, ProgramFault> {
-    let closed = close(conn);
-    let ended = ended?;
-    closed?;
-    Ok(ended)
-}
-
 /// Makes an empty desk in a new file, and says so once the file is closed.
 pub fn init(rt: &HostRuntime, file: &str) -> Result<Outcome, ProgramFault> {
     let conn = open(rt, file)?;
     let (conn, made) = create(rt.alloc(), conn);
-    close_after(conn, made)?;
+    after_closing(made, close(conn))?;
     match println!(rt; "desk created") {
         Ok(()) => Ok(Outcome::Complete),
         Err(_) => Err(ProgramFault::Output),
@@ -65,7 +54,7 @@ pub fn work_on(
         connections: Listening::at(rt, port),
     };
     let (conn, ended) = work(rt.alloc(), &mut ends, conn, &mut rules, task);
-    close_after(conn, ended)
+    after_closing(ended, close(conn))
 }
 
 /// Serves so many connections on a port, and says how many once the file is closed.

@@ -9,9 +9,9 @@
 mod files;
 mod listening;
 
-use review_jobs::{Job, WordsFault, job_of};
+use review_jobs::{Job, Place, WordsFault, job_of};
 use review_machine::Outcome;
-use review_work::{ProgramFault, Task};
+use review_work::{ProgramFault, Task, status_of};
 use std::env;
 use std::io::ErrorKind;
 use std::process::ExitCode;
@@ -33,18 +33,24 @@ fn apply_in_memory(rt: &HostRuntime) -> Result<Outcome, ProgramFault> {
     }
 }
 
-fn run(rt: &HostRuntime, job: Job<'_>) -> Result<Outcome, ProgramFault> {
+fn run_on(rt: &HostRuntime, file: &str, job: Job<'_>) -> Result<Outcome, ProgramFault> {
     match job {
-        Job::Init { file } => files::init(rt, file),
-        Job::Apply { file } if file == ":memory:" => apply_in_memory(rt),
-        Job::Apply { file } => files::work_on(rt, file, 0, &Task::Apply),
-        Job::Serve { file, port, count } => files::serve(rt, file, port, count),
-        Job::Show { file, change } => files::work_on(rt, file, 0, &Task::Show { change }),
+        Job::Init { .. } => files::init(rt, file),
+        Job::Apply { .. } => files::work_on(rt, file, 0, &Task::Apply),
+        Job::Serve { port, count, .. } => files::serve(rt, file, port, count),
+        Job::Show { change, .. } => files::work_on(rt, file, 0, &Task::Show { change }),
         Job::Joined {
-            file,
             project,
             branch,
+            ..
         } => files::work_on(rt, file, 0, &Task::Joined { project, branch }),
+    }
+}
+
+fn run(rt: &HostRuntime, job: Job<'_>) -> Result<Outcome, ProgramFault> {
+    match job.place() {
+        Place::Memory => apply_in_memory(rt),
+        Place::File(file) => run_on(rt, file, job),
     }
 }
 
@@ -57,21 +63,18 @@ fn words(rt: &HostRuntime) -> Result<Vec<String>, WordsFault> {
     }
 }
 
-fn status_of(rt: &HostRuntime, ended: Result<Outcome, ProgramFault>) -> ExitCode {
-    match ended {
-        Ok(Outcome::Complete) => ExitCode::SUCCESS,
-        Ok(Outcome::Incomplete) => ExitCode::FAILURE,
-        Err(fault) => {
-            let _ = eprintln!(rt; "review_desk: {fault}");
-            ExitCode::FAILURE
-        }
+/// Tells the fault that ended a job, if one did, and gives its status.
+fn end_with(rt: &HostRuntime, ended: Result<Outcome, ProgramFault>) -> ExitCode {
+    if let Err(fault) = ended {
+        let _ = eprintln!(rt; "review_desk: {fault}");
     }
+    ExitCode::from(status_of(ended))
 }
 
 /// What words that ask for no job end with.
 fn refuse_words(rt: &HostRuntime, fault: WordsFault) -> ExitCode {
     match fault {
-        WordsFault::Memory => status_of(rt, Err(ProgramFault::Memory)),
+        WordsFault::Memory => end_with(rt, Err(ProgramFault::Memory)),
         WordsFault::Usage => {
             let _ = eprintln!(rt; "{USAGE}");
             ExitCode::from(2)
@@ -85,7 +88,7 @@ fn main(rt: HostRuntime) -> ExitCode {
         Err(fault) => return refuse_words(&rt, fault),
     };
     match job_of(rt.alloc(), &words) {
-        Ok(job) => status_of(&rt, run(&rt, job)),
+        Ok(job) => end_with(&rt, run(&rt, job)),
         Err(fault) => refuse_words(&rt, fault),
     }
 }

@@ -6,6 +6,8 @@ use Rattle.review_names.specs.Forms.{is_slashed_name, is_within, most_changes}
 use Rattle.review_names.specs.Numerals.{number_of}
 use Rattle.review_jobs.specs.declared.job.Job.{Job}
 use Rattle.review_jobs.specs.declared.job.Job.TheVariants.{Init, Apply, Serve, Show, Joined}
+use Rattle.review_jobs.specs.declared.job.Place.{Place}
+use Rattle.review_jobs.specs.declared.job.Place.TheVariants as place
 use Rattle.review_jobs.specs.declared.job.WordsFault.{WordsFault}
 use Rattle.review_jobs.specs.declared.job.WordsFault.TheVariants.{Usage, Memory}
 use Rattle.review_jobs.specs.CommandLine.{desk}
@@ -25,6 +27,19 @@ spelled (Apply file) = to_apply file.now
 spelled (Serve file port count) = to_serve file.now port count
 spelled (Show file change) = to_show file.now change
 spelled (Joined file project branch) = to_join file.now project branch
+
+-- where the tables of a desk are, where none is in memory
+abbrev pub placed : Place → Option Text
+placed place.Memory = None
+placed (place.File file) = Some file.now
+
+-- where the tables of a job are: in memory for `apply :memory:` alone
+abbrev pub place_of : Spelled → Option Text
+place_of (to_init file) = Some file
+place_of (to_apply file) = if bytes_eq file (codes ":memory:") then None else Some file
+place_of (to_serve file port count) = Some file
+place_of (to_show file change) = Some file
+place_of (to_join file project branch) = Some file
 
 -- the change of a number
 abbrev pub change_numbered : ℕ → Option ℕ

@@ -1,4 +1,7 @@
 //! What the program can be asked to do.
+ghost use Rattle.std.specs.Prelude.{◌≡◌};
+ghost use Rattle.review_jobs.specs.Jobs.{place_of, placed, spelled};
+
 use review_names::{BranchName, ChangeNo, ProjectName};
 use std::alloc::AllocError;
 
@@ -30,6 +33,31 @@ pub enum Job<'a> {
         project: ProjectName,
         branch: BranchName,
     },
+}
+
+/// Where the tables of a desk are.
+#[derive(Clone, Copy, Debug, PartialEq, Eq)]
+pub enum Place<'a> {
+    /// In memory: a desk that is empty at first and gone at the end.
+    Memory,
+    /// In a file.
+    File(&'a str),
+}
+
+impl<'a> Job<'a> {
+    /// Where a job's tables are: in memory for `apply :memory:` alone.
+    pub fn place(&self) -> Place<'a>
+        ensures { placed result ≡ place_of (spelled self.now) }
+    {
+        match self {
+            Job::Apply { file } if *file == ":memory:" => Place::Memory,
+            Job::Init { file }
+            | Job::Apply { file }
+            | Job::Serve { file, .. }
+            | Job::Show { file, .. }
+            | Job::Joined { file, .. } => Place::File(file),
+        }
+    }
 }
 
 /// Why words give no job.

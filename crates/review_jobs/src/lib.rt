@@ -8,5 +8,5 @@ mod command;
 mod job;
 mod reading;
 
-pub use job::{Job, WordsFault};
+pub use job::{Job, Place, WordsFault};
 pub use reading::job_of;

@@ -1,9 +1,9 @@
 -- The faults of the program, from those of its parts.
-use Rattle.std.specs.Prelude.{Result, Ok, Err}
+use Rattle.std.specs.Prelude.{ℕ, List, Result, Ok, Err, codes}
 use Rattle.review_lines.specs.declared.fault.Fault.{Fault}
 use Rattle.review_lines.specs.declared.fault.Fault.TheVariants as line
 use Rattle.review_lines.specs.declared.fault.Outcome.{Outcome}
-use Rattle.review_lines.specs.declared.fault.Outcome.TheVariants.{Complete}
+use Rattle.review_lines.specs.declared.fault.Outcome.TheVariants.{Complete, Incomplete}
 use Rattle.review_serving.specs.declared.connections.ConnectionsFault.{ConnectionsFault}
 use Rattle.review_serving.specs.declared.connections.ConnectionsFault.TheVariants as connections
 use Rattle.review_showing.specs.declared.fault.ShowFault.{ShowFault}
@@ -58,3 +58,31 @@ serve_outcome (Err fault) = Err (connections_fault fault)
 abbrev pub shown_outcome : {X : Type 0} → Result X ShowFault → Result Outcome ProgramFault
 shown_outcome (Ok done) = Ok Complete
 shown_outcome (Err fault) = Err (show_fault fault)
+
+-- what standard error is told of a fault, behind the program's name
+abbrev pub fault_text : ProgramFault → List ℕ
+fault_text NotADesk = codes "not a desk"
+fault_text WrongVersion = codes "wrong version"
+fault_text Store = codes "store fault"
+fault_text NotEmpty = codes "not empty"
+fault_text Memory = codes "out of memory"
+fault_text Input = codes "input fault"
+fault_text Output = codes "output fault"
+fault_text Network = codes "network fault"
+fault_text Damaged = codes "damaged"
+fault_text Pattern = codes "pattern"
+fault_text NoChange = codes "no such change"
+fault_text NoProject = codes "no such project"
+fault_text NoBranch = codes "no such branch"
+
+-- what is told of a job whose file is closed, or could not be: its own fault before that of closing
+abbrev pub after_closing : {X Y : Type 0} → Result X ProgramFault → Result Y ProgramFault → Result X ProgramFault
+after_closing (Err fault) closed = Err fault
+after_closing (Ok done) (Ok closed) = Ok done
+after_closing (Ok done) (Err fault) = Err fault
+
+-- the exit status: 0 where all was done, 1 where a line was no delivery or was not taken, or a fault came
+abbrev pub status_of : Result Outcome ProgramFault → ℕ
+status_of (Ok Complete) = 0
+status_of (Ok Incomplete) = 1
+status_of (Err fault) = 1

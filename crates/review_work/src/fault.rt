@@ -1,4 +1,7 @@
 //! Why the program ends with status 1.
+ghost use Rattle.std.specs.Prelude.{◌≡◌};
+ghost use Rattle.review_work.specs.Faults.{fault_text};
+
 use review_lines::Fault;
 use review_serving::ConnectionsFault;
 use review_showing::ShowFault;
@@ -39,6 +42,27 @@ impl ProgramFault {
     /// The fault of an error of the store.
     pub fn of_store(error: Error) -> ProgramFault {
         ProgramFault::from(DeskFault::of(error))
+    }
+
+    /// What standard error is told of it, behind the program's name.
+    pub fn text(self) -> &'static str
+        ensures { result.now ≡ fault_text self }
+    {
+        match self {
+            ProgramFault::NotADesk => "not a desk",
+            ProgramFault::WrongVersion => "wrong version",
+            ProgramFault::Store => "store fault",
+            ProgramFault::NotEmpty => "not empty",
+            ProgramFault::Memory => "out of memory",
+            ProgramFault::Input => "input fault",
+            ProgramFault::Output => "output fault",
+            ProgramFault::Network => "network fault",
+            ProgramFault::Damaged => "damaged",
+            ProgramFault::Pattern => "pattern",
+            ProgramFault::NoChange => "no such change",
+            ProgramFault::NoProject => "no such project",
+            ProgramFault::NoBranch => "no such branch",
+        }
     }
 }
 
@@ -110,20 +134,6 @@ impl From<ShowFault> for ProgramFault {
 
 impl Display for ProgramFault {
     fn fmt<W: fmt::Write>(&self, f: &mut Formatter<W>) -> fmt::Result {
-        f.write_str(match self {
-            ProgramFault::NotADesk => "not a desk",
-            ProgramFault::WrongVersion => "wrong version",
-            ProgramFault::Store => "store fault",
-            ProgramFault::NotEmpty => "not empty",
-            ProgramFault::Memory => "out of memory",
-            ProgramFault::Input => "input fault",
-            ProgramFault::Output => "output fault",
-            ProgramFault::Network => "network fault",
-            ProgramFault::Damaged => "damaged",
-            ProgramFault::Pattern => "pattern",
-            ProgramFault::NoChange => "no such change",
-            ProgramFault::NoProject => "no such project",
-            ProgramFault::NoBranch => "no such branch",
-        })
+        f.write_str(self.text())
     }
 }

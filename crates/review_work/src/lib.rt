@@ -6,10 +6,12 @@
 //! fault ended it, which `ProgramFault` names.
 #![tactic(auto)]
 
+mod ending;
 mod fault;
 mod task;
 mod working;
 
+pub use ending::{after_closing, status_of};
 pub use fault::ProgramFault;
 pub use task::{Ends, Task};
 pub use working::{create, work};
