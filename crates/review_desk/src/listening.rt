@@ -59,25 +59,23 @@ impl Timed<'_> {
         self.stream.set_read_timeout(Some(left))?;
         self.stream.read(buf)
     }
-}
 
-/// What a peer sends.
-pub struct Incoming<'a> {
-    timed: Timed<'a>,
-}
-
-impl Incoming<'_> {
     /// Reads what the peer still sends, up to a mebibyte, until it says that it sends no more: if the connection were closed before, the answer
     /// could be lost on its way.
     fn finish(&mut self) {
         let mut piece = [0u8; 4096];
         for _ in 0..256u16 {
-            match self.timed.read_within(LAST_SECONDS, &mut piece) {
+            match self.read_within(LAST_SECONDS, &mut piece) {
                 Ok(count) if count > 0 => {}
                 _ => return,
             }
         }
     }
+}
+
+/// What a peer sends.
+pub struct Incoming<'a> {
+    timed: Timed<'a>,
 }
 
 impl Read for Incoming<'_> {
@@ -88,9 +86,9 @@ impl Read for Incoming<'_> {
 
 impl Drop for Incoming<'_> {
     fn drop(self) {
-        let mut incoming = self;
-        incoming.finish();
-        let Incoming { timed: _ } = incoming;
+        let Incoming { timed } = self;
+        let mut timed = timed;
+        timed.finish();
     }
 }
 

@@ -23,6 +23,7 @@ pub enum Task {
 
 /// From where a task takes what it is given, and to where it writes: lines come from a reader, lines and pages go to a writer, and requests over HTTP come
 /// and are answered over connections.
+#[derive(Drop)]
 pub struct Ends<R, W, C> {
     pub input: R,
     pub output: W,
