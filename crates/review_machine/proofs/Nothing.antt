@@ -1,0 +1,27 @@
+-- From the desk of no request, in memory.
+use Rattle.std.proofs.Common.{ℕ, List, [], Option, Result}
+use Rattle.review_rows.specs.Rows.{Tables}
+use Rattle.review_rows.specs.Shelf.{in_memory}
+use Rattle.review_rows.specs.View.{IsView}
+use Rattle.review_deliveries.specs.Delivered.{WasRun}
+use Rattle.review_lines.specs.Answers.{WereAnswered}
+use Rattle.review_lines.specs.declared.fault.Fault.{Fault}
+use Rattle.review_lines.specs.declared.fault.Outcome.{Outcome}
+use Rattle.review_machine.specs.Memory.{RanFromNothing, RunsFromNothing}
+
+-- a run from its tables is one from the history of no request
+pub from_nothing : (input before after : Option (List ℕ)) (told : Result Outcome Fault) (first last : Tables) → IsView [] first
+    → WereAnswered (λ ds replies. WasRun ds replies (in_memory first) (in_memory last)) input before after told → RanFromNothing input before after told
+from_nothing input before after told first last view all =
+    let answered : WereAnswered (RunsFromNothing first last) input before after told = record {
+      lines = all.lines;
+      replies = all.replies;
+      first = all.first;
+      each = all.each;
+      did = (all.did.acts_once tt [] tt view, all.did.branches tt [] tt view);
+      text = all.text;
+      written = all.written;
+      whole = all.whole;
+      left = all.left;
+    } in
+    (first, last, view, answered)
