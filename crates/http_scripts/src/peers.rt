@@ -26,6 +26,7 @@ impl Failing {
 }
 
 /// Gives bytes, some at a time.
+#[derive(Drop)]
 pub struct Pieces<'a> {
     pub bytes: &'a [u8],
     pub piece: usize,

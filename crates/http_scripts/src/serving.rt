@@ -10,6 +10,7 @@ use review_rows::Shelf;
 use std::alloc::{AllocError, Global};
 
 /// How a request is to be served.
+#[derive(Drop)]
 pub struct How<'a> {
     piece: usize,
     first: usize,
