@@ -16,7 +16,7 @@ pub enum HttpFault {
     Method(Methods),
     /// There isn't one field `X-Account` with the number of an account.
     NoCaller,
-    /// There isn't one field `Request-Id` of the form of a request's id, which is asked of POST and PUT alone, as are the next ones.
+    /// There isn't one field `Request-Id` of the form of a request's id. It is asked of commands alone, not of questions, and so is all that follows.
     NoRequestId,
     /// There is a `Transfer-Encoding`, or no `Content-Length` where a body is needed.
     LengthRequired,

@@ -4,7 +4,8 @@
 //! [`route_of`] gives what a method asks of that, or the methods that it takes. A path is routed before it is decoded, so
 //! `/projects/tools/branches/release%2F1.0` has the four segments that one sees, and names the branch `release/1.0`.
 //!
-//! [`HttpFault`] lists why a request may be no delivery; the first two of these causes in this crate's reach are NoRoute and then Method.
+//! [`HttpFault`] lists why a request is no delivery, in the order in which faults are told: that a path names nothing comes before a method that it
+//! doesn't take.
 #![tactic(auto)]
 
 pub mod fault;

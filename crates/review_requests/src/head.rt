@@ -143,7 +143,7 @@ fn routed_by(alloc: Global, routes: &Routes, method: &[u8], target: &[u8]) -> Re
 {
     match str::from_utf8(target) {
         Ok(target) => routed(alloc, routes, method, path_of(target)),
-        Err(_) => Err(Refused::Http(HttpFault::NoRoute)),
+        Err(_) => unreachable!(),
     }
 }
 
