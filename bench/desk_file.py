@@ -7,6 +7,7 @@ import importlib.machinery
 import importlib.util
 import json
 import os
+import re
 import shutil
 import sqlite3
 import subprocess
@@ -17,6 +18,7 @@ TOP = os.path.dirname(os.path.dirname(os.path.realpath(__file__)))
 PROGRAM = os.environ.get("DESK_PROGRAM") or os.path.join(TOP, "crates", "review_desk", "out", "review_desk")
 TABLES = ("accounts", "members", "projects", "bases", "changes", "patches", "votes", "reviewers", "comments", "attention", "answers", "desk")
 STORE_FAULT = b"review_desk: store fault\n"
+NO_MEMORY = re.compile(rb'"not_taken":"MEMORY"|out of memory')
 CREATED, NOT_EMPTY = (0, b"desk created\n", b""), (1, b"", b"review_desk: not empty\n")
 
 
