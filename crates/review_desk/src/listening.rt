@@ -1,4 +1,6 @@
 //! Connections on loopback, each with a time of its own.
+ghost use Rattle.std.specs.Io.{ReadsAtMost};
+
 use review_serving::{Connections, ConnectionsFault};
 use std::io;
 use std::io::{Error, ErrorKind, Read, Write};
@@ -54,7 +56,9 @@ impl Timed<'_> {
     }
 
     /// Reads once, and waits so many seconds at most.
-    fn read_within(&mut self, seconds: u64, buf: &mut [u8]) -> io::Result<usize> {
+    fn read_within(&mut self, seconds: u64, buf: &mut [u8]) -> io::Result<usize>
+        ensures { ReadsAtMost result buf.new }
+    {
         let left = self.time_left(seconds)?;
         self.stream.set_read_timeout(Some(left))?;
         self.stream.read(buf)
