@@ -27,5 +27,5 @@ RanFromNothing input before after told =
     (first last : Tables) × IsView [] first × WereAnswered (RunsFromNothing first last) input before after told
 
 -- what `apply :memory:` did
-abbrev pub RanInMemory : Option (List ℕ) → Option (List ℕ) → Option (List ℕ) → Result Outcome Fault → Type 0
-RanInMemory input before after told = HadNoMemory before after told ⊎ RanFromNothing input before after told
+pub record RanInMemory (input before after : Option (List ℕ)) (told : Result Outcome Fault) : Type 0 where
+  pub how : HadNoMemory before after told ⊎ RanFromNothing input before after told

@@ -17,7 +17,7 @@ pub fn apply_in_memory<R: Read, W: Write>(
     reader: &mut R,
     writer: &mut W,
 ) -> Result<Outcome, Fault>
-    ensures ran { RanInMemory (R.remaining reader.old) (W.contents writer.old) (W.contents writer.new) result }
+    ensures { RanInMemory (R.remaining reader.old) (W.contents writer.old) (W.contents writer.new) result }
 {
     let mut shelf = MemoryShelf::new(alloc)?;
     apply_lines(alloc, reader, writer, &mut shelf)

@@ -85,6 +85,12 @@ abbrev pub IsDoneOn : {S : Type 0} → Ghosts S → ((ShelfView S → Shown) →
 IsDoneOn {S} g Did Refuses old new =
     OnShelf g true Did old new ⊎ (Refuses old new ⊎ ((between : Held S) × IsNotOurs g old between × (OnShelf g false Did between new ⊎ Refuses between new)))
 
+-- What a task did on the tables of a connection: on a desk that was opened, as `HasDone` says; or no desk was opened.
+pub record Worked {S : Type 0} (g : Ghosts S) (task : Task) (given : Given) (before after : Option (List ℕ)) (ended : Result Outcome ProgramFault) (old new : Held S) : Type 0 where
+  pub how : IsDoneOn g
+      (λ (state : ShelfView S → Shown) (s t : ShelfView S). HasDone state task given before after ended s t)
+      (λ (s t : Held S). IsRefusedDesk g before after s t ended) old new
+
 -- Why no desk was made: not for what stands there as a desk; where it was for a table of one of the twelve names, one is there, and nothing was touched; and
 -- not as not ours but where one of ours was to be made, in a store with tables.
 abbrev pub IsCauseOf : {S : Type 0} → Ghosts S → Bool → Held S → Held S → DeskFault → Type 0
@@ -97,3 +103,10 @@ abbrev pub Made : {S X : Type 0} → Ghosts S → Bool → Held S → Held S →
 Made {S} g is_ours old new made =
     IfOk made (λ done. (shelf : ShelfView S) × IsCreated g is_ours old shelf × IsClosed g is_ours shelf new)
     × IfErr made (λ fault. IsUnmade (state g old) (state g new) × ((cause : DeskFault) × (fault ≡ desk_fault cause) × IsCauseOf g is_ours old new cause))
+
+-- A desk was to be made: one of ours exactly in a store with no table.
+pub record WasMade {S X : Type 0} (g : Ghosts S) (old new : Held S) (made : Result X ProgramFault) : Type 0 where
+  pub is_ours : Bool
+  pub ours : old.schema ≡ schema_0 → is_ours ≡ true
+  pub only : is_ours ≡ true → old.schema ≡ schema_0
+  pub how : Made g is_ours old new made

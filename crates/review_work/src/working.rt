@@ -1,13 +1,12 @@
 //! Tasks on the tables of a connection, which is handed back in no transaction.
 //!
 //! Tables that `create` made are opened as ours, of which all is claimed that a shelf promises, and others as those of others, of which nothing is.
-ghost use Rattle.std.specs.Prelude.{◌≡◌, ◌⊎◌, Bool, true, false, Err};
+ghost use Rattle.std.specs.Prelude.{◌≡◌, ◌⊎◌, false, Err};
 ghost use Rattle.sqlite.specs.Held.{Held};
-ghost use Rattle.review_statements.specs.Desk.{schema_0};
 ghost use Rattle.review_rows.specs.Shelf.{Shown};
 ghost use Rattle.review_sql.specs.Shelf.{IsClosed, ShelfView, shown};
 ghost use Rattle.review_work.specs.Faults.{lines_outcome, serve_outcome, shown_outcome};
-ghost use Rattle.review_work.specs.Worked.{EndsServed, HasDone, IsDoneOn, IsRefusedDesk, Made, OnShelf};
+ghost use Rattle.review_work.specs.Worked.{EndsServed, HasDone, IsRefusedDesk, Made, OnShelf, WasMade, Worked};
 
 use crate::fault::ProgramFault;
 use crate::task::{Ends, Task};
@@ -30,7 +29,7 @@ pub fn create<S: Alter + Drop>(
 ) -> (Connection<S>, Result<(), ProgramFault>)
     requires mode { conn.in_transaction ≡ false }
     ensures mode { result.0.in_transaction ≡ false }
-    ensures made { (is_ours : Bool) × (conn.schema ≡ schema_0 → is_ours ≡ true) × (is_ours ≡ true → conn.schema ≡ schema_0) × Made S.Store is_ours conn result.0 result.1 }
+    ensures made { WasMade S.Store conn result.0 result.1 }
 {
     if is_blank(conn.schema()) {
         create_as::<S, Ours>(alloc, conn)
@@ -67,9 +66,7 @@ pub fn work<R: Read, W: Write, C: Connections, S: Alter + Drop, D: Rules>(
 ) -> (Connection<S>, Result<Outcome, ProgramFault>)
     requires mode { conn.in_transaction ≡ false }
     ensures mode { result.0.in_transaction ≡ false }
-    ensures done { IsDoneOn S.Store
-        (λ (state : ShelfView S → Shown) (old new : ShelfView S). HasDone state task.now (record { input = R.remaining ends.old.input; coming = C.coming ends.old.connections }) (W.contents ends.old.output) (W.contents ends.new.output) result.1 old new)
-        (λ (old new : Held S). IsRefusedDesk S.Store (W.contents ends.old.output) (W.contents ends.new.output) old new result.1) conn result.0 }
+    ensures done { Worked S.Store task.now (record { input = R.remaining ends.old.input; coming = C.coming ends.old.connections }) (W.contents ends.old.output) (W.contents ends.new.output) result.1 conn result.0 }
 {
     match SqlShelf::<S, Ours>::open(alloc, conn) {
         Ok(shelf) => work_on_shelf(alloc, ends, shelf, rules, task),

@@ -6,26 +6,30 @@ use Rattle.review_sql.specs.Opened.{IsRefused}
 use Rattle.review_work.proofs.working.work.Goals as goal
 
 pub returns-in-Ok-clause-done : goal.returns-in-Ok-clause-done
-returns-in-Ok-clause-done g c = inl (record {
-  opened = c.in-Ok.shelf;
-  left = c.work_on_shelf.ensures.done.0;
-  is_opened = c.in-Ok.ensures.opened;
-  goes_on = c.in-Ok.ensures.goes_on;
-  did = c.work_on_shelf.ensures.done.1;
-  closed = c.work_on_shelf.ensures.done.2;
-})
+returns-in-Ok-clause-done g c = record {
+  how = inl (record {
+    opened = c.in-Ok.shelf;
+    left = c.work_on_shelf.ensures.done.0;
+    is_opened = c.in-Ok.ensures.opened;
+    goes_on = c.in-Ok.ensures.goes_on;
+    did = c.work_on_shelf.ensures.done.1;
+    closed = c.work_on_shelf.ensures.done.2;
+  });
+}
 
 pub returns-in-Err-clause-done : goal.returns-in-Err-clause-done
-returns-in-Err-clause-done g c = inr (inl (record {
-  fault = c.in-Err.fault;
-  ends = ap Err c.from.ensures;
-  stays = c.in-Err.ensures.refused;
-  cause = c.in-Err.ensures.cause;
-  written = Appends-nil _;
-}))
+returns-in-Err-clause-done g c = record {
+  how = inr (inl (record {
+    fault = c.in-Err.fault;
+    ends = ap Err c.from.ensures;
+    stays = c.in-Err.ensures.refused;
+    cause = c.in-Err.ensures.cause;
+    written = Appends-nil _;
+  }));
+}
 
 pub returns-in-Err-default-NotOurs-clause-done : goal.returns-in-Err-default-NotOurs-clause-done
 returns-in-Err-default-NotOurs-clause-done g c =
     let it = c.in-Err-default-NotOurs in
     let cause = subst (λ (f : DeskFault). IsTrue (state g.S.Store it.conn).is_open → IsRefused (state g.S.Store c.args.conn) f) it.field-0-1-is it.ensures.cause in
-    inr (inr (it.conn, record { stays = it.ensures.refused; cause = cause }, c.work_on_others.ensures.done))
+    record { how = inr (inr (it.conn, record { stays = it.ensures.refused; cause = cause }, c.work_on_others.ensures.done)) }
