@@ -127,13 +127,26 @@ fn kept_word<S: Shelf>(alloc: Global, shelf: &mut S) -> Result<&'static str, Fau
     }
 }
 
-/// What two equal requests get, one after the other, of which the first meets what fails.
+/// What two equal requests get on a shelf, one after the other, of which the first meets what fails.
+fn both_on<S: Shelf>(
+    alloc: Global,
+    shelf: &mut S,
+    how: &How<'_>,
+    bytes: &[u8],
+) -> Result<String, Fault> {
+    let first = told(alloc, shelf, how, bytes, true)?;
+    let first_kept = kept_word(alloc, shelf)?;
+    let second = told(alloc, shelf, how, bytes, false)?;
+    let second_kept = kept_word(alloc, shelf)?;
+    Ok(format!(in alloc; "{first}, {first_kept}; {second}, {second_kept}")?)
+}
+
+/// The same on an empty desk in memory.
 pub fn both_told(alloc: Global, how: &How<'_>) -> Result<String, Fault> {
     let bytes = sent(alloc, how)?;
-    let mut shelf = FaultyShelf::new(MemoryShelf::new(alloc)?, how.call);
-    let first = told(alloc, &mut shelf, how, bytes.as_slice(), true)?;
-    let first_kept = kept_word(alloc, &mut shelf)?;
-    let second = told(alloc, &mut shelf, how, bytes.as_slice(), false)?;
-    let second_kept = kept_word(alloc, &mut shelf)?;
-    Ok(format!(in alloc; "{first}, {first_kept}; {second}, {second_kept}")?)
+    let Ok(inner) = MemoryShelf::new(alloc) else {
+        return Err(Fault::Memory);
+    };
+    let mut shelf = FaultyShelf::new(inner, how.call);
+    both_on(alloc, &mut shelf, how, bytes.as_slice())
 }
