@@ -144,9 +144,6 @@ fn both_on<S: Shelf>(
 /// The same on an empty desk in memory.
 pub fn both_told(alloc: Global, how: &How<'_>) -> Result<String, Fault> {
     let bytes = sent(alloc, how)?;
-    let Ok(inner) = MemoryShelf::new(alloc) else {
-        return Err(Fault::Memory);
-    };
-    let mut shelf = FaultyShelf::new(inner, how.call);
+    let mut shelf = FaultyShelf::new(MemoryShelf::new(alloc)?, how.call);
     both_on(alloc, &mut shelf, how, bytes.as_slice())
 }

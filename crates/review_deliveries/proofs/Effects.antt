@@ -1,5 +1,5 @@
 -- What a delivery does to any tables whatever.
-use Rattle.std.proofs.Common.{◌≡◌, ℕ, ◌+◌, ◌≤◌, List, [], ◌∷◌, ◌++◌, Option, Some, None, Result, Ok, Err, cond, refl, sym, ◌∙◌, subst, inl, inr}
+use Rattle.std.proofs.Common.{◌≡◌, ℕ, ◌+◌, ◌≤◌, List, [], Option, Some, None, Result, Ok, Err, cond, sym, ◌∙◌, subst, inl, inr}
 use Rattle.review_words.specs.declared.command.Command.{Command}
 use Rattle.review_words.specs.declared.command.Delivery.TheVariants.{Write}
 use Rattle.review_words.specs.declared.reply.Reply.{Reply}
@@ -19,10 +19,9 @@ use Rattle.review_rows.specs.declared.shelf.ShelfFault.TheVariants as fault
 use Rattle.review_words.specs.Texts.{IsStored, content_text}
 use Rattle.review_rows.specs.View.{answer_row}
 use Rattle.review_rows.specs.Answer.{most_requests}
-use Rattle.review_words.specs.declared.command.Delivery.{Delivery}
 use Rattle.review_words.specs.declared.reply.NotTaken.{NotTaken as Cause}
 use Rattle.review_words.specs.declared.reply.NotTaken.TheVariants.{Memory, Store, Damaged, Pattern, Full}
-use Rattle.review_deliveries.specs.Replies.{StoresOnce, IsFoundOrStored, StoresRequest, KeepsRows, KeepsUntaken, AreSteps, CountsReply, IsToldAgain, reply_of, HasStored, HasTexts, HasOtherContent}
+use Rattle.review_deliveries.specs.Replies.{StoresOnce, IsFoundOrStored, StoresRequest, KeepsRows, KeepsUntaken, CountsReply, IsToldAgain, reply_of, HasStored, HasTexts, HasOtherContent}
 
 kept : (reply : Reply) (delta : Delta) (t u : Tables) → HasNoEffect reply delta → ((k : Key) → u.row k ≡ after delta k (t.row k)) → ((c : Count) → u.count c ≡ count_after delta t.row c (t.count c)) → KeepsRows reply t u
 kept (Refused r) delta t u none rows counts = (λ k. rows k ∙ none.rows k (t.row k), λ c. counts c ∙ none.counts t.row c (t.count c))

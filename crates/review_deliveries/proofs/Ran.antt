@@ -1,5 +1,5 @@
 -- Runs of none, of one, and of two lists.
-use Rattle.std.proofs.Common.{◌≡◌, List, [], ◌∷◌, ◌++◌, Option, length, arith, length-append, refl, subst}
+use Rattle.std.proofs.Common.{◌≡◌, ℕ, List, [], ◌∷◌, ◌++◌, Option, length, arith, length-append, refl, subst}
 use Rattle.review_words.specs.declared.command.Delivery.{Delivery}
 use Rattle.review_words.specs.declared.reply.Reply.{Reply}
 use Rattle.review_words.specs.History.{Entry}
@@ -8,35 +8,40 @@ use Rattle.review_rows.specs.Rows.{Tables}
 use Rattle.review_rows.specs.Shelf.{Shown, Views}
 use Rattle.review_branch_laws.proofs.Sound.{sound_branches}
 use Rattle.review_deliveries.specs.Delivered.{IsDelivered, WasRun}
-use Rattle.review_deliveries.specs.Replies.{AreSteps, IsRun, history_after}
+use Rattle.review_deliveries.specs.Replies.{AreSteps, CountsReplies, IsRun, history_after}
 use Rattle.review_deliveries.proofs.Going.{run_none, run_one, run-append}
 
 -- the branches are sound in the history of a run
 was_run : (ds : List Delivery) (rs : List Reply) (old new : Shown) → length rs ≡ length ds → (new.is_honest → old.is_honest)
     → (new.is_honest → (h : List Entry) → IsHistory h → Views h old.tables → IsRun h ds rs old new)
-    → (new.is_honest → AreSteps ds rs old.tables new.tables) → WasRun ds rs old new
-was_run ds rs old new each honest run steps = record {
+    → (new.is_honest → AreSteps ds rs old.tables new.tables) → CountsReplies rs old.faults new.faults → WasRun ds rs old new
+was_run ds rs old new each honest run steps counted = record {
   each = each;
   honest = honest;
   acts_once = run;
   branches = λ fair h hist v. sound_branches (history_after h ds rs) (run fair h hist v).history;
   steps = steps;
+  counted = counted;
 }
 
 pub ran_none : (s : Shown) → WasRun [] [] s s
-ran_none s = was_run [] [] s s refl (λ fair. fair) (λ fair h hist v. run_none h s hist v) (λ fair. refl)
+ran_none s = was_run [] [] s s refl (λ fair. fair) (λ fair h hist v. run_none h s hist v) (λ fair. refl) refl
 
 pub ran_one : (d : Delivery) (r : Reply) (old new : Shown) → IsDelivered d r old new → WasRun (d ∷ []) (r ∷ []) old new
 ran_one d r old new did =
     was_run (d ∷ []) (r ∷ []) old new refl did.honest
     (λ fair h hist v. run_one h d r old new hist (did.served fair h hist v))
-    (λ fair. (new.tables, did.unchanged fair, did.once fair, refl))
+    (λ fair. (new.tables, did.unchanged fair, did.once fair, refl)) (new.faults, did.counted, refl)
 
 steps-append : (ds es : List Delivery) (rs ss : List Reply) (old mid new : Option Tables) → AreSteps ds rs old mid → AreSteps es ss mid new → AreSteps (ds ++ es) (rs ++ ss) old new
 steps-append [] es [] ss old mid new one two = subst (λ (t : Option Tables). AreSteps es ss t new) one two
 steps-append [] es (r ∷ rs) ss old mid new one two = absurd one
 steps-append (d ∷ ds) es [] ss old mid new one two = absurd one
 steps-append (d ∷ ds) es (r ∷ rs) ss old mid new one two = (one.0, one.1, one.2, steps-append ds es rs ss one.0 mid new one.3 two)
+
+counts-append : (rs ss : List Reply) (old mid new : ℕ) → CountsReplies rs old mid → CountsReplies ss mid new → CountsReplies (rs ++ ss) old new
+counts-append [] ss old mid new one two = subst (λ n. CountsReplies ss n new) one two
+counts-append (r ∷ rs) ss old mid new one two = (one.0, one.1, counts-append rs ss one.0 mid new one.2 two)
 
 -- one run and then another
 pub ran-append : (ds es : List Delivery) (rs ss : List Reply) (old mid new : Shown) → WasRun ds rs old mid → WasRun es ss mid new → WasRun (ds ++ es) (rs ++ ss) old new
@@ -46,3 +51,4 @@ ran-append ds es rs ss old mid new one two =
     let first = one.acts_once (two.honest fair) h hist v in
     run-append h ds es rs ss old mid new first (two.acts_once fair (history_after h ds rs) first.history first.view))
     (λ fair. steps-append ds es rs ss old.tables mid.tables new.tables (one.steps (two.honest fair)) (two.steps fair))
+    (counts-append rs ss old.faults mid.faults new.faults one.counted two.counted)

@@ -6,7 +6,7 @@ use Rattle.review_words.specs.History.{Entry}
 use Rattle.review_rows.specs.Answer.{IsHistory}
 use Rattle.review_rows.specs.Shelf.{Shown, Views}
 use Rattle.review_branch_laws.specs.Sound.{AreSoundBranches}
-use Rattle.review_deliveries.specs.Replies.{IsServed, IsRun, AreSteps, KeepsUntaken, StoresOnce, CountsReply, StopGoesOnFrom, StopHasEntry, history_after}
+use Rattle.review_deliveries.specs.Replies.{IsServed, IsRun, AreSteps, KeepsUntaken, StoresOnce, CountsReply, CountsReplies, StopGoesOnFrom, StopHasEntry, history_after}
 
 -- One delivery got this reply. What is said of tables is said where the store returned what was written to it.
 pub record IsDelivered (d : Delivery) (reply : Reply) (old new : Shown) : Type 0 where
@@ -31,3 +31,5 @@ pub record WasRun (ds : List Delivery) (replies : List Reply) (old new : Shown) 
   pub branches : new.is_honest → (h : List Entry) → IsHistory h → Views h old.tables → AreSoundBranches (history_after h ds replies)
   -- on any tables whatever, made of steps, one a delivery
   pub steps : new.is_honest → AreSteps ds replies old.tables new.tables
+  -- on any shelf whatever, store faults are told only where they were counted
+  pub counted : CountsReplies replies old.faults new.faults

@@ -229,3 +229,8 @@ AreSteps (d ∷ ds) (r ∷ rs) old new = (between : Option Tables) × KeepsUntak
 abbrev pub CountsReply : Reply → ℕ → ℕ → Type 0
 CountsReply (NotTaken Store) before after = (before < after) ⊎ ((before ≡ greatest_count) × (after ≡ before))
 CountsReply _ before after = after ≡ before
+
+-- On any shelf whatever: so it is of each reply, one after the other, as the count went from one number to another.
+abbrev pub CountsReplies : List Reply → ℕ → ℕ → Type 0
+CountsReplies [] before after = after ≡ before
+CountsReplies (r ∷ rs) before after = (between : ℕ) × CountsReply r before between × CountsReplies rs between after
