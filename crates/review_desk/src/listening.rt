@@ -78,6 +78,7 @@ impl Timed<'_> {
 }
 
 /// What a peer sends.
+#[derive(Drop)]
 pub struct Incoming<'a> {
     timed: Timed<'a>,
 }
@@ -88,15 +89,8 @@ impl Read for Incoming<'_> {
     }
 }
 
-impl Drop for Incoming<'_> {
-    fn drop(self) {
-        let Incoming { timed } = self;
-        let mut timed = timed;
-        timed.finish();
-    }
-}
-
 /// What a peer is sent.
+#[derive(Drop)]
 pub struct Outgoing<'a> {
     timed: Timed<'a>,
 }
@@ -110,14 +104,6 @@ impl Write for Outgoing<'_> {
 
     fn flush(&mut self) -> io::Result<()> {
         self.timed.stream.flush()
-    }
-}
-
-impl Drop for Outgoing<'_> {
-    fn drop(self) {
-        let Outgoing { timed } = self;
-        // The peer sees that the answer has ended; where it has gone away there is nobody to tell.
-        let _ = timed.stream.shutdown(Shutdown::Write);
     }
 }
 
@@ -152,6 +138,8 @@ impl<'a> Connections for Listening<'a> {
 
     ghost coming = { λ _. None };
 
+    ghost told = { λ _. None };
+
     type Reader = Incoming<'a>;
 
     type Writer = Outgoing<'a>;
@@ -172,5 +160,12 @@ impl<'a> Connections for Listening<'a> {
             Ok(accepted) => Ok(accepted),
             Err(_) => Err(ConnectionsFault::Network),
         }
+    }
+
+    fn close(&mut self, reader: Incoming<'a>, writer: Outgoing<'a>) {
+        // The peer sees that the answer has ended; where it has gone away there is nobody to tell.
+        let _ = writer.timed.stream.shutdown(Shutdown::Write);
+        let mut reader = reader;
+        reader.timed.finish();
     }
 }

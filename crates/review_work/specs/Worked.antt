@@ -11,7 +11,7 @@ use Rattle.review_deliveries.specs.Delivered.{WasRun}
 use Rattle.review_lines.specs.Answers.{WereAnswered}
 use Rattle.review_lines.specs.declared.fault.Fault.{Fault}
 use Rattle.review_lines.specs.declared.fault.Outcome.{Outcome}
-use Rattle.review_serving.specs.Served.{ServedAll}
+use Rattle.review_serving.specs.Served.{Peers, ServedAll}
 use Rattle.review_serving.specs.declared.connections.ConnectionsFault.{ConnectionsFault}
 use Rattle.review_showing.specs.declared.fault.ShowFault.{ShowFault}
 use Rattle.review_showing.specs.Shown.{Showed}
@@ -25,6 +25,7 @@ use Rattle.review_sql.specs.declared.faults.DeskFault.TheVariants.{NotADesk, Wro
 use Rattle.review_work.specs.Faults.{desk_fault, lines_outcome, serve_outcome, shown_outcome}
 use Rattle.review_work.specs.declared.fault.ProgramFault.{ProgramFault}
 use Rattle.review_work.specs.declared.fault.ProgramFault.TheVariants.{Memory}
+use Rattle.review_work.specs.declared.task.Ends.{Ends}
 use Rattle.review_work.specs.declared.task.Task.{Task}
 use Rattle.review_work.specs.declared.task.Task.TheVariants.{Apply, Serve, Show, Joined}
 
@@ -40,23 +41,34 @@ pub record EndsShown (questions : List Delivery) (page : List Reply → Result (
   pub ends : ended ≡ shown_outcome told
   pub showed : Showed questions page before after told s t
 
--- connections were served, as `serve_connections` says; or there was no memory for the table of paths, and nothing was done
-pub record EndsServed {X : Type 0} (state : X → Shown) (coming : Option (List (List ℕ))) (count : ℕ) (ended : Result Outcome ProgramFault) (old new : X) : Type 0 where
+-- so many connections were served, as `serve_connections` says
+pub record EndsServed {X : Type 0} (state : X → Shown) (count : ℕ) (before after : Peers) (ended : Result Outcome ProgramFault) (old new : X) : Type 0 where
   pub told : Result (Unit {0}) ConnectionsFault
   pub ends : ended ≡ serve_outcome told
-  pub served : ServedAll state coming count told old new
+  pub served : ServedAll state before after count told old new
 
--- what came to a task: the bytes of the reader, and what the peers of connections send
-pub record Given : Type 0 where
+-- What is known of the ends of a task: the bytes that the reader still gives, those that the writer holds, and the peers of connections.
+pub record Known : Type 0 where
   pub input : Option (List ℕ)
-  pub coming : Option (List (List ℕ))
+  pub output : Option (List ℕ)
+  pub peers : Peers
 
--- what a task did on a shelf that shows its tables so, from what was given to it, to the bytes of a writer, and how it ended
-abbrev pub HasDone : {X : Type 0} → (X → Shown) → Task → Given → Option (List ℕ) → Option (List ℕ) → Result Outcome ProgramFault → X → X → Type 0
-HasDone state Apply given before after ended old new = TookLines given.input before after ended (state old) (state new)
-HasDone state (Serve count) given before after ended old new = ((ended ≡ Err Memory) × (new ≡ old)) ⊎ EndsServed state given.coming count ended old new
-HasDone state (Show change) given before after ended old new = EndsShown (change_questions change) change_page before after ended (state old) (state new)
-HasDone state (Joined project branch) given before after ended old new = EndsShown (branch_questions project branch) joined_page before after ended (state old) (state new)
+-- that of these ends, where these say what is known of a reader, of a writer and of connections
+abbrev pub known : {R W C : Type 0} → (R → Option (List ℕ)) → (W → Option (List ℕ)) → (C → Option (List (List ℕ))) → (C → Option (List (List ℕ))) → Ends R W C → Known
+known remaining contents coming told ends =
+    record { input = remaining ends.input; output = contents ends.output; peers = record { coming = coming ends.connections; told = told ends.connections } }
+
+-- What a task did on a shelf that shows its tables so, with ends of which this is known before and after, and how it ended. Only to serve touches
+-- connections, and it writes nothing to the writer; where there was no memory for the table of paths, it did nothing at all.
+abbrev pub HasDone : {X : Type 0} → (X → Shown) → Task → Known → Known → Result Outcome ProgramFault → X → X → Type 0
+HasDone state Apply before after ended old new = TookLines before.input before.output after.output ended (state old) (state new) × (after.peers ≡ before.peers)
+HasDone state (Serve count) before after ended old new =
+    (((ended ≡ Err Memory) × (new ≡ old) × (after.peers ≡ before.peers)) ⊎ EndsServed state count before.peers after.peers ended old new)
+    × Appends before.output after.output []
+HasDone state (Show change) before after ended old new =
+    EndsShown (change_questions change) change_page before.output after.output ended (state old) (state new) × (after.peers ≡ before.peers)
+HasDone state (Joined project branch) before after ended old new =
+    EndsShown (branch_questions project branch) joined_page before.output after.output ended (state old) (state new) × (after.peers ≡ before.peers)
 
 -- A shelf was opened over the connection, as the one that was closed last; this was done on it, and it was closed.
 pub record OnShelf {S : Type 0} (g : Ghosts S) (is_ours : Bool) (Did : (ShelfView S → Shown) → ShelfView S → ShelfView S → Type 0) (old new : Held S) : Type 0 where
@@ -86,10 +98,10 @@ IsDoneOn {S} g Did Refuses old new =
     OnShelf g true Did old new ⊎ (Refuses old new ⊎ ((between : Held S) × IsNotOurs g old between × (OnShelf g false Did between new ⊎ Refuses between new)))
 
 -- What a task did on the tables of a connection: on a desk that was opened, as `HasDone` says; or no desk was opened.
-pub record Worked {S : Type 0} (g : Ghosts S) (task : Task) (given : Given) (before after : Option (List ℕ)) (ended : Result Outcome ProgramFault) (old new : Held S) : Type 0 where
+pub record Worked {S : Type 0} (g : Ghosts S) (task : Task) (before after : Known) (ended : Result Outcome ProgramFault) (old new : Held S) : Type 0 where
   pub how : IsDoneOn g
-      (λ (state : ShelfView S → Shown) (s t : ShelfView S). HasDone state task given before after ended s t)
-      (λ (s t : Held S). IsRefusedDesk g before after s t ended) old new
+      (λ (state : ShelfView S → Shown) (s t : ShelfView S). HasDone state task before after ended s t)
+      (λ (s t : Held S). IsRefusedDesk g before.output after.output s t ended) old new
 
 -- Why no desk was made: not for what stands there as a desk; where it was for a table of one of the twelve names, one is there, and nothing was touched; and
 -- not as not ours but where one of ours was to be made, in a store with tables.

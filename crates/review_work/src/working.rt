@@ -5,8 +5,9 @@ ghost use Rattle.std.specs.Prelude.{◌≡◌, ◌⊎◌, false, Err};
 ghost use Rattle.sqlite.specs.Held.{Held};
 ghost use Rattle.review_rows.specs.Shelf.{Shown};
 ghost use Rattle.review_sql.specs.Shelf.{IsClosed, ShelfView, shown};
+ghost use Rattle.review_serving.specs.Served.{Peers};
 ghost use Rattle.review_work.specs.Faults.{lines_outcome, serve_outcome, shown_outcome};
-ghost use Rattle.review_work.specs.Worked.{EndsServed, HasDone, IsRefusedDesk, Made, OnShelf, WasMade, Worked};
+ghost use Rattle.review_work.specs.Worked.{EndsServed, HasDone, IsRefusedDesk, Made, OnShelf, WasMade, Worked, known};
 
 use crate::fault::ProgramFault;
 use crate::task::{Ends, Task};
@@ -66,7 +67,7 @@ pub fn work<R: Read, W: Write, C: Connections, S: Alter + Drop, D: Rules>(
 ) -> (Connection<S>, Result<Outcome, ProgramFault>)
     requires mode { conn.in_transaction ≡ false }
     ensures mode { result.0.in_transaction ≡ false }
-    ensures done { Worked S.Store task.now (record { input = R.remaining ends.old.input; coming = C.coming ends.old.connections }) (W.contents ends.old.output) (W.contents ends.new.output) result.1 conn result.0 }
+    ensures done { Worked S.Store task.now (known R.remaining W.contents C.coming C.told ends.old) (known R.remaining W.contents C.coming C.told ends.new) result.1 conn result.0 }
 {
     match SqlShelf::<S, Ours>::open(alloc, conn) {
         Ok(shelf) => work_on_shelf(alloc, ends, shelf, rules, task),
@@ -85,7 +86,7 @@ fn work_on_others<R: Read, W: Write, C: Connections, S: Alter + Drop, D: Rules>(
     requires mode { conn.in_transaction ≡ false }
     ensures mode { result.0.in_transaction ≡ false }
     ensures done { OnShelf S.Store false
-        (λ (state : ShelfView S → Shown) (old new : ShelfView S). HasDone state task.now (record { input = R.remaining ends.old.input; coming = C.coming ends.old.connections }) (W.contents ends.old.output) (W.contents ends.new.output) result.1 old new) conn result.0
+        (λ (state : ShelfView S → Shown) (old new : ShelfView S). HasDone state task.now (known R.remaining W.contents C.coming C.told ends.old) (known R.remaining W.contents C.coming C.told ends.new) result.1 old new) conn result.0
         ⊎ IsRefusedDesk S.Store (W.contents ends.old.output) (W.contents ends.new.output) conn result.0 result.1 }
 {
     match SqlShelf::<S, Others>::open(alloc, conn) {
@@ -103,7 +104,7 @@ fn work_on_shelf<R: Read, W: Write, C: Connections, S: Alter + Drop, O: Origin, 
 ) -> (Connection<S>, Result<Outcome, ProgramFault>)
     ensures mode { result.0.in_transaction ≡ false }
     ensures done { (left : ShelfView S)
-        × HasDone (shown S.Store O.IS_OURS) task.now (record { input = R.remaining ends.old.input; coming = C.coming ends.old.connections }) (W.contents ends.old.output) (W.contents ends.new.output) result.1 shelf left
+        × HasDone (shown S.Store O.IS_OURS) task.now (known R.remaining W.contents C.coming C.told ends.old) (known R.remaining W.contents C.coming C.told ends.new) result.1 shelf left
         × IsClosed S.Store O.IS_OURS left result.0 }
 {
     let mut shelf = shelf;
@@ -122,7 +123,7 @@ fn do_task<R: Read, W: Write, C: Connections, S: Shelf, D: Rules>(
     rules: &mut D,
     task: &Task,
 ) -> Result<Outcome, ProgramFault>
-    ensures { HasDone S.state task.now (record { input = R.remaining ends.old.input; coming = C.coming ends.old.connections }) (W.contents ends.old.output) (W.contents ends.new.output) result shelf.old shelf.new }
+    ensures { HasDone S.state task.now (known R.remaining W.contents C.coming C.told ends.old) (known R.remaining W.contents C.coming C.told ends.new) result shelf.old shelf.new }
 {
     match task {
         Task::Apply => {
@@ -145,7 +146,9 @@ fn serve<C: Connections, S: Shelf, D: Rules>(
     shelf: &mut S,
     rules: &mut D,
 ) -> Result<Outcome, ProgramFault>
-    ensures { ((result ≡ Err ProgramFault.Memory) × (shelf.new ≡ shelf.old)) ⊎ EndsServed S.state (C.coming connections.old) count result shelf.old shelf.new }
+    ensures { let before : Peers = record { coming = C.coming connections.old; told = C.told connections.old } in
+        let after : Peers = record { coming = C.coming connections.new; told = C.told connections.new } in
+        ((result ≡ Err ProgramFault.Memory) × (shelf.new ≡ shelf.old) × (after ≡ before)) ⊎ EndsServed S.state count before after result shelf.old shelf.new }
 {
     let Ok(routes) = Routes::new(alloc) else {
         return Err(ProgramFault::Memory);
