@@ -49,7 +49,7 @@ module _ {S : Type 0} (state : S → Shown) where
   abbrev pub IsServedOnWire : List ℕ → Bool → List ℕ → Result Served ServeFault → S → S → Type 0
   IsServedOnWire bytes ended text (Ok (Answered status)) old new = IsAnswered bytes ended text (Ok (Answered status)) old new
   IsServedOnWire bytes ended text (Ok Empty) old new = (ended ≡ true) × (bytes ≡ []) × IsUntouched text old new
-  IsServedOnWire bytes ended text (Err Read) old new = IsUntouched text old new
+  IsServedOnWire bytes ended text (Err Read) old new = (text ≡ []) × (new ≡ old) × (ended ≡ false) × IsNotWhole bytes
   IsServedOnWire bytes ended text (Err Reads) old new = (ended ≡ false) × IsNotWhole bytes × IsUntouched text old new
   IsServedOnWire bytes ended text (Err Write) old new = IsAnswered bytes ended text (Err Write) old new
   IsServedOnWire bytes ended text (Err Memory) old new = IsUntouched text old new ⊎ IsAnswered bytes ended text (Err Memory) old new

@@ -1,2 +1,3 @@
 pub mod Nothing
 pub mod One
+pub mod Waiting

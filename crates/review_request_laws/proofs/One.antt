@@ -25,7 +25,7 @@ heads_one bytes h k ended o p a b x y =
     follows_one (asked h) (body_of bytes h) ended o p x (subst P (sym same) y)
 
 -- a head that stands there is no bad one
-not_bad : (bytes : List ℕ) (h : RequestHead) (ended : Bool) → HasHead bytes h → IsBadHead bytes ended → ⊥
+pub not_bad : (bytes : List ℕ) (h : RequestHead) (ended : Bool) → HasHead bytes h → IsBadHead bytes ended → ⊥
 not_bad bytes h ended a (inl never) =
     let P : List ℕ → Type 0 = λ b. ReadsRequest b h (drop (length (print_request h)) (front bytes)) in
     never [] h _ (subst P (sym (append-nil (front bytes))) a.reads)
@@ -35,7 +35,7 @@ not_bad bytes h ended a (inr x) =
     x.3 h _ (subst P same a.reads)
 
 -- nor one too large
-not_large : (bytes : List ℕ) (h : RequestHead) → HasHead bytes h → IsHeadTooLarge bytes → ⊥
+pub not_large : (bytes : List ℕ) (h : RequestHead) → HasHead bytes h → IsHeadTooLarge bytes → ⊥
 not_large bytes h a (inl x) = x.1 h _ a.reads
 not_large bytes h a (inr x) =
     let P : List ℕ → Type 0 = λ b. ReadsRequest b h (drop (length (print_request h)) (front bytes)) in

@@ -1,12 +1,13 @@
 -- Laws of what the bytes of a request call for.
-use Rattle.std.specs.Prelude.{◌≡◌, ◌⊎◌, ℕ, List, [], Bool, true, Option, Some, Result, Err}
+use Rattle.std.specs.Prelude.{◌≡◌, ◌⊎◌, ℕ, List, [], Bool, true, false, Option, Some, Result, Err}
+use Rattle.httparse.specs.Grammar.{EndsInTarget}
 use Rattle.review_words.specs.declared.command.Delivery.{Delivery}
 use Rattle.review_counted.specs.Bytes.{Gave}
 use Rattle.review_paths.specs.declared.fault.HttpFault.{HttpFault}
 use Rattle.review_paths.specs.declared.fault.HttpFault.TheVariants.{BadHead, HeadTooLarge}
 use Rattle.review_requests.specs.declared.fault.RequestFault.{RequestFault}
 use Rattle.review_requests.specs.declared.fault.RequestFault.TheVariants.{Empty, Read, Memory}
-use Rattle.review_requests.specs.Wire.{CallsFor}
+use Rattle.review_requests.specs.Wire.{CallsFor, IsNotWhole, HasManyFields}
 use Rattle.review_requests.specs.Told.{IsToldOfInput}
 
 -- what the bytes call for that a reader gave, all its bytes call for
@@ -22,6 +23,11 @@ IsHeadFault outcome = (outcome ≡ Err BadHead) ⊎ (outcome ≡ Err HeadTooLarg
 abbrev pub CallForOneThing : Type 0
 CallForOneThing = (bytes : List ℕ) (ended : Bool) (outcome other : Result Delivery HttpFault)
     → CallsFor bytes ended outcome → CallsFor bytes ended other → (outcome ≡ other) ⊎ (IsHeadFault outcome × IsHeadFault other)
+
+-- where no whole request is there yet, nor a fault of its head, bytes call for nothing, but in two places: a target whose end hasn't come, and that no bytes make UTF-8; and a head whose end hasn't come, with more than 64 fields already
+abbrev pub WaitingCallsForNothing : Type 0
+WaitingCallsForNothing = (bytes : List ℕ) (outcome : Result Delivery HttpFault) → IsNotWhole bytes → CallsFor bytes false outcome
+    → ((outcome ≡ Err BadHead) × EndsInTarget bytes) ⊎ ((outcome ≡ Err HeadTooLarge) × HasManyFields bytes)
 
 -- no bytes, and the end of the input behind them, call for nothing: neither for a delivery nor for a fault
 abbrev pub NothingCallsForNothing : Type 0

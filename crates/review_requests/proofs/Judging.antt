@@ -1,8 +1,7 @@
 -- From what a look at the front said to what is said of the bytes.
-use Rattle.std.proofs.Common.{◌≡◌, ◌<◌, ◌≤◌, ℕ, List, length, drop, length-take, Bool, true, Result, Ok, Err, inl, inr, refl, sym, ap, subst, ◌∙◌, arith}
+use Rattle.std.proofs.Common.{◌≡◌, ◌<◌, ◌≤◌, ◌+◌, ◌++◌, ℕ, List, [], length, drop, length-take, length-drop, length-append, append-nil, Bool, true, false, Result, Ok, Err, inl, inr, refl, sym, ap, subst, ◌∙◌, arith}
 use Rattle.std.proofs.lemmas.List.{take_all}
-use Rattle.httparse.specs.Grammar.{RequestHead, HasNoRequest, print_request}
-use Rattle.httparse.proofs.GrammarLemmas.{request_unique}
+use Rattle.httparse.specs.Grammar.{RequestHead, HasNoRequest, MayBecomeRequest, print_request}
 use Rattle.review_words.specs.declared.command.Delivery.{Delivery}
 use Rattle.review_requests.specs.declared.asked.Asked.{Asked}
 use Rattle.review_paths.specs.declared.fault.HttpFault.{HttpFault}
@@ -10,12 +9,13 @@ use Rattle.review_paths.specs.declared.fault.HttpFault.TheVariants.{BadHead}
 use Rattle.review_requests.specs.declared.fault.RequestFault.{RequestFault}
 use Rattle.review_requests.specs.declared.fault.RequestFault.TheVariants as request
 use Rattle.review_requests.specs.Wire.{front, HasHead, body_of, Follows, CallsFor, IsNotWhole}
+use Rattle.review_requests.proofs.Longer.{within, head_more}
 use Rattle.review_requests.specs.Heads.{asked}
 use Rattle.review_requests.specs.declared.fault.Refused.{Refused}
 use Rattle.review_requests.specs.declared.fault.Refused.TheVariants as refused
 use Rattle.review_requests.specs.declared.judge.Look.{Look}
 use Rattle.review_requests.specs.declared.judge.Look.TheVariants.{Whole, Wants}
-use Rattle.review_requests.specs.Judged.{Stands, IsFaultOf, Finishes, Judges, HeadIs, request_fault}
+use Rattle.review_requests.specs.Judged.{Stands, IsFaultOf, Finishes, Judges, WaitsFor, HeadIs, request_fault}
 
 pub front_short : (bytes : List ℕ) → length bytes < 16384 → front bytes ≡ bytes
 front_short bytes short = take_all 16384 bytes (omega arith)
@@ -34,21 +34,34 @@ judged_fault bytes ended f (inl w) = follows bytes w.0 (Err f) ended (Err f) w.1
 judged_fault bytes ended f (inr (inl w)) = inr (inl (ap Err w.0, inl w.1))
 judged_fault bytes ended f (inr (inr w)) = inr (inr (ap Err w.0, inr w.1))
 
-shorter : (bytes : List ℕ) (h : RequestHead) (a b : Asked) → ◌≡◌ {A = Result Asked HttpFault} (Ok a) (Ok b) → length (body_of bytes h) < a.length → length (body_of bytes h) < b.length
-shorter bytes h a b e short =
-    let same : a ≡ b = cc in
-    let P : Asked → Type 0 = λ x. length (body_of bytes h) < x.length in
-    subst P same short
+-- more bytes behind a head are too few, as long as they end before its body does
+not_yet : (bytes more : List ℕ) (h : RequestHead) (a : Asked) (n : ℕ) → HasHead bytes h → asked h ≡ Ok a → n ≤ length (print_request h) + a.length → length (bytes ++ more) < n → IsNotWhole (bytes ++ more)
+not_yet bytes more h a n has e wanted few =
+    inr (h, head_more bytes more h has, a, e, omega (arith, wanted, few, within bytes h has, length-append bytes more, length-drop (length (print_request h)) (bytes ++ more)))
 
-not_whole : (bytes : List ℕ) (h : RequestHead) (a : Asked) → Stands (front bytes) h → asked h ≡ Ok a → length (body_of bytes h) < a.length → IsNotWhole bytes
-not_whole bytes h a s e short = λ k b has is.
-    let same = (request_unique (front bytes) h k _ _ s.0 has.reads).0 in
-    let P : RequestHead → Type 0 = λ x. (asked x ≡ Ok b) → length (body_of bytes x) < b.length in
-    subst P same (λ eb. shorter bytes h a b (sym e ∙ eb) short) is
+waits : (bytes : List ℕ) (h : RequestHead) (a : Asked) (n : ℕ) (ended : Bool) → ended ≡ false → Stands (front bytes) h → asked h ≡ Ok a
+    → length (body_of bytes h) < a.length → n ≤ length (print_request h) + a.length → Judges bytes ended (Ok (Wants n))
+waits bytes h a n ended on s e short wanted =
+    let has = head_stands bytes h s in
+    (on, inr (h, has, a, e, short), λ more few. not_yet bytes more h a n has e wanted few)
 
-pub judged_head : (bytes : List ℕ) (h : RequestHead) (a : Asked) (ended : Bool) (r : Result Look RequestFault) → Stands (front bytes) h → asked h ≡ Ok a → Finishes a (body_of bytes h) ended r → Judges bytes ended r
+-- fewer bytes than are looked at for a head, of which one may become
+pub awaits_head : (bytes : List ℕ) (ended : Bool) → ended ≡ false → length bytes < 16384 → HasNoRequest (front bytes) × MayBecomeRequest (front bytes) → Judges bytes ended (Ok (Wants 0))
+awaits_head bytes ended on short before =
+    let P : List ℕ → Type 0 = λ b. HasNoRequest b × MayBecomeRequest b in
+    let so = subst P (front_short bytes short) before in
+    (on, inl (short, so.0, so.1), λ more few. absurd (omega (arith, few)))
+
+-- bytes behind which so many are awaited, and of which there are too few
+pub still_waits : (bytes : List ℕ) (n : ℕ) (ended : Bool) → ended ≡ false → WaitsFor n bytes → length bytes < n → Judges bytes ended (Ok (Wants n))
+still_waits bytes n ended on waiting few =
+    let none : bytes ++ [] ≡ bytes = append-nil bytes in
+    let P : List ℕ → Type 0 = λ b. length b < n in
+    (on, subst IsNotWhole none (waiting [] (subst P (sym none) few)), waiting)
+
+pub judged_head : (bytes : List ℕ) (h : RequestHead) (a : Asked) (ended : Bool) (r : Result Look RequestFault) → Stands (front bytes) h → asked h ≡ Ok a → Finishes a (length (print_request h)) (body_of bytes h) ended r → Judges bytes ended r
 judged_head bytes h a ended (Ok (Whole d)) s e f = follows bytes h (Ok a) ended (Ok d) s e f
-judged_head bytes h a ended (Ok (Wants n)) s e f = (f.0, not_whole bytes h a s e f.1)
+judged_head bytes h a ended (Ok (Wants n)) s e f = waits bytes h a n ended f.0 s e f.1 f.2
 judged_head bytes h a ended (Err request.Empty) s e f = absurd f
 judged_head bytes h a ended (Err (request.Http g)) s e f = follows bytes h (Ok a) ended (Err g) s e f
 judged_head bytes h a ended (Err request.Read) s e f = f
@@ -61,9 +74,9 @@ judged_refused bytes ended refused.Memory h = tt
 
 pub judged_body : (bytes : List ℕ) (n : ℕ) (a : Asked) (ended : Bool) (r : Result Look RequestFault)
     → ((h : RequestHead) × Stands (front bytes) h × (n ≡ length (print_request h)) × (n ≤ length (front bytes)) × (asked h ≡ Ok a))
-    → Finishes a (drop n bytes) ended r → Judges bytes ended r
+    → Finishes a n (drop n bytes) ended r → Judges bytes ended r
 judged_body bytes n a ended r w f =
-    let P : ℕ → Type 0 = λ m. Finishes a (drop m bytes) ended r in
+    let P : ℕ → Type 0 = λ m. Finishes a m (drop m bytes) ended r in
     judged_head bytes w.0 a ended r w.1 w.4 (subst P w.2 f)
 
 pub ended_in_head : (bytes : List ℕ) (ended : Bool) → ended ≡ true → 0 < length bytes → length bytes < 16384 → HasNoRequest (front bytes) → CallsFor bytes ended (Err BadHead)

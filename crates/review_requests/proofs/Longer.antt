@@ -53,10 +53,13 @@ overflows_more buf longer w many more h rest reads =
     let P : List ℕ → Type 0 = λ b. ReadsRequest b h rest in
     many (w.0 ++ more) h rest (subst P (ap (λ b. b ++ more) w.1 ∙ append_assoc buf w.0 more) reads)
 
-within : (bytes : List ℕ) (h : RequestHead) → HasHead bytes h → length (print_request h) ≤ length bytes
+pub within : (bytes : List ℕ) (h : RequestHead) → HasHead bytes h → length (print_request h) ≤ length bytes
 within bytes h has =
     let e = ap length has.reads.1 in
     omega (arith, e, length-append (print_request h) (drop (length (print_request h)) (front bytes)), length-take 16384 bytes)
+
+pub head_more : (bytes more : List ℕ) (h : RequestHead) → HasHead bytes h → HasHead (bytes ++ more) h
+head_more bytes more h has = record { reads = reads_more (front bytes) (front (bytes ++ more)) h (front_more bytes more) has.reads; few = has.few }
 
 body_more : (bytes more : List ℕ) (h : RequestHead) → HasHead bytes h → body_of (bytes ++ more) h ≡ body_of bytes h ++ more
 body_more bytes more h has = drop-append-le (length (print_request h)) bytes more (within bytes h has)
@@ -70,9 +73,8 @@ follows_more (Ok a) rest more ended o (inr h) = absurd (true≢false (sym h.1))
 -- what bytes called for before the reader ended is what they call for with more behind them
 pub calls_more : (bytes more : List ℕ) (ended : Bool) (o : Result Delivery HttpFault) → CallsFor bytes false o → CallsFor (bytes ++ more) ended o
 calls_more bytes more ended o (inl w) =
-    let has : HasHead (bytes ++ more) w.0 = record { reads = reads_more (front bytes) (front (bytes ++ more)) w.0 (front_more bytes more) w.1.reads; few = w.1.few } in
     let P : List ℕ → Type 0 = λ b. Follows (asked w.0) b ended o in
-    inl (w.0, has, subst P (sym (body_more bytes more w.0 w.1)) (follows_more (asked w.0) (body_of bytes w.0) more ended o w.2))
+    inl (w.0, head_more bytes more w.0 w.1, subst P (sym (body_more bytes more w.0 w.1)) (follows_more (asked w.0) (body_of bytes w.0) more ended o w.2))
 calls_more bytes more ended o (inr (inl w)) = inr (inl (w.0, bad w.1))
   where
     bad : IsBadHead bytes false → IsBadHead (bytes ++ more) ended

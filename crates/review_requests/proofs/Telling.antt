@@ -1,21 +1,19 @@
 -- From a look at the bytes to what is told of them.
-use Rattle.std.proofs.Common.{◌≡◌, ◌<◌, ◌≤◌, ◌+◌, ◌++◌, min, zero, suc, refl, arith, sym, ap, subst, ◌∙◌, ℕ, List, [], length, length-append, append-nil, Bool, true, false, not, true≢false, Option, Some, None, Result, Ok, Err, IfSome}
+use Rattle.std.proofs.Common.{◌≡◌, ◌<◌, ◌≤◌, ◌+◌, ◌++◌, min, zero, suc, refl, arith, sym, ap, subst, ◌∙◌, ℕ, List, [], length, length-append, append_assoc, append-nil, Bool, true, false, not, true≢false, Option, Some, None, Result, Ok, Err, IfSome}
 use Rattle.review_words.specs.declared.command.Delivery.{Delivery}
 use Rattle.review_counted.specs.Bytes.{Gave, IsBrought}
 use Rattle.review_counted.specs.Counts.{greatest, one_more}
 use Rattle.review_counted.proofs.Given.{gave_more}
 use Rattle.review_requests.specs.Wire.{CallsFor, IsNotWhole}
 use Rattle.review_requests.specs.declared.judge.Look.{Look}
-use Rattle.review_requests.specs.Judged.{Judges, IsLook}
+use Rattle.review_requests.specs.declared.judge.Look.TheVariants.{Wants}
+use Rattle.review_requests.specs.Judged.{Judges, WaitsFor}
 use Rattle.review_requests.specs.Told.{IsTold, WasTold, IsToldOfInput}
 use Rattle.review_requests.specs.declared.fault.RequestFault.{RequestFault}
 use Rattle.review_requests.specs.declared.fault.RequestFault.TheVariants.{Empty, Http, Read, Reads, Memory}
 use Rattle.review_requests.proofs.Longer.{whole}
 
 -- what a look of this value says
-pub look_at : (bytes : List ℕ) (ended : Bool) (x y : Look) → x ≡ y → IsLook bytes ended (Ok x) → IsLook bytes ended (Ok y)
-look_at bytes ended x y e h = subst (λ (z : Look). IsLook bytes ended (Ok z)) e h
-
 pub judged_at : (bytes : List ℕ) (ended : Bool) (x y : Look) → x ≡ y → Judges bytes ended (Ok x) → Judges bytes ended (Ok y)
 judged_at bytes ended x y e h = subst (λ (z : Look). Judges bytes ended (Ok z)) e h
 
@@ -35,14 +33,25 @@ pub faulted : (a b : Option (List ℕ)) (bytes slice : List ℕ) (ended : Bool) 
 faulted a b bytes slice ended f g e j = judged a b bytes ended f g (subst (λ (x : List ℕ). Judges x ended (Err f)) e j)
 
 -- and that so many reads weren't enough
-pub unfinished : (a b : Option (List ℕ)) (bytes slice : List ℕ) (ended : Bool) (k : ℕ) → Gave a b bytes ended → slice ≡ bytes → (ended ≡ false → k ≤ length bytes) → 4096 ≤ k → (ended ≡ false) × IsNotWhole slice → WasTold a b (Err Reads)
-unfinished a b bytes slice ended k g e some many w =
+pub unfinished : (a b : Option (List ℕ)) (bytes slice : List ℕ) (ended : Bool) (k n : ℕ) → Gave a b bytes ended → slice ≡ bytes → (ended ≡ false → k ≤ length bytes) → 4096 ≤ k → Judges slice ended (Ok (Wants n)) → WasTold a b (Err Reads)
+unfinished a b bytes slice ended k n g e some many w =
     let long = some w.0 in
-    record { bytes = bytes; ended = ended; gave = g; told = (w.0, omega (arith, long, many), subst (λ (x : List ℕ). IsNotWhole x) e w.1) }
+    record { bytes = bytes; ended = ended; gave = g; told = (w.0, omega (arith, long, many), subst IsNotWhole e w.1) }
 
--- a read that brought nothing to keep
-pub stopped : (a b c : Option (List ℕ)) (bytes piece : List ℕ) (ended end : Bool) (f : RequestFault) → Gave a b bytes ended → Gave b c piece end → ((x : List ℕ) (e : Bool) → IsTold x e (Err f)) → WasTold a c (Err f)
-stopped a b c bytes piece ended end f g h t = record { bytes = bytes ++ piece; ended = end; gave = gave_more a b c bytes piece ended end g h; told = t _ _ }
+-- a read for which there was no memory
+pub stopped : (a b c : Option (List ℕ)) (bytes piece : List ℕ) (ended end : Bool) → Gave a b bytes ended → Gave b c piece end → WasTold a c (Err Memory)
+stopped a b c bytes piece ended end g h = record { bytes = bytes ++ piece; ended = end; gave = gave_more a b c bytes piece ended end g h; told = tt }
+
+-- what is awaited behind bytes is so behind more of them
+pub waits_still : (bytes slice piece new : List ℕ) (end came ended : Bool) (n : ℕ) → slice ≡ bytes → Judges slice ended (Ok (Wants n)) → IsBrought (Ok came) piece end bytes new → WaitsFor n new
+waits_still bytes slice piece new end true ended n e j w =
+    let on : WaitsFor n bytes = subst (λ b. WaitsFor n b) e j.2 in
+    let P : List ℕ → Type 0 = λ b. WaitsFor n b in
+    let Q : List ℕ → Type 0 = λ b. length b < n → IsNotWhole b in
+    subst P (sym w.2) (λ more. subst Q (sym (append_assoc bytes piece more)) (on (piece ++ more)))
+waits_still bytes slice piece new end false ended n e j w =
+    let P : List ℕ → Type 0 = λ b. WaitsFor n b in
+    subst P (e ∙ sym w.2) j.2
 
 -- what came is put behind what was there
 pub gave_read : (a b c : Option (List ℕ)) (bytes piece new : List ℕ) (ended end came : Bool) → Gave a b bytes ended → Gave b c piece end → IsBrought (Ok came) piece end bytes new → Gave a c new (not came)

@@ -1,6 +1,6 @@
 -- What a look at the bytes so far says of them.
-use Rattle.std.specs.Prelude.{◌≡◌, ◌≤◌, ◌⊎◌, ◌<◌, ℕ, List, [], length, drop, Bool, true, false, Result, Ok, Err}
-use Rattle.httparse.specs.Grammar.{RequestHead, ReadsRequest, HasNoRequest, NeverHasRequest, print_request}
+use Rattle.std.specs.Prelude.{◌≡◌, ◌≤◌, ◌⊎◌, ◌<◌, ◌++◌, ◌+◌, ℕ, List, [], length, drop, Bool, true, false, Result, Ok, Err}
+use Rattle.httparse.specs.Grammar.{RequestHead, ReadsRequest, HasNoRequest, NeverHasRequest, MayBecomeRequest, print_request}
 use Rattle.review_paths.specs.declared.fault.HttpFault.TheVariants as faults
 use Rattle.review_paths.specs.declared.fault.HttpFault.{HttpFault}
 use Rattle.review_requests.specs.declared.fault.Refused.{Refused}
@@ -25,38 +25,38 @@ IsFaultOf buf f =
     ((h : RequestHead) × Stands buf h × (asked h ≡ Err f)) ⊎ ((f ≡ faults.BadHead) × NeverHasRequest buf)
     ⊎ ((f ≡ faults.HeadTooLarge) × HasManyFields buf)
 
+-- what stands at the front of the bytes, or the fault of it
 abbrev pub HeadIs : List ℕ → Result Head Refused → Type 0
 HeadIs buf (Ok (Asks n a)) = (h : RequestHead) × Stands buf h × (n ≡ length (print_request h)) × (n ≤ length buf) × (asked h ≡ Ok a)
-HeadIs buf (Ok Partial) = HasNoRequest buf
+HeadIs buf (Ok Partial) = HasNoRequest buf × MayBecomeRequest buf
 HeadIs buf (Err (Http f)) = IsFaultOf buf f
 HeadIs buf (Err Memory) = Unit {0}
 
--- what the bytes after a head, and the end of the input, say of what it asked for
-abbrev pub Finishes : Asked → List ℕ → Bool → Result Look RequestFault → Type 0
-Finishes a rest ended (Ok (Whole d)) = Follows (Ok a) rest ended (Ok d)
-Finishes a rest ended (Ok (Wants n)) = (ended ≡ false) × (length rest < a.length)
-Finishes a rest ended (Err request.Empty) = ⊥
-Finishes a rest ended (Err (request.Http f)) = Follows (Ok a) rest ended (Err f)
-Finishes a rest ended (Err request.Read) = ⊥
-Finishes a rest ended (Err request.Reads) = ⊥
-Finishes a rest ended (Err request.Memory) = Unit {0}
+-- what the bytes after a head that ends there, and the end of the input, say of what it asked for
+abbrev pub Finishes : Asked → ℕ → List ℕ → Bool → Result Look RequestFault → Type 0
+Finishes a end rest ended (Ok (Whole d)) = Follows (Ok a) rest ended (Ok d)
+Finishes a end rest ended (Ok (Wants n)) = (ended ≡ false) × (length rest < a.length) × (n ≤ end + a.length)
+Finishes a end rest ended (Err request.Empty) = ⊥
+Finishes a end rest ended (Err (request.Http f)) = Follows (Ok a) rest ended (Err f)
+Finishes a end rest ended (Err request.Read) = ⊥
+Finishes a end rest ended (Err request.Reads) = ⊥
+Finishes a end rest ended (Err request.Memory) = Unit {0}
 
--- the delivery or the fault of the bytes, where they are enough for one
+-- with more bytes behind these no whole request is there, as long as there are fewer than n
+abbrev pub WaitsFor : ℕ → List ℕ → Type 0
+WaitsFor n bytes = (more : List ℕ) → length (bytes ++ more) < n → IsNotWhole (bytes ++ more)
+
+-- the delivery or the fault of the bytes, where they are enough for one, or how many are to come first
 abbrev pub Judges : List ℕ → Bool → Result Look RequestFault → Type 0
 Judges bytes ended (Ok (Whole d)) = CallsFor bytes ended (Ok d)
-Judges bytes ended (Ok (Wants n)) = (ended ≡ false) × IsNotWhole bytes
+Judges bytes ended (Ok (Wants n)) = (ended ≡ false) × IsNotWhole bytes × WaitsFor n bytes
 Judges bytes ended (Err request.Empty) = (ended ≡ true) × (bytes ≡ [])
 Judges bytes ended (Err (request.Http f)) = CallsFor bytes ended (Err f)
 Judges bytes ended (Err request.Read) = ⊥
 Judges bytes ended (Err request.Reads) = ⊥
 Judges bytes ended (Err request.Memory) = Unit {0}
 
+-- the fault of a request that one of its parts is
 abbrev pub request_fault : Refused → RequestFault
 request_fault (Http f) = request.Http f
 request_fault Memory = request.Memory
-
--- a look at the bytes, which may wait for more where the reader has not ended
-abbrev pub IsLook : List ℕ → Bool → Result Look RequestFault → Type 0
-IsLook bytes ended (Ok (Whole d)) = CallsFor bytes ended (Ok d)
-IsLook bytes ended (Ok (Wants n)) = ended ≡ false
-IsLook bytes ended (Err fault) = Judges bytes ended (Err fault)

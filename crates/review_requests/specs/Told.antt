@@ -11,7 +11,7 @@ abbrev pub IsTold : List ℕ → Bool → Result Delivery RequestFault → Type 
 IsTold bytes ended (Ok delivery) = CallsFor bytes ended (Ok delivery)
 IsTold bytes ended (Err Empty) = (ended ≡ true) × (bytes ≡ [])
 IsTold bytes ended (Err (Http fault)) = CallsFor bytes ended (Err fault)
-IsTold bytes ended (Err Read) = Unit {0}
+IsTold bytes ended (Err Read) = (ended ≡ false) × IsNotWhole bytes
 IsTold bytes ended (Err Reads) = (ended ≡ false) × (4096 ≤ length bytes) × IsNotWhole bytes
 IsTold bytes ended (Err Memory) = Unit {0}
 

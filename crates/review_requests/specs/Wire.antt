@@ -1,6 +1,6 @@
 -- The delivery or the fault that the bytes of a request call for.
 use Rattle.std.specs.Prelude.{◌≡◌, ◌<◌, ◌≤◌, ◌⊎◌, ℕ, List, length, take, drop, Bool, true, Option, Some, None, option_map, Result, Ok, Err}
-use Rattle.httparse.specs.Grammar.{RequestHead, ReadsRequest, HasNoRequest, NeverHasRequest, print_request}
+use Rattle.httparse.specs.Grammar.{RequestHead, ReadsRequest, HasNoRequest, NeverHasRequest, MayBecomeRequest, print_request}
 use Rattle.httparse.specs.Spans.{RequestExceeds, RequestOverflows}
 use Rattle.review_words.specs.declared.command.Delivery.{Delivery}
 use Rattle.review_words.specs.declared.command.Delivery.TheVariants.{Write, Read}
@@ -66,6 +66,14 @@ CallsFor bytes ended outcome =
     ⊎ ((outcome ≡ Err BadHead) × IsBadHead bytes ended)
     ⊎ ((outcome ≡ Err HeadTooLarge) × IsHeadTooLarge bytes)
 
--- the head isn't there, or its body isn't there in full
+-- No head is there, nor a fault of one: there are fewer than 16,384 bytes, and more can follow that make a head of them. Whether a target is UTF-8 isn't asked before it ends.
+abbrev pub AwaitsHead : List ℕ → Type 0
+AwaitsHead bytes = (length bytes < 16384) × HasNoRequest bytes × MayBecomeRequest bytes
+
+-- a head without a fault is there, and its body isn't there in full
+abbrev pub AwaitsBody : List ℕ → Type 0
+AwaitsBody bytes = (head : RequestHead) × HasHead bytes head × (a : Asked) × (asked head ≡ Ok a) × (length (body_of bytes head) < a.length)
+
+-- no whole request is there yet, nor a fault of its head
 abbrev pub IsNotWhole : List ℕ → Type 0
-IsNotWhole bytes = (head : RequestHead) (a : Asked) → HasHead bytes head → asked head ≡ Ok a → length (body_of bytes head) < a.length
+IsNotWhole bytes = AwaitsHead bytes ⊎ AwaitsBody bytes

@@ -1,10 +1,10 @@
 //! A look at the bytes so far.
 ghost use Rattle.std.specs.Prelude.{◌≡◌, ◌<◌, ◌≤◌, length, drop, take, Ok, option_map, Some, None, Err, IfOk};
-ghost use Rattle.httparse.specs.Grammar.{HasNoRequest};
+ghost use Rattle.httparse.specs.Grammar.{HasNoRequest, MayBecomeRequest};
 ghost use Rattle.review_bodies.specs.Parts.{Gives};
 ghost use Rattle.review_requests.specs.Faults.{Answers};
 ghost use Rattle.review_requests.specs.Wire.{delivered, delivery_of, front};
-ghost use Rattle.review_requests.specs.Judged.{HeadIs, Finishes, Judges, IsLook, request_fault};
+ghost use Rattle.review_requests.specs.Judged.{HeadIs, Finishes, Judges, WaitsFor, request_fault};
 
 use crate::asked::Asked;
 use crate::fault::{Refused, RequestFault, unless_memory};
@@ -100,7 +100,7 @@ fn finish(
     rest: &[u8],
     ended: bool,
 ) -> Result<Look, RequestFault>
-    ensures { Finishes asked rest.now ended result }
+    ensures { Finishes asked end rest.now ended result }
 {
     let length = asked.length;
     if rest.len() < length {
@@ -128,7 +128,7 @@ fn front_of(bytes: &[u8]) -> &[u8]
 }
 
 fn unfinished(bytes: &[u8], ended: bool) -> Result<Look, RequestFault>
-    requires { HasNoRequest (front bytes.now) }
+    requires { HasNoRequest (front bytes.now) × MayBecomeRequest (front bytes.now) }
     ensures { Judges bytes.now ended result }
 {
     if bytes.len() >= FRONT {
@@ -184,7 +184,7 @@ pub fn judge(
     }
 }
 
-/// The same, but for bytes that are fewer than are wanted: more have to come first, or the end of the input.
+/// The same, without a look where the bytes are fewer than are wanted: more have to come first, or the end of the input.
 pub fn judge_enough(
     alloc: Global,
     routes: &Routes,
@@ -192,7 +192,8 @@ pub fn judge_enough(
     ended: bool,
     wanted: usize,
 ) -> Result<Look, RequestFault>
-    ensures { IsLook bytes.now ended result }
+    requires { WaitsFor wanted bytes.now }
+    ensures { Judges bytes.now ended result }
 {
     if !ended && bytes.len() < wanted {
         return Ok(Look::Wants(wanted));

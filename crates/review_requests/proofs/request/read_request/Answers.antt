@@ -1,5 +1,5 @@
 use Rattle.std.proofs.Common.{◌∙◌, arith}
-use Rattle.review_requests.proofs.Telling.{called, faulted, unfinished, stopped, gave_read, gave_some, one_read, told_whole, look_at, judged_at}
+use Rattle.review_requests.proofs.Telling.{called, faulted, unfinished, stopped, waits_still, gave_read, gave_some, one_read, told_whole, judged_at}
 use Rattle.review_requests.specs.declared.fault.RequestFault.TheVariants.{Memory}
 use Rattle.review_requests.proofs.request.read_request.Goals as goal
 
@@ -8,15 +8,16 @@ loop-preserved g c =
     let more = c.in-Ok.ensures.gave in
     record {
       gave = gave_read _ _ _ _ _ _ _ _ c.in-Ok.came c.loop.invariant.gave more.2 more.3;
-      some = λ last. gave_some _ _ _ _ c.in-Ok.came c.loop.counter (c.loop.invariant.some (look_at _ _ _ _ c.in-Ok-Wants.field-0-is c.in-Ok-Wants.ensures)) more.3 last;
+      some = λ last. gave_some _ _ _ _ c.in-Ok.came c.loop.counter (c.loop.invariant.some (judged_at _ _ _ _ c.in-Ok-Wants.field-0-is c.in-Ok-Wants.ensures).0) more.3 last;
       none = λ no. absurd (omega arith);
       reads = λ _. one_read _ _ _ c.loop.counter c.loop.invariant.none c.loop.invariant.reads c.read_more.ensures.reads;
+      waits = waits_still _ _ _ _ _ c.in-Ok.came c.loop.ended c.in-Ok-Wants.count c.as_slice.ensures.value (judged_at _ _ _ _ c.in-Ok-Wants.field-0-is c.in-Ok-Wants.ensures) more.3;
       faults = c.in-Ok.ensures.kept ∙ c.loop.invariant.faults;
     }
 
 pub returns-in-Ok-Whole-clause-whole : goal.returns-in-Ok-Whole-clause-whole
 returns-in-Ok-Whole-clause-whole g c =
-    told_whole _ _ _ (called _ _ _ _ c.loop.ended c.in-Ok-Whole.delivery c.loop.invariant.gave c.as_slice.ensures.value (look_at _ _ _ _ c.in-Ok-Whole.field-0-is c.in-Ok-Whole.ensures))
+    told_whole _ _ _ (called _ _ _ _ c.loop.ended c.in-Ok-Whole.delivery c.loop.invariant.gave c.as_slice.ensures.value (judged_at _ _ _ _ c.in-Ok-Whole.field-0-is c.in-Ok-Whole.ensures))
 
 pub returns-in-Err-clause-told : goal.returns-in-Err-clause-told
 returns-in-Err-clause-told g c = faulted _ _ _ _ c.loop.ended c.in-Err.fault c.loop.invariant.gave c.as_slice.ensures.value c.in-Err.ensures
@@ -28,7 +29,7 @@ returns-in-Err-clause-whole g c =
 pub returns-in-Err-Memory-clause-told : goal.returns-in-Err-Memory-clause-told
 returns-in-Err-Memory-clause-told g c =
     let gone = c.read_more.ensures.gave in
-    stopped _ _ _ _ _ _ _ Memory c.loop.invariant.gave gone.2 (λ x e. tt)
+    stopped _ _ _ _ _ _ _ c.loop.invariant.gave gone.2
 
 pub returns-in-Ok-Whole-judge-clause-whole : goal.returns-in-Ok-Whole-judge-clause-whole
 returns-in-Ok-Whole-judge-clause-whole g c =
@@ -36,11 +37,11 @@ returns-in-Ok-Whole-judge-clause-whole g c =
 
 pub returns-in-Ok-Wants-judge-clause-told : goal.returns-in-Ok-Wants-judge-clause-told
 returns-in-Ok-Wants-judge-clause-told g c =
-    unfinished _ _ _ _ c.loop.ended c.loop.counter c.loop.invariant.gave c.as_slice-2.ensures.value c.loop.invariant.some c.loop-test.false (judged_at _ _ _ _ c.in-Ok-Wants-judge.field-0-is c.in-Ok-Wants-judge.ensures)
+    unfinished _ _ _ _ c.loop.ended c.loop.counter _ c.loop.invariant.gave c.as_slice-2.ensures.value c.loop.invariant.some c.loop-test.false (judged_at _ _ _ _ c.in-Ok-Wants-judge.field-0-is c.in-Ok-Wants-judge.ensures)
 
 pub returns-in-Ok-Wants-judge-clause-whole : goal.returns-in-Ok-Wants-judge-clause-whole
 returns-in-Ok-Wants-judge-clause-whole g c =
-    told_whole _ _ _ (unfinished _ _ _ _ c.loop.ended c.loop.counter c.loop.invariant.gave c.as_slice-2.ensures.value c.loop.invariant.some c.loop-test.false (judged_at _ _ _ _ c.in-Ok-Wants-judge.field-0-is c.in-Ok-Wants-judge.ensures))
+    told_whole _ _ _ (unfinished _ _ _ _ c.loop.ended c.loop.counter _ c.loop.invariant.gave c.as_slice-2.ensures.value c.loop.invariant.some c.loop-test.false (judged_at _ _ _ _ c.in-Ok-Wants-judge.field-0-is c.in-Ok-Wants-judge.ensures))
 
 pub returns-clause-told : goal.returns-clause-told
 returns-clause-told g c = faulted _ _ _ _ c.loop.ended c.in-Err-judge.fault c.loop.invariant.gave c.as_slice-2.ensures.value c.in-Err-judge.ensures

@@ -2,9 +2,10 @@ use Rattle.std.proofs.Common.{◌≡◌, ◌+◌, ◌<◌, ◌≤◌, length, mi
 use Rattle.review_counted.specs.Bytes.{Gave}
 use Rattle.review_counted.specs.Counts.{greatest}
 use Rattle.review_counted.specs.Shown.{inner_of, reads_of, faults_of}
+use Rattle.review_requests.specs.Judged.{WaitsFor}
 use Rattle.review_requests.proofs.request.read_request.Given as goal
 
--- the bytes so far are those that the reader gave, in so many reads
+-- the bytes so far are those that the reader gave, in so many reads, and with fewer than are wanted no request is whole
 abbrev pub invariant-loop : goal.invariant-loop
 invariant-loop g l =
     record {
@@ -12,5 +13,6 @@ invariant-loop g l =
       some : l.ended ≡ false → l.counter ≤ length l.bytes.items;
       none : l.counter ≡ 0 → reads_of l.reader ≡ reads_of l.fn.reader;
       reads : 0 < l.counter → reads_of l.reader ≡ min (reads_of l.fn.reader + l.counter) greatest;
+      waits : WaitsFor l.wanted l.bytes.items;
       faults : faults_of l.reader ≡ faults_of l.fn.reader;
     }
