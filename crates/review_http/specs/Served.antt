@@ -26,7 +26,7 @@ IsWritten told text (Err Memory) = text ≡ []
 
 -- of a shelf, and what it shows
 module _ {S : Type 0} (state : S → Shown) where
-  -- the delivery was taken with this reply; or there was none, so its fault is told and the shelf is as it was
+  -- this is the reply to the delivery, whether it was taken or not; or there was none, so the fault is told and the shelf is as it was
   abbrev pub IsToldOf : Result Delivery HttpFault → Result Reply HttpFault → S → S → Type 0
   IsToldOf (Ok d) (Ok reply) old new = IsDelivered d reply (state old) (state new)
   IsToldOf (Ok d) (Err g) old new = ⊥

@@ -1,5 +1,5 @@
 //! One request, taken and answered.
-ghost use Rattle.std.specs.Prelude.{◌≡◌, ◌+◌, ◌≤◌, ℕ, List, Err, min};
+ghost use Rattle.std.specs.Prelude.{◌≡◌, ◌+◌, ◌≤◌, ℕ, List, length, Err, IfSome, min};
 ghost use Rattle.std.specs.Io.KnownBytes.{Appends};
 ghost use Rattle.review_counted.specs.Counts.{greatest, one_more};
 ghost use Rattle.review_counted.specs.Shown.{inner_of, reads_of, faults_of};
@@ -61,7 +61,8 @@ fn respond<W: Write>(
 /// nothing else; after Write a first part of it is out. The delivery is taken as `deliver` takes it; a fault of the request, Empty, Read and
 /// Reads leave the shelf as it was. After Memory nothing was written, and either nothing was taken or the delivery stands.
 ///
-/// It makes at most 4,096 reads, and answers Read, Reads and Write only where the counts show it.
+/// It makes at most 4,096 reads, and at most one that gives no byte; it answers Read, Reads and Write only where the counts show it, and Read and
+/// Reads only where no whole request, and no fault of its head, was there yet.
 pub fn serve_request<R: Read, W: Write, S: Shelf, D: Rules>(
     alloc: Global,
     routes: &Routes,
@@ -72,6 +73,7 @@ pub fn serve_request<R: Read, W: Write, S: Shelf, D: Rules>(
 ) -> Result<Served, ServeFault>
     ensures served { WasServed S.state (R.remaining (inner_of reader.old)) (R.remaining (inner_of reader.new)) (W.contents (inner_of writer.old)) (W.contents (inner_of writer.new)) result shelf.old shelf.new }
     ensures few { reads_of reader.new ≤ reads_of reader.old + 4096 }
+    ensures once { IfSome (R.remaining (inner_of reader.old)) (λ input. reads_of reader.new ≤ reads_of reader.old + length input + 1) }
     ensures reads { result ≡ Err ServeFault.Reads → reads_of reader.new ≡ min (reads_of reader.old + 4096) greatest }
     ensures read { result ≡ Err ServeFault.Read → faults_of reader.new ≡ one_more (faults_of reader.old) }
     ensures write { result ≡ Err ServeFault.Write → faults_of writer.new ≡ one_more (faults_of writer.old) }

@@ -22,7 +22,7 @@ branch_at path =
 unfoldable pub told_at : ChangeQuery → List ℕ → Option Resource
 told_at query path = option_map (λ change. AskChange change query) (change_in (segment 2 path))
 
--- what is asked of a change, and no other segment says more of it
+-- what is asked of a change, where the path says nothing else of it: the second segment
 unfoldable pub asked_at : ChangeRoute → List ℕ → Option Resource
 asked_at asked path = option_map (λ change. OnChange change asked) (change_in (segment 2 path))
 

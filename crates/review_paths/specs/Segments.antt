@@ -8,7 +8,7 @@ use Rattle.review_names.specs.Numerals.{account_of, number_of}
 use Rattle.review_bodies.specs.Parts.{within}
 use Rattle.review_routes.specs.Texts.{name_of_bytes}
 
--- what stands between two slashes of a path, after so many slashes; nothing where the path has fewer
+-- what stands behind so many slashes of a path, up to the next slash or the end of the path; nothing where the path has fewer slashes
 abbrev pub segment : ℕ → List ℕ → List ℕ
 segment index path = slice_index_or (components path) index []
 

@@ -1,5 +1,5 @@
 -- The table of paths, as the router's definition has it.
-use Rattle.std.specs.Prelude.{ℕ, List, [], Option, option_map, codes, Result, Ok, Err}
+use Rattle.std.specs.Prelude.{ℕ, List, [], ◌∷◌, Option, option_map, codes, Result, Ok, Err}
 use Rattle.matchit.specs.Rows.{RowsOf}
 use Rattle.matchit.specs.Router.{RouteOf, route_from}
 use Rattle.matchit.specs.Route.{Scan, parse_route}
@@ -22,28 +22,38 @@ add_read (Err e) place rows = rows
 unfoldable pub with_path : List ℕ → Place → Rows → Rows
 with_path text place rows = add_read (parse_route text) place rows
 
+-- the paths that there are, each with its place; a name or a number is left open between braces
+abbrev pub paths : List (List ℕ × Place)
+paths =
+    (codes "/accounts", Accounts)
+    ∷ (codes "/groups/{group}", Group)
+    ∷ (codes "/projects/{project}", Project)
+    ∷ (codes "/projects/{project}/branches/{branch}", Branch)
+    ∷ (codes "/changes/", Changes)
+    ∷ (codes "/changes/{change}", Change)
+    ∷ (codes "/changes/{change}/requirements", Requirements)
+    ∷ (codes "/changes/{change}/threads", Threads)
+    ∷ (codes "/changes/{change}/attention", Attention)
+    ∷ (codes "/changes/{change}/revisions", Revisions)
+    ∷ (codes "/changes/{change}/revisions/{patch_set}/review", Review)
+    ∷ (codes "/changes/{change}/reviewers", Reviewers)
+    ∷ (codes "/changes/{change}/reviewers/{account}/delete", ReviewerDelete)
+    ∷ (codes "/changes/{change}/wip", Wip)
+    ∷ (codes "/changes/{change}/ready", Ready)
+    ∷ (codes "/changes/{change}/abandon", Abandon)
+    ∷ (codes "/changes/{change}/restore", Restore)
+    ∷ (codes "/changes/{change}/submit", Submit)
+    ∷ (codes "/changes/{change}/attention/{account}/delete", AttentionDelete)
+    ∷ []
+
+-- the paths with more, one after the other
+abbrev pub with_paths : List (List ℕ × Place) → Rows → Rows
+with_paths [] rows = rows
+with_paths ((text, place) ∷ more) rows = with_paths more (with_path text place rows)
+
 -- the table of paths
 unfoldable pub table : Rows
-table =
-    with_path (codes "/changes/{change}/attention/{account}/delete") AttentionDelete
-    (with_path (codes "/changes/{change}/submit") Submit
-    (with_path (codes "/changes/{change}/restore") Restore
-    (with_path (codes "/changes/{change}/abandon") Abandon
-    (with_path (codes "/changes/{change}/ready") Ready
-    (with_path (codes "/changes/{change}/wip") Wip
-    (with_path (codes "/changes/{change}/reviewers/{account}/delete") ReviewerDelete
-    (with_path (codes "/changes/{change}/reviewers") Reviewers
-    (with_path (codes "/changes/{change}/revisions/{patch_set}/review") Review
-    (with_path (codes "/changes/{change}/revisions") Revisions
-    (with_path (codes "/changes/{change}/attention") Attention
-    (with_path (codes "/changes/{change}/threads") Threads
-    (with_path (codes "/changes/{change}/requirements") Requirements
-    (with_path (codes "/changes/{change}") Change
-    (with_path (codes "/changes/") Changes
-    (with_path (codes "/projects/{project}/branches/{branch}") Branch
-    (with_path (codes "/projects/{project}") Project
-    (with_path (codes "/groups/{group}") Group
-    (with_path (codes "/accounts") Accounts []))))))))))))))))))
+table = with_paths paths []
 
 -- the place of a path, by the router's definition
 abbrev pub place_of : List ℕ → Option Place

@@ -9,12 +9,14 @@
 #![tactic(auto)]
 
 pub mod fault;
+pub mod laws;
 pub mod methods;
 pub mod resources;
 pub mod segments;
 pub mod table;
 
 pub use fault::HttpFault;
+pub use laws::table_holds_each_path;
 pub use methods::{Methods, route_of};
 pub use resources::{Resource, resource_of};
 pub use table::{Place, Routes};

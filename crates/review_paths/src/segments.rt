@@ -11,7 +11,7 @@ use review_routes::name_of_bytes;
 use review_words::{AccountNo, ChangeNo, Form, Name, PatchNo};
 use std::alloc::{AllocError, Global};
 
-/// What stands between two slashes of a path, after so many slashes; nothing where the path has fewer.
+/// What stands behind so many slashes of a path, up to the next slash or the end of the path; nothing where the path has fewer slashes.
 pub fn segment(path: &str, index: u8) -> &str
     ensures { result.now ≡ segment index path.now }
 {

@@ -42,13 +42,13 @@ not_large bytes h a (inr x) =
     let many : 64 < length h.fields = x.1 [] h _ (subst P (sym (append-nil (front bytes))) a.reads) in
     absurd (omega (arith, many, a.few))
 
-pub one : (bytes : List ℕ) (ended : Bool) (o p : Result Delivery HttpFault) → CallsFor bytes ended o → CallsFor bytes ended p → (o ≡ p) ⊎ (IsHeadFault o × IsHeadFault p)
+pub one : (bytes : List ℕ) (ended : Bool) (o p : Result Delivery HttpFault) → CallsFor bytes ended o → CallsFor bytes ended p → (o ≡ p) ⊎ (IsHeadFault o × IsHeadFault p × IsBadHead bytes ended × IsHeadTooLarge bytes)
 one bytes ended o p (inl x) (inl y) = inl (heads_one bytes x.0 y.0 ended o p x.1 y.1 x.2 y.2)
 one bytes ended o p (inl x) (inr (inl y)) = absurd (not_bad bytes x.0 ended x.1 y.1)
 one bytes ended o p (inl x) (inr (inr y)) = absurd (not_large bytes x.0 x.1 y.1)
 one bytes ended o p (inr (inl x)) (inl y) = absurd (not_bad bytes y.0 ended y.1 x.1)
 one bytes ended o p (inr (inr x)) (inl y) = absurd (not_large bytes y.0 y.1 x.1)
-one bytes ended o p (inr (inl x)) (inr (inl y)) = inr (inl x.0, inl y.0)
-one bytes ended o p (inr (inl x)) (inr (inr y)) = inr (inl x.0, inr y.0)
-one bytes ended o p (inr (inr x)) (inr (inl y)) = inr (inr x.0, inl y.0)
-one bytes ended o p (inr (inr x)) (inr (inr y)) = inr (inr x.0, inr y.0)
+one bytes ended o p (inr (inl x)) (inr (inl y)) = inl (x.0 ∙ sym y.0)
+one bytes ended o p (inr (inl x)) (inr (inr y)) = inr (inl x.0, inr y.0, x.1, y.1)
+one bytes ended o p (inr (inr x)) (inr (inl y)) = inr (inr x.0, inl y.0, y.1, x.1)
+one bytes ended o p (inr (inr x)) (inr (inr y)) = inl (x.0 ∙ sym y.0)

@@ -7,7 +7,7 @@ use Rattle.review_paths.specs.declared.fault.HttpFault.{HttpFault}
 use Rattle.review_paths.specs.declared.fault.HttpFault.TheVariants.{BadHead, HeadTooLarge}
 use Rattle.review_requests.specs.declared.fault.RequestFault.{RequestFault}
 use Rattle.review_requests.specs.declared.fault.RequestFault.TheVariants.{Empty, Read, Memory}
-use Rattle.review_requests.specs.Wire.{CallsFor, IsNotWhole, HasManyFields}
+use Rattle.review_requests.specs.Wire.{CallsFor, IsBadHead, IsHeadTooLarge, IsNotWhole, HasManyFields}
 use Rattle.review_requests.specs.Told.{IsToldOfInput}
 
 -- what the bytes call for that a reader gave, all its bytes call for
@@ -15,14 +15,15 @@ abbrev pub CutsDoNotMatter : Type 0
 CutsDoNotMatter = (input bytes : List ℕ) (left : Option (List ℕ)) (ended : Bool) (outcome : Result Delivery HttpFault)
     → Gave (Some input) left bytes ended → CallsFor bytes ended outcome → CallsFor input true outcome
 
--- the head is malformed or too large
+-- the fault of a head that is malformed or too large
 abbrev pub IsHeadFault : Result Delivery HttpFault → Type 0
 IsHeadFault outcome = (outcome ≡ Err BadHead) ⊎ (outcome ≡ Err HeadTooLarge)
 
--- bytes call for one thing; only where a head is malformed and too large is it open which of these two faults it is
+-- bytes call for one thing; only where a head is malformed and also too large is it open which of these two faults it is
 abbrev pub CallForOneThing : Type 0
 CallForOneThing = (bytes : List ℕ) (ended : Bool) (outcome other : Result Delivery HttpFault)
-    → CallsFor bytes ended outcome → CallsFor bytes ended other → (outcome ≡ other) ⊎ (IsHeadFault outcome × IsHeadFault other)
+    → CallsFor bytes ended outcome → CallsFor bytes ended other
+    → (outcome ≡ other) ⊎ (IsHeadFault outcome × IsHeadFault other × IsBadHead bytes ended × IsHeadTooLarge bytes)
 
 -- where no whole request is there yet, nor a fault of its head, bytes call for nothing, but in two places: a target whose end hasn't come, and that no bytes make UTF-8; and a head whose end hasn't come, with more than 64 fields already
 abbrev pub WaitingCallsForNothing : Type 0

@@ -94,3 +94,24 @@ told_whole (Some input) b (Err (Http f)) w = whole input w.bytes b w.ended (Err 
 told_whole (Some input) b (Err Read) w = tt
 told_whole (Some input) b (Err Reads) w = as_long input w.bytes b w.ended w.gave w.told.1
 told_whole (Some input) b (Err Memory) w = tt
+
+-- at most one of so many reads gave no byte
+pub read_once : (a b : Option (List ℕ)) (bytes : List ℕ) (ended : Bool) (old new k : ℕ) → Gave a b bytes ended → k ≤ length bytes + 1 → new ≤ old + k → IfSome a (λ input. new ≤ old + length input + 1)
+read_once None b bytes ended old new k g few reads = tt
+read_once (Some input) None bytes ended old new k g few reads = absurd g.gives
+read_once (Some input) (Some rest) bytes ended old new k g few reads = omega (arith, few, reads, ap length g.gives, length-append bytes rest)
+
+-- so many reads were no more than that
+pub counted : (old now k : ℕ) → (k ≡ 0 → now ≡ old) → (0 < k → now ≡ min (old + k) greatest) → now ≤ old + k
+counted old now zero z s = let f : now ≡ old = z refl in omega (arith, f)
+counted old now (suc k) z s = let f : now ≡ min (old + suc k) greatest = s (omega arith) in omega (arith, f)
+
+-- one read more, which gave nothing to keep
+pub read_once_more : (a b : Option (List ℕ)) (bytes : List ℕ) (ended : Bool) (old now new k : ℕ) → Gave a b bytes ended → k ≤ length bytes → now ≤ old + k → new ≡ one_more now
+    → IfSome a (λ input. new ≤ old + length input + 1)
+read_once_more a b bytes ended old now new k g few reads more = read_once a b bytes ended old new (k + 1) g (omega (arith, few)) (omega (arith, reads, more))
+
+-- each read that ended nothing gave a byte or more, and one ended
+pub gave_all : (bytes piece new : List ℕ) (end came : Bool) (k : ℕ) → k ≤ length bytes → IsBrought (Ok came) piece end bytes new → k + 1 ≤ length new + 1
+gave_all bytes piece new end true k some w = omega (arith, some, ap length w.2, length-append bytes piece)
+gave_all bytes piece new end false k some w = omega (arith, some, ap length w.2)

@@ -52,6 +52,6 @@ unfoldable pub number_shown : List ℕ → Option ℕ
 number_shown [] = None
 number_shown (c ∷ cs) = digits_after 0 (c ∷ cs)
 
--- the greatest number that the code tells of digits
+-- where a number of digits is cut, above the greatest length of a body
 abbrev pub most : ℕ
 most = 10000000

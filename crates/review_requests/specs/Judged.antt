@@ -13,11 +13,11 @@ use Rattle.review_requests.specs.declared.judge.Head.TheVariants.{Asks, Partial}
 use Rattle.review_requests.specs.declared.fault.RequestFault.{RequestFault}
 use Rattle.review_requests.specs.declared.fault.RequestFault.TheVariants as request
 use Rattle.review_requests.specs.Heads.{asked}
-use Rattle.review_requests.specs.Wire.{Follows, CallsFor, IsNotWhole, HasManyFields}
+use Rattle.review_requests.specs.Wire.{most_fields, Follows, CallsFor, IsNotWhole, HasManyFields}
 
 -- a head of few fields stands at the front
 abbrev pub Stands : List ℕ → RequestHead → Type 0
-Stands buf h = ReadsRequest buf h (drop (length (print_request h)) buf) × (length h.fields ≤ 64)
+Stands buf h = ReadsRequest buf h (drop (length (print_request h)) buf) × (length h.fields ≤ most_fields)
 
 -- a fault of a head that stands there, or of one that can't
 abbrev pub IsFaultOf : List ℕ → HttpFault → Type 0

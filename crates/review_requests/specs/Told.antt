@@ -6,7 +6,7 @@ use Rattle.review_requests.specs.declared.fault.RequestFault.{RequestFault}
 use Rattle.review_requests.specs.declared.fault.RequestFault.TheVariants.{Empty, Http, Read, Reads, Memory}
 use Rattle.review_requests.specs.Wire.{CallsFor, IsNotWhole}
 
--- What was told of these bytes, where the reader ended after them or not. A read that ended nothing gave a byte or more, so 4,096 of them gave as many.
+-- What was told of these bytes, where the reader ended after them or not. A read that doesn't tell the end gives a byte or more, so 4,096 of them gave 4,096 bytes or more.
 abbrev pub IsTold : List ℕ → Bool → Result Delivery RequestFault → Type 0
 IsTold bytes ended (Ok delivery) = CallsFor bytes ended (Ok delivery)
 IsTold bytes ended (Err Empty) = (ended ≡ true) × (bytes ≡ [])

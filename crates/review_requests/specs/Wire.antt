@@ -26,40 +26,48 @@ delivered a body = delivered_by a.caller a.id a.route body
 unfoldable pub delivery_of : Asked → List ℕ → Result Delivery HttpFault
 delivery_of a body = or_fault BadBody (delivered a body)
 
+-- how many bytes a head may have
+abbrev pub most_of_head : ℕ
+most_of_head = 16384
+
+-- how many fields a head may have
+abbrev pub most_fields : ℕ
+most_fields = 64
+
 -- the bytes that alone are looked at for a head
 abbrev pub front : List ℕ → List ℕ
-front bytes = take 16384 bytes
+front bytes = take most_of_head bytes
 
--- a head of at most 64 fields stands at the front
+-- a head of few enough fields stands at the front
 pub record HasHead (bytes : List ℕ) (head : RequestHead) : Type 0 where
   pub reads : ReadsRequest (front bytes) head (drop (length (print_request head)) (front bytes))
-  pub few : length head.fields ≤ 64
+  pub few : length head.fields ≤ most_fields
 
 -- the bytes after the head
 abbrev pub body_of : List ℕ → RequestHead → List ℕ
 body_of bytes head = drop (length (print_request head)) bytes
 
--- no bytes that can follow make a head of it, or the input ended within the head
+-- the head is malformed: whatever bytes follow, they make no head of it; or the input ended within it
 abbrev pub IsBadHead : List ℕ → Bool → Type 0
 IsBadHead bytes ended =
-    NeverHasRequest (front bytes) ⊎ ((ended ≡ true) × (0 < length bytes) × (length bytes < 16384) × HasNoRequest bytes)
+    NeverHasRequest (front bytes) ⊎ ((ended ≡ true) × (0 < length bytes) × (length bytes < most_of_head) × HasNoRequest bytes)
 
--- more than 64 fields stand in it, and whatever follows, in any head that it becomes
+-- more than 64 fields stand in it: a first part of it and an empty line are a head with more, and so is each head that it becomes, whatever bytes follow
 abbrev pub HasManyFields : List ℕ → Type 0
-HasManyFields bytes = RequestExceeds 64 bytes × RequestOverflows 64 bytes
+HasManyFields bytes = RequestExceeds most_fields bytes × RequestOverflows most_fields bytes
 
--- no whole head in the first 16,384 bytes, or more than 64 fields
+-- the head is too large: its end isn't in the first 16,384 bytes, or it has more than 64 fields
 abbrev pub IsHeadTooLarge : List ℕ → Type 0
-IsHeadTooLarge bytes = ((16384 ≤ length bytes) × HasNoRequest (front bytes)) ⊎ HasManyFields (front bytes)
+IsHeadTooLarge bytes = ((most_of_head ≤ length bytes) × HasNoRequest (front bytes)) ⊎ HasManyFields (front bytes)
 
--- what follows from what a head asks for and the bytes after it: its fault; or what the body says, once it is there; or that the input ended within it
+-- what follows from what a head asks for, or its fault, and from the bytes after it: that fault; or what the body says, once it is there in full; or that the body is bad, where the input ended within it
 abbrev pub Follows : Result Asked HttpFault → List ℕ → Bool → Result Delivery HttpFault → Type 0
 Follows (Err fault) rest ended outcome = outcome ≡ Err fault
 Follows (Ok a) rest ended outcome =
     ((a.length ≤ length rest) × (outcome ≡ delivery_of a (take a.length rest)))
     ⊎ ((length rest < a.length) × (ended ≡ true) × (outcome ≡ Err BadBody))
 
--- The delivery or the fault that these bytes call for, where the reader ended after them or not. Where a head is malformed and also too large, it is either fault.
+-- The delivery or the fault that these bytes call for, where the reader ended after them or not. Where a head is malformed and also too large, it is either fault; a head that the input's end cuts is malformed.
 abbrev pub CallsFor : List ℕ → Bool → Result Delivery HttpFault → Type 0
 CallsFor bytes ended outcome =
     ((head : RequestHead) × HasHead bytes head × Follows (asked head) (body_of bytes head) ended outcome)
@@ -68,7 +76,7 @@ CallsFor bytes ended outcome =
 
 -- No head is there, nor a fault of one: there are fewer than 16,384 bytes, and more can follow that make a head of them. Whether a target is UTF-8 isn't asked before it ends.
 abbrev pub AwaitsHead : List ℕ → Type 0
-AwaitsHead bytes = (length bytes < 16384) × HasNoRequest bytes × MayBecomeRequest bytes
+AwaitsHead bytes = (length bytes < most_of_head) × HasNoRequest bytes × MayBecomeRequest bytes
 
 -- a head without a fault is there, and its body isn't there in full
 abbrev pub AwaitsBody : List ℕ → Type 0

@@ -12,9 +12,9 @@ pub enum RequestFault {
     Empty,
     /// The bytes call for no delivery.
     Http(HttpFault),
-    /// The reader failed.
+    /// The reader failed, before a whole request or a fault of its head was there.
     Read,
-    /// 4,096 reads gave no whole request.
+    /// 4,096 reads gave no whole request, and no fault of its head.
     Reads,
     /// There was no memory for the request.
     Memory,

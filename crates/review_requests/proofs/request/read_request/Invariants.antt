@@ -11,6 +11,7 @@ invariant-loop g l =
     record {
       gave : Gave (g.R.Read.remaining (inner_of l.fn.reader)) (g.R.Read.remaining (inner_of l.reader)) l.bytes.items l.ended;
       some : l.ended ≡ false → l.counter ≤ length l.bytes.items;
+      all : l.counter ≤ length l.bytes.items + 1;
       none : l.counter ≡ 0 → reads_of l.reader ≡ reads_of l.fn.reader;
       reads : 0 < l.counter → reads_of l.reader ≡ min (reads_of l.fn.reader + l.counter) greatest;
       waits : WaitsFor l.wanted l.bytes.items;

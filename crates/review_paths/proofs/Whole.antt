@@ -1,0 +1,9 @@
+-- The table of paths, computed.
+use Rattle.std.proofs.Common.{refl}
+use Rattle.matchit.specs.Route.{scan}
+use Rattle.review_paths.specs.Table.{table, with_path}
+use Rattle.review_paths.specs.Laws.{HoldsEachPath}
+
+pub whole : HoldsEachPath
+unfolding table with_path scan
+whole = refl
