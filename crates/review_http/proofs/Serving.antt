@@ -1,11 +1,10 @@
 -- From what was told of a request, and what was written, to how a connection was served.
-use Rattle.std.proofs.Common.{◌≡◌, ℕ, List, [], Bool, Option, Result, Ok, Err, inl, inr, refl}
+use Rattle.std.proofs.Common.{ℕ, List, [], Bool, Option, Result, Ok, Err, inr}
 use Rattle.std.specs.Io.KnownBytes.{Appends}
 use Rattle.std.proofs.KnownBytes.{Appends-nil}
 use Rattle.review_words.specs.declared.command.Delivery.{Delivery}
 use Rattle.review_words.specs.declared.reply.Reply.{Reply}
 use Rattle.review_rows.specs.Shelf.{Shown}
-use Rattle.review_counted.specs.Bytes.{Gave}
 use Rattle.review_paths.specs.declared.fault.HttpFault.{HttpFault}
 use Rattle.review_requests.specs.declared.fault.RequestFault.{RequestFault}
 use Rattle.review_requests.specs.declared.fault.RequestFault.TheVariants as request
@@ -15,7 +14,7 @@ use Rattle.review_http.specs.declared.serve.Served.{Served}
 use Rattle.review_http.specs.declared.serve.Served.TheVariants.{Answered, Empty}
 use Rattle.review_http.specs.declared.serve.ServeFault.{ServeFault}
 use Rattle.review_http.specs.declared.serve.ServeFault.TheVariants.{Read, Reads, Write, Memory}
-use Rattle.review_http.specs.Served.{IsWritten, IsToldOf, IsAnswered, IsUntouched, IsServedOnWire, WasServed}
+use Rattle.review_http.specs.Served.{IsWritten, IsToldOf, IsServedOnWire, WasServed}
 
 -- what reading a request answers, from what its bytes call for
 abbrev pub asks : Result Delivery HttpFault → Result Delivery RequestFault

@@ -8,7 +8,7 @@ use Rattle.review_requests.specs.Wire.{CallsFor, IsNotWhole}
 use Rattle.review_requests.specs.declared.judge.Look.{Look}
 use Rattle.review_requests.specs.declared.judge.Look.TheVariants.{Wants}
 use Rattle.review_requests.specs.Judged.{Judges, WaitsFor}
-use Rattle.review_requests.specs.Told.{IsTold, WasTold, IsToldOfInput}
+use Rattle.review_requests.specs.Told.{WasTold, IsToldOfInput}
 use Rattle.review_requests.specs.declared.fault.RequestFault.{RequestFault}
 use Rattle.review_requests.specs.declared.fault.RequestFault.TheVariants.{Empty, Http, Read, Reads, Memory}
 use Rattle.review_requests.proofs.Longer.{whole}

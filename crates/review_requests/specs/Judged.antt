@@ -1,4 +1,4 @@
--- What a look at the bytes so far says of them.
+-- What a look at the bytes so far says of them. Private contracts alone cite this file.
 use Rattle.std.specs.Prelude.{◌≡◌, ◌≤◌, ◌⊎◌, ◌<◌, ◌++◌, ◌+◌, ℕ, List, [], length, drop, Bool, true, false, Result, Ok, Err}
 use Rattle.httparse.specs.Grammar.{RequestHead, ReadsRequest, HasNoRequest, NeverHasRequest, MayBecomeRequest, print_request}
 use Rattle.review_paths.specs.declared.fault.HttpFault.TheVariants as faults

@@ -1,4 +1,4 @@
--- A field as the definition sees it.
+-- A field as the definition sees it. Private contracts alone cite this file.
 use Rattle.review_requests.specs.Fields.{Occurs, absent, once, again}
 use Rattle.review_requests.specs.declared.fields.Field.{Field}
 use Rattle.review_requests.specs.declared.fields.Field.TheVariants.{Absent, Once, Again}

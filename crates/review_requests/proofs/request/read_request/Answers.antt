@@ -1,6 +1,5 @@
 use Rattle.std.proofs.Common.{◌∙◌, arith}
 use Rattle.review_requests.proofs.Telling.{called, faulted, unfinished, stopped, waits_still, gave_read, gave_some, gave_all, counted, read_once, read_once_more, one_read, told_whole, judged_at}
-use Rattle.review_requests.specs.declared.fault.RequestFault.TheVariants.{Memory}
 use Rattle.review_requests.proofs.request.read_request.Goals as goal
 
 pub loop-preserved : goal.loop-preserved
@@ -74,12 +73,12 @@ returns-clause-once g c =
 pub returns-in-Err-Read-clause-once : goal.returns-in-Err-Read-clause-once
 returns-in-Err-Read-clause-once g c =
     read_once_more _ _ _ c.loop.ended _ _ _ c.loop.counter c.loop.invariant.gave (c.loop.invariant.some (judged_at _ _ _ _ c.in-Ok-Wants.field-0-is c.in-Ok-Wants.ensures).0)
-        (counted _ _ c.loop.counter c.loop.invariant.none c.loop.invariant.reads) c.read_more.ensures.reads
+    (counted _ _ c.loop.counter c.loop.invariant.none c.loop.invariant.reads) c.read_more.ensures.reads
 
 pub returns-in-Err-Memory-clause-once : goal.returns-in-Err-Memory-clause-once
 returns-in-Err-Memory-clause-once g c =
     read_once_more _ _ _ c.loop.ended _ _ _ c.loop.counter c.loop.invariant.gave (c.loop.invariant.some (judged_at _ _ _ _ c.in-Ok-Wants.field-0-is c.in-Ok-Wants.ensures).0)
-        (counted _ _ c.loop.counter c.loop.invariant.none c.loop.invariant.reads) c.read_more.ensures.reads
+    (counted _ _ c.loop.counter c.loop.invariant.none c.loop.invariant.reads) c.read_more.ensures.reads
 
 pub returns-in-Ok-Whole-clause-few : goal.returns-in-Ok-Whole-clause-few
 returns-in-Ok-Whole-clause-few g c =
