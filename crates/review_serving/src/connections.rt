@@ -81,8 +81,8 @@ fn serve<C: Connections, S: Shelf, D: Rules>(
 ///
 /// Whatever the peers send, repeated, cut short or reordered: what is done to the shelf is a run of the deliveries that the accepted connections' bytes
 /// call for, at most one of each and in their order, so from the tables of any history each acts once. Each peer is sent the response to what it asked
-/// for, a first part of it after a fault of its writer, or nothing where it asked for nothing whole or there was no memory; and then its connection is
-/// closed. What a peer sent and was sent is known of connections that tell it, and not of sockets.
+/// for, a first part of it after a fault of its writer, or nothing where it sent nothing, where reading failed or took too many reads, or where there
+/// was no memory; and then its connection is closed. What a peer sends and was sent is known of connections that tell it, and not of sockets.
 ///
 /// An error where it can't be listened for connections, or one can't be accepted; the connections before it were served.
 pub fn serve_connections<C: Connections, S: Shelf, D: Rules>(
