@@ -1,5 +1,5 @@
 //! Requests over HTTP.
-ghost use Rattle.std.specs.Prelude.{◌≡◌, ◌+◌, ◌≤◌, Err, min};
+ghost use Rattle.std.specs.Prelude.{◌≡◌, ◌+◌, ◌≤◌, Err, IfSome, length, min};
 ghost use Rattle.review_counted.specs.Counts.{greatest, one_more};
 ghost use Rattle.review_counted.specs.Shown.{inner_of, reads_of, faults_of};
 ghost use Rattle.review_http.specs.Served.{WasServed};
@@ -18,7 +18,7 @@ use std::io::{Read, Write};
 /// nothing else; after Write a first part of it is out. The delivery is taken as [`deliver`](crate::deliver) takes it; a fault of the request, Empty, Read and
 /// Reads leave the shelf as it was. After Memory nothing was written, and either nothing was taken or the delivery stands.
 ///
-/// It makes at most 4,096 reads, and answers Read, Reads and Write only where the counts show it. The table of paths is made anew by each call; who serves
+/// It makes at most 4,096 reads, and at most one that gives no byte of an input that is known; it answers Read, Reads and Write only where the counts show it. The table of paths is made anew by each call; who serves
 /// many connections makes it once (`review_http::serve_request`).
 pub fn serve_one<R: Read, W: Write, S: Shelf>(
     alloc: Global,
@@ -28,6 +28,7 @@ pub fn serve_one<R: Read, W: Write, S: Shelf>(
 ) -> Result<Served, ServeFault>
     ensures served { WasServed S.state (R.remaining (inner_of reader.old)) (R.remaining (inner_of reader.new)) (W.contents (inner_of writer.old)) (W.contents (inner_of writer.new)) result shelf.old shelf.new }
     ensures few { reads_of reader.new ≤ reads_of reader.old + 4096 }
+    ensures once { IfSome (R.remaining (inner_of reader.old)) (λ input. reads_of reader.new ≤ reads_of reader.old + length input + 1) }
     ensures reads { result ≡ Err ServeFault.Reads → reads_of reader.new ≡ min (reads_of reader.old + 4096) greatest }
     ensures read { result ≡ Err ServeFault.Read → faults_of reader.new ≡ one_more (faults_of reader.old) }
     ensures write { result ≡ Err ServeFault.Write → faults_of writer.new ≡ one_more (faults_of writer.old) }
