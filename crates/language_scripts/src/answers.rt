@@ -1,7 +1,7 @@
 //! What a script is answered.
 
 use crate::fault::Fault;
-use review_expr::{Expr, Facts, ParseFault, eval, labels_of};
+use review_expr::{Expr, Facts, ParseFault, compile, eval, labels_of};
 use review_printing::print;
 use std::alloc::{AllocError, Global};
 
@@ -64,9 +64,18 @@ pub fn yes_or_no(alloc: Global, is_so: bool) -> Result<String, Fault> {
     Ok(String::from_str(alloc, if is_so { "yes" } else { "no" })?)
 }
 
-/// Whether an expression holds.
-fn judged(alloc: Global, expr: &Expr, facts: &Facts) -> Result<String, Fault> {
+/// Whether an expression holds, by its tree and by its flat list.
+pub fn holds(alloc: Global, expr: &Expr, facts: &Facts) -> Result<bool, Fault> {
     let held = eval(alloc, expr, facts)?;
+    let terms = compile(alloc, expr)?;
+    if terms.eval(alloc, facts)? != held {
+        return Err(Fault::Unlike);
+    }
+    Ok(held)
+}
+
+fn judged(alloc: Global, expr: &Expr, facts: &Facts) -> Result<String, Fault> {
+    let held = holds(alloc, expr, facts)?;
     yes_or_no(alloc, held)
 }
 

@@ -19,6 +19,8 @@ pub enum Fault {
     Form,
     /// A question needs a project file, and the text is none.
     NoFile,
+    /// The flat list of an expression holds where its tree doesn't, or the other way round.
+    Unlike,
 }
 
 impl Fault {
@@ -65,6 +67,7 @@ impl Display for Fault {
             Fault::Input => "input fault",
             Fault::Output => "output fault",
             Fault::Form => "a line of no form",
+            Fault::Unlike => "a flat list that holds otherwise than its tree",
             Fault::NoFile => "a question about a text that is no project file",
         })
     }

@@ -10,8 +10,8 @@
 //! With words it reads no scripts, but does a piece of work with an expression, to be timed from outside: `language_scripts WORK
 //! COUNT PATHS TEXT` does it COUNT times, at most 1,000,000, and prints how many times the expression was read or held. WORK is `parse`
 //! (reads TEXT as a submit requirement), `eval` (evaluates it, read once, for a change with 20 votes on Code-Review and so many paths in
-//! `src`, at most 500) or `compile` (reads TEXT as a pattern). `bench/expressions` times it, and `bench/refuse_allocations` refuses its
-//! allocations.
+//! `src`, at most 500), `terms` (the same by its flat list, compiled once) or `compile` (reads TEXT as a pattern). `bench/expressions`
+//! times it, and `bench/refuse_allocations` refuses its allocations.
 #![tactic(auto)]
 
 mod answers;

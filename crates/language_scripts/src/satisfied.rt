@@ -1,7 +1,8 @@
 //! Whether a change meets the requirement of a file.
 
+use crate::answers::holds;
 use crate::fault::Fault;
-use review_expr::{Facts, eval};
+use review_expr::Facts;
 use review_file::{Label, ProjectFile};
 use review_judging::{ChangeFacts, ValueRange};
 use review_words::{AccountNo, BranchName, Groups, LabelName, Paths};
@@ -87,5 +88,5 @@ pub fn is_satisfied(alloc: Global, file: &ProjectFile, words: &str) -> Result<bo
     let label = file.labels().first().ok_or(Fault::Form)?;
     let requirement = file.requirements().first().ok_or(Fault::Form)?;
     let facts = change(alloc, label, words)?;
-    Ok(eval(alloc, requirement.submittable_if(), &facts)?)
+    holds(alloc, requirement.submittable_if(), &facts)
 }

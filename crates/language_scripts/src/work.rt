@@ -1,6 +1,6 @@
 //! Expressions at work, to be timed from outside.
 
-use review_expr::{Expr, Facts, eval, parse_requirement};
+use review_expr::{Expr, Facts, Terms, compile, eval, parse_requirement};
 use review_judging::{ChangeFacts, ValueRange};
 use review_terms::Pattern;
 use review_words::{AccountNo, BranchName, Groups, LabelName, Path, Paths};
@@ -90,11 +90,30 @@ fn evaluated(alloc: Global, text: &str, count: u64, paths: u64) -> Option<u64> {
     Some(held(alloc, &expression, &facts, count))
 }
 
+fn met(alloc: Global, terms: &Terms, facts: &Facts, count: u64) -> u64 {
+    let mut met = 0u64;
+    for _ in 0..count {
+        if matches!(terms.eval(alloc, facts), Ok(true)) {
+            met = met.saturating_add(1);
+        }
+    }
+    met
+}
+
+/// As `evaluated`, with the expression compiled once.
+fn evaluated_as_terms(alloc: Global, text: &str, count: u64, paths: u64) -> Option<u64> {
+    let expression = parse_requirement(alloc, text).ok()?;
+    let terms = compile(alloc, &expression).ok()?;
+    let facts = change(alloc, paths)?;
+    Some(met(alloc, &terms, &facts, count))
+}
+
 fn work(alloc: Global, work: &str, count: u64, paths: u64, text: &str) -> Option<u64> {
     match work {
         "parse" => Some(parsed(alloc, text, count)),
         "compile" => Some(compiled(alloc, text, count)),
         "eval" => evaluated(alloc, text, count, paths),
+        "terms" => evaluated_as_terms(alloc, text, count, paths),
         _ => None,
     }
 }

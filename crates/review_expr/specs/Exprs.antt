@@ -3,10 +3,13 @@ use Rattle.std.specs.Prelude.{ℕ, Bool, false, List, []}
 use Rattle.review_grammar.specs.Views.{view}
 use Rattle.review_judging.specs.Holds.{holds, requirement_holds, copy_holds}
 use Rattle.review_judging.specs.Labels.{labels}
+use Rattle.review_judging.specs.Postfix.{AreStepsOf}
 use Rattle.review_spelling.specs.Words.{requirement_reading, copy_reading}
 use Rattle.review_expr.specs.Expressions.{HasExpr}
 use Rattle.review_expr.specs.declared.expr.Expr.{Expr}
 use Rattle.review_expr.specs.declared.expr.Expr.TheVariants as expr
+use Rattle.review_expr.specs.declared.compiled.Terms.{Terms}
+use Rattle.review_expr.specs.declared.compiled.Terms.TheVariants as terms
 use Rattle.review_expr.specs.declared.expr.Facts.{Facts}
 use Rattle.review_expr.specs.declared.expr.Facts.TheVariants as facts
 
@@ -39,3 +42,9 @@ abbrev pub holds_for : Facts → Expr → Bool
 holds_for (facts.Change f) (expr.Requirement e) = holds (requirement_holds f) (view e.node)
 holds_for (facts.Vote f) (expr.Copy e) = holds (copy_holds f) (view e.node)
 holds_for f e = false
+
+-- The terms are the flat list of the expression.
+abbrev pub AreTermsOf : Expr → Terms → Type 0
+AreTermsOf (expr.Requirement e) (terms.Requirement s) = AreStepsOf (view e.node) s.list.items
+AreTermsOf (expr.Copy e) (terms.Copy s) = AreStepsOf (view e.node) s.list.items
+AreTermsOf e t = ⊥

@@ -8,9 +8,11 @@
 //! one tree and one fault, and never both (`review_expr_laws`); but want of
 //! memory, or an engine that refuses a pattern, may be answered in place of either; an expression holds exactly where the
 //! definition says (`eval`). One place is free: a pattern that nests deeper than the engine reads
-//! may be read or refused. `review_printing` writes expressions.
+//! may be read or refused. An expression is compiled to a flat list of its terms and operators (`compile`), which holds where
+//! the expression does (`Terms::eval`) and is run without recursion. `review_printing` writes expressions.
 #![tactic(auto)]
 
+pub mod compiled;
 pub mod expr;
 pub mod expression;
 pub mod fault;
@@ -19,6 +21,7 @@ pub mod spelled;
 mod terms;
 mod words;
 
+pub use compiled::{Terms, compile};
 pub use expr::{EvalFault, Expr, Facts, eval, labels_of, parse_copy, parse_requirement};
 pub use expression::Expression;
 pub use fault::ParseFault;

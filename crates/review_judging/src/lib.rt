@@ -1,12 +1,17 @@
 //! When an expression of terms holds for the facts of a change or of a vote, and which labels it names.
+//!
+//! [`eval`] judges an expression on its tree. [`compile`] makes its flat list, the tree in postfix order, and [`Steps::eval`] judges by that: once
+//! from front to back, with the same answers. The desk judges by lists.
 #![tactic(auto)]
 
+pub mod compiled;
 mod copy;
 pub mod facts;
 pub mod judge;
 pub mod labels;
 pub mod requirement;
 
+pub use compiled::{Step, Steps, compile};
 pub use facts::{ChangeFacts, ValueRange, VoteFacts};
 pub use judge::{Judged, eval};
 pub use labels::labels_of;

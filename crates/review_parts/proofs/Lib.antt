@@ -5,3 +5,4 @@ pub mod Copied
 pub mod Counted
 pub mod Grouped
 mod Lines
+pub mod Compiled

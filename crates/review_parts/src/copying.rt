@@ -1,22 +1,26 @@
 //! Votes that are copied to a new patch set.
-ghost use Rattle.std.specs.Prelude.{◌≡◌, ◌++◌, [], ◌∷◌, Some, map, IfOk, OnOk};
+ghost use Rattle.std.specs.Prelude.{◌≡◌, ◌++◌, [], ◌∷◌, Some, find, map, option_copied, IfOk, OnOk};
+ghost use Rattle.std.specs.Str.{bytes_eq};
 ghost use Rattle.std.specs.Map.Iter.{deref_pair};
 ghost use Rattle.std.specs.List.Sorted.{IsStrictlySortedBy};
 ghost use Rattle.std.specs.Map.{keys_of};
 ghost use Rattle.review_judging.specs.Holds.{copy_holds};
 ghost use Rattle.review_names.specs.Groups.{has_account};
 ghost use Rattle.review_table.specs.Rows.{rows_of};
+ghost use Rattle.review_expr.specs.declared.expr.Expr.{Expr};
+ghost use Rattle.review_expr.specs.Exprs.{AreTermsOf};
 ghost use Rattle.review_changes.specs.Change.{condition_holds};
 ghost use Rattle.review_changes.specs.Seen.{vote_cmp};
+ghost use Rattle.review_parts.specs.Conditions.{AreConditions, IsCompiled};
 ghost use Rattle.review_parts.specs.Copies.{copies_by, copied_rows, group_list, lost_rows, with_groups, IsSplit};
 
 use review_changes::{Vote, VoteKey};
-use review_expr::Expr;
-use review_file::ProjectFile;
+use review_expr::{Terms, compile};
+use review_file::{Label, ProjectFile};
 use review_judging::{Judged, ValueRange, VoteFacts};
 use review_table::{Key, Table};
 use review_terms::CopyTerm;
-use review_words::{AccountNo, GroupName, PatchNo};
+use review_words::{AccountNo, GroupName, LabelName, PatchNo};
 use std::alloc::{AllocError, Global};
 
 /// Groups by their names, each with the accounts that are in it.
@@ -66,48 +70,102 @@ fn is_met_by(alloc: Global, term: &CopyTerm, facts: &VoteFacts) -> Result<bool, 
     term.is_met(alloc, facts)
 }
 
-fn condition_holds(
+/// A label of a file with its copy condition as a flat list.
+#[derive(Drop)]
+struct Condition<'f> {
+    label: &'f Label,
+    terms: Option<Terms<'f>>,
+}
+
+fn compiled(alloc: Global, label: &Label) -> Result<Condition<'_>, AllocError>
+    ensures label { IfOk result (λ c. c.label.now ≡ label.now) }
+    ensures terms { IfOk result IsCompiled }
+{
+    let terms = match label.copy_condition() {
+        Some(condition) => Some(compile(alloc, condition)?),
+        None => None,
+    };
+    Ok(Condition { label, terms })
+}
+
+/// The copy conditions of a file, which are compiled once for all votes of a patch set.
+#[derive(Drop)]
+struct Conditions<'f> {
+    file: &'f ProjectFile,
+    list: Vec<Condition<'f>>,
+    ghost compiled: { ∥ AreConditions file.now.labels list.items ∥₁ },
+}
+
+fn all_compiled(alloc: Global, labels: &[Label]) -> Result<Vec<Condition<'_>>, AllocError>
+    ensures { IfOk result (λ v. AreConditions labels.now v.items) }
+{
+    let mut list = Vec::new(alloc);
+    for label in labels {
+        let condition = compiled(alloc, label)?;
+        list.push(condition)?;
+    }
+    Ok(list)
+}
+
+fn conditions_of(alloc: Global, file: &ProjectFile) -> Result<Conditions<'_>, AllocError>
+    ensures file { IfOk result (λ c. c.file.now ≡ file.now) }
+    ensures list { IfOk result (λ c. AreConditions file.now.labels c.list.items) }
+{
+    let list = all_compiled(alloc, file.labels())?;
+    Ok(Conditions { file, list })
+}
+
+/// The condition of the label of a name, where there is one.
+fn condition_on<'c, 'f>(list: &'c [Condition<'f>], name: &LabelName) -> Option<&'c Condition<'f>>
+    ensures { option_copied result ≡ find (λ c. bytes_eq c.label.now.name name.now) list.now }
+{
+    for condition in list {
+        if *condition.label.name() == *name {
+            return Some(condition);
+        }
+    }
+    None
+}
+
+fn are_met(
     alloc: Global,
-    condition: &Expr,
+    terms: &Terms,
     facts: &VoteFacts,
     groups: &GroupTables,
 ) -> Result<bool, AllocError>
-    ensures { IfOk result (λ b. b ≡ condition_holds (Some condition.now) (with_groups facts.now groups.now)) }
+    ensures { (e : Expr) → AreTermsOf e terms.now → IfOk result (λ b. b ≡ condition_holds (Some e) (with_groups facts.now groups.now)) }
 {
-    match condition {
-        Expr::Copy(expression) => {
-            let vote = GroupedVote { facts, groups };
-            review_judging::eval(alloc, expression.node(), &vote)
-        }
-        Expr::Requirement(_) => Ok(false),
+    match terms {
+        Terms::Copy(steps) => steps.eval(alloc, &GroupedVote { facts, groups }),
+        Terms::Requirement(_) => Ok(false),
     }
 }
 
 /// Whether a vote is copied. Of the facts only the vote, its voter and its range change.
 fn is_copied(
     alloc: Global,
-    file: &ProjectFile,
+    conditions: &Conditions,
     facts: &mut VoteFacts,
     groups: &GroupTables,
     key: &VoteKey,
     value: i8,
 ) -> Result<bool, AllocError>
-    ensures holds { IfOk result (λ b. b ≡ copies_by file.now (with_groups facts.old groups.now) key.now.label key.now.account value) }
-    ensures same { copies_by file.now (with_groups facts.new groups.now) ≡ copies_by file.now (with_groups facts.old groups.now) }
+    ensures holds { IfOk result (λ b. b ≡ copies_by conditions.now.file.now (with_groups facts.old groups.now) key.now.label key.now.account value) }
+    ensures same { copies_by conditions.now.file.now (with_groups facts.new groups.now) ≡ copies_by conditions.now.file.now (with_groups facts.old groups.now) }
 {
-    let Some(label) = file.label(&key.label) else {
+    let Some(condition) = condition_on(&conditions.list, &key.label) else {
         return Ok(false);
     };
-    let Some(condition) = label.copy_condition() else {
+    let Some(terms) = &condition.terms else {
         return Ok(false);
     };
     facts.value = value;
     facts.voter = key.account;
     facts.range = ValueRange {
-        least: label.least(),
-        greatest: label.greatest(),
+        least: condition.label.least(),
+        greatest: condition.label.greatest(),
     };
-    condition_holds(alloc, condition, facts, groups)
+    are_met(alloc, terms, facts, groups)
 }
 
 /// The votes of a patch set: those that are copied, on the next one, and the keys of the others.
@@ -119,7 +177,7 @@ pub struct Parted {
 
 fn part_one(
     alloc: Global,
-    file: &ProjectFile,
+    conditions: &Conditions,
     facts: &mut VoteFacts,
     groups: &GroupTables,
     key: &VoteKey,
@@ -128,14 +186,14 @@ fn part_one(
     next: PatchNo,
     parted: &mut Parted,
 ) -> Result<(), AllocError>
-    ensures copied { OnOk result (parted.new.copied.items ≡ parted.old.copied.items ++ copied_rows (copies_by file.now (with_groups facts.old groups.now)) patch next ((key.now, vote) ∷ [])) }
-    ensures lost { OnOk result (parted.new.lost.items ≡ parted.old.lost.items ++ lost_rows (copies_by file.now (with_groups facts.old groups.now)) patch ((key.now, vote) ∷ [])) }
-    ensures same { copies_by file.now (with_groups facts.new groups.now) ≡ copies_by file.now (with_groups facts.old groups.now) }
+    ensures copied { OnOk result (parted.new.copied.items ≡ parted.old.copied.items ++ copied_rows (copies_by conditions.now.file.now (with_groups facts.old groups.now)) patch next ((key.now, vote) ∷ [])) }
+    ensures lost { OnOk result (parted.new.lost.items ≡ parted.old.lost.items ++ lost_rows (copies_by conditions.now.file.now (with_groups facts.old groups.now)) patch ((key.now, vote) ∷ [])) }
+    ensures same { copies_by conditions.now.file.now (with_groups facts.new groups.now) ≡ copies_by conditions.now.file.now (with_groups facts.old groups.now) }
 {
     if key.patch != patch {
         return Ok(());
     }
-    if is_copied(alloc, file, facts, groups, key, vote.get())? {
+    if is_copied(alloc, conditions, facts, groups, key, vote.get())? {
         let label = key.label.copy(alloc)?;
         let copy = VoteKey {
             patch: next,
@@ -151,14 +209,14 @@ fn part_one(
 
 fn part(
     alloc: Global,
-    file: &ProjectFile,
+    conditions: &Conditions,
     facts: &mut VoteFacts,
     groups: &GroupTables,
     rows: &[(&VoteKey, &Vote)],
     patch: PatchNo,
     next: PatchNo,
 ) -> Result<Parted, AllocError>
-    ensures { IfOk result (λ s. IsSplit (copies_by file.now (with_groups facts.old groups.now)) patch next (map deref_pair rows.now) s) }
+    ensures { IfOk result (λ s. IsSplit (copies_by conditions.now.file.now (with_groups facts.old groups.now)) patch next (map deref_pair rows.now) s) }
 {
     let mut parted = Parted {
         copied: Vec::new(alloc),
@@ -167,7 +225,7 @@ fn part(
     for (key, vote) in rows {
         part_one(
             alloc,
-            file,
+            conditions,
             facts,
             groups,
             key,
@@ -195,6 +253,7 @@ pub fn part_votes(
     ensures sorted { IfOk result (λ _. IsStrictlySortedBy vote_cmp (keys_of (rows_of votes.now))) }
 {
     let rows = votes.rows(alloc)?;
+    let conditions = conditions_of(alloc, file)?;
     let mut facts = facts;
-    part(alloc, file, &mut facts, groups, &rows, patch, next)
+    part(alloc, &conditions, &mut facts, groups, &rows, patch, next)
 }

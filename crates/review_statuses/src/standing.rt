@@ -2,7 +2,7 @@
 ghost use Rattle.std.specs.Prelude.{◌≡◌, map, IfOk, true, false, option_copied};
 ghost use Rattle.std.specs.Option.{option_map_or};
 ghost use Rattle.review_expr.specs.declared.expr.Facts.TheVariants as facts;
-ghost use Rattle.review_expr.specs.Exprs.{holds_for};
+ghost use Rattle.review_expr.specs.Exprs.{AreTermsOf, holds_for};
 ghost use Rattle.review_changes.specs.Facts.{AreStanding, stands};
 ghost use Rattle.review_changes.specs.Seen.{seen};
 ghost use Rattle.review_changes.specs.Status.{status_of};
@@ -12,19 +12,28 @@ ghost use Rattle.review_statuses.specs.Grouped.{IsStatus, grouped};
 use crate::facts::facts_of;
 use crate::grouped::GroupedChange;
 use review_changes::ChangeRows;
-use review_expr::Expr;
+use review_expr::{Expr, Terms, compile};
 use review_file::{ProjectFile, Requirement};
 use review_parts::GroupTables;
 use review_words::{Listed, ShownRequirement, Status};
 use std::alloc::{AllocError, Global};
 
+/// Whether an expression's terms hold for a change.
+fn are_met(alloc: Global, terms: &Terms, change: &GroupedChange) -> Result<bool, AllocError>
+    ensures { (e : Expr) → AreTermsOf e terms.now → IfOk result (λ b. b ≡ holds_for (facts.Change (grouped change.now.facts.now change.now.groups.now)) e) }
+{
+    match terms {
+        Terms::Requirement(steps) => steps.eval(alloc, change),
+        Terms::Copy(_) => Ok(false),
+    }
+}
+
+/// Whether an expression holds for a change. It is compiled once, and its terms are run.
 fn holds(alloc: Global, expr: &Expr, change: &GroupedChange) -> Result<bool, AllocError>
     ensures { IfOk result (λ b. b ≡ holds_for (facts.Change (grouped change.now.facts.now change.now.groups.now)) expr.now) }
 {
-    match expr {
-        Expr::Requirement(expression) => review_judging::eval(alloc, expression.node(), change),
-        Expr::Copy(_) => Ok(false),
-    }
+    let terms = compile(alloc, expr)?;
+    are_met(alloc, &terms, change)
 }
 
 fn holds_or(

@@ -1,32 +1,30 @@
-use Rattle.std.proofs.Common.{IfOk, Result, ℕ, ℤ, List, Bool, Some, false, ◌≡◌, sym, ap, ◌∙◌, subst, rules, w8, to_z, of_z}
-use Rattle.std.specs.Option.{option_copied, option_map_or}
-use Rattle.std.specs.declared.alloc.AllocError.{AllocError}
-use Rattle.review_judging.specs.declared.facts.VoteFacts.{VoteFacts}
-use Rattle.review_expr.specs.declared.expr.Expr.{Expr}
-use Rattle.review_project.specs.View.{FileView, LabelView}
-use Rattle.review_changes.specs.Change.{condition_holds, label_in, range_of}
-use Rattle.review_parts.specs.Copies.{copies_by, with_groups}
+use Rattle.std.proofs.Common.{Some, ◌≡◌, sym, ap, ◌∙◌, subst, IfOk, rules, w8, to_z, of_z}
+use Rattle.std.specs.Option.{option_copied}
+use Rattle.review_changes.specs.Change.{condition_holds}
+use Rattle.review_parts.specs.Copies.{with_groups}
+use Rattle.review_parts.proofs.Compiled.{copied_never, copied_none, copied_where}
 use Rattle.review_parts.proofs.copying.is_copied.Goals as goal
 
--- a vote is copied where the copy condition of its label holds
-copied_where : (file : FileView Expr) (f : VoteFacts) (l : List ℕ) (a : ℕ) (v : ℤ) (label : LabelView Expr) (condition : Expr) (r : Result Bool AllocError) → label_in file l ≡ Some label → label.copy_condition ≡ Some condition →
-    IfOk r (λ b. b ≡ condition_holds (Some condition) (record f { value = v; voter = a; range = range_of label })) → IfOk r (λ b. b ≡ copies_by file f l a v)
-copied_where file f l a v label condition r found conditioned held =
-    subst (λ x. IfOk r (λ b. b ≡ x))
-    (sym (ap (λ o. option_map_or (λ x. condition_holds x.copy_condition (record f { value = v; voter = a; range = range_of x })) o false) found
-    ∙ ap (λ o. condition_holds o (record f { value = v; voter = a; range = range_of label })) conditioned))
-    held
+pub returns-in_default-clause-holds : goal.returns-in_default-clause-holds
+returns-in_default-clause-holds c =
+    let a = c.args in
+    copied_none a.conditions.now.file.now (with_groups a.facts.now a.groups.now) a.key.now.label a.key.now.account a.value c.deref.result.now
+    (rw c.deref.ensures.value a.conditions.now.compiled) (sym (ap option_copied c.in_default.is) ∙ c.condition_on.ensures)
+
+pub returns-in_default-terms-clause-holds : goal.returns-in_default-terms-clause-holds
+returns-in_default-terms-clause-holds c =
+    let a = c.args in
+    copied_never a.conditions.now.file.now (with_groups a.facts.now a.groups.now) a.key.now.label a.key.now.account a.value c.deref.result.now c.in-Some.condition.now
+    (rw c.deref.ensures.value a.conditions.now.compiled) (sym (ap option_copied c.in-Some.is) ∙ c.condition_on.ensures) c.in_default-terms.is
 
 pub returns-clause-holds : goal.returns-clause-holds
 returns-clause-holds c =
     let a = c.args in
-    let label = c.in-Some.label.now in
-    let condition = c.in-Some-copy_condition.condition.now in
     let value : to_z w8 (of_z w8 a.value) ≡ a.value = search rules in
     let least : to_z w8 (of_z w8 c.least.result) ≡ c.least.result = search rules in
     let greatest : to_z w8 (of_z w8 c.greatest.result) ≡ c.greatest.result = search rules in
-    copied_where a.file.now (with_groups a.facts.now a.groups.now) a.key.now.label a.key.now.account a.value label condition c.condition_holds.result
-    (sym c.label.ensures ∙ ap option_copied c.in-Some.is) (sym c.copy_condition.ensures ∙ ap option_copied c.in-Some-copy_condition.is)
-    (subst (λ x. IfOk c.condition_holds.result (λ b. b ≡ x))
-    (λ i. condition_holds (Some condition) (record (with_groups a.facts.now a.groups.now) { value = value i; voter = a.key.now.account; range = record { least = (least ∙ c.least.ensures.least) i; greatest = (greatest ∙ c.greatest.ensures.greatest) i } }))
-    c.condition_holds.ensures)
+    copied_where a.conditions.now.file.now (with_groups a.facts.now a.groups.now) a.key.now.label a.key.now.account a.value c.deref.result.now c.in-Some.condition.now c.in-Some-terms.terms c.are_met.result
+    (rw c.deref.ensures.value a.conditions.now.compiled) (sym (ap option_copied c.in-Some.is) ∙ c.condition_on.ensures) c.in-Some-terms.is
+    (λ e k. subst (λ x. IfOk c.are_met.result (λ b. b ≡ x))
+    (λ i. condition_holds (Some e) (record (with_groups a.facts.now a.groups.now) { value = value i; voter = a.key.now.account; range = record { least = (least ∙ c.least.ensures.least) i; greatest = (greatest ∙ c.greatest.ensures.greatest) i } }))
+    (c.are_met.ensures e k))

@@ -7,7 +7,7 @@ use Rattle.review_parts.proofs.copying.part.Goals as goal
 pub loop-key-preserved : goal.loop-key-preserved
 loop-key-preserved c =
     let a = c.args in
-    let f = copies_by a.file.now (with_groups a.facts.now a.groups.now) in
+    let f = copies_by a.conditions.now.file.now (with_groups a.facts.now a.groups.now) in
     let e = c.loop-key-item.result in
     let same = c.loop-key.invariant.0 in (
       c.in_ok-part_one.ensures.same ∙ same,

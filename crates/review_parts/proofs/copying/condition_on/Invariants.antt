@@ -1,0 +1,7 @@
+use Rattle.std.proofs.Common.{◌≡◌, drop}
+use Rattle.std.specs.Prelude.{find}
+use Rattle.std.specs.Str.{bytes_eq}
+use Rattle.review_parts.proofs.copying.condition_on.Given as goal
+
+abbrev pub invariant-loop-condition : goal.invariant-loop-condition
+invariant-loop-condition l = find (λ c. bytes_eq c.label.now.name l.name) (drop l.condition-index l.list) ≡ find (λ c. bytes_eq c.label.now.name l.name) l.list
