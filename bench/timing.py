@@ -38,8 +38,8 @@ def change(number, owner=2):
 class Desk:
     """A desk with three accounts and a project with this file."""
 
-    def __init__(self, file):
-        self.process = subprocess.Popen([PROGRAM, "apply", ":memory:"], stdin=subprocess.PIPE, stdout=subprocess.PIPE)
+    def __init__(self, file, program=PROGRAM):
+        self.process = subprocess.Popen([program, "apply", ":memory:"], stdin=subprocess.PIPE, stdout=subprocess.PIPE)
         self.timed([
             account(2), account(3), account(4), request("PutGroup", "g", 1, {"members": [3]}, group="Core"),
             request("PutProject", "p", 1, {"file": file}, project="tools"),
