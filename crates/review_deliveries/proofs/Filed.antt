@@ -1,5 +1,5 @@
 -- The project file by which a command is judged or a question answered, as it is gathered.
-use Rattle.std.proofs.Common.{◌≡◌, ℕ, List, Option, Some, None, true, Result, Ok, Err, refl, sym, ap, ◌∙◌, subst}
+use Rattle.std.proofs.Common.{◌≡◌, ℕ, Bool, List, Option, Some, None, true, false, Result, Ok, Err, refl, sym, ap, ◌∙◌, subst}
 use Rattle.std.specs.Prelude.{is_some, option_map, IsSomeAnd, IfErr}
 use Rattle.std.specs.Result.{IsErr, IsErrAnd}
 use Rattle.review_words.specs.History.{Entry, file_text}
@@ -17,7 +17,7 @@ use Rattle.review_rows.specs.Files.{File, HasPattern}
 use Rattle.review_rows.specs.Known.{Found, Number, Name, Holder, IsSo, Members, Text, Commits, AChange, Stands, Joins, part_of, known, Agrees, change_in, text_of}
 use Rattle.review_rows.specs.Rows.{APart, Tables}
 use Rattle.review_rows.specs.Shelf.{Shows, IsDamaged}
-use Rattle.review_rows.specs.Steps.{Topic, OfCommand, OfQuery, HasFile, project_of, text_in, text_for}
+use Rattle.review_rows.specs.Steps.{Topic, OfCommand, OfQuery, HasFile, asks_file, needs_file, project_for, project_of, text_in, text_for}
 use Rattle.review_rows.specs.View.{view}
 use Rattle.review_rows.proofs.Readings.{reading_of, read_of}
 use Rattle.review_account_decisions.proofs.Told.{text_told}
@@ -56,9 +56,10 @@ of_project : (o : Option Change) (project : List ℕ) → option_map (λ c. c.pr
 of_project None project is = absurd (cc)
 of_project (Some c) project is = let same : c.project ≡ project = cc in (c, refl, same)
 
-judged_by_change : (reading : Reading) (h : List Entry) (rows : Rows) (n : ℕ) (project : List ℕ) → Agrees (view reading h) rows →
-    option_map (λ c. c.project) (change_in (known rows (want.Change n))) ≡ Some project → option_map (λ c. c.project) (change reading h n) ≡ Some project
-judged_by_change reading h rows n project agree is =
+judged_by_change : (needed : Bool) (reading : Reading) (h : List Entry) (rows : Rows) (n : ℕ) (project : List ℕ) → Agrees (view reading h) rows →
+    project_for needed (change_in (known rows (want.Change n))) ≡ Some project → project_for needed (change reading h n) ≡ Some project
+judged_by_change false reading h rows n project agree is = absurd (cc)
+judged_by_change true reading h rows n project agree is =
     let of = of_project (change_in (known rows (want.Change n))) project is in
     ap (option_map (λ (c : Change). c.project)) (change_known reading h rows n of.0 agree of.1) ∙ ap Some of.2
 
@@ -70,14 +71,14 @@ judged_by reading h rows (PutGroup group members) project agree is = absurd (cc)
 judged_by reading h rows (PutProject given text) project agree is = is
 judged_by reading h rows (RecordBase given branch commit) project agree is = absurd (cc)
 judged_by reading h rows (CreateChange new) project agree is = is
-judged_by reading h rows (OnChange n command) project agree is = judged_by_change reading h rows n project agree is
-judged_by reading h rows (Submit n) project agree is = judged_by_change reading h rows n project agree is
+judged_by reading h rows (OnChange n command) project agree is = judged_by_change (needs_file command) reading h rows n project agree is
+judged_by reading h rows (Submit n) project agree is = judged_by_change true reading h rows n project agree is
 
 -- and that by whose file a question is answered
 topic_judged : (reading : Reading) (h : List Entry) (rows : Rows) (topic : Topic) (project : List ℕ) → Agrees (view reading h) rows → project_of rows topic ≡ Some project → topic_project reading h topic ≡ Some project
 topic_judged reading h rows (OfCommand command) project agree is = judged_by reading h rows command project agree is
 topic_judged reading h rows (OfQuery (asked.Branch given branch)) project agree is = absurd (cc)
-topic_judged reading h rows (OfQuery (asked.OnChange n query)) project agree is = judged_by_change reading h rows n project agree is
+topic_judged reading h rows (OfQuery (asked.OnChange n query)) project agree is = judged_by_change (asks_file query) reading h rows n project agree is
 
 -- the text of a project that was found
 text_of_project : (rows : Rows) (o : Option (List ℕ)) (text : List ℕ) → text_in rows o ≡ Some text →
@@ -93,23 +94,24 @@ text_is reading h rows topic text agree is =
     (of.0, of.1, sym (text_told reading h rows of.0 agree (text_known (known rows (want.File of.0)) text of.2)) ∙ of.2)
 
 -- where rows know a change, more rows know it alike
-change_stays : (first rows : Rows) (n : ℕ) (project : List ℕ) → StaysKnown first rows →
-    option_map (λ c. c.project) (change_in (known first (want.Change n))) ≡ Some project → option_map (λ c. c.project) (change_in (known rows (want.Change n))) ≡ Some project
-change_stays first rows n project stays is =
+change_stays : (needed : Bool) (first rows : Rows) (n : ℕ) (project : List ℕ) → StaysKnown first rows →
+    project_for needed (change_in (known first (want.Change n))) ≡ Some project → project_for needed (change_in (known rows (want.Change n))) ≡ Some project
+change_stays false first rows n project stays is = absurd (cc)
+change_stays true first rows n project stays is =
     let of = of_project (change_in (known first (want.Change n))) project is in
     let there : is_some (known first (want.Change n)) ≡ true = ap is_some (change_found (known first (want.Change n)) of.0 of.1) in
     ap (λ k. option_map (λ (c : Change). c.project) (change_in k)) (stays (want.Change n) there) ∙ is
 
 project_stays : (first rows : Rows) (topic : Topic) (project : List ℕ) → StaysKnown first rows → project_of first topic ≡ Some project → project_of rows topic ≡ Some project
 project_stays first rows (OfQuery (asked.Branch given branch)) project stays is = absurd (cc)
-project_stays first rows (OfQuery (asked.OnChange n query)) project stays is = change_stays first rows n project stays is
+project_stays first rows (OfQuery (asked.OnChange n query)) project stays is = change_stays (asks_file query) first rows n project stays is
 project_stays first rows (OfCommand (CreateAccount name)) project stays is = absurd (cc)
 project_stays first rows (OfCommand (PutGroup group members)) project stays is = absurd (cc)
 project_stays first rows (OfCommand (PutProject given text)) project stays is = is
 project_stays first rows (OfCommand (RecordBase given branch commit)) project stays is = absurd (cc)
 project_stays first rows (OfCommand (CreateChange new)) project stays is = is
-project_stays first rows (OfCommand (OnChange n command)) project stays is = change_stays first rows n project stays is
-project_stays first rows (OfCommand (Submit n)) project stays is = change_stays first rows n project stays is
+project_stays first rows (OfCommand (OnChange n command)) project stays is = change_stays (needs_file command) first rows n project stays is
+project_stays first rows (OfCommand (Submit n)) project stays is = change_stays true first rows n project stays is
 
 -- the text that is to be read stays
 text_stays : (first rows : Rows) (topic : Topic) (text : List ℕ) → StaysKnown first rows → text_for first topic ≡ Some text → text_for rows topic ≡ Some text

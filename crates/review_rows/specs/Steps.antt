@@ -1,5 +1,5 @@
 -- What a command or a question asks of the tables, in steps.
-use Rattle.std.specs.Prelude.{ℕ, zero, suc, true, ◌+◌, ◌<◌, ◌≡◌, ◌&&◌, Option, Some, None, List, [], ◌∷◌, ◌++◌, map, flat_map, option_map, option_to_list, not, is_some, length, if◌then◌else◌}
+use Rattle.std.specs.Prelude.{ℕ, zero, suc, Bool, true, false, ◌+◌, ◌<◌, ◌≡◌, ◌&&◌, Option, Some, None, List, [], ◌∷◌, ◌++◌, map, flat_map, option_map, option_to_list, not, is_some, length, if◌then◌else◌}
 use Rattle.std.specs.List.{All, filter}
 use Rattle.review_names.specs.Names.{administrators}
 use Rattle.review_words.specs.declared.command.Command.{Command}
@@ -83,6 +83,11 @@ abbrev pub first_wants : ℕ → Topic → List Want
 first_wants caller (OfCommand command) = caller_wants caller ++ command_wants command
 first_wants caller (OfQuery query) = query_wants caller query
 
+-- whether values on labels are given
+abbrev pub has_some : List Given → Bool
+has_some [] = false
+has_some (g ∷ gs) = true
+
 -- what values on labels ask: the project's file; nothing where none are given
 abbrev pub given_wants : List Given → List ℕ → List Want
 given_wants [] project = []
@@ -155,13 +160,31 @@ file_wants (Some file) caller topic = []
 abbrev pub steps : Option File → Rows → ℕ → Topic → List (List Want)
 steps file rows caller topic = first_wants caller topic ∷ change_wants rows topic ∷ file_wants file caller topic ∷ []
 
+-- whether a request on a change is judged by the file of the change's project: a review only where it gives values on labels
+abbrev pub needs_file : ChangeCommand → Bool
+needs_file (Upload patch) = true
+needs_file (Review review) = has_some review.labels
+needs_file Abandon = true
+needs_file Restore = true
+needs_file _ = false
+
+-- whether a question about a change is answered by the file of the change's project
+abbrev pub asks_file : ChangeQuery → Bool
+asks_file Requirements = true
+asks_file _ = false
+
+-- the project of a change, where its file is needed
+abbrev pub project_for : Bool → Option Change → Option (List ℕ)
+project_for true found = option_map (λ c. c.project) found
+project_for false found = None
+
 -- the project by whose file a command or a question is judged, as rows know it
 abbrev pub project_of : Rows → Topic → Option (List ℕ)
 project_of rows (OfCommand (PutProject project text)) = Some project
 project_of rows (OfCommand (CreateChange new)) = Some new.project
-project_of rows (OfCommand (OnChange change command)) = option_map (λ c. c.project) (change_in (known rows (want.Change change)))
-project_of rows (OfCommand (Submit change)) = option_map (λ c. c.project) (change_in (known rows (want.Change change)))
-project_of rows (OfQuery (asked.OnChange change query)) = option_map (λ c. c.project) (change_in (known rows (want.Change change)))
+project_of rows (OfCommand (OnChange change command)) = project_for (needs_file command) (change_in (known rows (want.Change change)))
+project_of rows (OfCommand (Submit change)) = project_for true (change_in (known rows (want.Change change)))
+project_of rows (OfQuery (asked.OnChange change query)) = project_for (asks_file query) (change_in (known rows (want.Change change)))
 project_of rows topic = None
 
 -- the text of a project's file, as rows know it

@@ -44,6 +44,7 @@ seen_ours s p row has it is version = record {
     sym it.desk_is ∙ (is ∙ (λ i. Some (Some (record { version = version i; requests = row.requests })))),
   );
   ours = λ same all. (it.apart refl).1 all;
+  there = λ other. absurd (other has);
 }
 
 pub refused_ours : (s : State) (p : Peeked) (fault : DeskFault) → IsPeeked true s.now.trees p → ((fault ≡ NotADesk) × IsNoDesk p.desk) ⊎ ((fault ≡ WrongVersion) × IsOtherVersion p.desk) → IsRefused s fault

@@ -18,7 +18,7 @@ use Rattle.review_sql.specs.declared.faults.DeskFault.{DeskFault}
 use Rattle.review_sql.specs.declared.faults.DeskFault.TheVariants.{NotADesk, WrongVersion, NotEmpty, NotOurs}
 use Rattle.review_records.specs.Forms.{desk}
 use Rattle.review_lookups.specs.Tables.{IsDesk}
-use Rattle.review_sql.specs.Shelf.{ShelfView, Stays}
+use Rattle.review_sql.specs.Shelf.{AreAllRead, ShelfView, Stays}
 
 -- the rows of each table have rowids of their own
 abbrev pub AreAllApart : Trees → Type 0
@@ -47,10 +47,11 @@ IsOtherVersion row = (d : DeskRow) × (row ≡ Some (Some d)) × (d.version ≢ 
 abbrev pub IsNoDesk : Option (Option DeskRow) → Type 0
 IsNoDesk row = (row ≡ None) ⊎ (row ≡ Some None)
 
--- the tables are ours only where they are those of a desk with so many requests, and wherever they have the form and their rows rowids of their own
+-- the tables are ours only where they are those of a desk with so many requests, and wherever they have the form and their rows rowids of their own; in tables of another form all columns of records are there
 pub record IsSeen (s : State) (seen : Seen) : Type 0 where
   pub ready : seen.is_ours ≡ true → IsReady s.now × IsDesk seen.requests s.now.trees
   pub ours : s.now.schema ≡ desk_schema → AreAllApart s.now.trees → seen.is_ours ≡ true
+  pub there : (s.now.schema ≡ desk_schema → ⊥) → AreAllRead s.now.schema
 
 -- Why tables are refused: those of the form that `create` makes as no desk or another version only for their row of the desk, and as not ours only where rows of one have one rowid. Of other tables no more is said than that they are not refused as not empty.
 pub record IsRefused (s : State) (fault : DeskFault) : Type 0 where

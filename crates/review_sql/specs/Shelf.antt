@@ -2,7 +2,7 @@
 use Rattle.std.specs.Prelude.{ℕ, ◌≡◌, ◌≤◌, map, false, Bool, List, Option, Some, None, Ok, IsTrue, if◌then◌else◌, refl, min}
 use Rattle.std.proofs.Math.Nat.{min-le_right}
 use Rattle.std.specs.List.{Contains}
-use Rattle.review_statements.specs.declared.texts.TheConstants.{ANY_ROW}
+use Rattle.review_statements.specs.declared.texts.TheConstants.{ANY_ROW, READ_ROWS}
 use Rattle.std.specs.Coded.{Coded, code_by, coded×, coded_ℕ}
 use Rattle.sqlite_trees.specs.declared.store.Store.{Ghosts}
 use Rattle.sqlite_trees.specs.Tree.{Trees}
@@ -72,3 +72,7 @@ pub record IsUnmade (old new : State) : Type 0 where
 -- a text that reads no column of a table of one of the twelve names is understood
 abbrev pub IsAnyThere : Schema → Type 0
 IsAnyThere schema = (sql : List ℕ) × Contains (map (λ t. t.now) ANY_ROW) sql × IsUnderstood schema sql
+
+-- the text that reads all columns of each of the eleven tables of records is understood
+pub record AreAllRead (schema : Schema) : Type 0 where
+  pub each : (sql : List ℕ) → Contains (map (λ t. t.now) READ_ROWS) sql → IsUnderstood schema sql

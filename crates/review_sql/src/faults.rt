@@ -1,5 +1,5 @@
 //! Why a desk is not made or opened.
-ghost use Rattle.std.specs.Prelude.{◌≢◌};
+ghost use Rattle.std.specs.Prelude.{◌≡◌, ◌≢◌};
 
 use sqlite::{Error, ErrorCode};
 
@@ -21,9 +21,11 @@ pub enum DeskFault {
 }
 
 impl DeskFault {
-    /// The fault of an error of the store.
+    /// The fault of an error of the store: want of memory where the store says so, and else that it failed.
     pub fn of(error: Error) -> DeskFault
-        ensures store { (result ≢ DeskFault.NotADesk) × (result ≢ DeskFault.WrongVersion) × (result ≢ DeskFault.NotEmpty) × (result ≢ DeskFault.NotOurs) }
+        ensures memory { error ≡ Error.SqliteFailure ErrorCode.OutOfMemory → result ≡ DeskFault.Memory }
+        ensures store { error ≢ Error.SqliteFailure ErrorCode.OutOfMemory → result ≡ DeskFault.Store }
+        ensures plain { (result ≢ DeskFault.NotADesk) × (result ≢ DeskFault.WrongVersion) × (result ≢ DeskFault.NotEmpty) × (result ≢ DeskFault.NotOurs) }
     {
         match error {
             Error::SqliteFailure(ErrorCode::OutOfMemory) => DeskFault::Memory,

@@ -3,7 +3,7 @@ ghost use Rattle.std.specs.Prelude.{◌≡◌, ◌≢◌, ◌⊎◌, true, false
 ghost use Rattle.sqlite.specs.Held.{state};
 ghost use Rattle.review_statements.specs.Desk.{desk_schema};
 ghost use Rattle.review_statements.specs.Ran.{Looks};
-ghost use Rattle.review_sql.specs.Shelf.{Stays};
+ghost use Rattle.review_sql.specs.Shelf.{AreAllRead, Stays};
 ghost use Rattle.review_sql.specs.Opened.{IsPeeked, Peeks, IsSeen, IsRefused, IsNoDesk, IsOtherVersion};
 
 use crate::faults::DeskFault;
@@ -14,7 +14,7 @@ use review_records::rows::DeskRow;
 use review_tables::creating::is_desk;
 use review_tables::reads::find;
 use review_tables::rowids::are_all_apart;
-use sqlite::{Alter, Connection, Error, Transaction};
+use sqlite::{Alter, Connection, Error, ErrorCode, Transaction};
 use std::alloc::Global;
 
 fn read<S: Alter>(
@@ -72,7 +72,8 @@ fn first_version(desk: Option<Option<DeskRow>>) -> Result<DeskRow, DeskFault>
 
 // A text that is not understood is one that asks for a table that is not there.
 fn unread(error: Error) -> DeskFault
-    ensures { (result ≡ DeskFault.NotADesk) ⊎ ((result ≡ DeskFault.Store) ⊎ (result ≡ DeskFault.Memory)) }
+    ensures memory { error ≡ Error.SqliteFailure ErrorCode.OutOfMemory → result ≡ DeskFault.Memory }
+    ensures plain { (result ≡ DeskFault.NotADesk) ⊎ ((result ≡ DeskFault.Store) ⊎ (result ≡ DeskFault.Memory)) }
 {
     match error {
         Error::SqlInputError(_) => DeskFault::NotADesk,
@@ -104,12 +105,13 @@ fn see_ours<S: Alter>(conn: &mut Connection<S>, alloc: Global) -> Result<Seen, D
     }
 }
 
-// What is seen of other tables, of which nothing is claimed.
+// What is seen of other tables, of which no more is claimed than that all columns of records are there.
 fn see_others<S: Alter>(conn: &mut Connection<S>, alloc: Global) -> Result<Seen, DeskFault>
     requires mode { conn.old.in_transaction ≡ false }
     ensures mode { conn.new.in_transaction ≡ false }
     ensures stays { Stays (state S.Store conn.old) (state S.Store conn.new) }
     ensures seen { IfOk result (λ seen. seen.is_ours ≡ false) }
+    ensures there { IsTrue (state S.Store conn.new).is_open → IfOk result (λ seen. AreAllRead (state S.Store conn.old).now.schema) }
     ensures refused { IfErr result (λ fault. (fault ≢ DeskFault.NotEmpty) × (fault ≢ DeskFault.NotOurs)) }
 {
     let peeked = match peek(conn, alloc, false) {

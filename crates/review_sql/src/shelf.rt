@@ -5,7 +5,7 @@ ghost use Rattle.sqlite.specs.Held.{state};
 ghost use Rattle.sqlite.specs.State.{HasCleanDisk};
 ghost use Rattle.review_rows.specs.Rows.{kept_row};
 ghost use Rattle.review_rows.specs.Shelf.{IsCounted, greatest_count};
-ghost use Rattle.review_statements.specs.Desk.{schema_0};
+ghost use Rattle.review_statements.specs.Desk.{desk_schema, schema_0};
 ghost use Rattle.review_sql.specs.Shelf.{Stays};
 
 use crate::creating::make_desk;
@@ -103,7 +103,7 @@ fn may_be_made<O: Origin>(is_blank: bool) -> bool
 }
 
 impl<S: Alter + Drop, O: Origin> SqlShelf<S, O> {
-    ghost use Rattle.review_sql.specs.Shelf.{IsAnyThere, IsClosed, IsUnmade};
+    ghost use Rattle.review_sql.specs.Shelf.{AreAllRead, IsAnyThere, IsClosed, IsUnmade};
     ghost use Rattle.review_sql.specs.Created.{IsCreated};
     ghost use Rattle.review_sql.specs.Opened.{IsOpened, IsRefused};
     ghost use Rattle.review_sql.specs.Reopened.{ReopensLast, IsRefusedAgain};
@@ -161,6 +161,7 @@ impl<S: Alter + Drop, O: Origin> SqlShelf<S, O> {
     ) -> Result<SqlShelf<S, O>, (Connection<S>, DeskFault)>
         requires mode { conn.in_transaction ≡ false }
         ensures opened { IfOk result (IsOpened S.Store conn) }
+        ensures there { IfOk result (λ s. IsTrue (state S.Store s.conn).is_open → (conn.schema ≡ desk_schema → ⊥) → AreAllRead conn.schema) }
         ensures goes_on { IfOk result (ReopensLast S.Store O.IS_OURS conn) }
         ensures mode { IfErr result (λ e. e.0.in_transaction ≡ false) }
         ensures refused { IfErr result (λ e. Stays (state S.Store conn) (state S.Store e.0)) }
@@ -216,6 +217,7 @@ fn told<S: Alter>(conn: &mut Connection<S>, faults: &mut u64, error: Error) -> S
     ensures stays { Stays (state S.Store conn.old) (state S.Store conn.new) }
     ensures memory { result ≡ ShelfFault.Memory → HasCleanDisk (state S.Store conn.new) → IsTrue (state S.Store conn.new).is_open }
     ensures sound { result ≢ ShelfFault.Damaged }
+    ensures store { error ≢ Error.SqliteFailure ErrorCode.OutOfMemory → result ≡ ShelfFault.Store }
     ensures counted { IsCounted result (min faults.old greatest_count) (min faults.new greatest_count) }
 {
     let error = seen(conn, error);

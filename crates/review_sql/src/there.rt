@@ -1,9 +1,9 @@
 //! Whether a text is understood by the tables of a connection.
-ghost use Rattle.std.specs.Prelude.{◌≡◌, ◌<◌, ℕ, List, true, false, map, slice_index_or, IsTrue, IfOk};
-ghost use Rattle.review_statements.specs.declared.texts.TheConstants.{ANY_ROW};
+ghost use Rattle.std.specs.Prelude.{◌≡◌, ◌≢◌, ◌<◌, ℕ, List, true, false, map, slice_index_or, IsTrue, IfOk};
+ghost use Rattle.review_statements.specs.declared.texts.TheConstants.{ANY_ROW, READ_ROWS};
 ghost use Rattle.sqlite.specs.Held.{state};
 ghost use Rattle.sqlite.specs.State.{HasCleanDisk};
-ghost use Rattle.review_sql.specs.Shelf.{Stays, IsUnderstood, IsAnyThere};
+ghost use Rattle.review_sql.specs.Shelf.{Stays, IsUnderstood, IsAnyThere, AreAllRead};
 
 use review_statements::texts;
 use sqlite::{Alter, Connection, Error, ErrorCode};
@@ -32,6 +32,7 @@ pub fn seen<S: Alter>(conn: &mut Connection<S>, error: Error) -> Error
     ensures mode { conn.new.in_transaction ≡ false }
     ensures stays { Stays (state S.Store conn.old) (state S.Store conn.new) }
     ensures memory { result ≡ Error.SqliteFailure ErrorCode.OutOfMemory → HasCleanDisk (state S.Store conn.new) → IsTrue (state S.Store conn.new).is_open }
+    ensures other { error ≢ Error.SqliteFailure ErrorCode.OutOfMemory → result ≡ error }
 {
     if !matches!(error, Error::SqliteFailure(ErrorCode::OutOfMemory)) {
         return error;
@@ -66,14 +67,24 @@ pub fn is_any_there<S: Alter>(conn: &mut Connection<S>) -> Result<bool, Error>
     Ok(false)
 }
 
+// A text that reads all columns of one of the eleven tables of records.
+fn read_row(at: usize) -> &'static str
+    requires { at < 11 }
+    ensures { (d : List ℕ) → result.now ≡ slice_index_or (map (λ t. t.now) READ_ROWS) at d }
+{
+    texts::READ_ROWS[at]
+}
+
 /// Whether the columns of the eleven tables of records are there.
 pub fn are_all_there<S: Alter>(conn: &mut Connection<S>) -> Result<bool, Error>
     requires mode { conn.old.in_transaction ≡ false }
     ensures mode { conn.new.in_transaction ≡ false }
     ensures stays { Stays (state S.Store conn.old) (state S.Store conn.new) }
+    ensures all { HasCleanDisk (state S.Store conn.new) → IfOk result (λ is. is ≡ true → IsTrue (state S.Store conn.new).is_open → AreAllRead (state S.Store conn.old).now.schema) }
+    ensures missing { HasCleanDisk (state S.Store conn.new) → IfOk result (λ is. is ≡ false → AreAllRead (state S.Store conn.old).now.schema → ⊥) }
 {
     for at in 0..11 {
-        if !is_understood(conn, texts::READ_ROWS[at])? {
+        if !is_understood(conn, read_row(at))? {
             return Ok(false);
         }
     }
