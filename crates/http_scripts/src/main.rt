@@ -1,4 +1,4 @@
-//! Scripts on requests over HTTP that come in pieces, from readers and to writers that fail, and on shelves that fail. A transcript that a person
+//! Scripts on requests over HTTP that come in pieces, from readers and to writers that fail, and on shelves that fail, and over sockets. A transcript that a person
 //! reads from top to bottom; whole requests to the program stand in `scripts/http.txt`.
 //!
 //! Standard input has lines, standard output the same lines, each with its answer beneath it, behind `=> `. A line is
@@ -8,17 +8,29 @@
 //!   behind it, is sent twice and served each time. It comes PIECE bytes a read, and ends after its first FIRST bytes, where that isn't 0. The first time the
 //!   READ-th read fails, the WRITE-th write or flush, and the CALL-th call of the shelf, where that isn't 0; the writer takes up to 64 bytes a call. The
 //!   answer is what each of the two got: the status and the JSON, `nothing` where the input had no byte, or the fault and how many bytes were written; and
-//!   behind it whether a request `a1` of account 1 is kept.
+//!   behind it whether a request `a1` of account 1 is kept. Where reads or writes failed it says how many.
+//! - `socket TEXT`: the request TEXT is sent twice over a socket of 127.0.0.1, each time over a connection of its own, and served on one empty desk in
+//!   memory. The answer is what the peer got each time.
 #![tactic(auto)]
 
 mod fault;
 mod peers;
 mod serving;
+mod sockets;
 
 use fault::Fault;
 use serving::{How, both_told};
+use sockets::both_received;
 use std::io::{BufRead, BufReader};
 use std::process::ExitCode;
+
+fn answer(rt: &HostRuntime, line: &str) -> Result<String, Fault> {
+    if let Some(text) = line.strip_prefix("socket ") {
+        return both_received(rt, text);
+    }
+    let how = How::read(line).ok_or(Fault::Form)?;
+    both_told(rt.alloc(), &how)
+}
 
 /// Prints a line, and its answer.
 fn step(rt: &HostRuntime, line: &str) -> Result<(), Fault> {
@@ -26,8 +38,7 @@ fn step(rt: &HostRuntime, line: &str) -> Result<(), Fault> {
     if line.is_empty() || line.starts_with("#") {
         return Ok(());
     }
-    let how = How::read(line).ok_or(Fault::Form)?;
-    let answer = both_told(rt.alloc(), &how)?;
+    let answer = answer(rt, line)?;
     println!(rt; "=> {answer}").map_err(Fault::of_output)
 }
 

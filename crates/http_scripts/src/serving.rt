@@ -49,15 +49,21 @@ impl How<'_> {
     }
 }
 
-/// The bytes that are sent.
-fn sent(alloc: Global, how: &How<'_>) -> Result<Vec<u8>, AllocError> {
+/// The bytes that are sent: a request's text with CR LF for each `|`.
+pub fn request_bytes(alloc: Global, text: &str) -> Result<Vec<u8>, AllocError> {
     let mut bytes = Vec::new(alloc);
-    for part in how.text.split("|") {
+    for part in text.split("|") {
         if !bytes.is_empty() {
             bytes.extend_from_slice(b"\r\n")?;
         }
         bytes.extend_from_slice(part.as_bytes())?;
     }
+    Ok(bytes)
+}
+
+/// The bytes that are sent in pieces.
+fn sent(alloc: Global, how: &How<'_>) -> Result<Vec<u8>, AllocError> {
+    let mut bytes = request_bytes(alloc, how.text)?;
     for _ in 0..how.padding {
         bytes.push(b' ')?;
     }
@@ -85,7 +91,21 @@ fn fault_word(fault: ServeFault) -> &'static str {
     }
 }
 
-/// Serves a request on a shelf, and tells what came of it.
+/// What came of a request, and of its response.
+pub fn served_word(
+    alloc: Global,
+    served: Result<Served, ServeFault>,
+    response: &str,
+    count: usize,
+) -> Result<String, AllocError> {
+    match served {
+        Ok(Served::Answered(status)) => format!(in alloc; "{status} {}", json_of(response)),
+        Ok(Served::Empty) => format!(in alloc; "nothing, {count} bytes"),
+        Err(fault) => format!(in alloc; "{}, {count} bytes", fault_word(fault)),
+    }
+}
+
+/// Serves a request on a shelf, and tells what came of it, and how many reads and writes failed where one did.
 fn told<S: Shelf>(
     alloc: Global,
     shelf: &mut S,
@@ -102,19 +122,18 @@ fn told<S: Shelf>(
         bytes: Vec::new(alloc),
         failing: Failing::at(if fails { how.write } else { 0 }),
     };
-    let served = {
+    let (served, faults) = {
         let mut writer = Counted::new(&mut written);
-        serve_one(alloc, &mut reader, &mut writer, shelf)
+        let served = serve_one(alloc, &mut reader, &mut writer, shelf);
+        (served, reader.faults().saturating_add(writer.faults()))
     };
     let count = written.bytes.len();
-    match served {
-        Ok(Served::Answered(status)) => {
-            let response = str::from_utf8(written.bytes.as_slice()).unwrap_or("no text");
-            format!(in alloc; "{status} {}", json_of(response))
-        }
-        Ok(Served::Empty) => format!(in alloc; "nothing, {count} bytes"),
-        Err(fault) => format!(in alloc; "{}, {count} bytes", fault_word(fault)),
+    let response = str::from_utf8(written.bytes.as_slice()).unwrap_or("no text");
+    let answer = served_word(alloc, served, response, count)?;
+    if faults == 0 {
+        return Ok(answer);
     }
+    format!(in alloc; "{answer}, faults {faults}")
 }
 
 /// Whether the request `a1` of account 1 is kept.
