@@ -137,12 +137,21 @@ class Page:
         return told["result"].get("value")
 
     def until(self, condition, seconds=30):
-        """Waits until an expression holds, which is looked at twenty times a second."""
+        """Waits until an expression holds, which is looked at twenty times a second. Of a page that isn't there yet none holds."""
         until = time.monotonic() + seconds
-        while not self.run(f"Boolean({condition})"):
+        while not self.call("Runtime.evaluate", expression=f"Boolean({condition})", returnByValue=True)["result"].get("value") is True:
             if time.monotonic() > until:
                 raise RuntimeError(f"{condition} doesn't hold after {seconds} seconds; the page says {self.run('document.body.innerText')}")
             time.sleep(0.05)
+
+    def until_sent(self, count, seconds=10):
+        """Waits until so many POSTs were sent."""
+        until = time.monotonic() + seconds
+        while len(self.sent) < count:
+            if time.monotonic() > until:
+                raise RuntimeError(f"{len(self.sent)} POSTs, and not {count}: {self.sent}")
+            self.run("0")
+            time.sleep(0.02)
 
     def load(self, address, condition):
         self.call("Page.navigate", url=address)
