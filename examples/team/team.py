@@ -20,7 +20,7 @@ CHECKOUT = os.path.dirname(EXAMPLES)
 sys.path.append(os.path.join(EXAMPLES, "client"))
 from retry import Desk, Kept, NoAnswer, NotOfTheDesk, new_id, path_of, write_whole  # noqa: E402
 
-USUAL = {"port": 8443, "desk_port": 8473, "listen": "127.0.0.1", "project": "tools", "branches": ["main"], "program": os.path.join(CHECKOUT, "crates", "review_desk", "out", "review_desk")}
+USUAL = {"port": 8443, "desk_port": 8473, "host": "", "project": "tools", "branches": ["main"], "program": os.path.join(CHECKOUT, "crates", "review_desk", "out", "review_desk")}
 NAME = re.compile(r"[A-Za-z0-9._-]{1,64}")
 ACCOUNT_LINE = re.compile(r"^~\^(\S+)\$ ([0-9]+);$", re.M)
 
@@ -55,7 +55,7 @@ class Team:
 
     @property
     def address(self):
-        return f"https://127.0.0.1:{self.settings['port']}"
+        return f"https://{self.settings['host'] or '127.0.0.1'}:{self.settings['port']}"
 
     @property
     def repository(self):
