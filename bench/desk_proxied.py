@@ -17,6 +17,7 @@ MISSING = 77
 
 def pass_over_without(**packages):
     """Ends the script with its own status where a command isn't there, and says which of Debian's packages has it."""
+    os.environ["PATH"] += os.pathsep + "/usr/sbin"  # where Debian has nginx and fcgiwrap, and root alone looks
     for command, package in packages.items():
         if not shutil.which(command):
             print(f"passed over: there is no {command} here; apt-get install {package}")
