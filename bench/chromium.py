@@ -157,11 +157,11 @@ class Page:
         self.call("Page.navigate", url=address)
         self.until(f"document.readyState === 'complete' && ({condition})")
 
-    def click(self, chosen, times=1):
-        """Presses what a selector chooses, in its middle, so many times as one who presses twice does."""
+    def click(self, chosen, times=1, before=0):
+        """Presses what a selector chooses, in its middle, so many times as one who presses twice does, and has pressed so often before."""
         place = self.run(f"(() => {{ const it = document.querySelector({json.dumps(chosen)}); it.scrollIntoView({{block: 'center'}});"
                          " const box = it.getBoundingClientRect(); return [box.x + box.width / 2, box.y + box.height / 2]; })()")
-        for count in range(1, times + 1):
+        for count in range(before + 1, before + times + 1):
             for kind in ("mousePressed", "mouseReleased"):
                 self.call("Input.dispatchMouseEvent", type=kind, x=place[0], y=place[1], button="left", clickCount=count)
 
