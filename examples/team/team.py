@@ -93,6 +93,8 @@ class Team:
         others = [line for line in read(self.folder, "users", otherwise="").splitlines() if not line.startswith(name + ":")]
         self.write("".join(f"{line}\n" for line in [*others, f"{name}:{secret}"]), "users")
         self.let_nginx_read("users")
+        if name == "admin":
+            self.write(f"machine 127.0.0.1 login admin password {word}\n", "admin.netrc")  # for curl --netrc-file
 
     def let_nginx_read(self, *path):
         """Where root starts nginx its workers are nobody, and have to read users and to write to git's socket."""
