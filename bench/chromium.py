@@ -176,5 +176,5 @@ class Page:
         self.call("Input.insertText", text=text)
 
     def picture(self):
-        """The page as it stands, down to its end, as PNG."""
-        return base64.b64decode(self.call("Page.captureScreenshot", format="png", captureBeyondViewport=True)["data"])
+        """What is seen of the page, as PNG."""
+        return base64.b64decode(self.call("Page.captureScreenshot", format="png")["data"])
