@@ -120,8 +120,8 @@ class World:
     def branch(self, name="main"):
         return self.must("GET", path_of("projects", "tools", "branches", name))
 
-    def vote(self, change):
-        self.must("POST", path_of("changes", change, "revisions", "current", "review"), {"labels": {"Code-Review": 1}}, 3)
+    def vote(self, change, account=3):
+        self.must("POST", path_of("changes", change, "revisions", "current", "review"), {"labels": {"Code-Review": 1}}, account)
 
     def commit(self, parent, files, message):
         """Makes a commit on another one."""
