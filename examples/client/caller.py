@@ -29,8 +29,8 @@ class Caller(AuthBase):
         return request
 
     def answered(self, response, **_):
-        """After an answer of the desk the next command gets an id of its own. A refusal is one; 503 is none, since nothing was taken."""
-        if response.content.startswith(b")]}'\n") and response.status_code != 503:
+        """After an answer of the desk the next command gets an id of its own. A refusal is one; 503 is none, nor is a text without its second line's end."""
+        if response.status_code != 503 and response.content.startswith(b")]}'\n") and response.content.count(b"\n") == 2:
             self.id = None
 
 

@@ -87,6 +87,8 @@ class Desk:
         try:
             peer.request(method, path, text, fields)
             answer = peer.getresponse()
+            if answer.length is None and not answer.chunked:
+                raise Lost("an answer without its length, which may have been cut off")
             told = answer.read()
         finally:
             peer.close()
