@@ -17,7 +17,7 @@ import tomllib
 HERE = os.path.dirname(os.path.realpath(__file__))
 EXAMPLES = os.path.dirname(HERE)
 CHECKOUT = os.path.dirname(EXAMPLES)
-sys.path.append(os.path.join(EXAMPLES, "client"))
+sys.path.insert(0, os.path.join(EXAMPLES, "client"))
 from retry import Desk, Kept, NoAnswer, NotOfTheDesk, new_id, path_of, write_whole  # noqa: E402
 
 USUAL = {"port": 8443, "desk_port": 8473, "host": "", "project": "tools", "branches": ["main"], "program": os.path.join(CHECKOUT, "crates", "review_desk", "out", "review_desk")}
