@@ -153,11 +153,12 @@ class World:
         check(is_taken is None or (pushing.returncode == 0) == is_taken, tip, user, branch, pushing.returncode, said)
         return said
 
-    def follow(self, *branches, status=0):
-        """Follows once: what is said."""
-        words = [FOLLOW, "--once", self.bare, *(branches or ["main"])]
-        ran = subprocess.run(words, env=self.environment("bob"), stdout=subprocess.PIPE, stderr=subprocess.STDOUT, text=True, check=False)
-        check(ran.returncode == status, words, ran.returncode, ran.stdout)
+    def follow(self, *words, status=0, program=FOLLOW, **more):
+        """Follows once, by words such as branches and options: what is said."""
+        branches = [it for it in words if not it.startswith("-")] or ["main"]
+        words = [program, "--once", *(it for it in words if it.startswith("-")), self.bare, *branches]
+        ran = subprocess.run(words, env={**self.environment("bob"), **more}, stdout=subprocess.PIPE, stderr=subprocess.STDOUT, text=True, check=False)
+        check(status is None or ran.returncode == status, words, ran.returncode, ran.stdout)
         return ran.stdout
 
     def patch_sets(self):
