@@ -102,10 +102,11 @@ class Team:
             os.chown(self.path(*path), *nobody())
 
     def write_page(self):
-        """Names and labels, for the page."""
+        """Names, labels, and where the repository is, for the page."""
         file = tomllib.loads(read(self.folder, "project.toml", otherwise=""))
         labels = {label: sorted(int(value) for value in said.get("values", {})) for label, said in file.get("label", {}).items()}
-        said = {"accounts": {number: name for name, number in self.accounts().items()}, "labels": {self.settings["project"]: labels} if labels else {}}
+        project, accounts = self.settings["project"], {number: name for name, number in self.accounts().items()}
+        said = {"accounts": accounts, "labels": {project: labels} if labels else {}, "git": {project: f"{self.address}/git/{project}.git"}}
         self.write(json.dumps(said, indent=1) + "\n", "page", "team.json", mode=0o644)
 
     def reload_nginx(self):
