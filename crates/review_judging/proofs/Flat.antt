@@ -1,5 +1,5 @@
 -- Flat lists: a node behind its members, and a stack that a flat list is run on.
-use Rattle.std.proofs.Common.{◌≡◌, ℕ, ◌+◌, ◌-◌, ◌≤◌, Bool, ◌&&◌, ◌||◌, List, [], ◌∷◌, ◌++◌, length, map, take, drop, refl, sym, ap, ap₂, ◌∙◌, arith, append_assoc}
+use Rattle.std.proofs.Common.{◌≡◌, ℕ, zero, suc, ◌+◌, ◌-◌, ◌≤◌, Bool, ◌&&◌, ◌||◌, List, [], ◌∷◌, ◌++◌, length, map, take, drop, get_or, refl, sym, ap, ap₂, ◌∙◌, arith, append_assoc}
 use Rattle.std.proofs.lemmas.List.{append-nil, length-append, length-map, map-append}
 use Rattle.std.proofs.Math.ListN.{drop_of_length-le}
 use Rattle.std.proofs.Math.Seq.{drop-append_seam, take-append_seam}
@@ -77,3 +77,16 @@ leads_list h t stack list steps none same e = rw (none, same, e) (leads_whole h 
 -- where nothing of a list is left, its truth value is all that lies on the stack
 pub none_left : {A : Type 0} (h : A → Bool) (steps : List (Step A)) (i : ℕ) (stack : List Bool) (b : Bool) → length steps ≤ i → LeadsTo h stack (map entry (drop i steps)) b → stack ≡ b ∷ []
 none_left h steps i stack b e k = rw (drop_of_length-le steps e) at k
+
+-- where a stack is one value, that is the first of its room
+pub first_is : (top : ℕ) (room : List Bool) (b d : Bool) → take top room ≡ b ∷ [] → get_or room 0 d ≡ b
+first_is zero room b d e = absurd (let f : [] ≡ b ∷ [] = e in cc)
+first_is (suc n) [] b d e = absurd (let f : [] ≡ b ∷ [] = e in cc)
+first_is (suc n) (x ∷ xs) b d e = let f : x ∷ take n xs ≡ b ∷ [] = e in cc
+
+pub there_is : (top : ℕ) (room : List Bool) (b : Bool) → take top room ≡ b ∷ [] → room ≡ [] → ⊥
+there_is top room b e none = let f : take top [] ≡ b ∷ [] = ap (take top) (sym none) ∙ e in nothing top b f
+  where
+    nothing : (top : ℕ) (b : Bool) → take top [] ≡ b ∷ [] → ⊥
+    nothing zero b e = let f : [] ≡ b ∷ [] = e in cc
+    nothing (suc n) b e = let f : [] ≡ b ∷ [] = e in cc

@@ -1,5 +1,5 @@
 //! Expressions as flat lists.
-ghost use Rattle.std.specs.Prelude.{◌≡◌, ◌++◌, ◌∷◌, ◌-◌, [], Bool, List, map, length, take, drop, IfOk, OnOk};
+ghost use Rattle.std.specs.Prelude.{◌≡◌, ◌≤◌, ◌<◌, ◌+◌, ◌++◌, ◌∷◌, [], Bool, List, map, length, take, IfOk, OnOk};
 ghost use Rattle.std.specs.List.{list_all, list_any};
 ghost use Rattle.review_grammar.specs.Grammar.{Tree, trees};
 ghost use Rattle.review_grammar.specs.Views.{view};
@@ -85,61 +85,87 @@ fn has_true(values: &[bool]) -> bool
     values.iter().any(|value| *value)
 }
 
-/// Takes truth values off the top of a stack, and says whether all of them hold.
-fn take_all(stack: &mut Vec<bool>, count: usize) -> bool
-    ensures under { stack.new.items ≡ take (length stack.old.items - count) stack.old.items }
-    ensures top { result ≡ list_all (λ b. b) (drop (length stack.old.items - count) stack.old.items) }
-{
-    let under = stack.len().saturating_sub(count);
-    let hold = are_true(&stack[under..]);
-    stack.truncate(under);
-    hold
+/// A truth value that comes on the stack, and how many values it lies on.
+#[derive(Clone, Copy)]
+struct Pushed {
+    under: usize,
+    holds: bool,
 }
 
-/// Takes truth values off the top of a stack, and says whether one of them holds.
-fn take_any(stack: &mut Vec<bool>, count: usize) -> bool
-    ensures under { stack.new.items ≡ take (length stack.old.items - count) stack.old.items }
-    ensures top { result ≡ list_any (λ b. b) (drop (length stack.old.items - count) stack.old.items) }
+/// What a step puts on a stack of truth values, and what is left under it.
+fn push_of<F, W: Judged<F>>(
+    alloc: Global,
+    step: &Step<W>,
+    facts: &F,
+    stack: &[bool],
+) -> Result<Pushed, AllocError>
+    ensures leads { (rest : List (Entry W)) (b : Bool) → LeadsTo (W.is_held facts.now) stack.now (entry step.now ∷ rest) b → IfOk result (λ p. LeadsTo (W.is_held facts.now) (take p.under stack.now ++ p.holds ∷ []) rest b) }
+    ensures within { IfOk result (λ p. p.under ≤ length stack.now) }
 {
-    let under = stack.len().saturating_sub(count);
-    let holds = has_true(&stack[under..]);
-    stack.truncate(under);
-    holds
+    let top = stack.len();
+    match step {
+        Step::Term(term) => Ok(Pushed {
+            under: top,
+            holds: term.is_met(alloc, facts)?,
+        }),
+        Step::Not => {
+            let under = top.saturating_sub(1);
+            let holds = !are_true(&stack[under..]);
+            Ok(Pushed { under, holds })
+        }
+        Step::And(count) => {
+            let under = top.saturating_sub(*count);
+            let holds = are_true(&stack[under..]);
+            Ok(Pushed { under, holds })
+        }
+        Step::Or(count) => {
+            let under = top.saturating_sub(*count);
+            let holds = has_true(&stack[under..]);
+            Ok(Pushed { under, holds })
+        }
+    }
 }
 
-/// Takes a step: what it needs off the stack, and its truth value on it.
+/// Takes a step: the first values of the room, as many as it is told, are the stack. It answers how many are afterwards.
 fn take_step<F, W: Judged<F>>(
     alloc: Global,
     step: &Step<W>,
     facts: &F,
-    stack: &mut Vec<bool>,
-) -> Result<(), AllocError>
-    ensures { (rest : List (Entry W)) (b : Bool) → LeadsTo (W.is_held facts.now) stack.old.items (entry step.now ∷ rest) b → OnOk result (LeadsTo (W.is_held facts.now) stack.new.items rest b) }
+    room: &mut [bool],
+    top: usize,
+) -> Result<usize, AllocError>
+    requires { top < length room.old }
+    ensures leads { (rest : List (Entry W)) (b : Bool) → LeadsTo (W.is_held facts.now) (take top room.old) (entry step.now ∷ rest) b → IfOk result (λ t. LeadsTo (W.is_held facts.now) (take t room.new) rest b) }
+    ensures within { IfOk result (λ t. t ≤ top + 1) }
+    ensures room { length room.new ≡ length room.old }
 {
-    let holds = match step {
-        Step::Term(term) => term.is_met(alloc, facts)?,
-        Step::Not => !stack.pop().unwrap_or(false),
-        Step::And(count) => take_all(stack, *count),
-        Step::Or(count) => take_any(stack, *count),
-    };
-    stack.push(holds)?;
-    Ok(())
+    let Pushed { under, holds } = push_of(alloc, step, facts, &room[..top])?;
+    room[under] = holds;
+    Ok(under + 1)
 }
 
-/// Takes all steps of a list, from front to back.
-fn take_steps<F, W: Judged<F>>(
+/// Whether the expression of a list holds: all steps are taken, from front to back.
+fn holds_in<F, W: Judged<F>>(
     alloc: Global,
     steps: &[Step<W>],
     facts: &F,
-    stack: &mut Vec<bool>,
-) -> Result<(), AllocError>
-    ensures { (b : Bool) → LeadsTo (W.is_held facts.now) stack.old.items (map entry steps.now) b → OnOk result (stack.new.items ≡ b ∷ []) }
+    room: &mut [bool],
+) -> Result<bool, AllocError>
+    requires { length steps.now ≤ length room.old }
+    ensures { (t : Tree W) → AreStepsOf t steps.now → IfOk result (λ b. b ≡ holds (W.is_held facts.now) t) }
 {
+    let mut top = 0;
     for step in steps {
-        take_step(alloc, step, facts, stack)?;
+        top = take_step(alloc, step, facts, room, top)?;
     }
-    Ok(())
+    match room.first() {
+        Some(holds) => Ok(*holds),
+        None => Ok(false),
+    }
 }
+
+/// The steps of a list that need no more memory than there is on the stack.
+const FEW: usize = 64;
 
 impl<'e, W> Steps<'e, W> {
     /// Whether the expression holds for facts: its list is run once from front to back, with a
@@ -149,8 +175,11 @@ impl<'e, W> Steps<'e, W> {
         W: Judged<F>,
         ensures { (t : Tree W) → AreStepsOf t self.now.list.items → IfOk result (λ b. b ≡ holds (W.is_held facts.now) t) }
     {
-        let mut stack = Vec::new(alloc);
-        take_steps(alloc, &self.list, facts, &mut stack)?;
-        Ok(stack.pop().unwrap_or(false))
+        let steps = self.list.as_slice();
+        if steps.len() <= FEW {
+            return holds_in(alloc, steps, facts, &mut [false; FEW]);
+        }
+        let mut room = vec![in alloc; false; steps.len()]?;
+        holds_in(alloc, steps, facts, &mut room)
     }
 }

@@ -74,11 +74,18 @@ fn range_of(facts: &ChangeFacts, term: &LabelTerm) -> Option<ValueRange>
     facts.ranges.get(&term.label).copied()
 }
 
-fn is_counted(facts: &ChangeFacts, term: &LabelTerm, account: AccountNo, value: i8) -> bool
+/// Whether an account with its vote counts for a term, where this is the range of the term's label.
+fn is_counted(
+    facts: &ChangeFacts,
+    term: &LabelTerm,
+    range: Option<ValueRange>,
+    account: AccountNo,
+    value: i8,
+) -> bool
+    requires { range ≡ range_of facts.now term.now.label }
     ensures { result ≡ is_counted facts.now term.now (account, value) }
 {
-    let met = meets(range_of(facts, term), term.comparison, value);
-    met && is_voter(facts, &term.voters, account)
+    meets(range, term.comparison, value) && is_voter(facts, &term.voters, account)
 }
 
 /// The law that each account has at most one vote on a label among a change's facts, so that a term
@@ -95,10 +102,11 @@ pub fn each_account_once(facts: &ChangeFacts, label: &LabelName)
 fn counted(facts: &ChangeFacts, term: &LabelTerm) -> usize
     ensures { result ≡ count_by (is_counted facts.now term.now) (votes_of facts.now term.now.label) }
 {
+    let range = range_of(facts, term);
     match facts.votes.get(&term.label) {
         Some(votes) => votes
             .iter()
-            .filter(|vote| is_counted(facts, term, *vote.0, *vote.1))
+            .filter(|vote| is_counted(facts, term, range, *vote.0, *vote.1))
             .count(),
         None => 0,
     }

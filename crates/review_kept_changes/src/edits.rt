@@ -1,5 +1,6 @@
 //! The tables of one change, and what an edit makes of them.
-ghost use Rattle.std.specs.Prelude.{◌≡◌, ℕ, [], IfOk, None};
+ghost use Rattle.std.specs.Prelude.{◌≡◌, ℕ, [], IfOk, OnOk, None, if◌then◌else◌};
+ghost use Rattle.std.specs.BTreeMap.{is_at};
 ghost use Rattle.std.specs.Ordering.{nat_cmp};
 ghost use Rattle.review_changes.specs.Seen.{vote_cmp};
 ghost use Rattle.review_changes.specs.declared.rows.VoteKey.{VoteKey};
@@ -108,10 +109,38 @@ pub fn changed_table<K: Key, V: Copied>(
 {
     let mut table = copied_table(alloc, old)?;
     let copies = copied_changes(alloc, changes)?;
-    table.reserve_all(alloc, changes)?;
-    table.apply(copies);
-    table.release(changes);
+    change_all(&mut table, copies)?;
     Ok(table)
+}
+
+// Makes all changes, the last first, so that the first of a key stands.
+fn change_all<K: Key, V: Drop>(
+    table: &mut Table<K, V>,
+    changes: Vec<Change<K, V>>,
+) -> Result<(), AllocError>
+    ensures { OnOk result ((q : K) → row_in K.cmp (rows_of table.new) q ≡ changed K.cmp changes.items q (row_in K.cmp (rows_of table.old) q)) }
+{
+    let mut left = changes;
+    while let Some(change) = left.pop() {
+        change_one(table, change)?;
+    }
+    Ok(())
+}
+
+fn change_one<K: Key, V: Drop>(
+    table: &mut Table<K, V>,
+    change: Change<K, V>,
+) -> Result<(), AllocError>
+    ensures { OnOk result ((q : K) → row_in K.cmp (rows_of table.new) q ≡ (if is_at (K.cmp change.key) q then change.row else row_in K.cmp (rows_of table.old) q)) }
+{
+    let Change { key, row } = change;
+    match row {
+        Some(row) => table.put(key, row),
+        None => {
+            table.remove(&key);
+            Ok(())
+        }
+    }
 }
 
 fn copied_changes<K: Key, V: Copied>(

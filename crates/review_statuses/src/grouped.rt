@@ -1,12 +1,12 @@
 //! Whether a term of a submit requirement holds for a change, where tables tell who is in which group.
 ghost use Rattle.std.specs.Prelude.{◌≡◌, ◌&&◌, IfOk, count_by, Some};
-ghost use Rattle.review_judging.specs.Holds.{is_count, is_counted, label_holds, meets, requirement_holds, votes_of};
+ghost use Rattle.review_judging.specs.Holds.{is_count, is_counted, label_holds, meets, range_of, requirement_holds, votes_of};
 ghost use Rattle.review_terms.specs.declared.terms.Voters.TheVariants.{Group};
 ghost use Rattle.review_terms.specs.declared.terms.RequirementTerm.TheVariants.{Label};
 ghost use Rattle.review_statuses.specs.Grouped.{grouped};
 
 use review_judging::requirement::meets;
-use review_judging::{ChangeFacts, Judged};
+use review_judging::{ChangeFacts, Judged, ValueRange};
 use review_parts::{GroupTables, is_in};
 use review_terms::{Count, LabelTerm, RequirementTerm, Voters};
 use review_words::{AccountNo, GroupName};
@@ -31,18 +31,19 @@ fn is_count(asked: Option<Count>, number: usize) -> bool
     }
 }
 
-/// Whether the vote of an account meets a comparison, and the account is in a group.
+/// Whether the vote of an account meets a comparison, and the account is in a group, where this is the range of the term's label.
 fn is_counted(
     change: &GroupedChange,
     term: &LabelTerm,
     group: &GroupName,
+    range: Option<ValueRange>,
     account: AccountNo,
     value: i8,
 ) -> bool
-    requires { term.now.voters ≡ Group group.now }
+    requires voters { term.now.voters ≡ Group group.now }
+    requires range { range ≡ range_of change.now.facts.now term.now.label }
     ensures { result ≡ is_counted (grouped change.now.facts.now change.now.groups.now) term.now (account, value) }
 {
-    let range = change.facts.ranges.get(&term.label).copied();
     let met = meets(range, term.comparison, value);
     met && is_in(change.groups, group, account)
 }
@@ -52,10 +53,11 @@ fn counted(change: &GroupedChange, term: &LabelTerm, group: &GroupName) -> usize
     requires { term.now.voters ≡ Group group.now }
     ensures { result ≡ count_by (is_counted (grouped change.now.facts.now change.now.groups.now) term.now) (votes_of change.now.facts.now term.now.label) }
 {
+    let range = change.facts.ranges.get(&term.label).copied();
     match change.facts.votes.get(&term.label) {
         Some(votes) => votes
             .iter()
-            .filter(|vote| is_counted(change, term, group, *vote.0, *vote.1))
+            .filter(|vote| is_counted(change, term, group, range, *vote.0, *vote.1))
             .count(),
         None => 0,
     }
