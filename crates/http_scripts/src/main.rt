@@ -8,9 +8,9 @@
 //!   behind it, is sent twice and served each time. It comes PIECE bytes a read, and ends after its first FIRST bytes, where that isn't 0. The first time the
 //!   READ-th read fails, the WRITE-th write or flush, and the CALL-th call of the shelf, where that isn't 0; the writer takes up to 64 bytes a call. The
 //!   answer is what each of the two got: the status and the JSON, `nothing` where the input had no byte, or the fault and how many bytes were written; and
-//!   behind it whether a request `a1` of account 1 is kept. Where reads or writes failed it says how many.
+//!   behind it whether a request `a1` of account 1 is kept. Where reads or writes failed it says how many of each.
 //! - `socket TEXT`: the request TEXT is sent twice over a socket of 127.0.0.1, each time over a connection of its own, and served on one empty desk in
-//!   memory. The answer is what the peer got each time.
+//!   memory. The answer is `twice` where the peer got the same bytes each time, else `once`, and the first ones, with `|` for CR LF and `/` for LF.
 #![tactic(auto)]
 
 mod fault;

@@ -92,7 +92,7 @@ fn fault_word(fault: ServeFault) -> &'static str {
 }
 
 /// What came of a request, and of its response.
-pub fn served_word(
+fn served_word(
     alloc: Global,
     served: Result<Served, ServeFault>,
     response: &str,
@@ -105,7 +105,7 @@ pub fn served_word(
     }
 }
 
-/// Serves a request on a shelf, and tells what came of it, and how many reads and writes failed where one did.
+/// Serves a request on a shelf, and tells what came of it, and how many reads and how many writes failed, where one did.
 fn told<S: Shelf>(
     alloc: Global,
     shelf: &mut S,
@@ -125,15 +125,15 @@ fn told<S: Shelf>(
     let (served, faults) = {
         let mut writer = Counted::new(&mut written);
         let served = serve_one(alloc, &mut reader, &mut writer, shelf);
-        (served, reader.faults().saturating_add(writer.faults()))
+        (served, (reader.faults(), writer.faults()))
     };
     let count = written.bytes.len();
     let response = str::from_utf8(written.bytes.as_slice()).unwrap_or("no text");
     let answer = served_word(alloc, served, response, count)?;
-    if faults == 0 {
-        return Ok(answer);
+    match faults {
+        (0, 0) => Ok(answer),
+        (reads, writes) => format!(in alloc; "{answer}, faults {reads} {writes}"),
     }
-    format!(in alloc; "{answer}, faults {faults}")
 }
 
 /// Whether the request `a1` of account 1 is kept.

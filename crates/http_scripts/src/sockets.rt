@@ -1,7 +1,7 @@
 //! Requests over sockets of this machine, with both ends in this process.
 
 use crate::fault::Fault;
-use crate::serving::{request_bytes, served_word};
+use crate::serving::request_bytes;
 use review_counted::Counted;
 use review_machine::{MemoryShelf, serve_one};
 use std::alloc::Global;
@@ -32,7 +32,23 @@ fn received(alloc: Global, peer: TcpStream) -> io::Result<Vec<u8>> {
     Ok(response)
 }
 
-/// Sends a request over a socket, serves it on a shelf, and tells what the peer got.
+/// A response on one line: `|` for CR LF, and `/` for a line feed alone.
+fn on_one_line(alloc: Global, response: &[u8]) -> Result<String, Fault> {
+    let Ok(text) = str::from_utf8(response) else {
+        return Err(Fault::Input);
+    };
+    let mut line = String::new(alloc);
+    for (at, part) in text.split("\r\n").enumerate() {
+        line.push_str(if at > 0 { "|" } else { "" })?;
+        for (within, piece) in part.split("\n").enumerate() {
+            line.push_str(if within > 0 { "/" } else { "" })?;
+            line.push_str(piece)?;
+        }
+    }
+    Ok(line)
+}
+
+/// Sends a request over a socket, serves it on a shelf, and tells what the peer got, byte by byte.
 fn told(rt: &HostRuntime, shelf: &mut MemoryShelf, bytes: &[u8]) -> Result<String, Fault> {
     let (mut peer, stream) = connected(rt).map_err(Fault::of_input)?;
     let other = stream.try_clone().map_err(Fault::of_input)?;
@@ -42,16 +58,19 @@ fn told(rt: &HostRuntime, shelf: &mut MemoryShelf, bytes: &[u8]) -> Result<Strin
         let mut writer = Counted::new(stream);
         serve_one(rt.alloc(), &mut reader, &mut writer, shelf)
     };
+    if served.is_err() {
+        return Err(Fault::Input);
+    }
     let response = received(rt.alloc(), peer).map_err(Fault::of_input)?;
-    let text = str::from_utf8(response.as_slice()).unwrap_or("no text");
-    Ok(served_word(rt.alloc(), served, text, response.len())?)
+    on_one_line(rt.alloc(), response.as_slice())
 }
 
-/// What a request gets on an empty desk in memory, sent twice.
+/// Whether a request gets the same bytes twice on an empty desk in memory, and which.
 pub fn both_received(rt: &HostRuntime, text: &str) -> Result<String, Fault> {
     let bytes = request_bytes(rt.alloc(), text)?;
     let mut shelf = MemoryShelf::new(rt.alloc())?;
     let first = told(rt, &mut shelf, bytes.as_slice())?;
     let second = told(rt, &mut shelf, bytes.as_slice())?;
-    Ok(format!(in rt.alloc(); "{first}; {second}")?)
+    let word = if first == second { "twice" } else { "once" };
+    Ok(format!(in rt.alloc(); "{word} {first}")?)
 }

@@ -9,7 +9,8 @@ use Rattle.review_expr.specs.Expressions.{HasExpr}
 use Rattle.review_expr.specs.declared.expr.Expr.{Expr}
 use Rattle.review_expr.specs.declared.expr.Expr.TheVariants as expr
 use Rattle.review_expr.specs.declared.compiled.Terms.{Terms}
-use Rattle.review_expr.specs.declared.compiled.Terms.TheVariants as terms
+use Rattle.review_expr.specs.declared.compiled.TermList.{TermList}
+use Rattle.review_expr.specs.declared.compiled.TermList.TheVariants as list
 use Rattle.review_expr.specs.declared.expr.Facts.{Facts}
 use Rattle.review_expr.specs.declared.expr.Facts.TheVariants as facts
 
@@ -43,8 +44,12 @@ holds_for (facts.Change f) (expr.Requirement e) = holds (requirement_holds f) (v
 holds_for (facts.Vote f) (expr.Copy e) = holds (copy_holds f) (view e.node)
 holds_for f e = false
 
+-- The list is the flat list of the expression, and of its kind.
+abbrev pub IsListOf : Expr → TermList → Type 0
+IsListOf (expr.Requirement e) (list.Requirement s) = AreStepsOf (view e.node) s.list.items
+IsListOf (expr.Copy e) (list.Copy s) = AreStepsOf (view e.node) s.list.items
+IsListOf e l = ⊥
+
 -- The terms are the flat list of the expression.
 abbrev pub AreTermsOf : Expr → Terms → Type 0
-AreTermsOf (expr.Requirement e) (terms.Requirement s) = AreStepsOf (view e.node) s.list.items
-AreTermsOf (expr.Copy e) (terms.Copy s) = AreStepsOf (view e.node) s.list.items
-AreTermsOf e t = ⊥
+AreTermsOf e t = IsListOf e t.list

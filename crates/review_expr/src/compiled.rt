@@ -9,14 +9,20 @@ use review_judging::Steps;
 use review_terms::{CopyTerm, RequirementTerm};
 use std::alloc::{AllocError, Global};
 
-/// An expression as a flat list of its terms and operators, by the expression's kind. `compile`
-/// makes it, and nothing else does.
+/// A flat list, by the kind of its expression.
 #[derive(Drop)]
-pub enum Terms<'e> {
+pub enum TermList<'e> {
     /// Of a submit requirement.
     Requirement(Steps<'e, RequirementTerm>),
     /// Of a copy condition.
     Copy(Steps<'e, CopyTerm>),
+}
+
+/// An expression as a flat list of its terms and operators. [`compile`] makes it, and nothing else
+/// does.
+#[derive(Drop)]
+pub struct Terms<'e> {
+    list: TermList<'e>,
 }
 
 /// The flat list of an expression: its tree in postfix order, the lists of a node's members before
@@ -25,19 +31,25 @@ pub enum Terms<'e> {
 pub fn compile(alloc: Global, expr: &Expr) -> Result<Terms<'_>, AllocError>
     ensures { IfOk result (AreTermsOf expr.now) }
 {
-    match expr {
+    let list = match expr {
         Expr::Requirement(expression) => {
-            let steps = review_judging::compile(alloc, expression.node())?;
-            Ok(Terms::Requirement(steps))
+            TermList::Requirement(review_judging::compile(alloc, expression.node())?)
         }
         Expr::Copy(expression) => {
-            let steps = review_judging::compile(alloc, expression.node())?;
-            Ok(Terms::Copy(steps))
+            TermList::Copy(review_judging::compile(alloc, expression.node())?)
         }
-    }
+    };
+    Ok(Terms { list })
 }
 
 impl<'e> Terms<'e> {
+    /// The list, to be judged by facts of another form.
+    pub fn list(&self) -> &TermList<'e>
+        ensures { result.now ≡ self.now.list }
+    {
+        &self.list
+    }
+
     /// Whether the expression holds, as `eval` answers: the list is run once from front to back,
     /// with a stack of truth values and without recursion. An error where there was no memory to
     /// find out.
@@ -45,9 +57,9 @@ impl<'e> Terms<'e> {
         ensures holds { (e : Expr) → AreTermsOf e self.now → IfOk result (λ b. b ≡ holds_for facts.now e) }
         ensures fault { IfErr result (λ e. e ≡ EvalFault.Memory) }
     {
-        let held = match (self, facts) {
-            (Terms::Requirement(steps), Facts::Change(change)) => steps.eval(alloc, change),
-            (Terms::Copy(steps), Facts::Vote(vote)) => steps.eval(alloc, vote),
+        let held = match (&self.list, facts) {
+            (TermList::Requirement(steps), Facts::Change(change)) => steps.eval(alloc, change),
+            (TermList::Copy(steps), Facts::Vote(vote)) => steps.eval(alloc, vote),
             _ => Ok(false),
         };
         match held {

@@ -21,7 +21,7 @@ pub mod spelled;
 mod terms;
 mod words;
 
-pub use compiled::{Terms, compile};
+pub use compiled::{TermList, Terms, compile};
 pub use expr::{EvalFault, Expr, Facts, eval, labels_of, parse_copy, parse_requirement};
 pub use expression::Expression;
 pub use fault::ParseFault;

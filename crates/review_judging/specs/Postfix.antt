@@ -39,5 +39,5 @@ abbrev pub AreStepsOf : {A : Type 0} → Tree A → List (Step A) → Type 0
 AreStepsOf t steps = map entry steps ≡ postfix t
 
 -- The steps are the flat list of some tree.
-abbrev pub AreSteps : {A : Type 0} → List (Step A) → Type 0
-AreSteps {A = A} steps = (t : Tree A) × AreStepsOf t steps
+abbrev pub AreStepsOfATree : {A : Type 0} → List (Step A) → Type 0
+AreStepsOfATree {A = A} steps = (t : Tree A) × AreStepsOf t steps

@@ -3,7 +3,7 @@ use Rattle.std.specs.Prelude.{◌≡◌, Bool, not, List, [], ◌∷◌, ◌++�
 use Rattle.std.specs.List.{list_all, list_any}
 use Rattle.review_judging.specs.Postfix.{Entry, TermEntry, NotEntry, AndEntry, OrEntry}
 
--- From a stack, these entries lead to one truth value. NOT takes the one on top, and AND and OR as many as they have members; each puts one in their place.
+-- From a stack, these entries lead to one truth value. A term puts its own on top; NOT takes the one on top, and AND and OR as many as they have members, and each puts one in their place.
 abbrev pub LeadsTo : {A : Type 0} → (A → Bool) → List Bool → List (Entry A) → Bool → Type 0
 LeadsTo is_held stack [] b = stack ≡ b ∷ []
 LeadsTo is_held stack (TermEntry a ∷ es) b = LeadsTo is_held (stack ++ is_held a ∷ []) es b

@@ -4,7 +4,7 @@ ghost use Rattle.std.specs.List.{list_all, list_any};
 ghost use Rattle.review_grammar.specs.Grammar.{Tree, trees};
 ghost use Rattle.review_grammar.specs.Views.{view};
 ghost use Rattle.review_judging.specs.Holds.{holds};
-ghost use Rattle.review_judging.specs.Postfix.{AreSteps, AreStepsOf, Entry, entry, postfix, postfixes};
+ghost use Rattle.review_judging.specs.Postfix.{AreStepsOfATree, AreStepsOf, Entry, entry, postfix, postfixes};
 ghost use Rattle.review_judging.specs.Stack.{LeadsTo};
 
 use crate::judge::Judged;
@@ -29,7 +29,7 @@ pub enum Step<'e, W> {
 #[derive(Drop)]
 pub struct Steps<'e, W> {
     list: Vec<Step<'e, W>>,
-    ghost of_tree: { ∥ AreSteps list.items ∥₁ },
+    ghost of_tree: { ∥ AreStepsOfATree list.items ∥₁ },
 }
 
 #[cycle(steps)]

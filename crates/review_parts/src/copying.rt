@@ -15,7 +15,7 @@ ghost use Rattle.review_parts.specs.Conditions.{AreConditions, IsCompiled};
 ghost use Rattle.review_parts.specs.Copies.{copies_by, copied_rows, group_list, lost_rows, with_groups, IsSplit};
 
 use review_changes::{Vote, VoteKey};
-use review_expr::{Terms, compile};
+use review_expr::{TermList, Terms, compile};
 use review_file::{Label, ProjectFile};
 use review_judging::{Judged, ValueRange, VoteFacts};
 use review_table::{Key, Table};
@@ -135,9 +135,9 @@ fn are_met(
 ) -> Result<bool, AllocError>
     ensures { (e : Expr) → AreTermsOf e terms.now → IfOk result (λ b. b ≡ condition_holds (Some e) (with_groups facts.now groups.now)) }
 {
-    match terms {
-        Terms::Copy(steps) => steps.eval(alloc, &GroupedVote { facts, groups }),
-        Terms::Requirement(_) => Ok(false),
+    match terms.list() {
+        TermList::Copy(steps) => steps.eval(alloc, &GroupedVote { facts, groups }),
+        TermList::Requirement(_) => Ok(false),
     }
 }
 

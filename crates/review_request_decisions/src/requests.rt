@@ -12,7 +12,7 @@ ghost use Rattle.review_rows.specs.Decisions.{IsUndecided, NamesEachOnce};
 ghost use Rattle.review_rows.specs.Rows.{HasNoEffect};
 ghost use Rattle.review_rows.specs.Steps.{OfCommand};
 ghost use Rattle.review_rows.specs.View.{AreEnough, IsDecided};
-ghost use Rattle.review_request_decisions.specs.Requests.{IsPlainlyDone, is_plain, lacks_file, needs_file, plain_list};
+ghost use Rattle.review_request_decisions.specs.Requests.{IsPlainlyDone, is_plain, lacks_file, asks_right, plain_list};
 ghost use Rattle.review_change_decisions.specs.Facts.{IsChecked, MakesChange};
 ghost use Rattle.review_words.specs.declared.reply.NotTaken.TheVariants.{Damaged, Memory};
 
@@ -52,9 +52,9 @@ pub fn on_change(
     }
 }
 
-/// Whether a request is judged by the project's file.
-fn needs_file(command: &ChangeCommand) -> bool
-    ensures { result ≡ needs_file command.now }
+/// Whether a right in the project's file decides a request that is neither a patch set nor a review.
+fn asks_right(command: &ChangeCommand) -> bool
+    ensures { result ≡ asks_right command.now }
 {
     matches!(command, ChangeCommand::Abandon | ChangeCommand::Restore)
 }
@@ -65,7 +65,7 @@ fn lacks_file(had: Option<&ProjectFile>, command: &ChangeCommand) -> bool
 {
     match had {
         Some(_) => false,
-        None => needs_file(command),
+        None => asks_right(command),
     }
 }
 

@@ -45,7 +45,7 @@ impl Origin for Ours {
     const IS_OURS: bool = true;
 }
 
-/// Tables that somebody else made, or to which somebody added others: of a shelf over them nothing is claimed.
+/// Tables that somebody else made, or to which somebody added others: of a shelf over them no more is claimed than that all columns of records were there when it was opened.
 pub struct Others;
 
 impl Origin for Others {
@@ -151,7 +151,8 @@ impl<S: Alter + Drop, O: Origin> SqlShelf<S, O> {
     }
 
     /// Opens a desk. Nothing is written, and a refusal hands the connection back with its tables as they were: NotOurs only where the shelf is to
-    /// be ours and the tables are of another form than `create` makes, or rows of one have one rowid. Over the connection of a shelf that
+    /// be ours and the tables are of another form than `create` makes, or rows of one have one rowid. Tables of another form are opened only where all
+    /// columns of the eleven tables of records are there. Over the connection of a shelf that
     /// was closed it is that shelf: it shows the tables that it showed, unless it is shut, and a stop leaves nothing that it could not
     /// leave before, so that runs before and after are one; what a shelf of ours left is refused only for want of memory or a fault of
     /// the store. Calls that were refused are counted from 0.

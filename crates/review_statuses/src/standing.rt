@@ -12,7 +12,7 @@ ghost use Rattle.review_statuses.specs.Grouped.{IsStatus, grouped};
 use crate::facts::facts_of;
 use crate::grouped::GroupedChange;
 use review_changes::ChangeRows;
-use review_expr::{Expr, Terms, compile};
+use review_expr::{Expr, TermList, Terms, compile};
 use review_file::{ProjectFile, Requirement};
 use review_parts::GroupTables;
 use review_words::{Listed, ShownRequirement, Status};
@@ -22,9 +22,9 @@ use std::alloc::{AllocError, Global};
 fn are_met(alloc: Global, terms: &Terms, change: &GroupedChange) -> Result<bool, AllocError>
     ensures { (e : Expr) → AreTermsOf e terms.now → IfOk result (λ b. b ≡ holds_for (facts.Change (grouped change.now.facts.now change.now.groups.now)) e) }
 {
-    match terms {
-        Terms::Requirement(steps) => steps.eval(alloc, change),
-        Terms::Copy(_) => Ok(false),
+    match terms.list() {
+        TermList::Requirement(steps) => steps.eval(alloc, change),
+        TermList::Copy(_) => Ok(false),
     }
 }
 
