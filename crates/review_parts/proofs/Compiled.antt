@@ -1,5 +1,5 @@
 -- Copy conditions that were compiled.
-use Rattle.std.proofs.Common.{◌≡◌, ℕ, ℤ, List, [], ◌∷◌, Bool, true, false, Option, Some, None, Result, Ok, Err, IfOk, map, sym, ap, ◌∙◌, subst, refl}
+use Rattle.std.proofs.Common.{◌≡◌, ◌<◌, ◌+◌, ℕ, ℤ, List, [], ◌∷◌, ◌++◌, length, take, get_or, ap₂, Bool, true, false, Option, Some, None, Result, Ok, Err, IfOk, map, sym, ap, ◌∙◌, subst, refl}
 use Rattle.std.specs.Prelude.{cond, find, option_map}
 use Rattle.std.specs.List.{All}
 use Rattle.std.specs.Option.{option_map_or}
@@ -9,6 +9,7 @@ use Rattle.std.proofs.Math.Bool.{Bool-set}
 use Rattle.std.proofs.Math.Logic.{∥∥₁_elim}
 use Rattle.std.specs.Coded.{Unit-prop}
 use Rattle.std.proofs.lemmas.List.Elements.{All-head, All-tail}
+use Rattle.std.proofs.lemmas.List.{map-append, take_more}
 use Rattle.review_judging.specs.declared.facts.VoteFacts.{VoteFacts}
 use Rattle.review_expr.specs.declared.expr.Expr.{Expr}
 use Rattle.review_expr.specs.declared.compiled.Terms.{Terms}
@@ -82,3 +83,9 @@ copied_where file f l a v cs c t r made found some held =
     (sym (ap (λ o. option_map_or (λ y. condition_holds y.copy_condition (record f { value = v; voter = a; range = range_of y })) o false) (label_found file l cs (Some c) k found)
     ∙ ap (λ o. condition_holds o (record f { value = v; voter = a; range = range_of (label_of c) })) x.1))
     (held x.0 x.2))
+
+-- one condition more, of the next label
+pub next_label : (labels : List (LabelView Expr)) (i : ℕ) (l : LabelView Expr) (cs new : List Condition) (c : Condition) → i < length labels → l ≡ get_or labels i l → new ≡ cs ++ c ∷ [] → label_of c ≡ l → map label_of cs ≡ take i labels →
+    map label_of new ≡ take (i + 1) labels
+next_label labels i l cs new c below is more same before =
+    ap (map label_of) more ∙ (map-append label_of cs (c ∷ []) ∙ (ap₂ (λ xs x. xs ++ x ∷ []) before (same ∙ is) ∙ sym (take_more labels i l below)))
