@@ -64,10 +64,12 @@ class Proxied:
         write(read(EXAMPLES, "proxy", "accounts.conf") + lines, self.folder, "accounts.conf")
         secrets = {name: subprocess.run(["openssl", "passwd", "-apr1", word], check=True, capture_output=True, text=True).stdout for name, word in self.passwords.items()}
         write("".join(f"{name}:{secret}" for name, secret in secrets.items()), self.folder, "users")
-        key = ["openssl", "req", "-x509", "-newkey", "rsa:2048", "-nodes", "-keyout", "tls.key", "-out", "tls.crt", "-days", "1", "-subj", "/CN=127.0.0.1"]
+        key = ["openssl", "req", "-x509", "-newkey", "rsa:2048", "-nodes", "-keyout", "tls.key", "-out", "tls.crt", "-days", "1", "-subj", "/CN=desk", "-addext", "subjectAltName=IP:127.0.0.1"]
         subprocess.run(key, check=True, cwd=self.folder, stderr=subprocess.DEVNULL)
         shutil.copytree(os.path.join(EXAMPLES, "page"), os.path.join(self.folder, "page"))
-        os.chmod(self.folder, 0o755)
+        # Whatever the umask and the modes of the checkout are, nginx's workers, who are other users where root starts it, read these.
+        for path, mode in (("", 0o755), ("users", 0o644), ("page", 0o755), ("page/index.html", 0o644)):
+            os.chmod(os.path.join(self.folder, path), mode)
 
     def wait(self):
         for _ in range(100):
