@@ -38,7 +38,7 @@ def run(*words, sent=b"", program=None, seconds=120, **environment):
 
 def work_folder():
     """A temporary folder, in memory where there is such a place: what is tested doesn't depend on how long a disk takes."""
-    return tempfile.TemporaryDirectory(dir="/dev/shm" if os.path.isdir("/dev/shm") else None)
+    return tempfile.TemporaryDirectory(dir="/dev/shm" if os.access("/dev/shm", os.W_OK | os.X_OK) else None)
 
 
 def copy(file, to):
