@@ -38,8 +38,10 @@ def read(*path):
 
 
 def write(text, *path):
+    """Writes a file that nginx's workers read as well, whatever the umask is: where root starts it they are other users."""
     with open(os.path.join(*path), "w", encoding="utf-8") as file:
         file.write(text)
+    os.chmod(os.path.join(*path), 0o644)
 
 
 class Proxied:
@@ -67,8 +69,7 @@ class Proxied:
         key = ["openssl", "req", "-x509", "-newkey", "rsa:2048", "-nodes", "-keyout", "tls.key", "-out", "tls.crt", "-days", "1", "-subj", "/CN=desk", "-addext", "subjectAltName=IP:127.0.0.1"]
         subprocess.run(key, check=True, cwd=self.folder, stderr=subprocess.DEVNULL)
         shutil.copytree(os.path.join(EXAMPLES, "page"), os.path.join(self.folder, "page"))
-        # Whatever the umask and the modes of the checkout are, nginx's workers, who are other users where root starts it, read these.
-        for path, mode in (("", 0o755), ("users", 0o644), ("page", 0o755), ("page/index.html", 0o644)):
+        for path, mode in (("", 0o755), ("page", 0o755), ("page/index.html", 0o644)):
             os.chmod(os.path.join(self.folder, path), mode)
 
     def wait(self):
