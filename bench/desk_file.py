@@ -37,7 +37,7 @@ def run(*words, sent=b"", program=None, seconds=120, **environment):
 
 
 def work_folder(runs_programs=False):
-    """A temporary folder, in memory where there is such a place: what is tested doesn't depend on how long a disk takes. Some forbid that programs in them are run."""
+    """A temporary folder, in memory where there is such a place: what is tested doesn't depend on how long a disk takes. From some no program or library may be run."""
     places = [it for it in ("/dev/shm", tempfile.gettempdir(), os.path.dirname(PROGRAM)) if os.access(it, os.W_OK | os.X_OK)]
     usable = [it for it in places if not (runs_programs and os.statvfs(it).f_flag & os.ST_NOEXEC)]
     return tempfile.TemporaryDirectory(dir=usable[0] if usable else None)
