@@ -36,9 +36,11 @@ def run(*words, sent=b"", program=None, seconds=120, **environment):
     return done.returncode, done.stdout, done.stderr
 
 
-def work_folder():
-    """A temporary folder, in memory where there is such a place: what is tested doesn't depend on how long a disk takes."""
-    return tempfile.TemporaryDirectory(dir="/dev/shm" if os.path.isdir("/dev/shm") else None)
+def work_folder(runs_programs=False):
+    """A temporary folder, in memory where there is such a place: what is tested doesn't depend on how long a disk takes. From some no program or library may be run."""
+    places = [it for it in ("/dev/shm", tempfile.gettempdir(), os.path.dirname(PROGRAM)) if os.access(it, os.W_OK | os.X_OK)]
+    usable = [it for it in places if not (runs_programs and os.statvfs(it).f_flag & os.ST_NOEXEC)]
+    return tempfile.TemporaryDirectory(dir=usable[0] if usable else None)
 
 
 def copy(file, to):

@@ -1,4 +1,5 @@
 """What the tests of a desk over HTTP share: a delivery's line as a request, the program that serves, and what it answers."""
+import atexit
 import http.client
 import json
 import socket
@@ -38,9 +39,10 @@ def free_port():
 
 
 def serve(program, file, count=4_000_000_000):
-    """A process that serves a desk, and its port, once it listens."""
+    """A process that serves a desk, and its port, once it listens. It ends with the script at the latest."""
     port = free_port()
     process = subprocess.Popen([program, "serve", file, "--port", str(port), "--count", str(count)], stdout=subprocess.PIPE, stderr=subprocess.PIPE)
+    atexit.register(process.kill)
     said = process.stdout.readline()
     if said != f"listening on 127.0.0.1:{port}\n".encode():
         raise SystemExit(f"serve says {said!r} {process.communicate()!r}")

@@ -38,8 +38,10 @@ def read(*path):
 
 
 def write(text, *path):
+    """Writes a file that nginx's workers read as well, whatever the umask is: where root starts it they are other users."""
     with open(os.path.join(*path), "w", encoding="utf-8") as file:
         file.write(text)
+    os.chmod(os.path.join(*path), 0o644)
 
 
 class Proxied:
@@ -64,10 +66,11 @@ class Proxied:
         write(read(EXAMPLES, "proxy", "accounts.conf") + lines, self.folder, "accounts.conf")
         secrets = {name: subprocess.run(["openssl", "passwd", "-apr1", word], check=True, capture_output=True, text=True).stdout for name, word in self.passwords.items()}
         write("".join(f"{name}:{secret}" for name, secret in secrets.items()), self.folder, "users")
-        key = ["openssl", "req", "-x509", "-newkey", "rsa:2048", "-nodes", "-keyout", "tls.key", "-out", "tls.crt", "-days", "1", "-subj", "/CN=127.0.0.1"]
+        key = ["openssl", "req", "-x509", "-newkey", "rsa:2048", "-nodes", "-keyout", "tls.key", "-out", "tls.crt", "-days", "1", "-subj", "/CN=desk", "-addext", "subjectAltName=IP:127.0.0.1"]
         subprocess.run(key, check=True, cwd=self.folder, stderr=subprocess.DEVNULL)
         shutil.copytree(os.path.join(EXAMPLES, "page"), os.path.join(self.folder, "page"))
-        os.chmod(self.folder, 0o755)
+        for path, mode in (("", 0o755), ("page", 0o755), ("page/index.html", 0o644)):
+            os.chmod(os.path.join(self.folder, path), mode)
 
     def wait(self):
         for _ in range(100):

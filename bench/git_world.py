@@ -1,4 +1,5 @@
 """What the tests of examples/git share: a desk in a file that is served, a bare repository with the hook, a clone, and stacks of commits that are amended."""
+import atexit
 import hashlib
 import os
 import shutil
@@ -60,6 +61,7 @@ class World:
         """Serves the desk, always at the same port."""
         words = [self.program, "serve", self.file, "--port", str(self.port), "--count", "4000000000"]
         self.serving = subprocess.Popen(words, stdout=subprocess.PIPE, stderr=subprocess.PIPE, text=True)
+        atexit.register(self.serving.kill)
         said = self.serving.stdout.readline()
         check(said == f"listening on 127.0.0.1:{self.port}\n", said)
 
