@@ -8,6 +8,7 @@ import os
 import re
 import resource
 import select
+import shutil
 import sqlite3
 import subprocess
 
@@ -18,10 +19,21 @@ from desk_http import Asked, ask, free_port
 SECONDS = 10
 MEMORY = 2**30
 # What a run may take at most, in KiB: so much, and so many times the file.
-LEAST_KIB, TIMES = 40_000, 40
+LEAST_KIB, TIMES = 100_000, 40
 TEXTS = ("not a desk", "wrong version", "store fault", "damaged", "pattern", "no such change", "no such project", "no such branch")
 FAULTS = {f"review_desk: {text}\n".encode() for text in TEXTS}
 NUMBERED = ("CreateAccount", "CreateChange")
+
+
+def copy_all(file, to):
+    """Copies a desk and what may stand beside it."""
+    copy(file, to)
+    for end in ("-journal", "-shm"):
+        with contextlib.suppress(FileNotFoundError):
+            os.remove(to + end)
+        if os.path.exists(file + end):
+            shutil.copyfile(file + end, to + end)
+    return to
 
 
 class Ended(Exception):
@@ -87,7 +99,7 @@ class Desks:
 
     def try_one(self, damage):
         """Damages a desk and asks it everything; nothing where sqlite3 refuses to do the damage."""
-        copy(self.whole, self.file)
+        copy_all(self.whole, self.file)
         try:
             damage.act(self.file)
         except (sqlite3.Error, sqlite3.Warning) as error:
@@ -115,7 +127,7 @@ class Desks:
 
     def look(self, damage):
         """`show`, `joined` and `init`, none of which changes a table."""
-        was = bytes_of(copy(self.file, self.other))
+        was = bytes_of(copy_all(self.file, self.other))
         for words, right in self.shown.items():
             status, out, err = Running(words[0], self.other, *words[1:]).end()
             self.judge_end(damage, words[0], status, err)
@@ -132,7 +144,7 @@ class Desks:
         sent = SESSION[self.turn % len(SESSION)]
         self.turn += 1
         port = free_port()
-        was = bytes_of(copy(self.file, self.other))
+        was = bytes_of(copy_all(self.file, self.other))
         serving = Running("serve", self.other, "--port", str(port), "--count", "1")
         status, answer = None, None
         if serving.told().startswith(b"listening"):
@@ -240,11 +252,11 @@ class Desks:
             if it is not None:
                 with open(self.before + end, "wb") as out:
                     out.write(it)
-        with contextlib.suppress(sqlite3.Error):
+        with contextlib.suppress(sqlite3.Error, UnicodeError):
             before = tables(self.before, False)
             try:
                 found = "a desk was made of it" if is_made else difference(before, tables(file, False))
-            except sqlite3.Error as error:
+            except (sqlite3.Error, UnicodeError) as error:
                 found = error
             if found:
                 self.wrong(damage, "tables after", sent, found)

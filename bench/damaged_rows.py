@@ -27,6 +27,8 @@ TEXTS = {
 }
 # Values that no column of this kind holds in any desk.
 NEVER = ("-1", "-2^63", "2^63-1", "a fraction", "a text", "a blob", "NULL", "no UTF-8", "a number")
+# Of these any number is read, though no desk has so many requests.
+REQUESTS = ("updated", "request", "requests")
 # What SQLite changes, or refuses, as long as the table says what its columns are.
 LOOSE = {"INTEGER": ("NULL",), "TEXT": ("a number", "a fraction", "NULL")}
 ROWS = {
@@ -92,7 +94,7 @@ def of_columns(file):
         columns = [(table, name, kind) for table in TABLES for _, name, kind, *_ in conn.execute(f"PRAGMA table_info({table})")]
         for table, name, kind in columns:
             for what, value in (NUMBERS if kind == "INTEGER" else TEXTS).items():
-                is_strict = what in NEVER and name not in FINDING[table] and (table, name) not in FREE and not ((table, name) == ("votes", "value") and what == "-1")
+                is_strict = what in NEVER and name not in FINDING[table] and (table, name) not in FREE and not (what == "2^63-1" and name in REQUESTS) and not ((table, name) == ("votes", "value") and what == "-1")
                 for at in (0, 1, None):
                     one = f" WHERE rowid = (SELECT rowid FROM {table} WHERE {OF_TOOLS[table]} ORDER BY rowid LIMIT 1 OFFSET {at} % (SELECT count(*) FROM {table} WHERE {OF_TOOLS[table]}))"
                     sql = f"UPDATE OR IGNORE {table} SET {name} = {value}{'' if at is None else one}"
