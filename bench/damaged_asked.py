@@ -222,7 +222,7 @@ class Desks:
         is_lawful = {"STORE": True, "DAMAGED": True, "MEMORY": not damage.is_sound, "FULL": damage.may_be_full, "PATTERN": damage.may_match or not damage.is_sound}
         if not is_lawful.get(cause):
             self.wrong(damage, sent, cause)
-        if cause == "STORE" and damage.is_sound:
+        if cause == "STORE" and damage.is_sound and not damage.is_refused:
             self.stores[damage.table, damage.column, damage.kind, name_of(sent)] += 1
 
     @staticmethod

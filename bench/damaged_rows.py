@@ -64,12 +64,16 @@ MISSING = [
 ]
 
 
+# Where the store itself refuses a write: to a view, and of a number that stands once.
+REFUSED = ("a view", "the next request is taken", "too few requests")
+
+
 class Damage:
     """What is done to a desk: where, what kind, in SQL; whether one row of the first side alone; whether an answer to its side is the right one or none."""
 
     def __init__(self, table, column, kind, sql, is_one=False, is_strict=False):
         self.table, self.column, self.kind, self.sql, self.is_one, self.is_strict = table, column, kind, sql, is_one, is_strict
-        self.is_sound, self.may_be_full, self.may_match = True, table == "desk", kind == "a pattern too large"
+        self.is_sound, self.may_be_full, self.may_match, self.is_refused = True, table == "desk", kind == "a pattern too large", kind in REFUSED
 
     def name(self):
         return f"{self.table}{'.' + self.column if self.column else ''}: {self.kind}{' in one row' if self.is_one else ''}"
@@ -88,11 +92,25 @@ def loosened(conn, table, sql):
     return say.format(loose, table) + f"{sql}; " + say.format(told, table)
 
 
+def columns(file):
+    """Each column, with its type."""
+    with contextlib.closing(sqlite3.connect(file)) as conn:
+        return [(table, name, kind) for table in TABLES for _, name, kind, *_ in conn.execute(f"PRAGMA table_info({table})")]
+
+
+def drawn_value(drawn, among):
+    """A column of the first side with a number that is drawn, or with a character more, less, or another."""
+    table, name, kind = drawn.choice(among)
+    at, new = drawn.randrange(1, 60), drawn.choice(("''", "'9'", "':'", "','", "' '", "char(10)", "'\"'", "char(228)", "'x'"))
+    value = str(drawn.choice((drawn.randrange(40), drawn.randrange(-9, 2000), drawn.randrange(2**63)))) if kind == "INTEGER" else f"substr({name}, 1, {at}) || {new} || substr({name}, {at + drawn.randrange(3)})"
+    one = drawn.choice((f" AND rowid % 7 = {drawn.randrange(7)}", ""))
+    return Damage(table, name, value, f"UPDATE OR IGNORE {table} SET {name} = {value} WHERE {OF_TOOLS[table]}{one}", table != "desk")
+
+
 def of_columns(file):
     """Each value that is none of its column, in one row of the first side and in all rows."""
     with contextlib.closing(sqlite3.connect(file)) as conn:
-        columns = [(table, name, kind) for table in TABLES for _, name, kind, *_ in conn.execute(f"PRAGMA table_info({table})")]
-        for table, name, kind in columns:
+        for table, name, kind in columns(file):
             for what, value in (NUMBERS if kind == "INTEGER" else TEXTS).items():
                 is_strict = what in NEVER and name not in FINDING[table] and (table, name) not in FREE and not (what == "2^63-1" and name in REQUESTS) and not ((table, name) == ("votes", "value") and what == "-1")
                 for at in (0, 1, None):
