@@ -13,6 +13,7 @@ import sqlite3
 import subprocess
 
 from damaged_desk import BASE, HEALTHY, SESSION, SHOWN, name_of
+from damaged_rows import REFUSALS
 from desk_file import CREATED, NOT_EMPTY, PROGRAM, bytes_of, check, copy, difference, run, tables
 from desk_http import Asked, ask, free_port
 
@@ -78,8 +79,8 @@ class Desks:
     def __init__(self, folder):
         resource.setrlimit(resource.RLIMIT_AS, (MEMORY, resource.getrlimit(resource.RLIMIT_AS)[1]))
         self.file, self.whole, self.other, self.before = (os.path.join(folder, name) for name in ("desk", "whole", "other", "before"))
-        self.found, self.faults, self.stores, self.neighbours, self.greatest, self.turn = collections.Counter(), [], collections.Counter(), collections.Counter(), 0, 0
-        self.kinds = collections.defaultdict(collections.Counter)
+        self.found, self.stores, self.neighbours, self.kinds = collections.Counter(), collections.Counter(), collections.Counter(), collections.defaultdict(collections.Counter)
+        self.faults, self.greatest, self.greatest_of, self.turn = [], 0, None, 0
         check(run("init", self.whole) == CREATED, "init")
         end = run("apply", self.whole, sent=b"".join(BASE))
         check(end[0] == 0 and not re.search(b"refused|fault", end[1]), "base", end)
@@ -102,7 +103,7 @@ class Desks:
         copy_all(self.whole, self.file)
         try:
             damage.act(self.file)
-        except (sqlite3.Error, sqlite3.Warning) as error:
+        except REFUSALS as error:
             self.found["damages that sqlite3 refuses"] += 1
             return self.kinds[damage.name()].update([f"refused by sqlite3: {error}"])
         for part in (self.look, self.serve, self.apply):
@@ -121,7 +122,8 @@ class Desks:
         own = resource.getrusage(resource.RUSAGE_SELF).ru_maxrss
         if size > max(self.greatest, own, LEAST_KIB + TIMES * files):
             self.wrong(damage, f"{size} KiB of memory for files of {files}")
-        self.greatest = max(self.greatest, size)
+        if size > self.greatest:
+            self.greatest, self.greatest_of = size, damage.name()
 
     # ---- commands that are no lines
 
@@ -231,7 +233,10 @@ class Desks:
         return json.loads(sent)["do"] in NUMBERED
 
     def neighbour(self, damage, asked, answer):
-        """A line that needs none of what is damaged, and is answered otherwise."""
+        """A line that needs none of what is damaged, and is answered otherwise; not where the file isn't opened, or the greatest number was wanted."""
+        is_needed = damage.column == "number" and asked.startswith(NUMBERED)
+        if answer.startswith(b"review_desk: store fault") or is_needed:
+            return
         self.neighbours[damage.table, damage.column, damage.kind, asked, answer.decode(errors="replace").strip()[:60]] += 1
 
     def judge_end(self, damage, word, status, err, *more):

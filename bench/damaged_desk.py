@@ -82,7 +82,7 @@ class Side:
             self.of_project("PutGroup", "same1", {"members": [self.owner, self.other]}, group=self.group),
             self.of_project("PutProject", "new2", {"file": ""}, project=f"more-{self.letter}"), self.of_project("PutProject", "same2", {"file": file}, project=self.project),
             self.of_project("RecordBase", "new3", {"commit": commit(77)}, project=self.project, branch="next"),
-            self.makes("new4", commit(99), commit(3)),
+            self.makes("new4", commit(99), commit(2)),
             self.reviews("new5", 2, self.owner, message="m", comments={"src/a.rs": [{"message": "so", "in_reply_to": 1}]}),
             self.of_change("Upload", 3, "new6", body={"commit": commit(98), "parent": FIRST, "kind": "REWORK", "paths": ["src/a.rs"]}),
             self.of_change("Upload", 14, "new7", body={"commit": commit(97), "parent": FIRST, "kind": "NO_CODE_CHANGE", "paths": []}),

@@ -2,6 +2,7 @@
 import contextlib
 import re
 import sqlite3
+import struct
 
 from damaged_desk import TOO_LARGE, commit
 from desk_file import FIRST, TABLES
@@ -56,6 +57,8 @@ ODD = [
     ("answers", "the next request is taken", "UPDATE answers SET request = (SELECT requests + 1 FROM desk) WHERE id = 'n2'"), ("desk", "too few requests", "UPDATE desk SET requests = 3"),
     ("desk", "the last request", f"UPDATE desk SET requests = {2**53 - 1}"), ("desk", "version 2", "UPDATE desk SET version = 2"), ("desk", "version 9 and no number", "UPDATE desk SET version = 9, requests = 'x'"),
 ]
+# Changes of the first side whose commits the other side has, too.
+SHARED = [("changes", "an odd state, of a shared commit", "UPDATE changes SET status = 'OPEN' WHERE number = 12"), ("changes", "an odd owner, of a shared commit", "UPDATE changes SET owner = -1 WHERE number IN (2, 12)")]
 # Rows that others name, taken away from the first side.
 MISSING = [
     ("accounts", "number = 3"), ("members", "grp = 'Core' AND account = 3"), ("projects", "name = 'tools'"), ("bases", "project = 'tools'"), ("changes", "number = 2"), ("changes", "number = 13"),
@@ -65,7 +68,11 @@ MISSING = [
 
 
 # Where the store itself refuses a write: to a view, and of a number that stands once.
-REFUSED = ("a view", "the next request is taken", "too few requests")
+REFUSED, COUNTED = ("a view", "the next request is taken", "too few requests"), ("request", "requests")
+
+
+# How a damage is refused that sqlite3 doesn't do, or that finds no place in what another left.
+REFUSALS = (sqlite3.Error, sqlite3.Warning, UnicodeError, struct.error, IndexError)
 
 
 class Damage:
@@ -73,7 +80,7 @@ class Damage:
 
     def __init__(self, table, column, kind, sql, is_one=False, is_strict=False):
         self.table, self.column, self.kind, self.sql, self.is_one, self.is_strict = table, column, kind, sql, is_one, is_strict
-        self.is_sound, self.may_be_full, self.may_match, self.is_refused = True, table == "desk", kind == "a pattern too large", kind in REFUSED
+        self.is_sound, self.may_be_full, self.may_match, self.is_refused = True, table == "desk", kind == "a pattern too large", kind in REFUSED or column in COUNTED
 
     def name(self):
         return f"{self.table}{'.' + self.column if self.column else ''}: {self.kind}{' in one row' if self.is_one else ''}"
@@ -104,7 +111,7 @@ def drawn_value(drawn, among):
     at, new = drawn.randrange(1, 60), drawn.choice(("''", "'9'", "':'", "','", "' '", "char(10)", "'\"'", "char(228)", "'x'"))
     value = str(drawn.choice((drawn.randrange(40), drawn.randrange(-9, 2000), drawn.randrange(2**63)))) if kind == "INTEGER" else f"substr({name}, 1, {at}) || {new} || substr({name}, {at + drawn.randrange(3)})"
     one = drawn.choice((f" AND rowid % 7 = {drawn.randrange(7)}", ""))
-    return Damage(table, name, value, f"UPDATE OR IGNORE {table} SET {name} = {value} WHERE {OF_TOOLS[table]}{one}", table != "desk")
+    return Damage(table, name, value, f"UPDATE OR IGNORE {table} SET {name} = {value} WHERE {OF_TOOLS[table]}{one}", table != "desk" and name not in FINDING[table])
 
 
 def of_columns(file):
@@ -134,3 +141,5 @@ def of_tables():
         yield Damage(table, None, "no keys, and all rows twice", f"CREATE TABLE other AS SELECT * FROM {table}; INSERT INTO other SELECT * FROM {table}; DROP TABLE {table}; ALTER TABLE other RENAME TO {table}")
     for table, kind, sql in ODD:
         yield Damage(table, None, kind, sql)
+    for table, kind, sql in SHARED:
+        yield Damage(table, None, kind, sql, True)
