@@ -2,7 +2,6 @@
 import collections
 import contextlib
 import http.client
-import itertools
 import json
 import os
 import re
@@ -20,7 +19,7 @@ from desk_http import Asked, ask, free_port
 SECONDS = 10
 MEMORY = 2**30
 # What a run may take at most, in KiB: so much, and so many times the file.
-LEAST_KIB, TIMES = 100_000, 40
+LEAST_KIB, TIMES = 160_000, 40
 TEXTS = ("not a desk", "wrong version", "store fault", "damaged", "pattern", "no such change", "no such project", "no such branch")
 FAULTS = {f"review_desk: {text}\n".encode() for text in TEXTS}
 NUMBERED = ("CreateAccount", "CreateChange")

@@ -1,19 +1,21 @@
 """Damages of the files of a desk, as `bench/damages` does them: bytes, pages, ends, logs of other files, and files that SQLite makes otherwise."""
 import contextlib
 import os
-import shutil
 import sqlite3
 import struct
 import subprocess
 
-from damaged_desk import ACCOUNTS, BASE, HEALTHY, commit
+from damaged_desk import ACCOUNTS, BASE, HEALTHY
 from damaged_rows import Damage
-from desk_file import PROGRAM, TABLES, check, copy, line, run
+from desk_file import PROGRAM, check, copy, line, run
 
 PAGE = 4096
 LOG_HEAD, FRAME_HEAD = 32, 24
 # Places of the first page that say how the file is read.
-HEADS = {"page size": (16, 2), "form": (18, 2), "reserved": (20, 1), "shares": (21, 3), "pages": (28, 4), "first free page": (32, 4), "free pages": (36, 4), "schema's form": (44, 4), "largest root": (52, 4), "encoding": (56, 4)}
+HEADS = {
+    "page size": (16, 2), "form": (18, 2), "reserved": (20, 1), "shares": (21, 3), "pages": (28, 4), "first free page": (32, 4), "free pages": (36, 4), "schema's form": (44, 4),
+    "largest root": (52, 4), "encoding": (56, 4),
+}
 
 
 class FileDamage(Damage):

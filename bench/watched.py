@@ -5,7 +5,7 @@ import random
 import struct
 import subprocess
 
-from desk_file import copy, run
+from desk_file import run
 
 WRITTEN, CUT, SYNCED, TOLD = range(4)
 WATCHED = r"""
