@@ -155,6 +155,12 @@ def loosened(conn, table, sql):
     return say.format(loose, table) + f"{sql}; " + say.format(told, table)
 
 
+def without_rules(conn, table):
+    """SQL that makes a table anew, its columns of no type and no rule."""
+    names = ", ".join(row[1] for row in conn.execute(f"PRAGMA table_info({table})"))
+    return f"CREATE TABLE other ({names}); INSERT INTO other SELECT * FROM {table}; DROP TABLE {table}; ALTER TABLE other RENAME TO {table}"
+
+
 def columns(file):
     """Each column, with its type."""
     with contextlib.closing(sqlite3.connect(file)) as conn:
@@ -186,8 +192,10 @@ def of_columns(file):
                     those = f"FROM {table} WHERE {OF_TOOLS[table]}"
                     one = f" WHERE rowid = (SELECT rowid {those} ORDER BY rowid LIMIT 1 OFFSET {at} % (SELECT count(*) {those}))"
                     sql = f"UPDATE OR IGNORE {table} SET {name} = {value}{'' if at is None else one}"
-                    sql = loosened(conn, table, sql) if what in LOOSE[kind] else sql
-                    yield Damage(table, name, what, sql, at is not None and table != "desk", is_never(table, name, what))
+                    is_one, is_strict = at is not None and table != "desk", is_never(table, name, what)
+                    if what in LOOSE[kind]:
+                        yield Damage(table, name, f"{what} that the table allows", f"{without_rules(conn, table)}; {sql}", is_one, is_strict)
+                    yield Damage(table, name, what, loosened(conn, table, sql) if what in LOOSE[kind] else sql, is_one, is_strict)
 
 
 def of_tables():
