@@ -23,6 +23,8 @@ LEAST_KIB, TIMES = 160_000, 40
 TEXTS = ("not a desk", "wrong version", "store fault", "damaged", "pattern", "no such change", "no such project", "no such branch")
 FAULTS = {f"review_desk: {text}\n".encode() for text in TEXTS}
 NUMBERED = ("CreateAccount", "CreateChange")
+# Known so far: a bad row of a change or a patch set stops what meets its commit in another project.
+MEETING = (("changes", "patches"), ("CreateChange", "Upload", "Submit"), b'{"not_taken":"STORE"}\n')
 
 
 def copy_all(file, to):
@@ -236,6 +238,8 @@ class Desks:
         is_needed = damage.column == "number" and asked.startswith(NUMBERED)
         if answer.startswith(b"review_desk: store fault") or is_needed:
             return
+        if damage.table not in MEETING[0] or not asked.startswith(MEETING[1]) or answer != MEETING[2]:
+            self.wrong(damage, "a neighbour is disturbed", asked, answer)
         self.neighbours[damage.table, damage.column, damage.kind, asked, answer.decode(errors="replace").strip()[:60]] += 1
 
     def judge_end(self, damage, word, status, err, *more):
