@@ -124,7 +124,7 @@ MISSING = [
 ]
 
 # Where the store itself refuses a write: to a view, and of a number that stands once.
-REFUSED, COUNTED = ("a view", "the next request is taken", "too few requests"), ("request", "requests")
+REFUSED, COUNTED = ("a view", "the next request is taken", "too few requests"), (("answers", "request"), ("desk", "requests"))
 
 # How a damage is refused that sqlite3 doesn't do, or that finds no place in what another left.
 REFUSALS = (sqlite3.Error, sqlite3.Warning, UnicodeError, struct.error, IndexError)
@@ -136,7 +136,7 @@ class Damage:
     def __init__(self, table, column, kind, sql, is_one=False, is_strict=False):
         self.table, self.column, self.kind, self.sql, self.is_one, self.is_strict = table, column, kind, sql, is_one, is_strict
         self.is_sound, self.may_be_full, self.may_match = True, table == "desk", kind == "a pattern too large"
-        self.is_refused = kind in REFUSED or column in COUNTED
+        self.is_refused = kind in REFUSED or (table, column) in COUNTED
 
     def name(self):
         return f"{self.table}{'.' + self.column if self.column else ''}: {self.kind}{' in one row' if self.is_one else ''}"
