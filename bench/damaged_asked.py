@@ -70,7 +70,9 @@ class Running:
 
     def stop(self, what):
         self.process.kill()
-        self.process.communicate()
+        self.process.wait()
+        for stream in (self.process.stdin, self.process.stdout, self.process.stderr):
+            stream.close()
         raise Ended(f"{what} after {SECONDS} seconds", *self.words[:1])
 
 
