@@ -164,7 +164,7 @@ fn holds_in<F, W: Judged<F>>(
     }
 }
 
-/// The steps of a list that need no more memory than there is on the stack.
+/// The most steps of a list whose truth values need no memory of the heap.
 const FEW: usize = 64;
 
 impl<'e, W> Steps<'e, W> {
