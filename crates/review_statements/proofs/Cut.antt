@@ -1,5 +1,5 @@
 -- What a query shows that is cut: the row with the greatest value of a column, or one where there are more than so many.
-use Rattle.std.proofs.Common.{◌≡◌, ◌∙◌, ◌==◌, ◌≤◌, ℕ, suc, pos, List, [], ◌∷◌, Option, Some, None, true, false, Bool, Ordering, Less, Equal, Greater, refl, sym, ap, subst, arith, map, filter, length, take, drop, nat_le, nat_lt, is_gt, is_lt, inl, inr, IsSorted}
+use Rattle.std.proofs.Common.{◌≡◌, ◌∙◌, ◌==◌, ◌≤◌, ℕ, suc, pos, List, [], ◌∷◌, Option, Some, None, true, false, Bool, Ordering, Less, Equal, Greater, refl, sym, ap, subst, subst₂, arith, map, filter, length, take, drop, nat_le, nat_lt, is_gt, is_lt, inl, inr, IsSorted}
 use Rattle.std.proofs.lemmas.Bool.Decides.{leb_tells}
 use Rattle.std.proofs.lemmas.List.{length-map, length-take-le, length-drop, drop_all}
 use Rattle.std.specs.List.{AllByRecursion}
@@ -9,12 +9,8 @@ use Rattle.std.specs.Cmp.{IsTotalOrder}
 use Rattle.std.proofs.lemmas.Cmp.{upto, on_total}
 use Rattle.std.proofs.lemmas.List.Elements.{recursion_from_All, All-from_recursion}
 use Rattle.std.proofs.lemmas.List.Sorted.{length_permutation, All-permutation, IsPermutation-sym}
-use Rattle.sqlite_value.specs.declared.value.Value.TheVariants.{Int}
-use Rattle.sqlite_value.specs.declared.keys.Collation.TheVariants.{Binary}
-use Rattle.sqlite_value.specs.declared.keys.Key.{Key}
+use Rattle.sqlite_value.specs.declared.value.Value.TheVariants.{Null, Int}
 use Rattle.sqlite_value.specs.Order.{Row, column, value_cmp}
-use Rattle.sqlite_value.specs.declared.value.Value.{Value}
-use Rattle.sqlite_schema.specs.declared.command.Command.TheVariants.{Select}
 use Rattle.sqlite_trees.specs.Tree.{Trees}
 use Rattle.sqlite_rules.specs.Lists.{Has}
 use Rattle.sqlite_sql.specs.Term.{Term, lit, col}
@@ -22,13 +18,15 @@ use Rattle.sqlite_sql.specs.Query.{Query, IsAnswer, Output, output, output_cmp}
 use Rattle.sqlite_sql.specs.Program.{overlay}
 use Rattle.sqlite_sql.proofs.QueryLemmas.{key_cmp_total}
 use Rattle.sqlite_keyed.proofs.ListLemmas.{all_weaker, all_map, all_unmap, filter_same, map-map}
-use Rattle.sqlite.specs.Listing.{understood, reads_listing}
 use Rattle.sqlite.specs.State.{State, Shown}
-use Rattle.sqlite.proofs.Callers.{IsPlain, command_of, reads_as}
+use Rattle.sqlite.proofs.Callers.{reads_as}
 use Rattle.review_statements.specs.Desk.{desk_schema}
 use Rattle.review_statements.specs.Content.{has_key}
 use Rattle.review_statements.specs.Greatest.{ShowsGreatest, ShowsBeyond}
-use Rattle.review_statements.proofs.Queries.{over_table, passes, shows, staged_is}
+use Rattle.review_statements.specs.Texts.{Asks, values_of, tests_from, over_table, falling, last_where, beyond_where}
+use Rattle.review_statements.specs.Search.{At}
+use Rattle.review_statements.proofs.Queries.{passes, shows, staged_is}
+use Rattle.review_statements.proofs.Meaning.{tested, plain, shows_columns}
 
 -- ---- the first of rows in order is at most each
 
@@ -49,9 +47,6 @@ module _ {X : Type 0} (cmp : X → X → Ordering) (total : IsTotalOrder cmp) wh
       (first, all_weaker _ (AtMost x) (λ z. upto total x y z first) ys (first_least y ys later))
 
 -- ---- the greatest
-
-abbrev pub falling : ℕ → List (Term × Key)
-falling place = (col 1 place, record { collation = Binary; descending = true }) ∷ []
 
 abbrev pub last_of : ℕ → List Term → List Term → ℕ → Query
 last_of tree tests project place = record (over_table tree tests project (falling place)) { limit = lit (Int (pos 1)) }
@@ -110,14 +105,14 @@ module _ (tree : ℕ) (tests project : List Term) (place : ℕ) (params : Row) w
       let kept : a.kept ≡ map put found = a.distinct ∙ ap (map (output q)) staged ∙ map-map (output q) (λ (r : Row). params ∷ r ∷ []) found in
       by_order found a.ordered rows (subst (λ l. IsPermutation l a.ordered) kept a.same) a.sorted a.shown
 
--- what a SELECT of the greatest value shows
-pub finds_last : (sql : List ℕ) (params : Row) (old new : State) → old.now.schema ≡ desk_schema → (tree : ℕ) (tests project : List Term) (place : ℕ) (names : List (List ℕ))
-    → command_of (understood desk_schema sql) ≡ Select (record { lets = []; body = last_of tree tests project place }) names → IsPlain (understood desk_schema sql) → reads_listing desk_schema sql ≡ false
-    → (key : List (ℕ × Value)) → ((row : Row) → passes params tests row ≡ has_key key row) → overlay old.now.trees [] tree ≡ old.now.trees tree → (rows : List Row) → Shown sql params old new rows
-    → ShowsGreatest (shows params project) place (filter (has_key key) (old.now.trees tree)) rows
-finds_last sql params old new has tree tests project place names is plain unlisted key same own rows h =
-    let it = reads_as sql params old new desk_schema has _ is plain unlisted rows h in
-    subst (λ l. ShowsGreatest (shows params project) place l rows) (filter_same _ _ same (old.now.trees tree)) (greatest tree tests project place params old.now.trees rows own (it.answer Rattle.sqlite_value.specs.declared.value.Value.TheVariants.Null))
+-- what a query for the row with the greatest value shows
+pub asked_last : (sql : List ℕ) (tree : ℕ) (key : At) (columns : List ℕ) (place : ℕ) → Asks sql (last_where tree key columns place) → (old new : State) (rows : List Row) → old.now.schema ≡ desk_schema → Shown sql (values_of key) old new rows
+    → ShowsGreatest (λ r. map (column r) columns) place (filter (has_key key) (old.now.trees tree)) rows
+asked_last sql tree key columns place it old new rows has h =
+    let params = values_of key in
+    let answer = reads_as sql params old new desk_schema has _ it.is it.plain it.unlisted rows h in
+    subst₂ (λ (show : Row → Row) l. ShowsGreatest show place l rows) (λ i row. shows_columns params columns row i) (filter_same _ _ (tested key) (old.now.trees tree))
+    (greatest tree (tests_from 0 key) (map (col 1) columns) place params old.now.trees rows (plain old.now.trees tree) (answer.answer Null))
 
 -- ---- whether there are more
 
@@ -127,28 +122,25 @@ fewer n count = elim (leb_tells n count) [
   | inr many ↦ elim (leb_tells (suc n) (suc count)) [ inl less ↦ absurd (omega (arith, many.1, less.1)) | inr other ↦ other.0 ∙ sym many.0 ]
 ]
 
-abbrev pub beyond : ℕ → List Term → List Term → ℕ → Query
-beyond tree tests project count = record (over_table tree tests project []) { limit = lit (Int (pos 1)); offset = lit (Int (pos count)) }
-
 no_more : {X : Type 0} (count : ℕ) (xs : List X) → (length (take 1 (drop count xs)) == 0) ≡ nat_le (length xs) count
 no_more count xs = elim (leb_tells (length xs) count) [
   | inl few ↦ ap (λ l. length (take 1 l) == 0) (drop_all count xs few.1) ∙ sym few.0
   | inr many ↦ ap (λ n. n == 0) (length-take-le 1 (drop count xs) (let e = length-drop count xs in omega (arith, e, many.1))) ∙ sym many.0
 ]
 
-pub finds_beyond : (sql : List ℕ) (params : Row) (old new : State) → old.now.schema ≡ desk_schema → (tree : ℕ) (tests project : List Term) (count : ℕ) (names : List (List ℕ))
-    → command_of (understood desk_schema sql) ≡ Select (record { lets = []; body = beyond tree tests project count }) names → IsPlain (understood desk_schema sql) → reads_listing desk_schema sql ≡ false
-    → (key : List (ℕ × Value)) → ((row : Row) → passes params tests row ≡ has_key key row) → overlay old.now.trees [] tree ≡ old.now.trees tree → (rows : List Row) → Shown sql params old new rows
+-- what a query for one row after so many shows
+pub asked_beyond : (sql : List ℕ) (tree : ℕ) (key : At) (columns : List ℕ) (count : ℕ) → Asks sql (beyond_where tree key columns count) → (old new : State) (rows : List Row) → old.now.schema ≡ desk_schema → Shown sql (values_of key) old new rows
     → ShowsBeyond count (filter (has_key key) (old.now.trees tree)) rows
-finds_beyond sql params old new has tree tests project count names is plain unlisted key same own rows h =
-    let it = reads_as sql params old new desk_schema has _ is plain unlisted rows h in
-    let a = it.answer Rattle.sqlite_value.specs.declared.value.Value.TheVariants.Null in
-    let q = beyond tree tests project count in
+asked_beyond sql tree key columns count it old new rows has h =
+    let params = values_of key in
+    let tests = tests_from 0 key in
+    let a = (reads_as sql params old new desk_schema has _ it.is it.plain it.unlisted rows h).answer Null in
+    let q = beyond_where tree key columns count in
     let db = old.now.trees in
     let found = filter (passes params tests) (db tree) in
-    let staged : a.staged ≡ map (λ r. params ∷ r ∷ []) found = a.grouped ∙ staged_is params tests (overlay db [] tree) ∙ ap (λ all. map (λ r. params ∷ r ∷ []) (filter (passes params tests) all)) own in
+    let staged : a.staged ≡ map (λ r. params ∷ r ∷ []) found = a.grouped ∙ staged_is params tests (overlay db [] tree) ∙ ap (λ all. map (λ r. params ∷ r ∷ []) (filter (passes params tests) all)) (plain db tree) in
     let kept : a.kept ≡ map (output q) (map (λ r. params ∷ r ∷ []) found) = a.distinct ∙ ap (map (output q)) staged in
     let many : length (map (λ (o : Output). o.1) a.ordered) ≡ length found =
     length-map _ _ ∙ (length_permutation _ _ a.same ∙ (ap length kept ∙ (length-map _ _ ∙ length-map _ _))) in
-    subst (λ l. ShowsBeyond count l rows) (filter_same _ _ same (db tree))
+    subst (λ l. ShowsBeyond count l rows) (filter_same _ _ (tested key) (db tree))
     (ap (λ (l : List Row). length l == 0) a.shown ∙ (no_more count (map (λ (o : Output). o.1) a.ordered) ∙ ap (λ n. nat_le n count) many))

@@ -1,29 +1,31 @@
--- What the parts of texts mean: the tests of a WHERE, and the values of an INSERT.
-use Rattle.std.proofs.Common.{◌≡◌, ◌∙◌, ℕ, ℤ, List, [], ◌∷◌, Bool, cond, Some, true, false, refl, ap, map, filter, subst}
+-- What the parts of texts mean: the tests of a WHERE, the values of an INSERT, and whole queries.
+use Rattle.std.proofs.Common.{◌≡◌, ◌≢◌, ◌∙◌, ◌&&◌, ◌++◌, ◌^◌, ◌-◌, ℕ, zero, suc, ℤ, get_or, List, [], ◌∷◌, Bool, cond, codes, Some, true, false, refl, sym, ap, map, filter, drop, slice_index_or, nat_le, subst, subst₂}
+use Rattle.std.specs.List.{list_all}
 use Rattle.std.specs.Ordering.{is_eq}
 use Rattle.std.specs.List.Sorted.{IsPermutation}
-use Rattle.sqlite_schema.specs.declared.command.Command.TheVariants.{Select}
+use Rattle.std.proofs.lemmas.List.{get_or-drop}
 use Rattle.sqlite_schema.specs.declared.schema.Kind.TheVariants.{Integer}
 use Rattle.sqlite_value.specs.declared.value.Value.{Value}
 use Rattle.sqlite_value.specs.declared.value.Value.TheVariants.{Null, Int, Real, Text, Blob}
 use Rattle.sqlite_value.specs.declared.keys.Collation.TheVariants.{Binary}
 use Rattle.sqlite_value.specs.Order.{Row, column, value_cmp}
 use Rattle.sqlite_value.proofs.OrderLemmas.{value_cmp-Null}
-use Rattle.sqlite_trees.specs.Tree.{rowid}
-use Rattle.sqlite_sql.specs.Term.{Term, col, op1, op2, holds}
+use Rattle.sqlite_trees.specs.Tree.{Trees}
+use Rattle.sqlite_sql.specs.Term.{col, eval, holds}
 use Rattle.sqlite_sql.specs.Ops.{unary, binary, is_true, is_null, from_truth}
 use Rattle.sqlite_sql.specs.Program.{overlay}
 use Rattle.sqlite_sql.specs.declared.ops.BinaryOp.TheVariants.{Compare}
 use Rattle.sqlite_sql.specs.declared.ops.CompareOp.TheVariants.{Eq}
 use Rattle.sqlite_sql.specs.declared.ops.UnaryOp.TheVariants.{ToNumeric}
 use Rattle.sqlite_rules.specs.Cast.{cast}
-use Rattle.sqlite_keyed.proofs.ListLemmas.{filter_same}
-use Rattle.sqlite.specs.Listing.{understood, reads_listing}
+use Rattle.sqlite_keyed.proofs.ListLemmas.{filter_same, map-map}
 use Rattle.sqlite.specs.State.{State, Shown}
-use Rattle.sqlite.proofs.Callers.{IsPlain, command_of, reads_as}
+use Rattle.sqlite.proofs.Callers.{reads_as}
 use Rattle.review_statements.specs.Desk.{desk_schema}
-use Rattle.review_statements.specs.Content.{has_key}
-use Rattle.review_statements.proofs.Queries.{over_table, passes, shows, selects}
+use Rattle.review_statements.specs.Content.{has_key, is_value}
+use Rattle.review_statements.specs.Search.{At}
+use Rattle.review_statements.specs.Texts.{Asks, number_at, tests_for, tests_from, values_of, rows_where}
+use Rattle.review_statements.proofs.Queries.{passes, shows, selects}
 
 either : (b : Bool) (x : Value) → cond b x x ≡ x
 either true x = refl
@@ -57,40 +59,64 @@ equals (Real x) w there = rw there (told_true _)
 equals (Text t) w there = rw there (told_true _)
 equals (Blob b) w there = rw there (told_true _)
 
--- a column equals a parameter, which is read as a number in a column of numbers
-abbrev pub text_is : ℕ → ℕ → Term
-text_is place at = op2 (Compare Eq Binary) (col 1 place) (col 0 at)
+-- ---- the tests of a key
 
-abbrev pub number_is : ℕ → ℕ → Term
-number_is place at = op2 (Compare Eq Binary) (col 1 place) (op1 ToNumeric (col 0 at))
+and_true : (b : Bool) → (b && true) ≡ b
+and_true true = refl
+and_true false = refl
+
+all_append : {X : Type 0} (p : X → Bool) (xs ys : List X) → list_all p (xs ++ ys) ≡ (list_all p xs && list_all p ys)
+all_append p [] ys = refl
+all_append p (x ∷ xs) ys = elim (p x) as (λ b. (b && list_all p (xs ++ ys)) ≡ ((b && list_all p xs) && list_all p ys)) [ true ↦ all_append p xs ys | false ↦ refl ]
 
 module _ (params row : Row) where
-  pub tested_text : (place at : ℕ) (t : List ℕ) → column params at ≡ Text t → holds (params ∷ row ∷ []) (text_is place at) ≡ is_eq (value_cmp (column row place) (Text t))
-  tested_text place at t is = ap (λ v. is_true (binary (Compare Eq Binary) (column row place) v)) is ∙ equals (column row place) (Text t) refl
+  abbrev env : List Row
+  env = params ∷ row ∷ []
 
-  pub tested_id : (at : ℕ) (n : ℤ) → column params at ≡ Int n → holds (params ∷ row ∷ []) (text_is 0 at) ≡ is_eq (value_cmp (column row 0) (Int n))
-  tested_id at n is = ap (λ v. is_true (binary (Compare Eq Binary) (column row 0) v)) is ∙ equals (column row 0) (Int n) refl
-
-  pub tested_number : (place at : ℕ) (n : ℤ) → column params at ≡ Int n → holds (params ∷ row ∷ []) (number_is place at) ≡ is_eq (value_cmp (column row place) (Int n))
+  as_number : (place at : ℕ) (n : ℤ) → column params at ≡ Int n → eval (number_at place at) env ≡ Int n
   unfolding unary
-  tested_number place at n is = ap (λ v. is_true (binary (Compare Eq Binary) (column row place) (unary ToNumeric v))) is ∙ equals (column row place) (Int n) refl
+  as_number zero at n is = is
+  as_number (suc place) at n is = ap (unary ToNumeric) is
 
--- what a SELECT shows
-pub finds : (sql : List ℕ) (params : Row) (old new : State) → old.now.schema ≡ desk_schema → (tree : ℕ) (tests project : List Term) (names : List (List ℕ))
-    → command_of (understood desk_schema sql) ≡ Select (record { lets = []; body = over_table tree tests project [] }) names → IsPlain (understood desk_schema sql) → reads_listing desk_schema sql ≡ false
-    → (key : List (ℕ × Value)) → ((row : Row) → passes params tests row ≡ has_key key row) → overlay old.now.trees [] tree ≡ old.now.trees tree → (rows : List Row) → Shown sql params old new rows
-    → IsPermutation (map (shows params project) (filter (has_key key) (old.now.trees tree))) rows
-finds sql params old new has tree tests project names is plain unlisted key same own rows h =
-    let it = reads_as sql params old new desk_schema has _ is plain unlisted rows h in
-    subst (λ l. IsPermutation (map (shows params project) l) rows) (filter_same _ _ same (old.now.trees tree)) (selects tree tests project [] old.now.trees params rows own (it.answer Null))
+  pub passes_one : (place at : ℕ) (v : Value) → column params at ≡ v → list_all (holds env) (tests_for place v at) ≡ is_value (column row place) v
+  passes_one place at Null is = refl
+  passes_one place at (Int n) is = and_true _ ∙ (ap (λ x. is_true (binary (Compare Eq Binary) (column row place) x)) (as_number place at n is) ∙ equals (column row place) (Int n) refl)
+  passes_one place at (Real x) is = refl
+  passes_one place at (Text t) is = and_true _ ∙ (ap (λ x. is_true (binary (Compare Eq Binary) (column row place) x)) is ∙ equals (column row place) (Text t) refl)
+  passes_one place at (Blob b) is = refl
 
-pub all_pass : (rows : List Row) → filter (has_key []) rows ≡ rows
-all_pass [] = refl
-all_pass (r ∷ rows) = ap (λ l. r ∷ l) (all_pass rows)
+  passes_from : (key : At) (at : ℕ) → drop at params ≡ values_of key → list_all (holds env) (tests_from at key) ≡ has_key key row
+  passes_from [] at bound = refl
+  passes_from (c ∷ key) at bound =
+      all_append (holds env) (tests_for c.0 c.1 at) (tests_from (suc at) key)
+      ∙ (λ i. passes_one c.0 at c.1 (first params at c.1 (values_of key) bound) i && passes_from key (suc at) (rest params at c.1 (values_of key) bound) i)
+    where
+      first : (xs : Row) (at : ℕ) (v : Value) (vs : Row) → drop at xs ≡ v ∷ vs → column xs at ≡ v
+      first xs at v vs is = ap (λ n. get_or xs n Null) (sym (native.Mathlib.Nat.add-zero at)) ∙ (sym (get_or-drop at xs 0 Null) ∙ ap (λ l. get_or l 0 Null) is)
 
--- what a SELECT of all rowids shows
-pub finds_ids : (sql : List ℕ) (old new : State) → old.now.schema ≡ desk_schema → (tree : ℕ) (names : List (List ℕ))
-    → command_of (understood desk_schema sql) ≡ Select (record { lets = []; body = over_table tree [] (col 1 0 ∷ []) [] }) names → IsPlain (understood desk_schema sql) → reads_listing desk_schema sql ≡ false
-    → overlay old.now.trees [] tree ≡ old.now.trees tree → (rows : List Row) → Shown sql [] old new rows → IsPermutation (map (λ r. rowid r ∷ []) (old.now.trees tree)) rows
-finds_ids sql old new has tree names is plain unlisted own rows h =
-    subst (λ l. IsPermutation (map (λ r. rowid r ∷ []) l) rows) (all_pass (old.now.trees tree)) (finds sql [] old new has tree [] (col 1 0 ∷ []) names is plain unlisted [] (λ row. refl) own rows h)
+      rest : (xs : Row) (at : ℕ) (v : Value) (vs : Row) → drop at xs ≡ v ∷ vs → drop (suc at) xs ≡ vs
+      rest [] zero v vs is = absurd (cc)
+      rest [] (suc at) v vs is = absurd (cc)
+      rest (x ∷ xs) zero v vs is = let e : xs ≡ vs = cc in e
+      rest (x ∷ xs) (suc at) v vs is = rest xs at v vs is
+
+-- a row passes the tests of a key where it has the key
+pub tested : (key : At) (row : Row) → passes (values_of key) (tests_from 0 key) row ≡ has_key key row
+tested key row = passes_from (values_of key) row key 0 refl
+
+-- ---- queries
+
+pub plain : (db : Trees) (tree : ℕ) → overlay db [] tree ≡ db tree
+plain db tree = elim (nat_le (2 ^ 31) tree) as (λ b. Rattle.std.proofs.Common.unwrap_or (Rattle.std.proofs.Common.cond b (Rattle.std.proofs.Common.slice_get [] (tree - 2 ^ 31)) Rattle.std.proofs.Common.None) (db tree) ≡ db tree) [ true ↦ refl | false ↦ refl ]
+
+pub shows_columns : (params : Row) (columns : List ℕ) (row : Row) → shows params (map (col 1) columns) row ≡ map (column row) columns
+shows_columns params columns row = map-map _ _ columns
+
+-- what a query for the rows of a key shows
+pub asked : (sql : List ℕ) (tree : ℕ) (key : At) (columns : List ℕ) → Asks sql (rows_where tree key columns) → (old new : State) (rows : List Row) → old.now.schema ≡ desk_schema → Shown sql (values_of key) old new rows
+    → IsPermutation (map (λ r. map (column r) columns) (filter (has_key key) (old.now.trees tree))) rows
+asked sql tree key columns it old new rows has h =
+    let params = values_of key in
+    let answer = reads_as sql params old new desk_schema has _ it.is it.plain it.unlisted rows h in
+    let found = selects tree (tests_from 0 key) (map (col 1) columns) [] old.now.trees params rows (plain old.now.trees tree) (answer.answer Null) in
+    subst₂ (λ (show : Row → Row) l. IsPermutation (map show l) rows) (λ i row. shows_columns params columns row i) (filter_same _ _ (tested key) (old.now.trees tree)) found

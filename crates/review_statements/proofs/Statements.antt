@@ -41,7 +41,8 @@ use Rattle.review_statements.specs.Desk.{desk_schema, is_tree}
 use Rattle.review_statements.specs.Content.{AreApart, IsAdded, Adds, Removes, SparesOthers, has_key}
 use Rattle.review_statements.specs.Ran.{IsReady}
 use Rattle.review_statements.proofs.Lists.{id_of, added, removed, apart_put, apart_filter}
-use Rattle.review_statements.proofs.Queries.{over_table, passes, shows, selects}
+use Rattle.review_statements.specs.Texts.{over_table}
+use Rattle.review_statements.proofs.Queries.{passes, shows, selects}
 use Rattle.sqlite_schema.specs.declared.schema.Column.{Column}
 use Rattle.sqlite_value.specs.declared.keys.Order.{Order}
 

@@ -3,16 +3,24 @@ use Rattle.std.specs.Prelude.{ℕ, ℤ, ◌≡◌, ◌≢◌, ◌+◌, Bool, tru
 use Rattle.std.specs.List.{list_all}
 use Rattle.std.specs.Ordering.{is_eq}
 use Rattle.sqlite_value.specs.declared.value.Value.{Value}
-use Rattle.sqlite_value.specs.declared.value.Value.TheVariants.{Int}
+use Rattle.sqlite_value.specs.declared.value.Value.TheVariants.{Null, Int, Real, Text, Blob}
 use Rattle.review_statements.specs.Desk.{is_tree}
 use Rattle.sqlite_value.specs.Order.{Row, column, value_cmp}
 use Rattle.sqlite_trees.specs.Tree.{Trees, rowid}
 use Rattle.sqlite_rules.specs.Edit.{is_taken}
 use Rattle.sqlite_trees.specs.View.{is_int}
 
--- whether the row has these values at these places, as SQL orders values
+-- whether a value equals a number or a text, as SQL orders values; no other value is in a key
+abbrev pub is_value : Value → Value → Bool
+is_value v Null = false
+is_value v (Int n) = is_eq (value_cmp v (Int n))
+is_value v (Real x) = false
+is_value v (Text t) = is_eq (value_cmp v (Text t))
+is_value v (Blob b) = false
+
+-- whether the row has these values at these places
 abbrev pub has_key : List (ℕ × Value) → Row → Bool
-has_key key row = list_all (λ c. is_eq (value_cmp (column row c.0) c.1)) key
+has_key key row = list_all (λ c. is_value (column row c.0) c.1) key
 
 -- the rows have rowids, which are integers, and no two have one
 abbrev pub AreApart : List Row → Type 0

@@ -5,7 +5,7 @@ use Rattle.std.specs.Ordering.{is_gt}
 use Rattle.sqlite_value.specs.Order.{Row as Raw, column, value_cmp}
 use Rattle.sqlite_rules.specs.Lists.{Has}
 use Rattle.sqlite_trees.specs.Tree.{Trees}
-use Rattle.review_statements.specs.Search.{Search, reads, rows_at}
+use Rattle.review_statements.specs.Search.{Search, reads, rows_at, shown}
 
 -- the row is one of these, and none of them has more in the column, as SQL orders values
 pub record IsGreatest (place : ℕ) (rows : List Raw) (r : Raw) : Type 0 where
@@ -23,7 +23,7 @@ ShowsBeyond count found rows = (length rows == 0) ≡ nat_le (length found) coun
 
 -- a look-up shows the row with the greatest value of a column
 abbrev pub FindsGreatest : {A X : Type 0} → Search A X → ℕ → A → Trees → List Raw → Type 0
-FindsGreatest s place a db rows = ShowsGreatest s.shown place (rows_at (s.at a) (db s.tree)) rows
+FindsGreatest s place a db rows = ShowsGreatest (shown s) place (rows_at (s.at a) (db s.tree)) rows
 
 -- the row with the greatest value of a column as it reads, or that there is no row
 abbrev pub HasGreatest : {A X : Type 0} → Search A X → ℕ → A → Trees → Option (Option X) → Type 0

@@ -3,3 +3,4 @@ pub mod Content
 pub mod Ran
 pub mod Search
 pub mod Greatest
+pub mod Texts

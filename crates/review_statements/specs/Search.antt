@@ -3,7 +3,7 @@ use Rattle.std.specs.Prelude.{ℕ, ℤ, ◌≡◌, ◌≢◌, ◌+◌, Bool, tru
 use Rattle.std.specs.List.{list_any}
 use Rattle.std.specs.List.Sorted.{IsPermutation}
 use Rattle.sqlite_value.specs.declared.value.Value.{Value}
-use Rattle.sqlite_value.specs.Order.{Row as Raw}
+use Rattle.sqlite_value.specs.Order.{Row as Raw, column}
 use Rattle.sqlite_trees.specs.Tree.{Trees, rowid}
 use Rattle.review_table.specs.declared.table.Change.{Change}
 use Rattle.review_statements.specs.Content.{has_key, SparesOthers, Adds}
@@ -16,20 +16,24 @@ At = List (ℕ × Value)
 abbrev pub rows_at : At → List Raw → List Raw
 rows_at at rows = filter (has_key at) rows
 
--- a look-up: its table, the values that it asks for, what it shows of a row, and how that reads where it is a row of the table
+-- a look-up: the tree of its table, the values that it asks for, the columns that it shows of a row, and how these read where it is a row of the table
 pub record Search (A X : Type 0) : Type 0 where
   pub tree : ℕ
   pub at : A → At
-  pub shown : Raw → Raw
+  pub columns : List ℕ
   pub read : Raw → Option X
+
+-- what a look-up shows of a row
+abbrev pub shown : {A X : Type 0} → Search A X → Raw → Raw
+shown s r = map (column r) s.columns
 
 -- how a stored row reads
 abbrev pub reads : {A X : Type 0} → Search A X → Raw → Option X
-reads s r = s.read (s.shown r)
+reads s r = s.read (shown s r)
 
 -- a look-up shows these rows, in any order
 abbrev pub Finds : {A X : Type 0} → Search A X → A → Trees → List Raw → Type 0
-Finds s a db rows = IsPermutation (map s.shown (rows_at (s.at a) (db s.tree))) rows
+Finds s a db rows = IsPermutation (map (shown s) (rows_at (s.at a) (db s.tree))) rows
 
 -- the rowids of a table, in any order
 abbrev pub FindsIds : ℕ → Trees → List Raw → Type 0
@@ -59,8 +63,9 @@ abbrev pub AreFound : {A X : Type 0} → Search A X → Trees → A → Option (
 AreFound s db a None = HasOdd (reads s) (rows_at (s.at a) (db s.tree))
 AreFound s db a (Some xs) = IsPermutation (map (reads s) (rows_at (s.at a) (db s.tree))) (map Some xs)
 
--- how a row of a key is stored, with a rowid where the table has no number of its own, and which rows are of the form of the table
+-- the values of a row and its key as they are put in, how they are stored, with a rowid where the table has no number of its own, and which rows are of the form of the table
 pub record Form (A X : Type 0) : Type 0 where
+  pub values : A → X → Raw
   pub stored : A → X → ℤ → Raw
   pub is_good : X → Bool
 
