@@ -218,7 +218,7 @@ comments_of_change = record {
 
 -- ---- votes
 
-vote_keys : (a : Option ℕ) (b : Option (List ℕ)) (d : Option ℕ) (k : VoteKey) → vote_key a b d ≡ Some k → (a ≡ Some k.patch) × (b ≡ Some k.label) × (d ≡ Some k.account)
+pub vote_keys : (a : Option ℕ) (b : Option (List ℕ)) (d : Option ℕ) (k : VoteKey) → vote_key a b d ≡ Some k → (a ≡ Some k.patch) × (b ≡ Some k.label) × (d ≡ Some k.account)
 vote_keys None b d k is = absurd (cc)
 vote_keys (Some a) None d k is = absurd (cc)
 vote_keys (Some a) (Some b) None k is = absurd (cc)

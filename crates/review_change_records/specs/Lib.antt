@@ -1,3 +1,4 @@
 pub mod Paths
 pub mod Forms
 pub mod Laws
+pub mod Keyed

@@ -5,3 +5,4 @@ pub mod Sending
 pub mod Current
 pub mod Joining
 pub mod Joined
+pub mod Odd

@@ -53,6 +53,10 @@ pub tells : (t : Tables) (w : Want) (f : Found) (old new : Rows) (r : Result (Un
 tells t w f old new (Ok u) is learns = (f, is, learns)
 tells t w f old new (Err e) is learns = tt
 
+-- what shows damage
+pub damage_told : (t : Tables) (w : Want) (old new : Rows) (s : Sight) → s ≡ Damaged → IsDamaged t → Tells t w old new s
+damage_told t w old new s is damaged = subst (Tells t w old new) (sym is) damaged
+
 -- the same, of what was answered
 pub tells_as : (t : Tables) (w : Want) (f : Found) (old new : Rows) (r : Result (Unit {0}) AllocError) (s : Sight) → s ≡ learnt_by r → IsFound t w f → OnOk r (Learns w f old new) → Tells t w old new s
 tells_as t w f old new r s same is learns = subst (Tells t w old new) (sym same) (tells t w f old new r is learns)
@@ -171,16 +175,16 @@ base_from : (x commit : List ℕ) → BaseRow x ≡ BaseRow commit → x ≡ com
 base_from x commit is = cc
 
 -- no account has a name that none is looked up by
-pub unheld : (db : Trees) (name : List ℕ) → None ≡ row_at account_names db name → (n : ℕ) → (tables_at db).row (AccountKey n) ≡ Some (AccountRow name) → ⊥
+pub unheld : (db : Trees) (name : List ℕ) → rows_at (account_names.at name) (db 0) ≡ [] → (n : ℕ) → (tables_at db).row (AccountKey n) ≡ Some (AccountRow name) → ⊥
 unheld db name none n is =
     let it = told_from AccountRow (λ x e. cc) (row_at accounts db n) (AccountRow name) (λ e. cc) is in
     let same = name_from it.0 name it.1 in
     let row = stored_row (reads accounts) (rows_at (accounts.at n) (db 0)) name (it.2 ∙ ap (λ x. Some (Some x)) same) in
     let found = has_in (has_key (accounts.at n)) (db 0) row.0 row.1 in
     let at = at_text (column row.0 2) name (passed is_word _ name row.2) in
-    subst (λ l. Has l row.0) (only_none (reads account_names) (rows_at (account_names.at name) (db 0)) none) (in_has (has_key (account_names.at name)) (db 0) row.0 found.0 (and_from _ _ at refl))
+    subst (λ l. Has l row.0) none (in_has (has_key (account_names.at name)) (db 0) row.0 found.0 (and_from _ _ at refl))
 
-pub unbased : (db : Trees) (base : Base) → None ≡ row_at base_commits db base → (place : ℕ) → (tables_at db).row (BaseKey base.project base.branch place) ≡ Some (BaseRow base.commit) → ⊥
+pub unbased : (db : Trees) (base : Base) → rows_at (base_commits.at base) (db 6) ≡ [] → (place : ℕ) → (tables_at db).row (BaseKey base.project base.branch place) ≡ Some (BaseRow base.commit) → ⊥
 unbased db base none place is =
     let key : PlaceKey = record { project = base.project; branch = base.branch; place = place } in
     let it = told_from BaseRow (λ x e. cc) (row_at bases db key) (BaseRow base.commit) (λ e. cc) is in
@@ -190,7 +194,7 @@ unbased db base none place is =
     let at = at_text (column row.0 4) base.commit (passed is_commit _ base.commit row.2) in
     let one = and_parts _ _ found.1 in
     let two = and_parts _ _ one.1 in
-    subst (λ l. Has l row.0) (only_none (reads base_commits) (rows_at (base_commits.at base) (db 6)) none) (in_has (has_key (base_commits.at base)) (db 6) row.0 found.0 (and_from _ _ one.0 (and_from _ _ two.0 (and_from _ _ at refl))))
+    subst (λ l. Has l row.0) none (in_has (has_key (base_commits.at base)) (db 6) row.0 found.0 (and_from _ _ one.0 (and_from _ _ two.0 (and_from _ _ at refl))))
 
 member_told : (o : Option (Unit {0})) → told (λ u. MemberRow) (option_map Some o) ≡ member_row o
 member_told None = refl
@@ -200,29 +204,20 @@ pub is_member_told : (o : Option (Unit {0})) → told (λ u. MemberRow) (option_
 is_member_told None = refl
 is_member_told (Some u) = refl
 
-pub group_told : (db : Trees) (group : List ℕ) (found : Option (List (ℕ × Option (Unit {0})))) (t : List (ℕ × Option (Unit {0}))) → found ≡ Some t → Knows found (λ t. HaveRows nat_cmp member_parts group db (rows_of t))
-    → HasMembers (tables_at db).row group (rows_of t)
-group_told db group None t is have account = absurd (cc)
-group_told db group (Some s) t is have account =
-    ap (told (λ u. MemberRow)) (have account) ∙ (member_told (row_in nat_cmp (rows_of s) account) ∙ ap (λ l. member_row (row_in nat_cmp (rows_of l) account)) (same_Some _ _ is))
+pub group_told : (db : Trees) (group : List ℕ) (entries : List (ℕ × Unit {0})) → HaveRows nat_cmp member_parts group db entries → HasMembers (tables_at db).row group entries
+group_told db group entries have account = ap (told (λ u. MemberRow)) (have account) ∙ member_told (row_in nat_cmp entries account)
 
 -- ---- bases
 
-pub bases_told : (db : Trees) (key : BranchKey) (found : Option (List (ℕ × Option (List ℕ)))) (t : List (ℕ × Option (List ℕ))) (commits : List (List ℕ)) → found ≡ Some t
-    → Knows found (λ t. HaveRows nat_cmp base_parts key db (rows_of t)) → IsOrdered (rows_of t) (Some commits) → HasBases (tables_at db).row key commits
-bases_told db key None t commits is have order place = absurd (cc)
-bases_told db key (Some s) t commits is have order place =
-    ap (told BaseRow) (have place) ∙ (told_whole BaseRow (row_in nat_cmp (rows_of s) place) ∙ ap (option_map BaseRow) (ap (λ l. row_in nat_cmp (rows_of l) place) (same_Some _ _ is) ∙ order place))
+pub bases_told : (db : Trees) (key : BranchKey) (entries : List (ℕ × List ℕ)) (commits : List (List ℕ)) → HaveRows nat_cmp base_parts key db entries → IsOrdered entries (Some commits) → HasBases (tables_at db).row key commits
+bases_told db key entries commits have order place = ap (told BaseRow) (have place) ∙ (told_whole BaseRow (row_in nat_cmp entries place) ∙ ap (option_map BaseRow) (order place))
 
-pub bases_damaged : (db : Trees) (key : BranchKey) (found : Option (List (ℕ × Option (List ℕ)))) (t : List (ℕ × Option (List ℕ))) → found ≡ Some t
-    → Knows found (λ t. HaveRows nat_cmp base_parts key db (rows_of t)) → IsOrdered (rows_of t) None → IsDamaged (tables_at db)
-bases_damaged db key None t is have gap h history view = absurd (cc)
-bases_damaged db key (Some s) t is have gap h history view =
+pub bases_damaged : (db : Trees) (key : BranchKey) (entries : List (ℕ × List ℕ)) → HaveRows nat_cmp base_parts key db entries → IsOrdered entries None → IsDamaged (tables_at db)
+bases_damaged db key entries have gap h history view =
     let read = reading_of h history in
     gap (history_bases h key.project key.branch)
-    (λ n. ap (λ l. row_in nat_cmp (rows_of l) n) (sym (same_Some _ _ is))
-    ∙ based_from (row_in nat_cmp (rows_of s) n) (at_place (history_bases h key.project key.branch) n)
-    (sym (told_whole BaseRow (row_in nat_cmp (rows_of s) n)) ∙ (sym (ap (told BaseRow) (have n)) ∙ (view read.0 read.1).row_is (BaseKey key.project key.branch n))))
+    (λ n. based_from (row_in nat_cmp entries n) (at_place (history_bases h key.project key.branch) n)
+    (sym (told_whole BaseRow (row_in nat_cmp entries n)) ∙ (sym (ap (told BaseRow) (have n)) ∙ (view read.0 read.1).row_is (BaseKey key.project key.branch n))))
 
 -- ---- greatest numbers
 

@@ -1,10 +1,14 @@
 -- Which changes joined a branch.
-use Rattle.std.specs.Prelude.{ℕ, ◌≡◌, ◌<◌}
+use Rattle.std.specs.Prelude.{ℕ, ◌≡◌, ◌<◌, ◌≤◌, ◌⊎◌, Option, Some, None}
 use Rattle.sqlite_trees.specs.Tree.{Trees}
 use Rattle.review_words.specs.declared.shown.JoinedChange.{JoinedChange}
 use Rattle.review_records.specs.declared.rows.PlaceKey.{PlaceKey}
 use Rattle.review_rows.specs.declared.rows.BranchKey.{BranchKey}
-use Rattle.review_rows.specs.Known.{IsAtPlace, IsJoinedAt}
+use Rattle.review_changes.specs.Parts.{PatchOf}
+use Rattle.review_changes.specs.declared.rows.PatchRow.{PatchRow}
+use Rattle.review_rows.specs.Known.{IsAtPlace, IsCurrent, IsJoinedAt}
+use Rattle.review_rows.specs.Rows.{PartKey}
+use Rattle.review_rows.specs.Shelf.{IsDamaged}
 use Rattle.review_lookups.specs.Tables.{tables_at}
 
 -- the branch of a place
@@ -16,6 +20,21 @@ pub record IsOnlyAt (key : PlaceKey) (db : Trees) (joined : JoinedChange) : Type
   pub here : IsJoinedAt (tables_at db).row (branch_of key) key.place joined
   pub only : (n : ℕ) → IsAtPlace (tables_at db).row (branch_of key) key.place n → n ≡ joined.change
 
+-- the current patch set of a change; where none is told it has none, or the tables are those of no history
+abbrev pub TellsCurrent : ℕ → Trees → Option PatchRow → Type 0
+TellsCurrent n db None = IsDamaged (tables_at db) ⊎ ((m : ℕ) → (tables_at db).row (PartKey n (PatchOf m)) ≡ None)
+TellsCurrent n db (Some patch) = IsCurrent (tables_at db).row n patch
+
+-- the change at a place; where none is told and one stands there or at a later place, the tables are those of no history
+abbrev pub TellsAt : PlaceKey → Trees → Option JoinedChange → Type 0
+TellsAt key db None = (last n : ℕ) → key.place ≤ last → IsAtPlace (tables_at db).row (branch_of key) last n → IsDamaged (tables_at db)
+TellsAt key db (Some joined) = IsOnlyAt key db joined
+
 -- no change stands at a later place of the branch
 abbrev pub NoneAbove : BranchKey → ℕ → Trees → Type 0
 NoneAbove key last db = (place n : ℕ) → last < place → IsAtPlace (tables_at db).row key place n → ⊥
+
+-- the last place: no change stands later, and one stands there unless it is 0, or the tables are those of no history
+pub record IsLastPlace (key : BranchKey) (db : Trees) (last : ℕ) : Type 0 where
+  pub above : NoneAbove key last db
+  pub there : 0 < last → IsDamaged (tables_at db) ⊎ ((n : ℕ) × IsAtPlace (tables_at db).row key last n)

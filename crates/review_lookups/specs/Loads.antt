@@ -21,7 +21,6 @@ abbrev pub Tells : Tables → Want → Rows → Rows → Sight → Type 0
 Tells t w old new sight.Learnt = LearnsFound t w old new
 Tells t w old new sight.NoMemory = Unit {0}
 Tells t w old new sight.Damaged = IsDamaged t
-Tells t w old new sight.Odd = Unit {0}
 
 -- how a look-up ended
 abbrev pub Sees : Want → Rows → Rows → Trees → Sight → Type 0
@@ -32,7 +31,11 @@ abbrev pub AreLoaded : Trees → Loaded → Type 0
 AreLoaded db (loaded.Rows rows) = Agrees (tables_at db) rows
 AreLoaded db loaded.NoMemory = Unit {0}
 AreLoaded db loaded.Damaged = IsDamaged (tables_at db)
-AreLoaded db loaded.Odd = Unit {0}
+
+-- it is so of what is told, and where nothing is told the tables are those of no history
+abbrev pub IfTold : {X : Type 0} → Trees → (X → Type 0) → Option X → Type 0
+IfTold db IsSo None = IsDamaged (tables_at db)
+IfTold db IsSo (Some x) = IsSo x
 
 -- rows learnt what some look-up found
 abbrev pub HasLearnt : Want → Rows → Rows → Type 0

@@ -9,13 +9,14 @@ use Rattle.review_changes.specs.declared.rows.PatchRow.{PatchRow}
 use Rattle.review_rows.specs.declared.rows.Base.{Base}
 use Rattle.review_rows.specs.Known.{IsInBranch, IsSender}
 use Rattle.review_rows.specs.Rows.{PartKey}
+use Rattle.review_rows.specs.Shelf.{IsDamaged}
 use Rattle.review_lookups.specs.Tables.{tables_at}
 
--- whether it is so, where that is known
-abbrev pub KnowsIf : Type 0 → Option Bool → Type 0
-KnowsIf IsSo None = Unit {0}
-KnowsIf IsSo (Some true) = IsSo
-KnowsIf IsSo (Some false) = IsSo → ⊥
+-- whether it is so; where that is not told, the tables are those of no history
+abbrev pub TellsIf : Trees → Type 0 → Option Bool → Type 0
+TellsIf db IsSo None = IsDamaged (tables_at db)
+TellsIf db IsSo (Some true) = IsSo
+TellsIf db IsSo (Some false) = IsSo → ⊥
 
 -- whether a change with the header is for the branch, and the patch set has the commit
 abbrev pub is_sent_with : Base → Header → PatchRow → Bool
@@ -37,9 +38,9 @@ IsLastSet e db = (m : ℕ) → e.1 < m → (tables_at db).row (PartKey e.0 (Patc
 abbrev pub IsSentIn : Bool → Base → ℕ × ℕ → Trees → Type 0
 IsSentIn merged base e db = HasSent merged base e db × (merged ≡ true → IsLastSet e db)
 
--- whether it has, where its rows are not odd
+-- whether it has
 abbrev pub Examines : Bool → Base → ℕ × ℕ → Trees → Option Bool → Type 0
-Examines merged base e db is = KnowsIf (IsSentIn merged base e db) is
+Examines merged base e db is = TellsIf db (IsSentIn merged base e db) is
 
 -- a change that has sent the commit so, with the number of its patch set, or that none has
 abbrev pub IsFoundSent : Bool → Base → Trees → Option (ℕ × ℕ) → Type 0

@@ -1,5 +1,7 @@
 -- A database as the tables of a desk.
-use Rattle.std.specs.Prelude.{option_map, ℤ, ℕ, ◌≡◌, [], ◌∷◌, length, Option, Some, None}
+use Rattle.std.specs.Prelude.{option_map, ℤ, ℕ, ◌≡◌, Bool, not, List, [], ◌∷◌, length, Option, Some, None, if◌then◌else◌}
+use Rattle.std.specs.List.{list_any}
+use Rattle.sqlite_value.specs.Order.{Row as Raw}
 use Rattle.sqlite_value.specs.declared.value.Value.TheVariants.{Text}
 use Rattle.sqlite_trees.specs.Tree.{Trees}
 use Rattle.review_words.specs.History.{Identity}
@@ -10,6 +12,8 @@ use Rattle.review_records.specs.declared.rows.DeskRow.{DeskRow}
 use Rattle.review_records.specs.declared.rows.Answered.{Answered as Rest}
 use Rattle.review_change_records.specs.Forms.{headers, patches, votes, roles, comments, calls}
 use Rattle.review_records.specs.Forms.{accounts, members, projects, bases, answers, desk}
+use Rattle.review_records.specs.Keyed.{account_keyed, member_keyed, project_keyed, base_keyed, answer_keyed}
+use Rattle.review_change_records.specs.Keyed.{header_keyed, patch_keyed, vote_keyed, comment_keyed, account_keyed as of_account}
 
 -- a row as tables tell it; an odd one is none of its table
 abbrev pub told : {X : Type 0} → (X → Row) → Option (Option X) → Option Row
@@ -32,14 +36,24 @@ part_in db n (RoleOf u) = told (λ x. APart (ARole x)) (row_at roles db (n, u))
 part_in db n (CommentOf k) = told (λ x. APart (AComment x)) (row_at comments db (n, k))
 part_in db n (AttentionOf u) = told (λ x. APart (ACall x)) (row_at calls db (n, u))
 
--- What stands at a key. Nothing is claimed of rows that no key of their table names, as one of an account with a negative number: no look-up finds them.
+-- the tables of records, and which of their rows have a key
+abbrev pub keyed_tables : List (ℕ × (Raw → Bool))
+keyed_tables =
+    (accounts.tree, account_keyed) ∷ (members.tree, member_keyed) ∷ (projects.tree, project_keyed) ∷ (bases.tree, base_keyed) ∷ (answers.tree, answer_keyed)
+    ∷ (headers.tree, header_keyed) ∷ (patches.tree, patch_keyed) ∷ (votes.tree, vote_keyed) ∷ (roles.tree, of_account) ∷ (comments.tree, comment_keyed) ∷ (calls.tree, of_account) ∷ []
+
+-- whether a row has no key of its table, as a member with a negative number
+abbrev pub has_unkeyed : List (ℕ × (Raw → Bool)) → Trees → Bool
+has_unkeyed tables db = list_any (λ t. list_any (λ r. not (t.1 r)) (db t.0)) tables
+
+-- What stands at a key. A row that has no key of its table stands at the odd keys.
 abbrev pub row_in : Trees → Key → Option Row
 row_in db (AccountKey number) = told AccountRow (row_at accounts db number)
 row_in db (MemberKey group account) = told (λ u. MemberRow) (row_at members db (record { group = group; account = account }))
 row_in db (FileKey project) = told FileRow (row_at projects db project)
 row_in db (BaseKey project branch place) = told BaseRow (row_at bases db (record { project = project; branch = branch; place = place }))
 row_in db (PartKey n part) = part_in db n part
-row_in db (OddKey o) = None
+row_in db (OddKey o) = if has_unkeyed keyed_tables db then Some OddRow else None
 
 abbrev pub count_in : Trees → Count → ℕ
 count_in db Projects = length (db 4)

@@ -1,5 +1,5 @@
 //! What is looked up of projects, of the bases of their branches, and of the desk.
-ghost use Rattle.std.specs.Prelude.{◌≡◌, ◌∷◌, [], true, Some, None, IfOk, length, nat_lt};
+ghost use Rattle.std.specs.Prelude.{◌≡◌, ◌∷◌, [], true, false, Some, None, option_map, IfOk, length, nat_lt};
 ghost use Rattle.std.specs.Ordering.{nat_cmp};
 ghost use Rattle.sqlite.specs.Held.{state};
 ghost use Rattle.sqlite_trees.specs.Tree.{Trees};
@@ -7,13 +7,13 @@ ghost use Rattle.sqlite_value.specs.declared.value.Value.TheVariants.{Text};
 ghost use Rattle.review_table.specs.Rows.{rows_of};
 ghost use Rattle.review_rows.specs.declared.rows.Want.TheVariants as want;
 ghost use Rattle.review_rows.specs.declared.rows.Counted.TheVariants as counted;
-ghost use Rattle.review_records.specs.Forms.{base_commits, base_parts, base_places, bases, desk, project_names, projects};
-ghost use Rattle.review_tables.specs.Fronts.{HaveRows, Knows};
-ghost use Rattle.review_statements.specs.Greatest.{HasGreatest};
+ghost use Rattle.review_records.specs.Forms.{base_commits, branch_bases, base_parts, base_places, bases, desk, project_names, projects};
+ghost use Rattle.review_tables.specs.Fronts.{AreParts};
+ghost use Rattle.review_statements.specs.Greatest.{HasGreatest, HasOne};
 ghost use Rattle.review_statements.specs.Ran.{Looks};
 ghost use Rattle.review_statements.specs.Search.{row_at, rows_at};
 ghost use Rattle.review_rows.specs.Known.{IsBaseOrNot};
-ghost use Rattle.review_lookups.specs.Loads.{HasLearnt, Sees, IsOrdered};
+ghost use Rattle.review_lookups.specs.Loads.{HasLearnt, IfTold, Sees, IsOrdered};
 ghost use Rattle.review_lookups.specs.Tables.{tables_at};
 
 use crate::learning::{
@@ -29,7 +29,7 @@ use review_rows::{Base, BranchKey, Rows};
 use review_table::{Key, Table};
 use review_tables::fronts::find_parts;
 use review_tables::greatest::find_greatest;
-use review_tables::reads::find;
+use review_tables::reads::{find, find_any};
 use review_words::{Bases as DeskBases, CommitName, FileText, ProjectName};
 use sqlite::{Alter, Error, Transaction};
 use std::alloc::{AllocError, Global};
@@ -44,7 +44,7 @@ fn tell_requests(found: Option<Option<DeskRow>>, rows: &mut Rows) -> Sight
             rows.learn_requests(row.requests);
             Sight::Learnt
         }
-        Some(None) | None => Sight::Odd,
+        Some(None) | None => Sight::Damaged,
     }
 }
 
@@ -178,7 +178,7 @@ fn tell_last_place(
 {
     match found {
         Some(Some(place)) => learnt(learn_last_place(alloc, branch, place, rows)),
-        Some(None) => Sight::Odd,
+        Some(None) => Sight::Damaged,
         None => learnt(learn_last_place(alloc, branch, 0, rows)),
     }
 }
@@ -205,11 +205,11 @@ fn tell_bases(
     found: Option<Table<PlaceNo, CommitName>>,
     rows: &mut Rows,
 ) -> Sight
-    ensures told { (db : Trees) → Knows found (λ t. HaveRows nat_cmp base_parts branch.now db (rows_of t)) → Sees (want.Bases branch.now) rows.old rows.new db result }
+    ensures told { (db : Trees) → AreParts nat_cmp branch_bases base_parts branch.now db (option_map (λ t. rows_of t) found) → Sees (want.Bases branch.now) rows.old rows.new db result }
     ensures learnt { result ≡ Sight.Learnt → HasLearnt (want.Bases branch.now) rows.old rows.new }
 {
     let Some(places) = found else {
-        return Sight::Odd;
+        return Sight::Damaged;
     };
     match in_order(alloc, places) {
         Ok(Some(bases)) => learnt(learn_bases(alloc, branch, bases, rows)),
@@ -253,7 +253,8 @@ fn in_order(
 
 // Whether a commit stands at a place.
 fn stands(found: &Option<Option<CommitName>>, commit: &CommitName) -> bool
-    ensures { result ≡ true → found.now ≡ Some (Some commit.now) }
+    ensures is { result ≡ true → found.now ≡ Some (Some commit.now) }
+    ensures other { result ≡ false → found.now ≡ Some (Some commit.now) → ⊥ }
 {
     match found {
         Some(Some(other)) => other.as_str() == commit.as_str(),
@@ -262,7 +263,7 @@ fn stands(found: &Option<Option<CommitName>>, commit: &CommitName) -> bool
 }
 
 fn stands_at(base: &Base, place: u64, found: Option<Option<CommitName>>) -> Option<bool>
-    ensures { (db : Trees) → found ≡ row_at bases db (record { project = base.now.project; branch = base.now.branch; place = place }) → Knows result (IsBaseOrNot (tables_at db).row base.now) }
+    ensures { (db : Trees) → HasOne base_commits base.now db (Some (Some place)) → found ≡ row_at bases db (record { project = base.now.project; branch = base.now.branch; place = place }) → IfTold db (IsBaseOrNot (tables_at db).row base.now) result }
 {
     let _place = place;
     if stands(&found, &base.commit) {
@@ -272,7 +273,7 @@ fn stands_at(base: &Base, place: u64, found: Option<Option<CommitName>>) -> Opti
 }
 
 fn stands_nowhere(base: &Base) -> Option<bool>
-    ensures { (db : Trees) → None ≡ row_at base_commits db base.now → Knows result (IsBaseOrNot (tables_at db).row base.now) }
+    ensures { (db : Trees) → HasOne base_commits base.now db None → IfTold db (IsBaseOrNot (tables_at db).row base.now) result }
 {
     let _base = base;
     Some(false)
@@ -288,16 +289,16 @@ fn place_key(alloc: Global, base: &Base, place: u64) -> Result<PlaceKey, AllocEr
     })
 }
 
-/// Whether a commit is a base of a branch; none where a row of it is odd. The commit is looked up first, and then the place that it has.
+/// Whether a commit is a base of a branch; none where the tables are those of no history. The commit is looked up first, and then the place that it has.
 pub fn is_base<S: Alter>(
     tx: &mut Transaction<'_, S>,
     alloc: Global,
     base: &Base,
 ) -> Result<Option<bool>, Error>
     ensures same_reference { tx.new.conn.ghost_name ≡ tx.old.conn.ghost_name }
-    ensures looks { Looks (λ db is. Knows is (IsBaseOrNot (tables_at db).row base.now)) (state S.Store tx.old.conn.now) (state S.Store tx.new.conn.now) result }
+    ensures looks { Looks (λ db is. IfTold db (IsBaseOrNot (tables_at db).row base.now) is) (state S.Store tx.old.conn.now) (state S.Store tx.new.conn.now) result }
 {
-    let found = find::<BaseCommits, S>(tx, alloc, base)?;
+    let found = find_any::<BaseCommits, S>(tx, alloc, base)?;
     match found {
         Some(Some(place)) => {
             let key = place_key(alloc, base, place)?;
@@ -311,12 +312,12 @@ pub fn is_base<S: Alter>(
 
 #[tactic(auto, using(crate::proofs::Telling::has_learnt))]
 fn tell_base(alloc: Global, base: &Base, is: Option<bool>, rows: &mut Rows) -> Sight
-    ensures told { (db : Trees) → Knows is (IsBaseOrNot (tables_at db).row base.now) → Sees (want.Base base.now) rows.old rows.new db result }
+    ensures told { (db : Trees) → IfTold db (IsBaseOrNot (tables_at db).row base.now) is → Sees (want.Base base.now) rows.old rows.new db result }
     ensures learnt { result ≡ Sight.Learnt → HasLearnt (want.Base base.now) rows.old rows.new }
 {
     match is {
         Some(is) => learnt(learn_base(alloc, base, is, rows)),
-        None => Sight::Odd,
+        None => Sight::Damaged,
     }
 }
 

@@ -1,17 +1,16 @@
 //! The changes that joined a branch are looked up.
-ghost use Rattle.std.specs.Prelude.{◌≡◌, ◌<◌, ℕ, Some, None, IfOk};
+ghost use Rattle.std.specs.Prelude.{◌≡◌, ◌<◌, ℕ, Some, IfOk};
 ghost use Rattle.sqlite.specs.Held.{state};
 ghost use Rattle.sqlite_trees.specs.Tree.{Trees};
 ghost use Rattle.review_rows.specs.declared.rows.BranchKey.{BranchKey};
 ghost use Rattle.review_rows.specs.declared.rows.Want.TheVariants as want;
 ghost use Rattle.review_rows.specs.Known.{HaveJoined, IsCurrent};
-ghost use Rattle.review_tables.specs.Fronts.{Knows};
 ghost use Rattle.review_statements.specs.Greatest.{HasGreatest};
 ghost use Rattle.review_statements.specs.Ran.{Looks};
 ghost use Rattle.review_statements.specs.Search.{row_at};
 ghost use Rattle.review_change_records.specs.Forms.{change_places, changes_at, headers, patch_numbers, patches};
-ghost use Rattle.review_lookups.specs.Joins.{IsOnlyAt, NoneAbove};
-ghost use Rattle.review_lookups.specs.Loads.{HasLearnt, Sees};
+ghost use Rattle.review_lookups.specs.Joins.{IsLastPlace, IsOnlyAt, TellsAt, TellsCurrent};
+ghost use Rattle.review_lookups.specs.Loads.{HasLearnt, IfTold, Sees};
 ghost use Rattle.review_lookups.specs.Tables.{tables_at};
 
 use crate::learning::{learn_joined, learnt};
@@ -29,9 +28,9 @@ use review_words::{ChangeNo, JoinedChange, Listed, PatchNo};
 use sqlite::{Alter, Error, Transaction};
 use std::alloc::{AllocError, Global};
 
-// The patch set with the greatest number; none where it is odd.
+// The patch set with the greatest number; none where it is odd, as in no history.
 fn current(number: PatchNo, found: Option<Option<PatchRow>>) -> Option<PatchRow>
-    ensures { (n : ℕ) (db : Trees) → HasGreatest patch_numbers 2 n db (Some (Some number)) → found ≡ row_at patches db (n, number) → Knows result (IsCurrent (tables_at db).row n) }
+    ensures { (n : ℕ) (db : Trees) → HasGreatest patch_numbers 2 n db (Some (Some number)) → found ≡ row_at patches db (n, number) → IfTold db (IsCurrent (tables_at db).row n) result }
 {
     let _number = number;
     match found {
@@ -40,14 +39,14 @@ fn current(number: PatchNo, found: Option<Option<PatchRow>>) -> Option<PatchRow>
     }
 }
 
-// The current patch set of a change; none where a row of it is odd, or where it has no patch set.
+// The current patch set of a change; none where it has no patch set, or where a row of it is odd.
 fn find_current<S: Alter>(
     tx: &mut Transaction<'_, S>,
     alloc: Global,
     change: ChangeNo,
 ) -> Result<Option<PatchRow>, Error>
     ensures same_reference { tx.new.conn.ghost_name ≡ tx.old.conn.ghost_name }
-    ensures looks { Looks (λ db found. Knows found (IsCurrent (tables_at db).row change)) (state S.Store tx.old.conn.now) (state S.Store tx.new.conn.now) result }
+    ensures looks { Looks (TellsCurrent change) (state S.Store tx.old.conn.now) (state S.Store tx.new.conn.now) result }
 {
     let last = find_greatest::<LastPatch, S>(tx, alloc, &change)?;
     let Some(Some(number)) = last else {
@@ -57,7 +56,7 @@ fn find_current<S: Alter>(
     Ok(current(number, found))
 }
 
-// The change of a place with its current commit; none where a row of it is odd, or where it is not for the branch at the place.
+// The change of a place with its current commit; none where a row of it is odd, it is not for the branch at the place, or it has no patch set, as in no history.
 fn joined_at(
     key: &PlaceKey,
     change: ChangeNo,
@@ -65,7 +64,7 @@ fn joined_at(
     patch: Option<PatchRow>,
 ) -> Option<JoinedChange>
     requires { 0 < key.now.place }
-    ensures { (db : Trees) → Some (Some change) ≡ row_at changes_at db key.now → header ≡ row_at headers db change → Knows patch (IsCurrent (tables_at db).row change) → Knows result (IsOnlyAt key.now db) }
+    ensures { (db : Trees) → Some (Some change) ≡ row_at changes_at db key.now → header ≡ row_at headers db change → TellsCurrent change db patch → IfTold db (IsOnlyAt key.now db) result }
 {
     let (Some(Some(header)), Some(patch)) = (header, patch) else {
         return None;
@@ -85,7 +84,7 @@ fn find_at<S: Alter>(
 ) -> Result<Option<JoinedChange>, Error>
     requires { 0 < key.now.place }
     ensures same_reference { tx.new.conn.ghost_name ≡ tx.old.conn.ghost_name }
-    ensures looks { Looks (λ db found. Knows found (IsOnlyAt key.now db)) (state S.Store tx.old.conn.now) (state S.Store tx.new.conn.now) result }
+    ensures looks { Looks (TellsAt key.now) (state S.Store tx.old.conn.now) (state S.Store tx.new.conn.now) result }
 {
     let found = find::<ChangeAt, S>(tx, alloc, key)?;
     let Some(Some(change)) = found else {
@@ -96,9 +95,9 @@ fn find_at<S: Alter>(
     Ok(joined_at(key, change, header, patch))
 }
 
-// A place after which no change of the branch stands: the greatest, or 0; none where that is odd.
+// The last place at which a change of the branch stands, or 0; none where that is odd, as in no history.
 fn last_place(found: Option<Option<(ChangeNo, u32)>>) -> Option<u64>
-    ensures { (key : BranchKey) (db : Trees) → HasGreatest change_places 8 key db found → Knows result (λ last. NoneAbove key last db) }
+    ensures { (key : BranchKey) (db : Trees) → HasGreatest change_places 8 key db found → IfTold db (IsLastPlace key db) result }
 {
     match found {
         Some(Some(last)) => Some(u64::from(last.1)),
@@ -118,7 +117,7 @@ fn before_first(alloc: Global, branch: &BranchKey) -> Result<PlaceKey, AllocErro
     })
 }
 
-// The changes that joined a branch, or none where a row of one is odd or a place before the last has none. The last place is looked up first,
+// The changes that joined a branch; none where a row of one is odd or a place before the last has none, as in no history. The last place is looked up first,
 // and then the change of each.
 fn find_joins<S: Alter>(
     tx: &mut Transaction<'_, S>,
@@ -126,7 +125,7 @@ fn find_joins<S: Alter>(
     branch: &BranchKey,
 ) -> Result<Option<Listed<JoinedChange>>, Error>
     ensures same_reference { tx.new.conn.ghost_name ≡ tx.old.conn.ghost_name }
-    ensures looks { Looks (λ db found. Knows found (HaveJoined (tables_at db).row branch.now)) (state S.Store tx.old.conn.now) (state S.Store tx.new.conn.now) result }
+    ensures looks { Looks (λ db found. IfTold db (HaveJoined (tables_at db).row branch.now) found) (state S.Store tx.old.conn.now) (state S.Store tx.new.conn.now) result }
 {
     let found = find_greatest::<LastJoined, S>(tx, alloc, branch)?;
     let Some(last) = last_place(found) else {
@@ -152,11 +151,11 @@ fn tell_joined(
     found: Option<Listed<JoinedChange>>,
     rows: &mut Rows,
 ) -> Sight
-    ensures told { (db : Trees) → Knows found (HaveJoined (tables_at db).row branch.now) → Sees (want.Joined branch.now) rows.old rows.new db result }
+    ensures told { (db : Trees) → IfTold db (HaveJoined (tables_at db).row branch.now) found → Sees (want.Joined branch.now) rows.old rows.new db result }
     ensures learnt { result ≡ Sight.Learnt → HasLearnt (want.Joined branch.now) rows.old rows.new }
 {
     let Some(joined) = found else {
-        return Sight::Odd;
+        return Sight::Damaged;
     };
     learnt(learn_joined(alloc, branch, joined, rows))
 }

@@ -1,5 +1,7 @@
 //! What rows learn of what was found.
-ghost use Rattle.std.specs.Prelude.{◌≡◌, Some, None, IfOk, IfErr, IfSome, OnOk, option_map};
+ghost use Rattle.std.specs.Prelude.{◌≡◌, Some, None, IfOk, IfErr, OnOk, option_map};
+ghost use Rattle.review_change_records.specs.Forms.{is_small};
+ghost use Rattle.review_records.specs.Forms.{where_is};
 ghost use Rattle.review_table.specs.Rows.{rows_of};
 ghost use Rattle.review_rows.specs.declared.rows.Want.TheVariants as want;
 ghost use Rattle.review_rows.specs.declared.rows.Counted.TheVariants as counted;
@@ -39,12 +41,17 @@ pub fn whole<X>(found: Option<Option<X>>) -> Result<Option<X>, Sight>
 
 /// The greatest number, or 0 where there is none, unless it is no number below 2^32.
 pub fn last(found: Option<Option<u64>>) -> Option<u32>
-    ensures { IfSome result (λ number. last_of found ≡ Some number) }
+    ensures { result ≡ where_is is_small (last_of found) }
 {
-    match found {
-        Some(Some(number)) => u32::try_from(number).ok(),
-        Some(None) => None,
-        None => Some(0),
+    let number = match found {
+        Some(Some(number)) => number,
+        Some(None) => return None,
+        None => 0,
+    };
+    if number < 4_294_967_296 {
+        Some(number as u32)
+    } else {
+        None
     }
 }
 

@@ -18,10 +18,8 @@ pub enum Sight {
     Learnt,
     /// There was no memory for it.
     NoMemory,
-    /// It shows that the tables are those of no history.
+    /// It shows that the tables are those of no history: a row doesn't read as one of its table, or doesn't fit the others.
     Damaged,
-    /// A row that it found doesn't read as one of its table, or doesn't fit the others.
-    Odd,
 }
 
 /// What all look-ups found.
@@ -30,7 +28,6 @@ pub enum Loaded {
     Rows(Rows),
     NoMemory,
     Damaged,
-    Odd,
 }
 
 fn find<S: Alter>(
@@ -86,7 +83,6 @@ fn find_all<S: Alter>(
             Sight::Learnt => {}
             Sight::NoMemory => return Ok(Loaded::NoMemory),
             Sight::Damaged => return Ok(Loaded::Damaged),
-            Sight::Odd => return Ok(Loaded::Odd),
         }
     }
     Ok(Loaded::Rows(rows))

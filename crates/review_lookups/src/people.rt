@@ -1,13 +1,13 @@
 //! What is looked up of accounts and groups.
-ghost use Rattle.std.specs.Prelude.{◌≡◌, true, Some, None, IfOk};
+ghost use Rattle.std.specs.Prelude.{◌≡◌, true, false, Some, None, option_map, IfOk};
 ghost use Rattle.std.specs.Ordering.{nat_cmp};
 ghost use Rattle.sqlite.specs.Held.{state};
 ghost use Rattle.sqlite_trees.specs.Tree.{Trees};
 ghost use Rattle.review_table.specs.Rows.{rows_of};
 ghost use Rattle.review_rows.specs.declared.rows.Want.TheVariants as want;
-ghost use Rattle.review_records.specs.Forms.{accounts, account_names, account_numbers, member_parts, members};
-ghost use Rattle.review_tables.specs.Fronts.{HaveRows, Knows};
-ghost use Rattle.review_statements.specs.Greatest.{HasGreatest};
+ghost use Rattle.review_records.specs.Forms.{accounts, account_names, account_numbers, group_members, member_parts, members};
+ghost use Rattle.review_tables.specs.Fronts.{AreParts};
+ghost use Rattle.review_statements.specs.Greatest.{HasGreatest, HasOne};
 ghost use Rattle.review_statements.specs.Ran.{Looks};
 ghost use Rattle.review_statements.specs.Search.{row_at};
 ghost use Rattle.review_lookups.specs.Loads.{HasLearnt, Sees};
@@ -20,7 +20,7 @@ use review_rows::{MemberKey, Rows};
 use review_table::{Key, Table};
 use review_tables::fronts::find_parts;
 use review_tables::greatest::find_greatest;
-use review_tables::reads::find;
+use review_tables::reads::{find, find_any};
 use review_words::{AccountName, AccountNo, GroupName};
 use sqlite::{Alter, Error, Transaction};
 use std::alloc::{AllocError, Global};
@@ -61,7 +61,7 @@ fn tell_last_account(found: Option<Option<u64>>, rows: &mut Rows) -> Sight
             rows.learn_last_account(number);
             Sight::Learnt
         }
-        None => Sight::Odd,
+        None => Sight::Damaged,
     }
 }
 
@@ -117,12 +117,12 @@ fn tell_group(
     found: Option<Table<AccountNo, ()>>,
     rows: &mut Rows,
 ) -> Sight
-    ensures told { (db : Trees) → Knows found (λ t. HaveRows nat_cmp member_parts group.now db (rows_of t)) → Sees (want.Group group.now) rows.old rows.new db result }
+    ensures told { (db : Trees) → AreParts nat_cmp group_members member_parts group.now db (option_map (λ t. rows_of t) found) → Sees (want.Group group.now) rows.old rows.new db result }
     ensures learnt { result ≡ Sight.Learnt → HasLearnt (want.Group group.now) rows.old rows.new }
 {
     match found {
         Some(members) => learnt(learn_group(alloc, group, members, rows)),
-        None => Sight::Odd,
+        None => Sight::Damaged,
     }
 }
 
@@ -143,7 +143,8 @@ pub fn find_group<S: Alter>(
 
 // Whether an account has a name.
 fn is_named(named: &Option<Option<AccountName>>, name: &AccountName) -> bool
-    ensures { result ≡ true → named.now ≡ Some (Some name.now) }
+    ensures is { result ≡ true → named.now ≡ Some (Some name.now) }
+    ensures other { result ≡ false → named.now ≡ Some (Some name.now) → ⊥ }
 {
     match named {
         Some(Some(other)) => other.as_str() == name.as_str(),
@@ -159,18 +160,18 @@ fn tell_holder(
     named: Option<Option<AccountName>>,
     rows: &mut Rows,
 ) -> Sight
-    ensures told { (db : Trees) → named ≡ row_at accounts db number → Sees (want.AccountNamed name.now) rows.old rows.new db result }
+    ensures told { (db : Trees) → HasOne account_names name.now db (Some (Some number)) → named ≡ row_at accounts db number → Sees (want.AccountNamed name.now) rows.old rows.new db result }
     ensures learnt { result ≡ Sight.Learnt → HasLearnt (want.AccountNamed name.now) rows.old rows.new }
 {
     if !is_named(&named, name) {
-        return Sight::Odd;
+        return Sight::Damaged;
     }
     learnt(learn_holder(alloc, name, Some(number), rows))
 }
 
 #[tactic(auto, using(crate::proofs::Telling::has_learnt))]
 fn tell_no_holder(alloc: Global, name: &AccountName, rows: &mut Rows) -> Sight
-    ensures told { (db : Trees) → None ≡ row_at account_names db name.now → Sees (want.AccountNamed name.now) rows.old rows.new db result }
+    ensures told { (db : Trees) → HasOne account_names name.now db None → Sees (want.AccountNamed name.now) rows.old rows.new db result }
     ensures learnt { result ≡ Sight.Learnt → HasLearnt (want.AccountNamed name.now) rows.old rows.new }
 {
     learnt(learn_holder(alloc, name, None, rows))
@@ -187,13 +188,13 @@ pub fn find_holder<S: Alter>(
     ensures looks { Looks (Sees (want.AccountNamed name.now) rows.old rows.new) (state S.Store tx.old.conn.now) (state S.Store tx.new.conn.now) result }
     ensures learnt { IfOk result (λ s. s ≡ Sight.Learnt → HasLearnt (want.AccountNamed name.now) rows.old rows.new) }
 {
-    let found = find::<AccountNames, S>(tx, alloc, name)?;
+    let found = find_any::<AccountNames, S>(tx, alloc, name)?;
     match found {
         Some(Some(number)) => {
             let named = find::<Accounts, S>(tx, alloc, &number)?;
             Ok(tell_holder(alloc, name, number, named, rows))
         }
-        Some(None) => Ok(Sight::Odd),
+        Some(None) => Ok(Sight::Damaged),
         None => Ok(tell_no_holder(alloc, name, rows)),
     }
 }

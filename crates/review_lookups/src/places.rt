@@ -25,6 +25,7 @@ pub fn is_placed(project: &ProjectName, branch: &BranchName, place: u64, header:
     ensures project { result ≡ true → header.now.project ≡ project.now }
     ensures branch { result ≡ true → header.now.branch ≡ branch.now }
     ensures place { result ≡ true → header.now.place ≡ place }
+    ensures other { result ≡ false → header.now.project ≡ project.now → header.now.branch ≡ branch.now → header.now.place ≡ place → ⊥ }
 {
     header.project.as_str() == project.as_str()
         && header.branch.as_str() == branch.as_str()
@@ -45,10 +46,10 @@ fn tell_last_joined(
 {
     let _change = change;
     let Some(Some(header)) = found else {
-        return Sight::Odd;
+        return Sight::Damaged;
     };
     if !is_placed(&branch.project, &branch.branch, u64::from(place), &header) {
-        return Sight::Odd;
+        return Sight::Damaged;
     }
     learnt(learn_last_joined(alloc, branch, place, rows))
 }
@@ -78,7 +79,7 @@ pub fn find_last_joined<S: Alter>(
             let header = find::<Headers, S>(tx, alloc, &last.0)?;
             Ok(tell_last_joined(alloc, branch, last.0, last.1, header, rows))
         }
-        Some(None) => Ok(Sight::Odd),
+        Some(None) => Ok(Sight::Damaged),
         None => Ok(tell_none_joined(alloc, branch, rows)),
     }
 }

@@ -1,5 +1,5 @@
 //! What is looked up of changes.
-ghost use Rattle.std.specs.Prelude.{◌≡◌, ◌≢◌, ℕ, [], true, IfOk, IfErr};
+ghost use Rattle.std.specs.Prelude.{◌≡◌, ◌≢◌, ℕ, [], true, false, IfOk, IfErr};
 ghost use Rattle.sqlite.specs.Held.{state};
 ghost use Rattle.sqlite_trees.specs.Tree.{Trees};
 ghost use Rattle.review_table.specs.Rows.{rows_of};
@@ -8,7 +8,7 @@ ghost use Rattle.review_statements.specs.Greatest.{HasGreatest};
 ghost use Rattle.review_statements.specs.Ran.{Looks};
 ghost use Rattle.review_change_records.specs.Forms.{change_numbers};
 ghost use Rattle.review_lookups.specs.Loads.{HasLearnt, Sees};
-ghost use Rattle.review_lookups.specs.Reviews.{AreFoundRows, AreFoundSets, AreFoundTalk, HaveTables, IsWhyNone};
+ghost use Rattle.review_lookups.specs.Reviews.{AreFoundRows, AreFoundSets, AreFoundTalk, HasRow, HaveSome, HaveTables, IsWhyNone};
 
 use crate::learning::{last, learnt, whole};
 use crate::loading::Sight;
@@ -103,9 +103,40 @@ fn find_rows<S: Alter>(
 }
 
 fn is_empty<K: Key, V: Drop>(table: &Table<K, V>) -> bool
-    ensures { result ≡ true → rows_of table.now ≡ [] }
+    ensures none { result ≡ true → rows_of table.now ≡ [] }
+    ensures some { result ≡ false → HasRow K.cmp (rows_of table.now) }
 {
     table.last_key().is_none()
+}
+
+// Whether a change has no patch set, no vote, no role, no comment, and nobody in its attention set.
+fn are_empty(
+    patches: &Table<PatchNo, PatchRow>,
+    votes: &Table<VoteKey, Vote>,
+    roles: &Table<AccountNo, Role>,
+    comments: &Table<CommentNo, Comment>,
+    attention: &Table<AccountNo, Called>,
+) -> bool
+    ensures patches { result ≡ true → rows_of patches.now ≡ [] }
+    ensures votes { result ≡ true → rows_of votes.now ≡ [] }
+    ensures roles { result ≡ true → rows_of roles.now ≡ [] }
+    ensures comments { result ≡ true → rows_of comments.now ≡ [] }
+    ensures attention { result ≡ true → rows_of attention.now ≡ [] }
+    ensures some { result ≡ false → HaveSome (rows_of patches.now) (rows_of votes.now) (rows_of roles.now) (rows_of comments.now) (rows_of attention.now) }
+{
+    if !is_empty(patches) {
+        return false;
+    }
+    if !is_empty(votes) {
+        return false;
+    }
+    if !is_empty(roles) {
+        return false;
+    }
+    if !is_empty(comments) {
+        return false;
+    }
+    is_empty(attention)
 }
 
 // The tables of a change, or that it has no row.
@@ -126,19 +157,19 @@ fn tables_of(found: FoundRows) -> Result<Option<ChangeTables>, Sight>
         attention,
     } = talk;
     let Some(patches) = patches else {
-        return Err(Sight::Odd);
+        return Err(Sight::Damaged);
     };
     let Some(votes) = votes else {
-        return Err(Sight::Odd);
+        return Err(Sight::Damaged);
     };
     let Some(roles) = roles else {
-        return Err(Sight::Odd);
+        return Err(Sight::Damaged);
     };
     let Some(comments) = comments else {
-        return Err(Sight::Odd);
+        return Err(Sight::Damaged);
     };
     let Some(attention) = attention else {
-        return Err(Sight::Odd);
+        return Err(Sight::Damaged);
     };
     match whole(header) {
         Ok(Some(header)) => Ok(Some(ChangeTables {
@@ -150,12 +181,11 @@ fn tables_of(found: FoundRows) -> Result<Option<ChangeTables>, Sight>
             attention,
         })),
         Ok(None) => {
-            let none = is_empty(&patches)
-                & is_empty(&votes)
-                & is_empty(&roles)
-                & is_empty(&comments)
-                & is_empty(&attention);
-            if none { Ok(None) } else { Err(Sight::Odd) }
+            if are_empty(&patches, &votes, &roles, &comments, &attention) {
+                Ok(None)
+            } else {
+                Err(Sight::Damaged)
+            }
         }
         Err(sight) => Err(sight),
     }
@@ -205,7 +235,7 @@ fn tell_last_change(found: Option<Option<u64>>, rows: &mut Rows) -> Sight
             rows.learn_last_change(number);
             Sight::Learnt
         }
-        None => Sight::Odd,
+        None => Sight::Damaged,
     }
 }
 

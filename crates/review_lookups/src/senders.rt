@@ -5,13 +5,12 @@ ghost use Rattle.sqlite_trees.specs.Tree.{Trees};
 ghost use Rattle.review_rows.specs.declared.rows.Base.{Base};
 ghost use Rattle.review_rows.specs.declared.rows.Want.TheVariants as want;
 ghost use Rattle.review_rows.specs.Known.{IsBaseOrNot, StandsAs};
-ghost use Rattle.review_tables.specs.Fronts.{Knows};
 ghost use Rattle.review_statements.specs.Greatest.{HasGreatest};
 ghost use Rattle.review_statements.specs.Ran.{Looks};
 ghost use Rattle.review_statements.specs.Search.{row_at};
 ghost use Rattle.review_change_records.specs.Forms.{headers, patch_numbers, patches};
-ghost use Rattle.review_lookups.specs.Loads.{HasLearnt, Sees};
-ghost use Rattle.review_lookups.specs.Senders.{Examines, HasSent, IsFoundSent, IsLastSet, IsOutside, IsSentWith, KnowsIf, is_sent_with};
+ghost use Rattle.review_lookups.specs.Loads.{HasLearnt, IfTold, Sees};
+ghost use Rattle.review_lookups.specs.Senders.{Examines, HasSent, IsFoundSent, IsLastSet, IsOutside, IsSentWith, TellsIf, is_sent_with};
 ghost use Rattle.review_lookups.specs.Tables.{tables_at};
 
 use crate::branches::is_base;
@@ -54,14 +53,14 @@ fn is_sent_as(base: &Base, merged: bool, header: &Header, patch: &PatchRow) -> b
     }
 }
 
-// Whether a change for the branch has sent the commit by its patch set of a number; none where one of the two rows is odd.
+// Whether a change for the branch has sent the commit by its patch set of a number; none where one of the two rows is odd, as in no history.
 fn sent_by(
     base: &Base,
     merged: bool,
     header: Option<Option<Header>>,
     patch: Option<Option<PatchRow>>,
 ) -> Option<bool>
-    ensures { (n p : ℕ) (db : Trees) → header ≡ row_at headers db n → patch ≡ row_at patches db (n, p) → KnowsIf (HasSent merged base.now (n, p) db) result }
+    ensures { (n p : ℕ) (db : Trees) → header ≡ row_at headers db n → patch ≡ row_at patches db (n, p) → TellsIf db (HasSent merged base.now (n, p) db) result }
 {
     let Some(header) = header else {
         return Some(false);
@@ -84,16 +83,16 @@ fn find_sender<S: Alter>(
     patch: PatchNo,
 ) -> Result<Option<bool>, Error>
     ensures same_reference { tx.new.conn.ghost_name ≡ tx.old.conn.ghost_name }
-    ensures looks { Looks (λ db is. KnowsIf (HasSent merged base.now (change, patch) db) is) (state S.Store tx.old.conn.now) (state S.Store tx.new.conn.now) result }
+    ensures looks { Looks (λ db is. TellsIf db (HasSent merged base.now (change, patch) db) is) (state S.Store tx.old.conn.now) (state S.Store tx.new.conn.now) result }
 {
     let header = find::<Headers, S>(tx, alloc, &change)?;
     let row = find::<PatchSets, S>(tx, alloc, &(change, patch))?;
     Ok(sent_by(base, merged, header, row))
 }
 
-// Whether no patch set has a greater number; none where the greatest is odd.
+// Whether no patch set has a greater number; none where the greatest is odd, as in no history.
 fn is_last(patch: PatchNo, found: Option<Option<PatchNo>>) -> Option<bool>
-    ensures { (n : ℕ) (db : Trees) → HasGreatest patch_numbers 2 n db found → KnowsIf (IsLastSet (n, patch) db) result }
+    ensures { (n : ℕ) (db : Trees) → HasGreatest patch_numbers 2 n db found → TellsIf db (IsLastSet (n, patch) db) result }
 {
     match found {
         Some(Some(last)) => Some(last.get() <= patch.get()),
@@ -109,7 +108,7 @@ fn find_is_last<S: Alter>(
     patch: PatchNo,
 ) -> Result<Option<bool>, Error>
     ensures same_reference { tx.new.conn.ghost_name ≡ tx.old.conn.ghost_name }
-    ensures looks { Looks (λ db is. KnowsIf (IsLastSet (change, patch) db) is) (state S.Store tx.old.conn.now) (state S.Store tx.new.conn.now) result }
+    ensures looks { Looks (λ db is. TellsIf db (IsLastSet (change, patch) db) is) (state S.Store tx.old.conn.now) (state S.Store tx.new.conn.now) result }
 {
     let found = find_greatest::<LastPatch, S>(tx, alloc, &change)?;
     Ok(is_last(patch, found))
@@ -149,7 +148,7 @@ fn find_sent<S: Alter>(
     merged: bool,
 ) -> Result<Option<Option<(ChangeNo, PatchNo)>>, Error>
     ensures same_reference { tx.new.conn.ghost_name ≡ tx.old.conn.ghost_name }
-    ensures looks { Looks (λ db found. Knows found (IsFoundSent merged base.now db)) (state S.Store tx.old.conn.now) (state S.Store tx.new.conn.now) result }
+    ensures looks { Looks (λ db found. IfTold db (IsFoundSent merged base.now db) found) (state S.Store tx.old.conn.now) (state S.Store tx.new.conn.now) result }
 {
     let found = find_all::<Sent, S>(tx, alloc, &base.commit)?;
     let Some(sent) = found else {
@@ -173,13 +172,13 @@ fn tell_sender(
     found: Option<Option<(ChangeNo, PatchNo)>>,
     rows: &mut Rows,
 ) -> Sight
-    ensures told { (db : Trees) → Knows found (IsFoundSent false base.now db) → Sees (want.ChangeOf base.now) rows.old rows.new db result }
+    ensures told { (db : Trees) → IfTold db (IsFoundSent false base.now db) found → Sees (want.ChangeOf base.now) rows.old rows.new db result }
     ensures learnt { result ≡ Sight.Learnt → HasLearnt (want.ChangeOf base.now) rows.old rows.new }
 {
     match found {
         Some(Some(sent)) => learnt(learn_change_of(alloc, base, Some(sent.0), rows)),
         Some(None) => learnt(learn_change_of(alloc, base, None, rows)),
-        None => Sight::Odd,
+        None => Sight::Damaged,
     }
 }
 
@@ -232,7 +231,7 @@ fn find_outside<S: Alter>(
 {
     let found = find_sent(tx, alloc, base, false)?;
     let Some(sent) = found else {
-        return Ok(Sight::Odd);
+        return Ok(Sight::Damaged);
     };
     Ok(tell_standing(alloc, base, standing_outside(sent), rows))
 }
@@ -250,7 +249,7 @@ fn find_merged<S: Alter>(
 {
     let found = find_sent(tx, alloc, base, true)?;
     let Some(merged) = found else {
-        return Ok(Sight::Odd);
+        return Ok(Sight::Damaged);
     };
     if merged.is_some() {
         return Ok(tell_standing(alloc, base, Standing::InBranch, rows));
@@ -272,7 +271,7 @@ pub fn find_standing<S: Alter>(
 {
     let found = is_base(tx, alloc, base)?;
     let Some(is) = found else {
-        return Ok(Sight::Odd);
+        return Ok(Sight::Damaged);
     };
     if is {
         return Ok(tell_standing(alloc, base, Standing::InBranch, rows));

@@ -34,3 +34,8 @@ HasGreatest s place a db (Some x) = (r : Raw) × IsGreatest place (rows_at (s.at
 abbrev pub first_as : {X : Type 0} → (Raw → Option X) → List Raw → Option (Option X)
 first_as read [] = None
 first_as read (r ∷ rows) = Some (read r)
+
+-- one of the rows of a look-up as it reads, or that there is none
+abbrev pub HasOne : {A X : Type 0} → Search A X → A → Trees → Option (Option X) → Type 0
+HasOne s a db None = rows_at (s.at a) (db s.tree) ≡ []
+HasOne s a db (Some x) = (r : Raw) × Has (rows_at (s.at a) (db s.tree)) r × (x ≡ reads s r)

@@ -1,8 +1,10 @@
 -- What was found, as it reads.
-use Rattle.std.proofs.Common.{◌≡◌, ◌∙◌, ℕ, pos, ◌≤◌, List, [], ◌∷◌, map, length, not, Bool, true, false, Option, Some, None, Ok, Err, Result, IfOk, OnOk, refl, sym, ap, subst, arith, slice_get, is_some, IsTrue}
-use Rattle.std.specs.List.{list_any}
+use Rattle.std.proofs.Common.{◌≡◌, ◌∙◌, ℕ, pos, ◌≤◌, List, [], ◌∷◌, map, length, not, Bool, true, false, Option, Some, None, Ok, Err, Result, IfOk, OnOk, refl, sym, ap, subst, arith, slice_get, is_some, IsTrue, inl, inr}
+use Rattle.std.specs.List.{list_any, AllByRecursion}
+use Rattle.std.proofs.lemmas.List.Elements.{recursion_from_All, All-from_recursion}
+use Rattle.sqlite_rules.specs.Lists.{Has}
 use Rattle.std.specs.List.Sorted.{IsPermutation}
-use Rattle.std.proofs.lemmas.List.Sorted.{length_permutation, IsPermutation-map}
+use Rattle.std.proofs.lemmas.List.Sorted.{length_permutation, IsPermutation-map, All-permutation}
 use Rattle.sqlite_value.specs.Order.{Row}
 use Rattle.sqlite_trees.specs.Tree.{Trees}
 use Rattle.sqlite_keyed.proofs.ListLemmas.{IsPermutation-filter, none_counted, map-map}
@@ -14,6 +16,7 @@ use Rattle.sqlite.specs.declared.error.Error.{Error}
 use Rattle.sqlite.proofs.Callers.{one_permutation}
 use Rattle.review_statements.specs.Ran.{Looks}
 use Rattle.review_statements.specs.Search.{Search, reads, only, row_at, rows_at, Finds, WereRead, AreFound}
+use Rattle.review_statements.specs.Greatest.{HasOne, first_as}
 
 -- one row of a table is shown as one row
 only_shown : {X : Type 0} (f : Row → Row) (read : Row → Option X) (xs ys : List Row) → IsPermutation (map f xs) ys → only read ys ≡ only (λ r. read (f r)) xs
@@ -92,3 +95,20 @@ look_both {X} {Y} F G a b c x r one two = record {
         → IfOk r (λ y. (c.now ≡ a.now) × IsTrue c.is_open × (F a.now.trees x × G a.now.trees y))
     by_found (Ok y) first second = (second.0 ∙ first.0, second.1, (first.2, subst (λ (t : Trees). G t y) (ap (λ (d : Database). d.trees) first.0) second.2))
     by_found (Err e) first second = tt
+
+-- one of the rows that are shown
+pub any_found : {A X : Type 0} (s : Search A X) (db : Trees) (a : A) (rows : List Row) → Finds s a db rows → HasOne s a db (first_as s.read rows)
+any_found s db a [] h = none (rows_at (s.at a) (db s.tree)) h
+  where
+    none : (xs : List Row) → IsPermutation (map s.shown xs) [] → xs ≡ []
+    none [] h = refl
+    none (x ∷ xs) h = absurd (let e = length_permutation _ _ h in omega (arith, e))
+any_found s db a (y ∷ ys) h =
+    let mine = rows_at (s.at a) (db s.tree) in
+    let Shows : Row → Type 0 = λ v. (r : Row) × Has mine r × (v ≡ s.shown r) in
+    let it = (recursion_from_All Shows (y ∷ ys) (All-permutation Shows (map s.shown mine) (y ∷ ys) h (All-from_recursion Shows _ (all_shown s.shown mine mine (λ r has. has))))).0 in
+    (it.0, it.1, ap s.read it.2)
+  where
+    all_shown : (f : Row → Row) (mine xs : List Row) → ((r : Row) → Has xs r → Has mine r) → AllByRecursion (λ v. (r : Row) × Has mine r × (v ≡ f r)) (map f xs)
+    all_shown f mine [] within = tt
+    all_shown f mine (x ∷ xs) within = ((x, within x (inl refl), refl), all_shown f mine xs (λ r has. within r (inr has)))

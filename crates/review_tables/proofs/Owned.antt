@@ -1,25 +1,21 @@
 -- What is found of an owner's rows, as it reads.
-use Rattle.std.proofs.lemmas.List.{length-map, map-append, append-nil, take_more}
-use Rattle.std.proofs.Common.{◌≤◌, ◌<◌, ◌+◌, ℕ, get_or, take, ◌≡◌, ◌∙◌, List, [], ◌∷◌, ◌++◌, Bool, true, false, Ordering, Option, Some, None, option_map, option_to_list, cond, map, filter, length, refl, sym, ap, subst, inl, inr, arith}
+use Rattle.std.proofs.lemmas.List.{length-map, length-append, map-append, append-nil, take_more, take-append-drop}
+use Rattle.std.proofs.Common.{◌≤◌, ◌<◌, ◌+◌, ◌||◌, ℕ, zero, suc, not, is_some, drop, get_or, take, ◌≡◌, ◌∙◌, List, [], ◌∷◌, ◌++◌, Bool, true, false, Ordering, Option, Some, None, option_map, option_to_list, cond, map, filter, length, refl, sym, ap, subst, inl, inr, arith}
 use Rattle.std.specs.BTreeMap.{is_at}
-use Rattle.std.specs.List.{AllByRecursion}
+use Rattle.std.specs.List.{AllByRecursion, list_any}
 use Rattle.std.specs.List.Sorted.{IsPermutation}
-use Rattle.std.proofs.lemmas.Bool.{cases_Bool, both_ways}
+use Rattle.std.proofs.lemmas.Bool.{cases_Bool, both_ways, or_right}
+use Rattle.review_tables.proofs.Found.{all_found}
 use Rattle.std.proofs.lemmas.List.Sorted.{length_permutation, IsPermutation-map, All-permutation, IsPermutation-sym}
 use Rattle.std.proofs.lemmas.List.Elements.{filter-append, recursion_from_All, All-from_recursion}
 use Rattle.sqlite_value.specs.Order.{Row}
 use Rattle.sqlite_trees.specs.Tree.{Trees}
 use Rattle.sqlite_keyed.proofs.ListLemmas.{IsPermutation-filter, filter-map, filter-filter, map-map, all_unmap}
 use Rattle.sqlite.proofs.Callers.{one_permutation}
-use Rattle.review_table.specs.Rows.{row_in, rows_of}
+use Rattle.review_table.specs.Rows.{row_in}
 use Rattle.review_statements.specs.Content.{has_key}
-use Rattle.review_tables.specs.Fronts.{IsFront, IsExact, WereApart, HaveRows, Knows, at_key}
-use Rattle.review_statements.specs.Search.{Search, reads, only, rows_at, Finds}
-
--- whether something that was read has the key
-abbrev pub has : {K X : Type 0} → (K → K → Ordering) → K → Option (K × X) → Bool
-has cmp k None = false
-has cmp k (Some e) = is_at (cmp e.0) k
+use Rattle.review_tables.specs.Fronts.{IsFront, IsExact, WereApart, WereSorted, HasTwins, AreParts, HaveRows, is_of, at_key}
+use Rattle.review_statements.specs.Search.{Search, HasOdd, reads, row_at, only, rows_at, Finds}
 
 -- it is there
 abbrev IsThere : {X : Type 0} → Option X → Type 0
@@ -29,8 +25,8 @@ some_all : {X : Type 0} (xs : List X) → AllByRecursion IsThere (map Some xs)
 some_all [] = tt
 some_all (x ∷ xs) = ((x, refl), some_all xs)
 
-has_some : {K X : Type 0} (cmp : K → K → Ordering) (k : K) (items : List (K × X)) → filter (has cmp k) (map Some items) ≡ map Some (at_key cmp k items)
-has_some cmp k items = filter-map (has cmp k) Some items
+has_some : {K X : Type 0} (cmp : K → K → Ordering) (k : K) (items : List (K × X)) → filter (is_of cmp k) (map Some items) ≡ map Some (at_key cmp k items)
+has_some cmp k items = filter-map (is_of cmp k) Some items
 
 -- two tests agree on rows of which something holds
 filter_where : {X : Type 0} (P : X → Type 0) (p q : X → Bool) → ((x : X) → P x → p x ≡ q x) → (xs : List X) → AllByRecursion P xs → filter p xs ≡ filter q xs
@@ -70,12 +66,27 @@ read_one f g snd (r ∷ s ∷ rows) items o same is reads =
     let e = length-map items snd in
     absurd (omega (arith, a, b, d, e, short o))
 
+-- several rows are odd
+several : {X : Type 0} (read : Row → Option X) (rows : List Row) → 1 < length rows → only read rows ≡ Some None
+several read [] two = absurd (omega (arith, two))
+several read (r ∷ []) two = absurd (omega (arith, two))
+several read (r ∷ s ∷ rows) two = refl
+
+reads_so : {X : Type 0} (o : Option X) (rest : Bool) → (not (is_some o) || rest) ≡ false → IsThere o × (rest ≡ false)
+reads_so None rest none = absurd (cc)
+reads_so (Some x) rest none = ((x, refl), none)
+
+-- where none is odd, each row reads
+all_there : {X : Type 0} (read : Row → Option X) (rows : List Row) → list_any (λ r. not (is_some (read r))) rows ≡ false → AllByRecursion (λ r. IsThere (read r)) rows
+all_there read [] none = tt
+all_there read (r ∷ rows) none = let it = reads_so (read r) _ none in (it.0, all_there read rows it.1)
+
 module _ {O K X : Type 0} (cmp : K → K → Ordering) (front : Search O (K × X)) (whole : Search (O × K) X) (law : IsFront cmp front whole) (o : O) (db : Trees) where
   abbrev mine : List Row
   mine = rows_at (front.at o) (db front.tree)
 
   -- an owner's row that reads is of the key just where it reads so
-  agree : (k : K) (r : Row) → (has_key (front.at o) r ≡ true) × IsThere (reads front r) → has_key (whole.at (o, k)) r ≡ has cmp k (reads front r)
+  agree : (k : K) (r : Row) → (has_key (front.at o) r ≡ true) × IsThere (reads front r) → has_key (whole.at (o, k)) r ≡ is_of cmp k (reads front r)
   agree k r h = elim (cases_Bool (has_key (whole.at (o, k)) r)) [
     | inl is ↦ rw (is, h.1.1) (sym (subst (λ j. is_at (cmp j) k ≡ true) (sym (law.alone o h.1.0.0 k h.1.0.1 r h.1.1 is)) (law.exact.itself k)))
     | inr other ↦ rw (other, h.1.1) (elim (cases_Bool (is_at (cmp h.1.0.0) k)) [
@@ -91,18 +102,36 @@ module _ {O K X : Type 0} (cmp : K → K → Ordering) (front : Search O (K × X
       let there : AllByRecursion (λ r. IsThere (reads front r)) mine =
       all_unmap IsThere (reads front) mine (recursion_from_All IsThere _ (All-permutation IsThere _ _ (IsPermutation-sym _ _ same) (All-from_recursion IsThere _ (some_all were.items)))) in
       let both = all_both (λ r. has_key (front.at o) r ≡ true) (λ r. IsThere (reads front r)) mine (all_pass (has_key (front.at o)) (db front.tree)) there in
-      let here : filter (has_key (whole.at (o, k))) (db whole.tree) ≡ filter (λ r. has cmp k (reads front r)) mine =
+      let here : filter (has_key (whole.at (o, k))) (db whole.tree) ≡ filter (λ r. is_of cmp k (reads front r)) mine =
       ap (λ t. filter (has_key (whole.at (o, k))) (db t)) (sym law.tree)
       ∙ (sym (filter-filter (has_key (whole.at (o, k))) (has_key (front.at o)) (λ r. law.within o k r) (db front.tree))
       ∙ filter_where (λ r. (has_key (front.at o) r ≡ true) × IsThere (reads front r)) _ _ (agree k) mine both) in
-      let picked : IsPermutation (map (reads front) (filter (λ r. has cmp k (reads front r)) mine)) (map Some (at_key cmp k were.items)) =
-      subst (IsPermutation _) (has_some cmp k were.items) (subst (λ l. IsPermutation l (filter (has cmp k) (map Some were.items))) (filter-map (has cmp k) (reads front) mine) (IsPermutation-filter (has cmp k) _ _ same)) in
+      let picked : IsPermutation (map (reads front) (filter (λ r. is_of cmp k (reads front r)) mine)) (map Some (at_key cmp k were.items)) =
+      subst (IsPermutation _) (has_some cmp k were.items) (subst (λ l. IsPermutation l (filter (is_of cmp k) (map Some were.items))) (filter-map (is_of cmp k) (reads front) mine) (IsPermutation-filter (is_of cmp k) _ _ same)) in
       ap (only (reads whole)) here
-      ∙ read_one (reads front) (reads whole) (λ e. e.1) (filter (λ r. has cmp k (reads front r)) mine) (at_key cmp k were.items) (row_in cmp entries k) picked (were.each k) (λ r y is. law.shows o y.0 y.1 r is)
+      ∙ read_one (reads front) (reads whole) (λ e. e.1) (filter (λ r. is_of cmp k (reads front r)) mine) (at_key cmp k were.items) (row_in cmp entries k) picked (were.each k) (λ r y is. law.shows o y.0 y.1 r is)
 
-  pub known_owned : (rows : List Row) (found : Option (List (K × Option X))) → Knows found (λ t. WereApart cmp front.read rows (rows_of t)) → Finds front o db rows → Knows found (λ t. HaveRows cmp whole o db (rows_of t))
-  known_owned rows None were h = tt
-  known_owned rows (Some t) were h = owned rows (rows_of t) were h
+  -- where each row reads, two that read with one key stand at one key
+  twins : (k : K) → AllByRecursion (λ r. IsThere (reads front r)) mine → 1 < length (filter (λ r. is_of cmp k (reads front r)) mine) → row_at whole db (o, k) ≡ Some None
+  twins k there two =
+      let both = all_both (λ r. has_key (front.at o) r ≡ true) (λ r. IsThere (reads front r)) mine (all_pass (has_key (front.at o)) (db front.tree)) there in
+      let here : filter (has_key (whole.at (o, k))) (db whole.tree) ≡ filter (λ r. is_of cmp k (reads front r)) mine =
+      ap (λ t. filter (has_key (whole.at (o, k))) (db t)) (sym law.tree)
+      ∙ (sym (filter-filter (has_key (whole.at (o, k))) (has_key (front.at o)) (λ r. law.within o k r) (db front.tree))
+      ∙ filter_where (λ r. (has_key (front.at o) r ≡ true) × IsThere (reads front r)) _ _ (agree k) mine both) in
+      ap (only (reads whole)) here ∙ several (reads whole) (filter (λ r. is_of cmp k (reads front r)) mine) two
+
+  pub sorted_owned : (rows : List Row) (found : Option (List (K × X))) → WereSorted cmp front.read rows found → Finds front o db rows → AreParts cmp front whole o db found
+  sorted_owned rows None (inl odd) h = inl (all_found front db o rows None odd h)
+  sorted_owned rows None (inr both) h = elim (cases_Bool (list_any (λ r. not (is_some (reads front r))) mine)) [
+    | inl odd ↦ inl odd
+    | inr none ↦
+        let same = IsPermutation-filter (λ e. is_of cmp both.0 (front.read e)) _ _ h in
+        let shown : length (filter (λ r. is_of cmp both.0 (front.read r)) (map front.shown mine)) ≡ length (filter (λ r. is_of cmp both.0 (reads front r)) mine) =
+        ap length (filter-map (λ e. is_of cmp both.0 (front.read e)) front.shown mine) ∙ length-map (filter (λ r. is_of cmp both.0 (reads front r)) mine) front.shown in
+        inr (both.0, twins both.0 (all_there (reads front) mine none) (omega (arith, length_permutation _ _ same, shown, both.1)))
+  ]
+  sorted_owned rows (Some entries) were h = owned rows entries were h
 
 -- ---- one more row that was read
 
@@ -128,3 +157,30 @@ module _ {K X : Type 0} (cmp : K → K → Ordering) (exact : IsExact cmp) (read
   pub step_apart : (all : List Row) (i : ℕ) (r : Row) (e : K × X) (old new : List (K × X)) → i < length all → r ≡ get_or all i r → WereApart cmp read (take i all) old → read r ≡ Some e → row_in cmp old e.0 ≡ None
       → ((k : K) → row_in cmp new k ≡ cond (is_at (cmp e.0) k) (Some e.1) (row_in cmp old k)) → WereApart cmp read (take (i + 1) all) new
   step_apart all i r e old new low at were is free put = subst (λ l. WereApart cmp read l new) (sym (take_more all i r low ∙ (λ k. take i all ++ sym at k ∷ []))) (more_apart (take i all) r e.0 e.1 old new were is free put)
+
+  one_there : (o : Option X) → is_some o ≡ true → length (option_to_list o) ≡ 1
+  one_there None is = absurd (cc)
+  one_there (Some x) is = refl
+
+  -- a row that reads with the key of one before it
+  pub twins_found : (all : List Row) (i : ℕ) (r : Row) (e : K × X) (old : List (K × X)) → i < length all → r ≡ get_or all i r → WereApart cmp read (take i all) old → read r ≡ Some e → is_some (row_in cmp old e.0) ≡ true → HasTwins cmp read all
+  twins_found all i r e old low at were is there =
+      let k = e.0 in
+      let test : Row → Bool = λ q. is_of cmp k (read q) in
+      let items : length (at_key cmp k were.items) ≡ 1 = sym (length-map (at_key cmp k were.items) (λ q. q.1)) ∙ (ap length (were.each k) ∙ one_there (row_in cmp old k) there) in
+      let before : length (filter test (take i all)) ≡ 1 =
+      sym (length-map (filter test (take i all)) read) ∙ (ap length (sym (filter-map (is_of cmp k) read (take i all))) ∙ (ap (λ l. length (filter (is_of cmp k) l)) were.read_as
+      ∙ (ap length (has_some cmp k were.items) ∙ (length-map (at_key cmp k were.items) Some ∙ items)))) in
+      let here : test r ≡ true = rw is (exact.itself k) in
+      let taken : filter test (take (i + 1) all) ≡ filter test (take i all) ++ r ∷ [] =
+      ap (filter test) (take_more all i r low ∙ (λ j. take i all ++ sym at j ∷ [])) ∙ (filter-append test (take i all) (r ∷ []) ∙ ap (λ b. filter test (take i all) ++ cond b (r ∷ []) []) here) in
+      let both : length (filter test (take (i + 1) all)) ≡ 2 = ap length taken ∙ (length-append (filter test (take i all)) (r ∷ []) ∙ ap (λ n. n + 1) before) in
+      let whole : length (filter test all) ≡ length (filter test (take (i + 1) all)) + length (filter test (drop (i + 1) all)) =
+      ap (λ l. length (filter test l)) (sym (take-append-drop (i + 1) all)) ∙ (ap length (filter-append test (take (i + 1) all) (drop (i + 1) all)) ∙ length-append (filter test (take (i + 1) all)) (filter test (drop (i + 1) all))) in
+      (k, omega (arith, both, whole))
+
+-- a row that doesn't read
+pub odd_found : {Y : Type 0} (read : Row → Option Y) (all : List Row) (i : ℕ) (r : Row) → i < length all → r ≡ get_or all i r → read r ≡ None → HasOdd read all
+odd_found read [] i r low at is = absurd (omega (arith, low))
+odd_found read (q ∷ all) zero r low at is = let e : read q ≡ None = ap read (sym at) ∙ is in rw e refl
+odd_found read (q ∷ all) (suc i) r low at is = or_right (not (is_some (read q))) _ (odd_found read all i r (omega (arith, low)) at is)

@@ -1,5 +1,5 @@
 -- Rows that are looked up by the front of their keys: those of an owner.
-use Rattle.std.specs.Prelude.{◌≡◌, true, List, [], ◌∷◌, map, filter, Option, Some, None, option_map, option_to_list}
+use Rattle.std.specs.Prelude.{◌≡◌, ◌<◌, ◌⊎◌, Bool, true, false, List, [], ◌∷◌, map, filter, length, Option, Some, None, option_map, option_to_list}
 use Rattle.std.specs.declared.cmp.Ordering.{Ordering}
 use Rattle.std.specs.BTreeMap.{is_at}
 use Rattle.sqlite_value.specs.Order.{Row as Raw}
@@ -7,7 +7,7 @@ use Rattle.sqlite_trees.specs.Tree.{Trees}
 use Rattle.review_table.specs.declared.table.Change.{Change}
 use Rattle.review_table.specs.Rows.{row_in}
 use Rattle.review_statements.specs.Content.{has_key}
-use Rattle.review_statements.specs.Search.{Search, reads, row_at, SetsRow}
+use Rattle.review_statements.specs.Search.{Search, HasOdd, reads, row_at, rows_at, SetsRow}
 
 -- the order of keys tells them apart
 pub record IsExact {A : Type 0} (cmp : A → A → Ordering) : Type 0 where
@@ -36,6 +36,25 @@ pub record WereApart {K X : Type 0} (cmp : K → K → Ordering) (read : Raw →
 -- the rows of an owner are these, by the rest of their keys
 abbrev pub HaveRows : {O K X : Type 0} → (K → K → Ordering) → Search (O × K) X → O → Trees → List (K × X) → Type 0
 HaveRows {K = K} cmp s o db entries = (k : K) → row_at s db (o, k) ≡ option_map Some (row_in cmp entries k)
+
+-- whether what was read has the key
+abbrev pub is_of : {K X : Type 0} → (K → K → Ordering) → K → Option (K × X) → Bool
+is_of cmp k None = false
+is_of cmp k (Some e) = is_at (cmp e.0) k
+
+-- two of the rows read with one key
+abbrev pub HasTwins : {K X : Type 0} → (K → K → Ordering) → (Raw → Option (K × X)) → List Raw → Type 0
+HasTwins {K = K} cmp read rows = (k : K) × (1 < length (filter (λ r. is_of cmp k (read r)) rows))
+
+-- rows as they read, each key once, or that one is odd, or two have one key
+abbrev pub WereSorted : {K X : Type 0} → (K → K → Ordering) → (Raw → Option (K × X)) → List Raw → Option (List (K × X)) → Type 0
+WereSorted cmp read rows None = HasOdd read rows ⊎ HasTwins cmp read rows
+WereSorted cmp read rows (Some entries) = WereApart cmp read rows entries
+
+-- the rows of an owner by the rest of their keys, or that one of them is odd, or two have one key
+abbrev pub AreParts : {O K X : Type 0} → (K → K → Ordering) → Search O (K × X) → Search (O × K) X → O → Trees → Option (List (K × X)) → Type 0
+AreParts {K = K} cmp front whole o db None = HasOdd (reads front) (rows_at (front.at o) (db front.tree)) ⊎ ((k : K) × (row_at whole db (o, k) ≡ Some None))
+AreParts cmp front whole o db (Some entries) = HaveRows cmp whole o db entries
 
 -- something holds, where it is known
 abbrev pub Knows : {X : Type 0} → Option X → (X → Type 0) → Type 0

@@ -1,9 +1,9 @@
 //! The rows of an owner are looked up and changed, whatever the table.
-ghost use Rattle.std.specs.Prelude.{◌≡◌, IfOk, OnOk};
+ghost use Rattle.std.specs.Prelude.{◌≡◌, option_map, IfOk, OnOk};
 ghost use Rattle.sqlite.specs.Held.{state};
 ghost use Rattle.review_table.specs.Rows.{rows_of};
 ghost use Rattle.review_statements.specs.Content.{Removes};
-ghost use Rattle.review_tables.specs.Fronts.{HaveRows, Knows, WereApart, SetsParts};
+ghost use Rattle.review_tables.specs.Fronts.{AreParts, WereSorted, SetsParts};
 ghost use Rattle.review_statements.specs.Ran.{Inside, Looks, Opens};
 ghost use Rattle.review_statements.specs.Search.{Finds, Puts, SetsRow};
 
@@ -85,7 +85,7 @@ fn read_apart<F: Front>(
     alloc: Global,
     rows: &[Row],
 ) -> Result<Option<Rows<F::Part, F::Item>>, AllocError>
-    ensures { IfOk result (λ found. Knows found (λ t. WereApart F.Part.cmp F.front.read rows.now (rows_of t))) }
+    ensures { IfOk result (λ found. WereSorted F.Part.cmp F.front.read rows.now (option_map (λ t. rows_of t) found)) }
 {
     let mut table = Rows::new(alloc);
     for row in rows {
@@ -108,7 +108,7 @@ pub fn find_parts<F: Front, S: Alter>(
     owner: &F::Owner,
 ) -> Result<Option<Rows<F::Part, F::Item>>, Error>
     ensures same_reference { tx.new.conn.ghost_name ≡ tx.old.conn.ghost_name }
-    ensures looks { Looks (λ db found. Knows found (λ t. HaveRows F.Part.cmp F.search owner.now db (rows_of t))) (state S.Store tx.old.conn.now) (state S.Store tx.new.conn.now) result }
+    ensures looks { Looks (λ db found. AreParts F.Part.cmp F.front F.search owner.now db (option_map (λ t. rows_of t) found)) (state S.Store tx.old.conn.now) (state S.Store tx.new.conn.now) result }
 {
     let rows = F::select(tx, owner)?;
     Ok(read_apart::<F>(alloc, &rows)?)

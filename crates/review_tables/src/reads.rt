@@ -1,6 +1,7 @@
 //! What a look-up finds is read, whatever the table.
 ghost use Rattle.std.specs.Prelude.{◌≡◌, option_map, IfOk};
 ghost use Rattle.sqlite.specs.Held.{state};
+ghost use Rattle.review_statements.specs.Greatest.{first_as, HasOne};
 ghost use Rattle.review_statements.specs.Ran.{Looks};
 ghost use Rattle.review_statements.specs.Search.{only, row_at, WereRead, AreFound};
 
@@ -15,6 +16,16 @@ fn read_one<L: Lookup>(alloc: Global, rows: &[Row]) -> Result<Option<Option<L::I
     if rows.len() > 1 {
         return Ok(Some(None));
     }
+    match rows.first() {
+        Some(row) => Ok(Some(L::read(alloc, row)?)),
+        None => Ok(None),
+    }
+}
+
+// The first row, if there is one.
+fn read_any<L: Lookup>(alloc: Global, rows: &[Row]) -> Result<Option<Option<L::Item>>, AllocError>
+    ensures { IfOk result (λ found. found ≡ first_as L.search.read rows.now) }
+{
     match rows.first() {
         Some(row) => Ok(Some(L::read(alloc, row)?)),
         None => Ok(None),
@@ -60,4 +71,17 @@ pub fn find_all<L: Lookup, S: Alter>(
 {
     let rows = L::select(tx, key)?;
     Ok(read_all::<L>(alloc, &rows)?)
+}
+
+/// One of the rows that a look-up finds, or that it finds none; none for it where it is odd.
+pub fn find_any<L: Lookup, S: Alter>(
+    tx: &mut Transaction<'_, S>,
+    alloc: Global,
+    key: &L::Key,
+) -> Result<Option<Option<L::Item>>, Error>
+    ensures same_reference { tx.new.conn.ghost_name ≡ tx.old.conn.ghost_name }
+    ensures looks { Looks (λ db found. HasOne L.search key.now db found) (state S.Store tx.old.conn.now) (state S.Store tx.new.conn.now) result }
+{
+    let rows = L::select(tx, key)?;
+    Ok(read_any::<L>(alloc, &rows)?)
 }

@@ -1,4 +1,4 @@
-use Rattle.std.proofs.Common.{◌≡◌, ℕ, ℤ, List, Option, Ok}
+use Rattle.std.proofs.Common.{◌≡◌, ℕ, ℤ, List, Option, option_map, Ok}
 use Rattle.std.specs.Ordering.{nat_cmp}
 use Rattle.sqlite.specs.Held.{state}
 use Rattle.sqlite_trees.specs.Tree.{Trees}
@@ -7,10 +7,10 @@ use Rattle.review_changes.specs.declared.rows.Header.{Header}
 use Rattle.review_changes.specs.declared.rows.PatchRow.{PatchRow}
 use Rattle.review_changes.specs.declared.rows.VoteKey.{VoteKey}
 use Rattle.review_changes.specs.Seen.{vote_cmp}
-use Rattle.review_tables.specs.Fronts.{HaveRows, Knows}
+use Rattle.review_tables.specs.Fronts.{AreParts}
 use Rattle.review_statements.specs.Search.{row_at}
 use Rattle.review_tables.proofs.Found.{look_both, look_on}
-use Rattle.review_change_records.specs.Forms.{headers, patches, votes}
+use Rattle.review_change_records.specs.Forms.{headers, patches, votes, change_patches, change_votes}
 use Rattle.review_lookups.specs.Reviews.{AreFoundSets}
 use Rattle.review_lookups.proofs.reviews.find_sets.Goals as goal
 
@@ -18,8 +18,8 @@ pub returns-clause-looks : goal.returns-clause-looks
 returns-clause-looks g c =
     let n = c.args.number in
     let H : Trees → Option (Option Header) → Type 0 = λ db found. found ≡ row_at headers db n in
-    let F_patches : Trees → Option (List (ℕ × Option PatchRow)) → Type 0 = λ db found. Knows found (λ t. HaveRows nat_cmp patches n db (rows_of t)) in
-    let F_votes : Trees → Option (List (VoteKey × Option ℤ)) → Type 0 = λ db found. Knows found (λ t. HaveRows vote_cmp votes n db (rows_of t)) in
+    let F_patches : Trees → Option (List (ℕ × Option PatchRow)) → Type 0 = λ db found. AreParts nat_cmp change_patches patches n db (option_map (λ t. rows_of t) found) in
+    let F_votes : Trees → Option (List (VoteKey × Option ℤ)) → Type 0 = λ db found. AreParts vote_cmp change_votes votes n db (option_map (λ t. rows_of t) found) in
     let s0 = state g.S.Store c.args.tx.now.conn.now in
     let s1 = state g.S.Store c.find.new.tx.conn.now in
     let s2 = state g.S.Store c.find_parts.new.tx.conn.now in

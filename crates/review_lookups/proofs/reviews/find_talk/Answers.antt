@@ -1,4 +1,4 @@
-use Rattle.std.proofs.Common.{ℕ, List, Option, Ok}
+use Rattle.std.proofs.Common.{ℕ, List, Option, option_map, Ok}
 use Rattle.std.specs.Ordering.{nat_cmp}
 use Rattle.sqlite.specs.Held.{state}
 use Rattle.sqlite_trees.specs.Tree.{Trees}
@@ -6,18 +6,18 @@ use Rattle.review_table.specs.Rows.{rows_of}
 use Rattle.review_words.specs.declared.changes.Role.{Role}
 use Rattle.review_changes.specs.declared.rows.Called.{Called}
 use Rattle.review_changes.specs.declared.rows.CommentRow.{CommentRow}
-use Rattle.review_tables.specs.Fronts.{HaveRows, Knows}
+use Rattle.review_tables.specs.Fronts.{AreParts}
 use Rattle.review_tables.proofs.Found.{look_both, look_on}
-use Rattle.review_change_records.specs.Forms.{calls, comments, roles}
+use Rattle.review_change_records.specs.Forms.{calls, comments, roles, change_calls, change_comments, change_roles}
 use Rattle.review_lookups.specs.Reviews.{AreFoundTalk}
 use Rattle.review_lookups.proofs.reviews.find_talk.Goals as goal
 
 pub returns-clause-looks : goal.returns-clause-looks
 returns-clause-looks g c =
     let n = c.args.number in
-    let F_roles : Trees → Option (List (ℕ × Option Role)) → Type 0 = λ db found. Knows found (λ t. HaveRows nat_cmp roles n db (rows_of t)) in
-    let F_comments : Trees → Option (List (ℕ × Option CommentRow)) → Type 0 = λ db found. Knows found (λ t. HaveRows nat_cmp comments n db (rows_of t)) in
-    let F_attention : Trees → Option (List (ℕ × Option Called)) → Type 0 = λ db found. Knows found (λ t. HaveRows nat_cmp calls n db (rows_of t)) in
+    let F_roles : Trees → Option (List (ℕ × Option Role)) → Type 0 = λ db found. AreParts nat_cmp change_roles roles n db (option_map (λ t. rows_of t) found) in
+    let F_comments : Trees → Option (List (ℕ × Option CommentRow)) → Type 0 = λ db found. AreParts nat_cmp change_comments comments n db (option_map (λ t. rows_of t) found) in
+    let F_attention : Trees → Option (List (ℕ × Option Called)) → Type 0 = λ db found. AreParts nat_cmp change_calls calls n db (option_map (λ t. rows_of t) found) in
     let s0 = state g.S.Store c.args.tx.now.conn.now in
     let s1 = state g.S.Store c.find_parts.new.tx.conn.now in
     let s2 = state g.S.Store c.find_parts-2.new.tx.conn.now in

@@ -1,12 +1,12 @@
-use Rattle.std.proofs.Common.{Vec, Global, rules, ◌≡◌, subst, Ok}
+use Rattle.std.proofs.Common.{Vec, Global, rules, ◌≡◌, option_map, subst, Ok}
 use Rattle.sqlite.specs.Held.{state}
 use Rattle.sqlite.specs.declared.rows.Row.{Row}
 use Rattle.sqlite_trees.specs.Tree.{Trees}
 use Rattle.review_table.specs.Rows.{rows_of}
-use Rattle.review_tables.specs.Fronts.{Knows, WereApart}
+use Rattle.review_tables.specs.Fronts.{WereSorted}
 use Rattle.review_statements.specs.Search.{Finds}
 use Rattle.review_tables.proofs.Found.{look_on}
-use Rattle.review_tables.proofs.Owned.{known_owned}
+use Rattle.review_tables.proofs.Owned.{sorted_owned}
 use Rattle.review_tables.proofs.fronts.find_parts.Goals as goal
 
 pub returns-clause-looks : goal.returns-clause-looks
@@ -20,4 +20,5 @@ returns-clause-looks g c =
     let rows = c.in_ok-rows.rows in
     let same : c.deref.result.now ≡ rows.items = search rules in
     look_on F _ a m rows (Ok c.in_ok-read_apart.field-0) c.in_ok-rows.ensures.looks
-    (λ db h. known_owned cmp front g.F.Front.search g.met.F.Front.lawful owner db rows.items c.in_ok-read_apart.field-0 (subst (λ l. Knows c.in_ok-read_apart.field-0 (λ t. WereApart cmp front.read l (rows_of t))) same c.in_ok-read_apart.ensures) h)
+    (λ db h. sorted_owned cmp front g.F.Front.search g.met.F.Front.lawful owner db rows.items (option_map (λ t. rows_of t) c.in_ok-read_apart.field-0)
+    (subst (λ l. WereSorted cmp front.read l (option_map (λ t. rows_of t) c.in_ok-read_apart.field-0)) same c.in_ok-read_apart.ensures) h)

@@ -1,0 +1,35 @@
+-- Which stored rows have a key of their table: those whose columns of the key read as values of its kinds.
+use Rattle.std.specs.Prelude.{ℕ, ◌&&◌, Bool, true, false, is_some, nat_le}
+use Rattle.sqlite_value.specs.declared.value.Value.{Value}
+use Rattle.sqlite_value.specs.declared.value.Value.TheVariants.{Null, Int, Real, Text, Blob}
+use Rattle.sqlite_value.specs.Order.{Row, column}
+use Rattle.review_names.specs.Names.{is_account_number}
+use Rattle.review_tables.specs.Columns.{number_in}
+use Rattle.review_records.specs.Forms.{where_is}
+
+-- whether a value is a number that passes a test
+abbrev pub is_number : (ℕ → Bool) → Value → Bool
+is_number test v = is_some (where_is test (number_in v))
+
+-- whether a value is a text
+abbrev pub is_text : Value → Bool
+is_text Null = false
+is_text (Int n) = false
+is_text (Real x) = false
+is_text (Text t) = true
+is_text (Blob b) = false
+
+abbrev pub account_keyed : Row → Bool
+account_keyed r = is_number is_account_number (column r 0)
+
+abbrev pub member_keyed : Row → Bool
+member_keyed r = is_text (column r 1) && is_number is_account_number (column r 2)
+
+abbrev pub project_keyed : Row → Bool
+project_keyed r = is_text (column r 1)
+
+abbrev pub base_keyed : Row → Bool
+base_keyed r = is_text (column r 1) && (is_text (column r 2) && is_number (nat_le 1) (column r 3))
+
+abbrev pub answer_keyed : Row → Bool
+answer_keyed r = is_number is_account_number (column r 1) && is_text (column r 2)
