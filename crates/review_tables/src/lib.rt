@@ -1,13 +1,6 @@
 //! The tables of a desk in SQLite.
 #![tactic(auto)]
 
-pub mod changes;
+pub mod bound;
 pub mod columns;
-pub mod creating;
-pub mod fronts;
-pub mod greatest;
-pub mod reads;
-pub mod rowids;
-mod schemas;
 pub mod table;
-pub mod trees;

@@ -1,16 +1,21 @@
-//! Tables: how their rows are looked up, put and taken away.
+//! Tables: the texts that look rows up, put them in and take them away, and how rows read and are stored.
 ghost use Rattle.std.specs.Prelude.{◌≡◌, true, IfOk, OnOk};
 ghost use Rattle.sqlite.specs.Held.{state};
 ghost use Rattle.review_statements.specs.Content.{Removes};
 ghost use Rattle.review_statements.specs.Ran.{Inside, Looks, Opens};
 ghost use Rattle.review_statements.specs.Search.{Finds, Puts};
+ghost use Rattle.review_statements.specs.Texts.{values_of};
 
+use crate::bound::Bound;
 use sqlite::{Alter, Error, Row, Transaction};
 use std::alloc::{AllocError, Global};
 
 /// A look-up of rows by the values of some columns.
 pub trait Lookup {
+    ghost use Rattle.std.specs.Prelude.{ℕ, List};
+    ghost use Rattle.std.specs.Borrow.{Bor};
     ghost use Rattle.review_statements.specs.Search.{Search};
+    ghost use Rattle.review_statements.specs.Texts.{Asks, rows_where};
 
     /// The values that are asked for.
     type Key;
@@ -18,82 +23,132 @@ pub trait Lookup {
     /// What a row reads as.
     type Item: Drop;
 
+    /// The text that asks for them.
+    const TEXT: &'static str;
+
+    /// The text that asks for them.
+    ghost TEXT: { Bor (List ℕ) };
+
     /// The table, its columns, and how rows are read.
     ghost search: { Search Self.Key Self.Item };
 
-    /// The rows, as the store has them, in any order.
-    fn select<S: Alter>(tx: &mut Transaction<'_, S>, key: &Self::Key) -> Result<Vec<Row>, Error>
-        ensures same_reference { tx.new.conn.ghost_name ≡ tx.old.conn.ghost_name }
-        ensures looks { Looks (λ db rows. Finds search key.now db rows.items) (state S.Store tx.old.conn.now) (state S.Store tx.new.conn.now) result };
+    /// The values that the text is asked with.
+    fn bind<'a>(key: &'a Self::Key) -> Result<Bound<'a>, Error>
+        ensures { IfOk result (λ values. values ≡ values_of (search.at key.now)) };
 
     /// A row as it reads; none where it is no row of the table.
     fn read(alloc: Global, row: &Row) -> Result<Option<Self::Item>, AllocError>
         ensures { IfOk result (λ item. item ≡ search.read row.now) };
+
+    /// The text asks for the rows that have these values.
+    ghost asks: { (key : Self.Key) → Asks TEXT.now (rows_where search.tree (search.at key) search.columns) };
 }
 
-/// A table, whose rows are looked up by their keys.
-pub trait Table: Lookup {
-    ghost use Rattle.review_statements.specs.Search.{Form, IsLawful};
+/// The rows of a look-up, as the store has them, in any order.
+pub fn select<L: Lookup, S: Alter>(
+    tx: &mut Transaction<'_, S>,
+    key: &L::Key,
+) -> Result<Vec<Row>, Error>
+    ensures same_reference { tx.new.conn.ghost_name ≡ tx.old.conn.ghost_name }
+    ensures looks { Looks (λ db rows. Finds L.search key.now db rows.items) (state S.Store tx.old.conn.now) (state S.Store tx.new.conn.now) result }
+{
+    let values = L::bind(key)?;
+    tx.query_all(L::TEXT, values.as_slice())
+}
+
+/// A table, whose rows are put in and taken away by their keys.
+pub trait Table {
+    ghost use Rattle.std.specs.Prelude.{ℕ, List};
+    ghost use Rattle.std.specs.Borrow.{Bor};
+    ghost use Rattle.review_statements.specs.Search.{Search, Form, IsLawful};
+    ghost use Rattle.review_statements.specs.Texts.{Deletes, Inserts};
+
+    /// What the keys of an owner's rows begin with; `()` where rows have no owner.
+    type Owner;
+
+    /// The rest of a key.
+    type Part;
+
+    /// A whole key.
+    type Key;
+
+    /// What a row has beside its key.
+    type Row;
+
+    /// The text that puts a row in.
+    const INSERT: &'static str;
+
+    /// The text that puts a row in.
+    ghost INSERT: { Bor (List ℕ) };
+
+    /// The text that takes the rows of a key away.
+    const DELETE: &'static str;
+
+    /// The text that takes the rows of a key away.
+    ghost DELETE: { Bor (List ℕ) };
+
+    /// How a row is looked up by its key.
+    ghost search: { Search Self.Key Self.Row };
 
     /// How a row is stored.
-    ghost form: { Form Self.Key Self.Item };
+    ghost form: { Form Self.Key Self.Row };
 
-    /// Puts a row in under a key.
-    fn insert<S: Alter>(
-        tx: &mut Transaction<'_, S>,
-        key: &Self::Key,
-        row: &Self::Item,
-    ) -> Result<usize, Error>
-        ensures same_reference { tx.new.conn.ghost_name ≡ tx.old.conn.ghost_name }
-        ensures ran { Inside (Puts Self.search form key.now row.now) (state S.Store tx.old.conn.now) (state S.Store tx.new.conn.now) result }
-        ensures open { Opens (state S.Store tx.old.conn.now) (state S.Store tx.new.conn.now) result }
+    /// The key of an owner and the rest of a key.
+    ghost key: { Self.Owner → Self.Part → Self.Key };
+
+    /// The values of a key.
+    fn bind_key<'a>(owner: &'a Self::Owner, part: &'a Self::Part) -> Result<Bound<'a>, Error>
+        ensures { IfOk result (λ values. values ≡ values_of (search.at (key owner.now part.now))) };
+
+    /// The values of a row with its key; a text that is made for one of them is put into the buffer. It fails where the row would not read as itself.
+    fn bind_row<'a>(
+        alloc: Global,
+        owner: &'a Self::Owner,
+        part: &'a Self::Part,
+        row: &'a Self::Row,
+        buffer: &'a mut String,
+    ) -> Result<Bound<'a>, Error>
+        ensures values { IfOk result (λ values. values ≡ form.values (key owner.now part.now) row.now) }
         ensures good { OnOk result (form.is_good row.now ≡ true) };
 
-    /// Takes the rows of a key away.
-    fn remove<S: Alter>(tx: &mut Transaction<'_, S>, key: &Self::Key) -> Result<usize, Error>
-        ensures same_reference { tx.new.conn.ghost_name ≡ tx.old.conn.ghost_name }
-        ensures ran { Inside (Removes Self.search.tree (Self.search.at key.now)) (state S.Store tx.old.conn.now) (state S.Store tx.new.conn.now) result }
-        ensures open { Opens (state S.Store tx.old.conn.now) (state S.Store tx.new.conn.now) result };
+    /// The text puts rows in.
+    ghost inserts: { (key : Self.Key) (row : Self.Row) → Inserts INSERT.now search.tree (form.values key row) (form.stored key row) };
+
+    /// The text takes the rows of a key away.
+    ghost deletes: { (key : Self.Key) → Deletes DELETE.now search.tree (search.at key) };
 
     /// A row has one key, and reads as what was put in.
-    ghost lawful: { IsLawful Self.search form };
+    ghost lawful: { IsLawful search form };
 }
 
-/// A table whose rows are put as whole records, which have their keys in them.
-pub trait Records: Lookup {
-    ghost use Rattle.review_statements.specs.Search.{Form, IsLawful};
+/// Puts a row in under a key.
+pub fn insert<T: Table, S: Alter>(
+    tx: &mut Transaction<'_, S>,
+    alloc: Global,
+    owner: &T::Owner,
+    part: &T::Part,
+    row: &T::Row,
+) -> Result<usize, Error>
+    ensures same_reference { tx.new.conn.ghost_name ≡ tx.old.conn.ghost_name }
+    ensures ran { Inside (Puts T.search T.form (T.key owner.now part.now) row.now) (state S.Store tx.old.conn.now) (state S.Store tx.new.conn.now) result }
+    ensures open { Opens (state S.Store tx.old.conn.now) (state S.Store tx.new.conn.now) result }
+    ensures good { OnOk result (T.form.is_good row.now ≡ true) }
+{
+    let mut buffer = String::new(alloc);
+    let values = T::bind_row(alloc, owner, part, row, &mut buffer)?;
+    tx.execute(T::INSERT, values.as_slice())
+}
 
-    /// A row with its key.
-    type Record;
-
-    /// How a row is stored.
-    ghost form: { Form Self.Key Self.Item };
-
-    /// The key of a record.
-    ghost key: { Self.Record → Self.Key };
-
-    /// The row of a record.
-    ghost item: { Self.Record → Self.Item };
-
-    /// Puts a record in.
-    fn insert_record<S: Alter>(
-        tx: &mut Transaction<'_, S>,
-        whole: &Self::Record,
-    ) -> Result<usize, Error>
-        ensures same_reference { tx.new.conn.ghost_name ≡ tx.old.conn.ghost_name }
-        ensures ran { Inside (Puts Self.search form (key whole.now) (item whole.now)) (state S.Store tx.old.conn.now) (state S.Store tx.new.conn.now) result }
-        ensures open { Opens (state S.Store tx.old.conn.now) (state S.Store tx.new.conn.now) result }
-        ensures good { OnOk result (form.is_good (item whole.now) ≡ true) };
-
-    /// Takes the rows of a record's key away.
-    fn remove_record<S: Alter>(
-        tx: &mut Transaction<'_, S>,
-        whole: &Self::Record,
-    ) -> Result<usize, Error>
-        ensures same_reference { tx.new.conn.ghost_name ≡ tx.old.conn.ghost_name }
-        ensures ran { Inside (Removes Self.search.tree (Self.search.at (key whole.now))) (state S.Store tx.old.conn.now) (state S.Store tx.new.conn.now) result }
-        ensures open { Opens (state S.Store tx.old.conn.now) (state S.Store tx.new.conn.now) result };
-
-    /// A row has one key, and reads as what was put in.
-    ghost lawful: { IsLawful Self.search form };
+/// Takes the rows of a key away.
+pub fn remove<T: Table, S: Alter>(
+    tx: &mut Transaction<'_, S>,
+    owner: &T::Owner,
+    part: &T::Part,
+) -> Result<usize, Error>
+    ensures same_reference { tx.new.conn.ghost_name ≡ tx.old.conn.ghost_name }
+    ensures ran { Inside (Removes T.search.tree (T.search.at (T.key owner.now part.now))) (state S.Store tx.old.conn.now) (state S.Store tx.new.conn.now) result }
+    ensures open { Opens (state S.Store tx.old.conn.now) (state S.Store tx.new.conn.now) result }
+{
+    let values = T::bind_key(owner, part)?;
+    tx.execute(T::DELETE, values.as_slice())
 }

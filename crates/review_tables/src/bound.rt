@@ -1,0 +1,73 @@
+//! The values that a statement is asked with.
+ghost use Rattle.std.specs.Prelude.{◌≡◌, [], ◌∷◌, ◌++◌, ◌<◌, length, pos};
+ghost use Rattle.sqlite_value.specs.declared.value.Value.TheVariants.{Int, Text};
+ghost use Rattle.sqlite.specs.Values.{bound};
+
+use sqlite::types::ValueRef;
+use std::marker::Model;
+
+/// Up to ten values, in the order in which a text names them. Contracts see their list.
+#[derive(Drop)]
+pub struct Bound<'a> {
+    values: [ValueRef<'a>; 10],
+    count: usize,
+}
+
+impl<'a> Model for Bound<'a> {
+    ghost use Rattle.std.specs.Prelude.{◌≡◌, ◌≤◌, length, take};
+    ghost use Rattle.sqlite_value.specs.Order.{Row};
+    ghost use Rattle.sqlite.specs.Values.{bound};
+
+    ghost Value = { Row };
+
+    ghost view = { λ b. bound (take b.count b.values) };
+
+    ghost invariant = { λ b. (b.count ≤ 10) × (length b.values ≡ 10) };
+}
+
+impl<'a> Bound<'a> {
+    /// No value.
+    pub fn new() -> Bound<'a>
+        ensures { result ≡ [] }
+    {
+        Bound {
+            values: [ValueRef::Null; 10],
+            count: 0,
+        }
+    }
+
+    fn with(self, value: ValueRef<'a>) -> Bound<'a>
+        requires { length self < 10 }
+        ensures { result ≡ self.entry ++ bound (value.entry ∷ []) }
+    {
+        let Bound { mut values, count } = self;
+        values[count] = value;
+        Bound {
+            values,
+            count: count + 1,
+        }
+    }
+
+    /// These values and a number after them.
+    pub fn number(self, number: i64) -> Bound<'a>
+        requires { length self < 10 }
+        ensures { result ≡ self.entry ++ Int number ∷ [] }
+    {
+        self.with(ValueRef::Int(number))
+    }
+
+    /// These values and a text after them.
+    pub fn text(self, text: &'a str) -> Bound<'a>
+        requires { length self < 10 }
+        ensures { result ≡ self.entry ++ Text text.now ∷ [] }
+    {
+        self.with(ValueRef::Text(text.as_bytes()))
+    }
+
+    /// The values, to be passed to a statement.
+    pub fn as_slice(&self) -> &[ValueRef<'a>]
+        ensures { bound result.now ≡ self.now }
+    {
+        &self.values[..self.count]
+    }
+}
