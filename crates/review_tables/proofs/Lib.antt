@@ -1,1 +1,5 @@
 pub mod Sequences
+pub mod Found
+pub mod Keys
+pub mod Changed
+pub mod Owned

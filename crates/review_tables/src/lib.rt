@@ -2,5 +2,9 @@
 #![tactic(auto)]
 
 pub mod bound;
+pub mod changes;
 pub mod columns;
+pub mod fronts;
+pub mod greatest;
+pub mod reads;
 pub mod table;

@@ -63,17 +63,11 @@ pub trait Table {
     ghost use Rattle.review_statements.specs.Search.{Search, Form, IsLawful};
     ghost use Rattle.review_statements.specs.Texts.{Deletes, Inserts};
 
-    /// What the keys of an owner's rows begin with; `()` where rows have no owner.
-    type Owner;
-
-    /// The rest of a key.
-    type Part;
-
-    /// A whole key.
+    /// A key; of rows that belong to an owner, the owner and the rest of a key.
     type Key;
 
     /// What a row has beside its key.
-    type Row;
+    type Item;
 
     /// The text that puts a row in.
     const INSERT: &'static str;
@@ -88,31 +82,28 @@ pub trait Table {
     ghost DELETE: { Bor (List ℕ) };
 
     /// How a row is looked up by its key.
-    ghost search: { Search Self.Key Self.Row };
+    ghost search: { Search Self.Key Self.Item };
 
     /// How a row is stored.
-    ghost form: { Form Self.Key Self.Row };
-
-    /// The key of an owner and the rest of a key.
-    ghost key: { Self.Owner → Self.Part → Self.Key };
+    ghost form: { Form Self.Key Self.Item };
 
     /// The values of a key.
-    fn bind_key<'a>(owner: &'a Self::Owner, part: &'a Self::Part) -> Result<Bound<'a>, Error>
-        ensures { IfOk result (λ values. values ≡ values_of (search.at (key owner.now part.now))) };
+    fn bind_key<'a>(key: &'a Self::Key) -> Result<Bound<'a>, Error>
+        ensures { IfOk result (λ values. values ≡ values_of (search.at key.now)) };
 
-    /// The values of a row with its key; a text that is made for one of them is put into the buffer. It fails where the row would not read as itself.
+    /// The values of a row with its key; a text that is made for one of them is put into the buffer. It fails where the row would not read
+    /// as itself.
     fn bind_row<'a>(
         alloc: Global,
-        owner: &'a Self::Owner,
-        part: &'a Self::Part,
-        row: &'a Self::Row,
+        key: &'a Self::Key,
+        row: &'a Self::Item,
         buffer: &'a mut String,
     ) -> Result<Bound<'a>, Error>
-        ensures values { IfOk result (λ values. values ≡ form.values (key owner.now part.now) row.now) }
+        ensures values { IfOk result (λ values. values ≡ form.values key.now row.now) }
         ensures good { OnOk result (form.is_good row.now ≡ true) };
 
     /// The text puts rows in.
-    ghost inserts: { (key : Self.Key) (row : Self.Row) → Inserts INSERT.now search.tree (form.values key row) (form.stored key row) };
+    ghost inserts: { (key : Self.Key) (row : Self.Item) → Inserts INSERT.now search.tree (form.values key row) (form.stored key row) };
 
     /// The text takes the rows of a key away.
     ghost deletes: { (key : Self.Key) → Deletes DELETE.now search.tree (search.at key) };
@@ -125,30 +116,28 @@ pub trait Table {
 pub fn insert<T: Table, S: Alter>(
     tx: &mut Transaction<'_, S>,
     alloc: Global,
-    owner: &T::Owner,
-    part: &T::Part,
-    row: &T::Row,
+    key: &T::Key,
+    row: &T::Item,
 ) -> Result<usize, Error>
     ensures same_reference { tx.new.conn.ghost_name ≡ tx.old.conn.ghost_name }
-    ensures ran { Inside (Puts T.search T.form (T.key owner.now part.now) row.now) (state S.Store tx.old.conn.now) (state S.Store tx.new.conn.now) result }
+    ensures ran { Inside (Puts T.search T.form key.now row.now) (state S.Store tx.old.conn.now) (state S.Store tx.new.conn.now) result }
     ensures open { Opens (state S.Store tx.old.conn.now) (state S.Store tx.new.conn.now) result }
     ensures good { OnOk result (T.form.is_good row.now ≡ true) }
 {
     let mut buffer = String::new(alloc);
-    let values = T::bind_row(alloc, owner, part, row, &mut buffer)?;
+    let values = T::bind_row(alloc, key, row, &mut buffer)?;
     tx.execute(T::INSERT, values.as_slice())
 }
 
 /// Takes the rows of a key away.
 pub fn remove<T: Table, S: Alter>(
     tx: &mut Transaction<'_, S>,
-    owner: &T::Owner,
-    part: &T::Part,
+    key: &T::Key,
 ) -> Result<usize, Error>
     ensures same_reference { tx.new.conn.ghost_name ≡ tx.old.conn.ghost_name }
-    ensures ran { Inside (Removes T.search.tree (T.search.at (T.key owner.now part.now))) (state S.Store tx.old.conn.now) (state S.Store tx.new.conn.now) result }
+    ensures ran { Inside (Removes T.search.tree (T.search.at key.now)) (state S.Store tx.old.conn.now) (state S.Store tx.new.conn.now) result }
     ensures open { Opens (state S.Store tx.old.conn.now) (state S.Store tx.new.conn.now) result }
 {
-    let values = T::bind_key(owner, part)?;
+    let values = T::bind_key(key)?;
     tx.execute(T::DELETE, values.as_slice())
 }

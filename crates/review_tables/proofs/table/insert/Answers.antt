@@ -11,7 +11,7 @@ returns-clause-ran g c =
     let new = state g.S.Store c.execute.new.self.conn.now in
     let s = g.T.Table.search in
     let form = g.T.Table.form in
-    let key = g.T.Table.key c.args.owner.now c.args.part.now in
+    let key = c.args.key.now in
     let row = c.args.row.now in
     let values : bound c.as_slice.result.now ≡ form.values key row = c.as_slice.ensures ∙ c.in_ok-values.ensures.values in
     one_inside _ _ old new c.execute.result _ (λ count ready h. inserted _ old new ready count s.tree (form.values key row) (form.stored key row) (g.met.T.Table.inserts key row) h) (λ clean on. rw (c.INSERT.ensures, values) at (c.execute.ensures.runs clean on)) c.execute.ensures.survives
