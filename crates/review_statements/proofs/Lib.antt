@@ -4,5 +4,6 @@ pub mod Statements
 pub mod Meaning
 pub mod Cut
 pub mod Changes
+pub mod TextsOfTables
 pub mod TextsOfChanges
 pub mod TextsOfLookups

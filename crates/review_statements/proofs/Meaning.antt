@@ -10,7 +10,7 @@ use Rattle.sqlite_value.specs.declared.value.Value.TheVariants.{Null, Int, Real,
 use Rattle.sqlite_value.specs.declared.keys.Collation.TheVariants.{Binary}
 use Rattle.sqlite_value.specs.Order.{Row, column, value_cmp}
 use Rattle.sqlite_value.proofs.OrderLemmas.{value_cmp-Null}
-use Rattle.sqlite_trees.specs.Tree.{Trees}
+use Rattle.sqlite_trees.specs.Tree.{Trees, rowid}
 use Rattle.sqlite_sql.specs.Term.{col, eval, holds}
 use Rattle.sqlite_sql.specs.Ops.{unary, binary, is_true, is_null, from_truth}
 use Rattle.sqlite_sql.specs.Program.{overlay}
@@ -23,7 +23,7 @@ use Rattle.sqlite.specs.State.{State, Shown}
 use Rattle.sqlite.proofs.Callers.{reads_as}
 use Rattle.review_statements.specs.Desk.{desk_schema}
 use Rattle.review_statements.specs.Content.{has_key, is_value}
-use Rattle.review_statements.specs.Search.{At}
+use Rattle.review_statements.specs.Search.{At, FindsIds}
 use Rattle.review_statements.specs.Texts.{Asks, number_at, tests_for, tests_from, values_of, rows_where}
 use Rattle.review_statements.proofs.Queries.{passes, shows, selects}
 
@@ -120,3 +120,11 @@ asked sql tree key columns it old new rows has h =
     let answer = reads_as sql params old new desk_schema has _ it.is it.plain it.unlisted rows h in
     let found = selects tree (tests_from 0 key) (map (col 1) columns) [] old.now.trees params rows (plain old.now.trees tree) (answer.answer Null) in
     subst₂ (λ (show : Row → Row) l. IsPermutation (map show l) rows) (λ i row. shows_columns params columns row i) (filter_same _ _ (tested key) (old.now.trees tree)) found
+
+pub all_pass : (rows : List Row) → filter (has_key []) rows ≡ rows
+all_pass [] = refl
+all_pass (r ∷ rows) = ap (λ l. r ∷ l) (all_pass rows)
+
+-- what a query for all rowids shows
+pub asked_ids : (sql : List ℕ) (tree : ℕ) → Asks sql (rows_where tree [] (0 ∷ [])) → (old new : State) (rows : List Row) → old.now.schema ≡ desk_schema → Shown sql [] old new rows → FindsIds tree old.now.trees rows
+asked_ids sql tree it old new rows has h = subst (λ l. IsPermutation (map (λ r. rowid r ∷ []) l) rows) (all_pass (old.now.trees tree)) (asked sql tree [] (0 ∷ []) it old new rows has h)

@@ -1,40 +1,38 @@
 //! The texts of all statements.
 
-pub const CREATE_ACCOUNTS: &str =
-    "CREATE TABLE accounts (number INTEGER PRIMARY KEY, name TEXT NOT NULL, UNIQUE (name))";
+// ---- the tables of a desk, in their order
 
-pub const CREATE_MEMBERS: &str =
-    "CREATE TABLE members (grp TEXT NOT NULL, account INTEGER NOT NULL, PRIMARY KEY (grp, account))";
+/// Texts that make the tables.
+pub const CREATE: [&str; 12] = [
+    "CREATE TABLE accounts (number INTEGER PRIMARY KEY, name TEXT NOT NULL, UNIQUE (name))",
+    "CREATE TABLE members (grp TEXT NOT NULL, account INTEGER NOT NULL, PRIMARY KEY (grp, account))",
+    "CREATE TABLE projects (name TEXT NOT NULL, file TEXT NOT NULL, PRIMARY KEY (name))",
+    "CREATE TABLE bases (project TEXT NOT NULL, branch TEXT NOT NULL, place INTEGER NOT NULL, commit_name TEXT NOT NULL, PRIMARY KEY (project, branch, place), UNIQUE (project, branch, commit_name, place))",
+    "CREATE TABLE changes (number INTEGER PRIMARY KEY, project TEXT NOT NULL, branch TEXT NOT NULL, subject TEXT NOT NULL, owner INTEGER NOT NULL, status TEXT NOT NULL, wip INTEGER NOT NULL, place INTEGER NOT NULL, updated INTEGER NOT NULL, UNIQUE (project, branch, place, number))",
+    "CREATE TABLE patches (change INTEGER NOT NULL, patch INTEGER NOT NULL, commit_name TEXT NOT NULL, parent TEXT NOT NULL, kind TEXT NOT NULL, uploader INTEGER NOT NULL, paths TEXT NOT NULL, PRIMARY KEY (change, patch), UNIQUE (commit_name, change, patch))",
+    "CREATE TABLE votes (change INTEGER NOT NULL, patch INTEGER NOT NULL, label TEXT NOT NULL, account INTEGER NOT NULL, value INTEGER NOT NULL, PRIMARY KEY (change, patch, label, account))",
+    "CREATE TABLE reviewers (change INTEGER NOT NULL, account INTEGER NOT NULL, role TEXT NOT NULL, PRIMARY KEY (change, account))",
+    "CREATE TABLE comments (change INTEGER NOT NULL, number INTEGER NOT NULL, patch INTEGER NOT NULL, path TEXT NOT NULL, line INTEGER NOT NULL, author INTEGER NOT NULL, message TEXT NOT NULL, unresolved INTEGER NOT NULL, answers_to INTEGER NOT NULL, request INTEGER NOT NULL, PRIMARY KEY (change, number))",
+    "CREATE TABLE attention (change INTEGER NOT NULL, account INTEGER NOT NULL, reason TEXT NOT NULL, request INTEGER NOT NULL, PRIMARY KEY (change, account))",
+    "CREATE TABLE answers (caller INTEGER NOT NULL, id TEXT NOT NULL, request INTEGER NOT NULL, content TEXT NOT NULL, reply TEXT NOT NULL, PRIMARY KEY (caller, id), UNIQUE (request))",
+    "CREATE TABLE desk (version INTEGER NOT NULL, requests INTEGER NOT NULL)",
+];
 
-pub const CREATE_PROJECTS: &str =
-    "CREATE TABLE projects (name TEXT NOT NULL, file TEXT NOT NULL, PRIMARY KEY (name))";
-
-pub const CREATE_BASES: &str =
-    "CREATE TABLE bases (project TEXT NOT NULL, branch TEXT NOT NULL, place INTEGER NOT NULL, commit_name TEXT NOT NULL, PRIMARY KEY (project, branch, place), UNIQUE (project, branch, commit_name, place))";
-
-pub const CREATE_CHANGES: &str =
-    "CREATE TABLE changes (number INTEGER PRIMARY KEY, project TEXT NOT NULL, branch TEXT NOT NULL, subject TEXT NOT NULL, owner INTEGER NOT NULL, status TEXT NOT NULL, wip INTEGER NOT NULL, place INTEGER NOT NULL, updated INTEGER NOT NULL, UNIQUE (project, branch, place, number))";
-
-pub const CREATE_PATCHES: &str =
-    "CREATE TABLE patches (change INTEGER NOT NULL, patch INTEGER NOT NULL, commit_name TEXT NOT NULL, parent TEXT NOT NULL, kind TEXT NOT NULL, uploader INTEGER NOT NULL, paths TEXT NOT NULL, PRIMARY KEY (change, patch), UNIQUE (commit_name, change, patch))";
-
-pub const CREATE_VOTES: &str =
-    "CREATE TABLE votes (change INTEGER NOT NULL, patch INTEGER NOT NULL, label TEXT NOT NULL, account INTEGER NOT NULL, value INTEGER NOT NULL, PRIMARY KEY (change, patch, label, account))";
-
-pub const CREATE_REVIEWERS: &str =
-    "CREATE TABLE reviewers (change INTEGER NOT NULL, account INTEGER NOT NULL, role TEXT NOT NULL, PRIMARY KEY (change, account))";
-
-pub const CREATE_COMMENTS: &str =
-    "CREATE TABLE comments (change INTEGER NOT NULL, number INTEGER NOT NULL, patch INTEGER NOT NULL, path TEXT NOT NULL, line INTEGER NOT NULL, author INTEGER NOT NULL, message TEXT NOT NULL, unresolved INTEGER NOT NULL, answers_to INTEGER NOT NULL, request INTEGER NOT NULL, PRIMARY KEY (change, number))";
-
-pub const CREATE_ATTENTION: &str =
-    "CREATE TABLE attention (change INTEGER NOT NULL, account INTEGER NOT NULL, reason TEXT NOT NULL, request INTEGER NOT NULL, PRIMARY KEY (change, account))";
-
-pub const CREATE_ANSWERS: &str =
-    "CREATE TABLE answers (caller INTEGER NOT NULL, id TEXT NOT NULL, request INTEGER NOT NULL, content TEXT NOT NULL, reply TEXT NOT NULL, PRIMARY KEY (caller, id), UNIQUE (request))";
-
-pub const CREATE_DESK: &str =
-    "CREATE TABLE desk (version INTEGER NOT NULL, requests INTEGER NOT NULL)";
+/// Texts that read the rowids of the tables.
+pub const ROW_IDS: [&str; 12] = [
+    "SELECT rowid FROM accounts",
+    "SELECT rowid FROM members",
+    "SELECT rowid FROM projects",
+    "SELECT rowid FROM bases",
+    "SELECT rowid FROM changes",
+    "SELECT rowid FROM patches",
+    "SELECT rowid FROM votes",
+    "SELECT rowid FROM reviewers",
+    "SELECT rowid FROM comments",
+    "SELECT rowid FROM attention",
+    "SELECT rowid FROM answers",
+    "SELECT rowid FROM desk",
+];
 
 // ---- rows
 
@@ -44,23 +42,17 @@ pub const DELETE_ACCOUNT: &str = "DELETE FROM accounts WHERE number = ?1";
 
 pub const FIND_ACCOUNT: &str = "SELECT name FROM accounts WHERE number = ?1";
 
-pub const ACCOUNT_IDS: &str = "SELECT rowid FROM accounts";
-
 pub const INSERT_MEMBER: &str = "INSERT INTO members (grp, account) VALUES (?1, ?2)";
 
 pub const DELETE_MEMBER: &str = "DELETE FROM members WHERE grp = ?1 AND account = ?2";
 
 pub const FIND_MEMBER: &str = "SELECT account FROM members WHERE grp = ?1 AND account = ?2";
 
-pub const MEMBER_IDS: &str = "SELECT rowid FROM members";
-
 pub const INSERT_PROJECT: &str = "INSERT INTO projects (name, file) VALUES (?1, ?2)";
 
 pub const DELETE_PROJECT: &str = "DELETE FROM projects WHERE name = ?1";
 
 pub const FIND_PROJECT: &str = "SELECT file FROM projects WHERE name = ?1";
-
-pub const PROJECT_IDS: &str = "SELECT rowid FROM projects";
 
 pub const INSERT_BASE: &str =
     "INSERT INTO bases (project, branch, place, commit_name) VALUES (?1, ?2, ?3, ?4)";
@@ -70,8 +62,6 @@ pub const DELETE_BASE: &str = "DELETE FROM bases WHERE project = ?1 AND branch =
 pub const FIND_BASE: &str =
     "SELECT commit_name FROM bases WHERE project = ?1 AND branch = ?2 AND place = ?3";
 
-pub const BASE_IDS: &str = "SELECT rowid FROM bases";
-
 pub const INSERT_CHANGE: &str =
     "INSERT INTO changes (number, project, branch, subject, owner, status, wip, place, updated) VALUES (?1, ?2, ?3, ?4, ?5, ?6, ?7, ?8, ?9)";
 
@@ -80,8 +70,6 @@ pub const DELETE_CHANGE: &str = "DELETE FROM changes WHERE number = ?1";
 pub const FIND_CHANGE: &str =
     "SELECT project, branch, subject, owner, status, wip, place, updated FROM changes WHERE number = ?1";
 
-pub const CHANGE_IDS: &str = "SELECT rowid FROM changes";
-
 pub const INSERT_PATCH: &str =
     "INSERT INTO patches (change, patch, commit_name, parent, kind, uploader, paths) VALUES (?1, ?2, ?3, ?4, ?5, ?6, ?7)";
 
@@ -89,8 +77,6 @@ pub const DELETE_PATCH: &str = "DELETE FROM patches WHERE change = ?1 AND patch 
 
 pub const FIND_PATCH: &str =
     "SELECT commit_name, parent, kind, uploader, paths FROM patches WHERE change = ?1 AND patch = ?2";
-
-pub const PATCH_IDS: &str = "SELECT rowid FROM patches";
 
 pub const INSERT_VOTE: &str =
     "INSERT INTO votes (change, patch, label, account, value) VALUES (?1, ?2, ?3, ?4, ?5)";
@@ -101,16 +87,12 @@ pub const DELETE_VOTE: &str =
 pub const FIND_VOTE: &str =
     "SELECT value FROM votes WHERE change = ?1 AND patch = ?2 AND label = ?3 AND account = ?4";
 
-pub const VOTE_IDS: &str = "SELECT rowid FROM votes";
-
 pub const INSERT_REVIEWER: &str =
     "INSERT INTO reviewers (change, account, role) VALUES (?1, ?2, ?3)";
 
 pub const DELETE_REVIEWER: &str = "DELETE FROM reviewers WHERE change = ?1 AND account = ?2";
 
 pub const FIND_REVIEWER: &str = "SELECT role FROM reviewers WHERE change = ?1 AND account = ?2";
-
-pub const REVIEWER_IDS: &str = "SELECT rowid FROM reviewers";
 
 pub const INSERT_COMMENT: &str =
     "INSERT INTO comments (change, number, patch, path, line, author, message, unresolved, answers_to, request) VALUES (?1, ?2, ?3, ?4, ?5, ?6, ?7, ?8, ?9, ?10)";
@@ -120,8 +102,6 @@ pub const DELETE_COMMENT: &str = "DELETE FROM comments WHERE change = ?1 AND num
 pub const FIND_COMMENT: &str =
     "SELECT patch, path, line, author, message, unresolved, answers_to, request FROM comments WHERE change = ?1 AND number = ?2";
 
-pub const COMMENT_IDS: &str = "SELECT rowid FROM comments";
-
 pub const INSERT_ATTENTION: &str =
     "INSERT INTO attention (change, account, reason, request) VALUES (?1, ?2, ?3, ?4)";
 
@@ -129,8 +109,6 @@ pub const DELETE_ATTENTION: &str = "DELETE FROM attention WHERE change = ?1 AND 
 
 pub const FIND_ATTENTION: &str =
     "SELECT reason, request FROM attention WHERE change = ?1 AND account = ?2";
-
-pub const ATTENTION_IDS: &str = "SELECT rowid FROM attention";
 
 pub const INSERT_ANSWER: &str =
     "INSERT INTO answers (caller, id, request, content, reply) VALUES (?1, ?2, ?3, ?4, ?5)";
@@ -140,15 +118,11 @@ pub const DELETE_ANSWER: &str = "DELETE FROM answers WHERE caller = ?1 AND id = 
 pub const FIND_ANSWER: &str =
     "SELECT request, content, reply FROM answers WHERE caller = ?1 AND id = ?2";
 
-pub const ANSWER_IDS: &str = "SELECT rowid FROM answers";
-
 pub const INSERT_DESK: &str = "INSERT INTO desk (version, requests) VALUES (?1, ?2)";
 
 pub const DELETE_DESK: &str = "DELETE FROM desk";
 
 pub const FIND_DESK: &str = "SELECT version, requests FROM desk";
-
-pub const DESK_IDS: &str = "SELECT rowid FROM desk";
 
 // ---- other look-ups
 
