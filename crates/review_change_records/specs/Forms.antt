@@ -20,7 +20,8 @@ use Rattle.review_changes.specs.declared.rows.VoteKey.{VoteKey}
 use Rattle.review_changes.specs.Votes.{voted}
 use Rattle.review_rows.specs.declared.rows.BranchKey.{BranchKey}
 use Rattle.review_tables.specs.Columns.{number_in, text_in}
-use Rattle.review_statements.specs.Search.{Search, Form}
+use Rattle.review_statements.specs.Desk as table
+use Rattle.review_statements.specs.Search.{Search, Form, with_rowid, with_number}
 use Rattle.review_records.specs.declared.rows.PlaceKey.{PlaceKey}
 use Rattle.review_records.specs.Forms.{both, where_is}
 use Rattle.review_change_records.specs.Paths.{paths_in, paths_text, are_read_back}
@@ -96,18 +97,15 @@ headed _ _ _ _ _ _ _ _ = None
 -- the header of a change
 abbrev pub headers : Search ℕ Header
 headers = record {
-  tree = 9;
+  tree = table.changes.tree;
   at = λ number. (0, Int (pos number)) ∷ [];
-  shown = λ r. column r 2 ∷ column r 3 ∷ column r 4 ∷ column r 5 ∷ column r 6 ∷ column r 7 ∷ column r 8 ∷ column r 9 ∷ [];
+  columns = 2 ∷ 3 ∷ 4 ∷ 5 ∷ 6 ∷ 7 ∷ 8 ∷ 9 ∷ [];
   read = λ r. headed (where_is is_slashed_name (text_in (column r 0))) (where_is is_slashed_name (text_in (column r 1))) (where_is is_line (text_in (column r 2)))
       (where_is is_account_number (number_in (column r 3))) (named state_named (text_in (column r 4))) (flagged (number_in (column r 5))) (where_is is_small (number_in (column r 6))) (number_in (column r 7));
 }
 
 abbrev pub header_form : Form ℕ Header
-header_form = record {
-  stored = λ number h id. Int (pos number) ∷ Null ∷ Text h.project ∷ Text h.branch ∷ Text h.subject ∷ Int (pos h.owner) ∷ Text (state_name h.state) ∷ Int (pos (flag_number h.wip)) ∷ Int (pos h.place) ∷ Int (pos h.updated) ∷ [];
-  is_good = λ h. (is_utf8 h.project && is_slashed_name h.project) && ((is_utf8 h.branch && is_slashed_name h.branch) && ((is_utf8 h.subject && is_line h.subject) && (is_account_number h.owner && is_small h.place)));
-}
+header_form = with_number (λ number h. Int (pos number) ∷ Text h.project ∷ Text h.branch ∷ Text h.subject ∷ Int (pos h.owner) ∷ Text (state_name h.state) ∷ Int (pos (flag_number h.wip)) ∷ Int (pos h.place) ∷ Int (pos h.updated) ∷ []) (λ h. (is_utf8 h.project && is_slashed_name h.project) && ((is_utf8 h.branch && is_slashed_name h.branch) && ((is_utf8 h.subject && is_line h.subject) && (is_account_number h.owner && is_small h.place))))
 
 -- ---- patch sets
 
@@ -122,26 +120,23 @@ patch_in commit parent kind uploader paths =
 -- a patch set of a change
 abbrev pub patches : Search (ℕ × ℕ) PatchRow
 patches = record {
-  tree = 11;
+  tree = table.patches.tree;
   at = λ p. (1, Int (pos p.0)) ∷ (2, Int (pos p.1)) ∷ [];
-  shown = λ r. column r 3 ∷ column r 4 ∷ column r 5 ∷ column r 6 ∷ column r 7 ∷ [];
+  columns = 3 ∷ 4 ∷ 5 ∷ 6 ∷ 7 ∷ [];
   read = λ r. patch_in (column r 0) (column r 1) (column r 2) (column r 3) (column r 4);
 }
 
 -- the patch sets of a change
 abbrev pub change_patches : Search ℕ (ℕ × PatchRow)
 change_patches = record {
-  tree = 11;
+  tree = table.patches.tree;
   at = λ change. (1, Int (pos change)) ∷ [];
-  shown = λ r. column r 2 ∷ column r 3 ∷ column r 4 ∷ column r 5 ∷ column r 6 ∷ column r 7 ∷ [];
+  columns = 2 ∷ 3 ∷ 4 ∷ 5 ∷ 6 ∷ 7 ∷ [];
   read = λ r. both (where_is (is_within most_patches) (number_in (column r 0))) (patch_in (column r 1) (column r 2) (column r 3) (column r 4) (column r 5));
 }
 
 abbrev pub patch_form : Form (ℕ × ℕ) PatchRow
-patch_form = record {
-  stored = λ p x id. Int id ∷ Int (pos p.0) ∷ Int (pos p.1) ∷ Text x.commit ∷ Text x.parent ∷ Text (kind_name x.kind) ∷ Int (pos x.uploader) ∷ Text (paths_text x.paths) ∷ [];
-  is_good = λ x. (is_utf8 x.commit && is_commit x.commit) && ((is_utf8 x.parent && is_commit x.parent) && (is_account_number x.uploader && (is_utf8 (paths_text x.paths) && are_read_back x.paths)));
-}
+patch_form = with_rowid (λ p x. Int (pos p.0) ∷ Int (pos p.1) ∷ Text x.commit ∷ Text x.parent ∷ Text (kind_name x.kind) ∷ Int (pos x.uploader) ∷ Text (paths_text x.paths) ∷ []) (λ x. (is_utf8 x.commit && is_commit x.commit) && ((is_utf8 x.parent && is_commit x.parent) && (is_account_number x.uploader && (is_utf8 (paths_text x.paths) && are_read_back x.paths))))
 
 -- ---- votes
 
@@ -152,44 +147,41 @@ vote_key _ _ _ = None
 -- a vote on a change
 abbrev pub votes : Search (ℕ × VoteKey) ℤ
 votes = record {
-  tree = 14;
+  tree = table.votes.tree;
   at = λ p. (1, Int (pos p.0)) ∷ (2, Int (pos p.1.patch)) ∷ (3, Text p.1.label) ∷ (4, Int (pos p.1.account)) ∷ [];
-  shown = λ r. column r 5 ∷ [];
+  columns = 5 ∷ [];
   read = λ r. where_is is_vote (integer_in (column r 0));
 }
 
 -- the votes on a change
 abbrev pub change_votes : Search ℕ (VoteKey × ℤ)
 change_votes = record {
-  tree = 14;
+  tree = table.votes.tree;
   at = λ change. (1, Int (pos change)) ∷ [];
-  shown = λ r. column r 2 ∷ column r 3 ∷ column r 4 ∷ column r 5 ∷ [];
+  columns = 2 ∷ 3 ∷ 4 ∷ 5 ∷ [];
   read = λ r. both (vote_key (where_is (is_within most_patches) (number_in (column r 0))) (where_is is_label (text_in (column r 1))) (where_is is_account_number (number_in (column r 2)))) (where_is is_vote (integer_in (column r 3)));
 }
 
 abbrev pub vote_form : Form (ℕ × VoteKey) ℤ
-vote_form = record {
-  stored = λ p v id. Int id ∷ Int (pos p.0) ∷ Int (pos p.1.patch) ∷ Text p.1.label ∷ Int (pos p.1.account) ∷ Int v ∷ [];
-  is_good = is_vote;
-}
+vote_form = with_rowid (λ p v. Int (pos p.0) ∷ Int (pos p.1.patch) ∷ Text p.1.label ∷ Int (pos p.1.account) ∷ Int v ∷ []) (is_vote)
 
 -- ---- roles
 
 -- the role of an account
 abbrev pub roles : Search (ℕ × ℕ) Role
-roles = record { tree = 16; at = λ p. (1, Int (pos p.0)) ∷ (2, Int (pos p.1)) ∷ []; shown = λ r. column r 3 ∷ []; read = λ r. named role_named (text_in (column r 0)) }
+roles = record { tree = table.reviewers.tree; at = λ p. (1, Int (pos p.0)) ∷ (2, Int (pos p.1)) ∷ []; columns = 3 ∷ []; read = λ r. named role_named (text_in (column r 0)) }
 
 -- the roles of a change
 abbrev pub change_roles : Search ℕ (ℕ × Role)
 change_roles = record {
-  tree = 16;
+  tree = table.reviewers.tree;
   at = λ change. (1, Int (pos change)) ∷ [];
-  shown = λ r. column r 2 ∷ column r 3 ∷ [];
+  columns = 2 ∷ 3 ∷ [];
   read = λ r. both (where_is is_account_number (number_in (column r 0))) (named role_named (text_in (column r 1)));
 }
 
 abbrev pub role_form : Form (ℕ × ℕ) Role
-role_form = record { stored = λ p x id. Int id ∷ Int (pos p.0) ∷ Int (pos p.1) ∷ Text (role_name x) ∷ []; is_good = λ x. true }
+role_form = with_rowid (λ p x. Int (pos p.0) ∷ Int (pos p.1) ∷ Text (role_name x) ∷ []) (λ x. true)
 
 -- ---- comments
 
@@ -206,26 +198,23 @@ comment_in patch path line author message unresolved answers request =
 -- a comment of a change
 abbrev pub comments : Search (ℕ × ℕ) CommentRow
 comments = record {
-  tree = 18;
+  tree = table.comments.tree;
   at = λ p. (1, Int (pos p.0)) ∷ (2, Int (pos p.1)) ∷ [];
-  shown = λ r. column r 3 ∷ column r 4 ∷ column r 5 ∷ column r 6 ∷ column r 7 ∷ column r 8 ∷ column r 9 ∷ column r 10 ∷ [];
+  columns = 3 ∷ 4 ∷ 5 ∷ 6 ∷ 7 ∷ 8 ∷ 9 ∷ 10 ∷ [];
   read = λ r. comment_in (column r 0) (column r 1) (column r 2) (column r 3) (column r 4) (column r 5) (column r 6) (column r 7);
 }
 
 -- the comments of a change
 abbrev pub change_comments : Search ℕ (ℕ × CommentRow)
 change_comments = record {
-  tree = 18;
+  tree = table.comments.tree;
   at = λ change. (1, Int (pos change)) ∷ [];
-  shown = λ r. column r 2 ∷ column r 3 ∷ column r 4 ∷ column r 5 ∷ column r 6 ∷ column r 7 ∷ column r 8 ∷ column r 9 ∷ column r 10 ∷ [];
+  columns = 2 ∷ 3 ∷ 4 ∷ 5 ∷ 6 ∷ 7 ∷ 8 ∷ 9 ∷ 10 ∷ [];
   read = λ r. both (where_is (is_within most_comments) (number_in (column r 0))) (comment_in (column r 1) (column r 2) (column r 3) (column r 4) (column r 5) (column r 6) (column r 7) (column r 8));
 }
 
 abbrev pub comment_form : Form (ℕ × ℕ) CommentRow
-comment_form = record {
-  stored = λ p x id. Int id ∷ Int (pos p.0) ∷ Int (pos p.1) ∷ Int (pos x.patch) ∷ Text x.path ∷ Int (pos x.line) ∷ Int (pos x.author) ∷ Text x.message ∷ Int (pos (flag_number x.unresolved)) ∷ Int (pos (answers_number x.answers)) ∷ Int (pos x.request) ∷ [];
-  is_good = λ x. is_within most_patches x.patch && ((is_utf8 x.path && is_place x.path) && (is_small x.line && (is_account_number x.author && ((is_utf8 x.message && is_message x.message) && is_answer x.answers))));
-}
+comment_form = with_rowid (λ p x. Int (pos p.0) ∷ Int (pos p.1) ∷ Int (pos x.patch) ∷ Text x.path ∷ Int (pos x.line) ∷ Int (pos x.author) ∷ Text x.message ∷ Int (pos (flag_number x.unresolved)) ∷ Int (pos (answers_number x.answers)) ∷ Int (pos x.request) ∷ []) (λ x. is_within most_patches x.patch && ((is_utf8 x.path && is_place x.path) && (is_small x.line && (is_account_number x.author && ((is_utf8 x.message && is_message x.message) && is_answer x.answers)))))
 
 -- ---- calls
 
@@ -236,60 +225,57 @@ called _ _ = None
 -- that an account is in the attention set
 abbrev pub calls : Search (ℕ × ℕ) Called
 calls = record {
-  tree = 20;
+  tree = table.attention.tree;
   at = λ p. (1, Int (pos p.0)) ∷ (2, Int (pos p.1)) ∷ [];
-  shown = λ r. column r 3 ∷ column r 4 ∷ [];
+  columns = 3 ∷ 4 ∷ [];
   read = λ r. called (where_is is_line (text_in (column r 0))) (number_in (column r 1));
 }
 
 -- the attention set of a change
 abbrev pub change_calls : Search ℕ (ℕ × Called)
 change_calls = record {
-  tree = 20;
+  tree = table.attention.tree;
   at = λ change. (1, Int (pos change)) ∷ [];
-  shown = λ r. column r 2 ∷ column r 3 ∷ column r 4 ∷ [];
+  columns = 2 ∷ 3 ∷ 4 ∷ [];
   read = λ r. both (where_is is_account_number (number_in (column r 0))) (called (where_is is_line (text_in (column r 1))) (number_in (column r 2)));
 }
 
 abbrev pub call_form : Form (ℕ × ℕ) Called
-call_form = record {
-  stored = λ p x id. Int id ∷ Int (pos p.0) ∷ Int (pos p.1) ∷ Text x.reason ∷ Int (pos x.request) ∷ [];
-  is_good = λ x. is_utf8 x.reason && is_line x.reason;
-}
+call_form = with_rowid (λ p x. Int (pos p.0) ∷ Int (pos p.1) ∷ Text x.reason ∷ Int (pos x.request) ∷ []) (λ x. is_utf8 x.reason && is_line x.reason)
 
 -- ---- other look-ups
 
 -- the numbers of changes
 abbrev pub change_numbers : Search (Unit {0}) ℕ
-change_numbers = record { tree = 9; at = λ u. []; shown = λ r. column r 0 ∷ []; read = λ r. number_in (column r 0) }
+change_numbers = record { tree = table.changes.tree; at = λ u. []; columns = 0 ∷ []; read = λ r. number_in (column r 0) }
 
 -- the changes for a branch, each with its place
 abbrev pub change_places : Search BranchKey (ℕ × ℕ)
 change_places = record {
-  tree = 9;
+  tree = table.changes.tree;
   at = λ b. (2, Text b.project) ∷ (3, Text b.branch) ∷ [];
-  shown = λ r. column r 0 ∷ column r 8 ∷ [];
+  columns = 0 ∷ 8 ∷ [];
   read = λ r. both (where_is (is_within most_changes) (number_in (column r 0))) (where_is is_small (number_in (column r 1)));
 }
 
 -- the patch sets that have a commit
 abbrev pub sent : Search (List ℕ) (ℕ × ℕ)
 sent = record {
-  tree = 11;
+  tree = table.patches.tree;
   at = λ commit. (3, Text commit) ∷ [];
-  shown = λ r. column r 1 ∷ column r 2 ∷ [];
+  columns = 1 ∷ 2 ∷ [];
   read = λ r. both (where_is (is_within most_changes) (number_in (column r 0))) (where_is (is_within most_patches) (number_in (column r 1)));
 }
 
 -- the change at a place of a branch
 abbrev pub changes_at : Search PlaceKey ℕ
 changes_at = record {
-  tree = 9;
+  tree = table.changes.tree;
   at = λ k. (2, Text k.project) ∷ (3, Text k.branch) ∷ (8, Int (pos k.place)) ∷ [];
-  shown = λ r. column r 0 ∷ [];
+  columns = 0 ∷ [];
   read = λ r. where_is (is_within most_changes) (number_in (column r 0));
 }
 
 -- the numbers of the patch sets of a change
 abbrev pub patch_numbers : Search ℕ ℕ
-patch_numbers = record { tree = 11; at = change_patches.at; shown = λ r. column r 2 ∷ []; read = λ r. where_is (is_within most_patches) (number_in (column r 0)) }
+patch_numbers = record { tree = table.patches.tree; at = change_patches.at; columns = 2 ∷ []; read = λ r. where_is (is_within most_patches) (number_in (column r 0)) }

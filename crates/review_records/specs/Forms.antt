@@ -15,7 +15,8 @@ use Rattle.review_records.specs.declared.rows.Answered.{Answered}
 use Rattle.review_records.specs.declared.rows.DeskRow.{DeskRow}
 use Rattle.review_rows.specs.declared.rows.MemberKey.{MemberKey}
 use Rattle.review_tables.specs.Columns.{number_in, text_in}
-use Rattle.review_statements.specs.Search.{Search, Form}
+use Rattle.review_statements.specs.Desk as table
+use Rattle.review_statements.specs.Search.{Search, Form, with_rowid, with_number}
 
 -- a value that passes a test
 abbrev pub where_is : {X : Type 0} → (X → Bool) → Option X → Option X
@@ -26,31 +27,31 @@ where_is test (Some x) = if test x then Some x else None
 
 -- the name of an account, by its number
 abbrev pub accounts : Search ℕ (List ℕ)
-accounts = record { tree = 0; at = λ number. (0, Int (pos number)) ∷ []; shown = λ r. column r 2 ∷ []; read = λ r. where_is is_word (text_in (column r 0)) }
+accounts = record { tree = table.accounts.tree; at = λ number. (0, Int (pos number)) ∷ []; columns = 2 ∷ []; read = λ r. where_is is_word (text_in (column r 0)) }
 
 abbrev pub account_form : Form ℕ (List ℕ)
-account_form = record { stored = λ number name id. Int (pos number) ∷ Null ∷ Text name ∷ []; is_good = λ name. is_utf8 name && is_word name }
+account_form = with_number (λ number name. Int (pos number) ∷ Text name ∷ []) (λ name. is_utf8 name && is_word name)
 
 -- the number of an account, by its name
 abbrev pub account_names : Search (List ℕ) ℕ
-account_names = record { tree = 0; at = λ name. (2, Text name) ∷ []; shown = λ r. column r 0 ∷ []; read = λ r. where_is is_account_number (number_in (column r 0)) }
+account_names = record { tree = table.accounts.tree; at = λ name. (2, Text name) ∷ []; columns = 0 ∷ []; read = λ r. where_is is_account_number (number_in (column r 0)) }
 
 -- the numbers of accounts
 abbrev pub account_numbers : Search (Unit {0}) ℕ
-account_numbers = record { tree = 0; at = λ u. []; shown = λ r. column r 0 ∷ []; read = λ r. number_in (column r 0) }
+account_numbers = record { tree = table.accounts.tree; at = λ u. []; columns = 0 ∷ []; read = λ r. number_in (column r 0) }
 
 -- ---- members
 
 -- a member has no more than its key
 abbrev pub members : Search MemberKey (Unit {0})
-members = record { tree = 2; at = λ m. (1, Text m.group) ∷ (2, Int (pos m.account)) ∷ []; shown = λ r. column r 2 ∷ []; read = λ r. Some tt }
+members = record { tree = table.members.tree; at = λ m. (1, Text m.group) ∷ (2, Int (pos m.account)) ∷ []; columns = 2 ∷ []; read = λ r. Some tt }
 
 abbrev pub member_form : Form MemberKey (Unit {0})
-member_form = record { stored = λ m row id. Int id ∷ Text m.group ∷ Int (pos m.account) ∷ []; is_good = λ row. Rattle.std.specs.Prelude.true }
+member_form = with_rowid (λ m row. Text m.group ∷ Int (pos m.account) ∷ []) (λ row. Rattle.std.specs.Prelude.true)
 
 -- the same, with the account as the rest of a key that begins with the group
 abbrev pub member_parts : Search (List ℕ × ℕ) (Unit {0})
-member_parts = record { tree = 2; at = λ p. members.at (record { group = p.0; account = p.1 }); shown = members.shown; read = members.read }
+member_parts = record { tree = table.members.tree; at = λ p. members.at (record { group = p.0; account = p.1 }); columns = members.columns; read = members.read }
 
 -- the rest of a key, with a row that has no more
 abbrev pub alone : Option ℕ → Option (ℕ × Unit {0})
@@ -59,47 +60,47 @@ alone (Some n) = Some (n, tt)
 
 -- the members of a group
 abbrev pub group_members : Search (List ℕ) (ℕ × Unit {0})
-group_members = record { tree = 2; at = λ group. (1, Text group) ∷ []; shown = λ r. column r 2 ∷ []; read = λ r. alone (where_is is_account_number (number_in (column r 0))) }
+group_members = record { tree = table.members.tree; at = λ group. (1, Text group) ∷ []; columns = 2 ∷ []; read = λ r. alone (where_is is_account_number (number_in (column r 0))) }
 
 -- ---- projects
 
 -- the file of a project
 abbrev pub projects : Search (List ℕ) (List ℕ)
-projects = record { tree = 4; at = λ project. (1, Text project) ∷ []; shown = λ r. column r 2 ∷ []; read = λ r. text_in (column r 0) }
+projects = record { tree = table.projects.tree; at = λ project. (1, Text project) ∷ []; columns = 2 ∷ []; read = λ r. text_in (column r 0) }
 
 abbrev pub project_form : Form (List ℕ) (List ℕ)
-project_form = record { stored = λ project file id. Int id ∷ Text project ∷ Text file ∷ []; is_good = λ file. is_utf8 file }
+project_form = with_rowid (λ project file. Text project ∷ Text file ∷ []) (λ file. is_utf8 file)
 
 -- whether a project is there, without its file
 abbrev pub project_names : Search (List ℕ) (Unit {0})
-project_names = record { tree = 4; at = λ project. (1, Text project) ∷ []; shown = λ r. column r 1 ∷ []; read = λ r. Some tt }
+project_names = record { tree = table.projects.tree; at = λ project. (1, Text project) ∷ []; columns = 1 ∷ []; read = λ r. Some tt }
 
 -- ---- bases
 
 -- the commit of a base, by its place
 abbrev pub bases : Search PlaceKey (List ℕ)
 bases = record {
-  tree = 6;
+  tree = table.bases.tree;
   at = λ b. (1, Text b.project) ∷ (2, Text b.branch) ∷ (3, Int (pos b.place)) ∷ [];
-  shown = λ r. column r 4 ∷ [];
+  columns = 4 ∷ [];
   read = λ r. where_is is_commit (text_in (column r 0));
 }
 
 abbrev pub base_form : Form PlaceKey (List ℕ)
-base_form = record { stored = λ b commit id. Int id ∷ Text b.project ∷ Text b.branch ∷ Int (pos b.place) ∷ Text commit ∷ []; is_good = λ commit. is_utf8 commit && is_commit commit }
+base_form = with_rowid (λ b commit. Text b.project ∷ Text b.branch ∷ Int (pos b.place) ∷ Text commit ∷ []) (λ commit. is_utf8 commit && is_commit commit)
 
 -- the places of a commit in a branch
 abbrev pub base_commits : Search Base ℕ
 base_commits = record {
-  tree = 6;
+  tree = table.bases.tree;
   at = λ b. (1, Text b.project) ∷ (2, Text b.branch) ∷ (4, Text b.commit) ∷ [];
-  shown = λ r. column r 3 ∷ [];
+  columns = 3 ∷ [];
   read = λ r. number_in (column r 0);
 }
 
 -- the commit of a base, with the place as the rest of a key that begins with the branch
 abbrev pub base_parts : Search (BranchKey × ℕ) (List ℕ)
-base_parts = record { tree = 6; at = λ p. bases.at (record { project = p.0.project; branch = p.0.branch; place = p.1 }); shown = bases.shown; read = bases.read }
+base_parts = record { tree = table.bases.tree; at = λ p. bases.at (record { project = p.0.project; branch = p.0.branch; place = p.1 }); columns = bases.columns; read = bases.read }
 
 -- two things, where both are there
 abbrev pub both : {X Y : Type 0} → Option X → Option Y → Option (X × Y)
@@ -110,15 +111,15 @@ both (Some x) (Some y) = Some (x, y)
 -- the bases of a branch
 abbrev pub branch_bases : Search BranchKey (ℕ × List ℕ)
 branch_bases = record {
-  tree = 6;
+  tree = table.bases.tree;
   at = λ b. (1, Text b.project) ∷ (2, Text b.branch) ∷ [];
-  shown = λ r. column r 3 ∷ column r 4 ∷ [];
+  columns = 3 ∷ 4 ∷ [];
   read = λ r. both (where_is (nat_le 1) (number_in (column r 0))) (where_is is_commit (text_in (column r 1)));
 }
 
 -- the places of a branch's bases
 abbrev pub base_places : Search BranchKey ℕ
-base_places = record { tree = 6; at = λ b. (1, Text b.project) ∷ (2, Text b.branch) ∷ []; shown = λ r. column r 3 ∷ []; read = λ r. number_in (column r 0) }
+base_places = record { tree = table.bases.tree; at = λ b. (1, Text b.project) ∷ (2, Text b.branch) ∷ []; columns = 3 ∷ []; read = λ r. number_in (column r 0) }
 
 -- ---- stored requests
 
@@ -129,17 +130,14 @@ answered _ _ _ = None
 
 abbrev pub answers : Search RequestKey Answered
 answers = record {
-  tree = 22;
+  tree = table.answers.tree;
   at = λ i. (1, Int (pos i.caller)) ∷ (2, Text i.id) ∷ [];
-  shown = λ r. column r 3 ∷ column r 4 ∷ column r 5 ∷ [];
+  columns = 3 ∷ 4 ∷ 5 ∷ [];
   read = λ r. answered (number_in (column r 0)) (text_in (column r 1)) (text_in (column r 2));
 }
 
 abbrev pub answer_form : Form RequestKey Answered
-answer_form = record {
-  stored = λ i a id. Int id ∷ Int (pos i.caller) ∷ Text i.id ∷ Int (pos a.request) ∷ Text a.content ∷ Text a.reply ∷ [];
-  is_good = λ a. is_utf8 a.content && is_utf8 a.reply;
-}
+answer_form = with_rowid (λ i a. Int (pos i.caller) ∷ Text i.id ∷ Int (pos a.request) ∷ Text a.content ∷ Text a.reply ∷ []) (λ a. is_utf8 a.content && is_utf8 a.reply)
 
 -- ---- the row of the desk
 
@@ -149,7 +147,7 @@ desk_row (Some version) (Some requests) = Some (record { version = version; requ
 desk_row _ _ = None
 
 abbrev pub desk : Search (Unit {0}) DeskRow
-desk = record { tree = 25; at = λ u. []; shown = λ r. column r 1 ∷ column r 2 ∷ []; read = λ r. desk_row (number_in (column r 0)) (number_in (column r 1)) }
+desk = record { tree = table.desk.tree; at = λ u. []; columns = 1 ∷ 2 ∷ []; read = λ r. desk_row (number_in (column r 0)) (number_in (column r 1)) }
 
 abbrev pub desk_form : Form (Unit {0}) DeskRow
-desk_form = record { stored = λ u d id. Int id ∷ Int (pos d.version) ∷ Int (pos d.requests) ∷ []; is_good = λ d. Rattle.std.specs.Prelude.true }
+desk_form = with_rowid (λ u d. Int (pos d.version) ∷ Int (pos d.requests) ∷ []) (λ d. Rattle.std.specs.Prelude.true)

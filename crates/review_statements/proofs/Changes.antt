@@ -21,10 +21,10 @@ use Rattle.review_statements.proofs.Meaning.{tested, plain}
 
 -- ---- the tables of a desk
 
-abbrev IsSimple : Table → Type 0
+abbrev pub IsSimple : Table → Type 0
 IsSimple t = t ≡ simple t.name t.tree t.columns t.key t.primary t.uniques t.orders
 
-are_simple : AllByRecursion IsSimple desk_schema.tables
+pub are_simple : AllByRecursion IsSimple desk_schema.tables
 are_simple = (refl, (refl, (refl, (refl, (refl, (refl, (refl, (refl, (refl, (refl, (refl, (refl, tt))))))))))))
 
 at_place : (P : Table → Type 0) (tables : List Table) (at : ℕ) (t : Table) → AllByRecursion P tables → slice_get tables at ≡ Some t → P t

@@ -3,6 +3,7 @@ use Rattle.std.specs.Prelude.{ℕ, ℤ, ◌≡◌, ◌≢◌, ◌+◌, Bool, tru
 use Rattle.std.specs.List.{list_any}
 use Rattle.std.specs.List.Sorted.{IsPermutation}
 use Rattle.sqlite_value.specs.declared.value.Value.{Value}
+use Rattle.sqlite_value.specs.declared.value.Value.TheVariants.{Null, Int}
 use Rattle.sqlite_value.specs.Order.{Row as Raw, column}
 use Rattle.sqlite_trees.specs.Tree.{Trees, rowid}
 use Rattle.review_table.specs.declared.table.Change.{Change}
@@ -68,6 +69,19 @@ pub record Form (A X : Type 0) : Type 0 where
   pub values : A → X → Raw
   pub stored : A → X → ℤ → Raw
   pub is_good : X → Bool
+
+-- rows that are stored as they are put in, with a rowid before them
+abbrev pub with_rowid : {A X : Type 0} → (A → X → Raw) → (X → Bool) → Form A X
+with_rowid values good = record { values = values; stored = λ a x id. Int id ∷ values a x; is_good = good }
+
+-- the first value is the rowid, and its column is left empty
+abbrev pub numbered : Raw → Raw
+numbered [] = []
+numbered (number ∷ values) = number ∷ Null ∷ values
+
+-- rows that begin with a number which is their rowid
+abbrev pub with_number : {A X : Type 0} → (A → X → Raw) → (X → Bool) → Form A X
+with_number values good = record { values = values; stored = λ a x id. numbered (values a x); is_good = good }
 
 -- A stored row has its key and reads as itself, and no row has two keys.
 pub record IsLawful {A X : Type 0} (s : Search A X) (f : Form A X) : Type 0 where

@@ -1,0 +1,176 @@
+-- What a fixed CREATE TABLE does.
+use Rattle.std.proofs.Common.{◌≡◌, ◌<◌, ℕ, zero, suc, List, [], false, None, Ok, refl, sym, ap, subst, subst₂, ◌∙◌, map, take, length, slice_index_or, append-nil, arith}
+use Rattle.std.proofs.lemmas.List.{append_assoc}
+use Rattle.std.proofs.Common.{◌∷◌, ◌++◌, true, inl, inr, eqb, eqb-true}
+use Rattle.std.proofs.lemmas.Bool.{or_cases, and_parts}
+use Rattle.sqlite_trees.specs.Tree.{Trees}
+use Rattle.review_statements.specs.Content.{AreApart}
+use Rattle.review_statements.specs.Desk.{desk_schema}
+use Rattle.review_statements.specs.Desk.{desk_tables, schema_of, schema_0}
+use Rattle.review_statements.specs.declared.texts.TheConstants.{CREATE}
+use Rattle.review_statements.proofs.TextsOfTables.{◌also◌}
+use Rattle.sqlite_schema.specs.declared.schema.Table.{Table}
+use Rattle.sqlite_schema.specs.declared.schema.Schema.{Schema}
+use Rattle.sqlite_schema.specs.declared.command.Command.TheVariants.{CreateTable}
+use Rattle.sqlite_resolve.specs.Compile.{table_defined_by}
+use Rattle.sqlite_catalog.specs.Change.{created, next_tree, KeepsRows}
+use Rattle.sqlite.specs.Effect.{Database}
+use Rattle.sqlite.specs.Does.{Tally, lacks_sequence}
+use Rattle.sqlite.specs.Listing.{understood}
+use Rattle.sqlite.specs.State.{State, Executes, Writes}
+use Rattle.sqlite.proofs.Callers.{IsPlain, command_of, statement_of, runs_as}
+use Rattle.sqlite_tied.specs.Compute.{everything}
+use Rattle.review_tables.specs.Made.{MakesText, IsBlank, MakesBy, Grows}
+use Rattle.std.proofs.Common.{Bool}
+use Rattle.std.specs.Bool.{Decides}
+use Rattle.sqlite_trees.specs.declared.memory.MemStore.{MemStore}
+use Rattle.sqlite.specs.Held.{Held, state}
+use Rattle.sqlite.specs.Steps.{over_memory, IsEmpty}
+use Rattle.sqlite.proofs.Callers.{memory_is_clean}
+use Rattle.review_statements.specs.Desk.{simple}
+use Rattle.review_tables.specs.Plain.{IsPlainColumn, IsPlainForm, IsPlainSchema}
+use Rattle.review_statements.specs.Ran.{IsReady, Transacts}
+use Rattle.std.specs.List.{AllByRecursion, list_all, list_any}
+use Rattle.sqlite_value.specs.declared.value.Value.{Value}
+use Rattle.sqlite_value.specs.declared.value.Value.TheVariants.{Null, Int, Real, Text, Blob}
+use Rattle.sqlite_sql.specs.Ops.{is_null}
+use Rattle.sqlite_schema.specs.declared.schema.Column.{Column}
+use Rattle.review_statements.proofs.Changes.{are_simple}
+use Rattle.review_statements.proofs.Statements.{went, same_value}
+use Rattle.review_tables.proofs.Sequences.{Next}
+
+-- a table is made, and the others keep their rows
+pub record Makes (schema : Schema) (table : Table) (old new : State) : Type 0 where
+  pub schema_is : new.now.schema ≡ created schema table
+  pub empty : new.now.trees (next_tree schema) ≡ []
+  pub others : KeepsRows schema.tables old.now.trees new.now.trees
+
+pub creates : (sql : List ℕ) (old new : State) (schema : Schema) (table : Table) → old.now.schema ≡ schema → command_of (understood schema sql) ≡ CreateTable
+    → statement_of sql (understood schema sql) ≡ sql → IsPlain (understood schema sql) → table_defined_by sql ≡ Ok table → lacks_sequence (created schema table) ≡ false
+    → (count : ℕ) → Executes sql [] old new (Ok count) → Makes schema table old new
+creates sql old new schema table has is text plain defined uncounted count h =
+    let w = subst (λ t. Writes old new None CreateTable t [] count) text (runs_as sql [] old new schema has CreateTable is plain count h) in
+    let all = went w.changed in
+    let first = went all.1 in
+    let made = first.1 in
+    let same : made.table ≡ table = same_value (sym made.defined ∙ defined) in
+    let schema_is : first.0.schema ≡ created schema table = made.is ∙ ap (λ s. created s made.table) has ∙ ap (created schema) same in
+    let none : lacks_sequence first.0.schema ≡ false = ap lacks_sequence schema_is ∙ uncounted in
+    let now : new.now ≡ first.0 = ap (λ (p : Tally × Database). p.1) (same_value all.2) ∙ same_value (rw none at first.2) in
+    record {
+      schema_is = ap (λ (d : Database). d.schema) now ∙ schema_is;
+      empty = ap (λ (d : Database). d.trees (next_tree schema)) now ∙ subst (λ s. first.0.trees (next_tree s) ≡ []) has made.empty;
+      others = subst (λ (d : Database). KeepsRows schema.tables old.now.trees d.trees) (sym now) (subst (λ (s : Schema). KeepsRows s.tables old.now.trees first.0.trees) has made.others);
+    }
+
+all_more : (P : Table → Type 0) (tables : List Table) (t : Table) → AllByRecursion P tables → P t → AllByRecursion P (tables ++ t ∷ [])
+all_more P [] t all it = (it, tt)
+all_more P (x ∷ tables) t all it = (all.0, all_more P tables t all.1 it)
+
+still_empty : (tables : List Table) (old new : Trees) → AllByRecursion (λ t. new t.tree ≡ old t.tree) tables → AllByRecursion (λ t. old t.tree ≡ []) tables → AllByRecursion (λ t. new t.tree ≡ []) tables
+still_empty [] old new same none = tt
+still_empty (x ∷ tables) old new same none = (same.0 ∙ none.0, still_empty tables old new same.1 none.1)
+
+pub makes_by : (sql : List ℕ) (old new : State) (count : ℕ) → Executes sql [] old new (Ok count) → MakesBy sql old.now new.now
+makes_by sql old new count h schema table after it was =
+    let bare : Table = record table { tree = 0 } in
+    let made = creates sql old new schema bare was.schema_is it.command it.text it.plain it.defines it.uncounted count h in
+    let all = all_more (λ t. new.now.trees t.tree ≡ []) schema.tables (record table { tree = next_tree schema }) (still_empty schema.tables old.now.trees new.now.trees made.others was.empty) made.empty in
+    record { schema_is = made.schema_is ∙ it.leaves; empty = subst (λ (s : Schema). AllByRecursion (λ t. new.now.trees t.tree ≡ []) s.tables) it.leaves all }
+
+pub empty_at : (db : Trees) (tables : List Table) → AllByRecursion (λ t. db t.tree ≡ []) tables → (t : ℕ) → list_any (λ x. eqb x.tree t) tables ≡ true → db t ≡ []
+empty_at db [] all t is = absurd (cc)
+empty_at db (x ∷ tables) all t is = elim (or_cases _ _ is) [ inl here ↦ subst (λ n. db n ≡ []) (eqb-true x.tree t here) all.0 | inr later ↦ empty_at db tables all.1 t later ]
+
+-- empty tables of a desk are tables of a desk
+pub ready_blank : (db : Database) → IsBlank desk_schema db → IsReady db
+ready_blank db it = record { schema = it.schema_is; apart = λ t is. subst AreApart (sym (empty_at db.trees desk_schema.tables it.empty t is)) tt }
+
+-- ---- the tables of the list, one after the other
+
+-- each text makes its table, after those before it
+abbrev pub AreMade : List (List ℕ) → List Table → List Table → Type 0
+AreMade [] before [] = Unit {0}
+AreMade [] before (t ∷ tables) = ⊥
+AreMade (sql ∷ texts) before [] = ⊥
+AreMade (sql ∷ texts) before (t ∷ tables) = MakesText sql (schema_of before) t (schema_of (before ++ t ∷ [])) × AreMade texts (before ++ t ∷ []) tables
+
+are_made : AreMade (map (λ t. t.now) CREATE) [] desk_tables
+unfolding understood everything
+are_made =
+    record { command = refl; text = refl; plain = (refl, refl); defines = refl; uncounted = refl; leaves = refl } also
+    record { command = refl; text = refl; plain = (refl, refl); defines = refl; uncounted = refl; leaves = refl } also
+    record { command = refl; text = refl; plain = (refl, refl); defines = refl; uncounted = refl; leaves = refl } also
+    record { command = refl; text = refl; plain = (refl, refl); defines = refl; uncounted = refl; leaves = refl } also
+    record { command = refl; text = refl; plain = (refl, refl); defines = refl; uncounted = refl; leaves = refl } also
+    record { command = refl; text = refl; plain = (refl, refl); defines = refl; uncounted = refl; leaves = refl } also
+    record { command = refl; text = refl; plain = (refl, refl); defines = refl; uncounted = refl; leaves = refl } also
+    record { command = refl; text = refl; plain = (refl, refl); defines = refl; uncounted = refl; leaves = refl } also
+    record { command = refl; text = refl; plain = (refl, refl); defines = refl; uncounted = refl; leaves = refl } also
+    record { command = refl; text = refl; plain = (refl, refl); defines = refl; uncounted = refl; leaves = refl } also
+    record { command = refl; text = refl; plain = (refl, refl); defines = refl; uncounted = refl; leaves = refl } also
+    record { command = refl; text = refl; plain = (refl, refl); defines = refl; uncounted = refl; leaves = refl } also
+    tt
+
+made_at : (texts : List (List ℕ)) (before tables : List Table) → AreMade texts before tables → (at : ℕ) (d : List ℕ) → at < length tables → (t : Table) × MakesText (slice_index_or texts at d) (schema_of (before ++ take at tables)) t (schema_of (before ++ take (suc at) tables))
+made_at [] before [] all at d low = absurd (omega (arith, low))
+made_at [] before (t ∷ tables) all at d low = absurd all
+made_at (sql ∷ texts) before [] all at d low = absurd all
+made_at (sql ∷ texts) before (t ∷ tables) all zero d low = (t, subst (λ b. MakesText sql (schema_of b) t (schema_of (before ++ t ∷ []))) (sym (append-nil before)) all.0)
+made_at (sql ∷ texts) before (t ∷ tables) all (suc at) d low =
+    let it = made_at texts (before ++ t ∷ []) tables all.1 at d (omega (arith, low)) in
+    (it.0, subst₂ (λ a b. MakesText (slice_index_or texts at d) (schema_of a) it.0 (schema_of b)) (append_assoc before (t ∷ []) (take at tables)) (append_assoc before (t ∷ []) (take (suc at) tables)) it.1)
+
+-- one more table of the list is made
+pub makes_next : (at : ℕ) (sql : List ℕ) → at < 12 → ((d : List ℕ) → sql ≡ slice_index_or (map (λ t. t.now) CREATE) at d) → (old new : Database)
+    → Next (Grows schema_0 (schema_of (take at desk_tables))) (MakesBy sql) old new → Grows schema_0 (schema_of (take (suc at) desk_tables)) old new
+makes_next at sql low is old new h was =
+    let it = made_at (map (λ t. t.now) CREATE) [] desk_tables are_made at [] low in
+    h.2 (schema_of (take at desk_tables)) it.0 (schema_of (take (suc at) desk_tables)) (subst (λ s. MakesText s (schema_of (take at desk_tables)) it.0 (schema_of (take (suc at) desk_tables))) (sym (is [])) it.1) (h.1 was)
+
+-- the first table of the list is made
+pub makes_first : (sql : List ℕ) → ((d : List ℕ) → sql ≡ slice_index_or (map (λ t. t.now) CREATE) 0 d) → (old new : Database) → MakesBy sql old new → Grows schema_0 (schema_of (take 1 desk_tables)) old new
+makes_first sql is old new h was = makes_next 0 sql (omega arith) is old new (old, (λ it. it), h) was
+
+-- ---- whether a schema is that of a desk
+
+abbrev no_defaults : List Column → Bool
+no_defaults columns = list_all (λ c. is_null c.default) columns
+
+plain_columns : (columns : List Column) → no_defaults columns ≡ true → AllByRecursion IsPlainColumn columns
+plain_columns [] all = tt
+plain_columns (c ∷ columns) all = let parts = and_parts _ _ all in (null_is c.default parts.0, plain_columns columns parts.1)
+  where
+    null_is : (v : Value) → is_null v ≡ true → v ≡ Null
+    null_is Null is = refl
+    null_is (Int n) is = absurd (cc)
+    null_is (Real x) is = absurd (cc)
+    null_is (Text t) is = absurd (cc)
+    null_is (Blob b) is = absurd (cc)
+
+plain_form : (t : Table) → no_defaults t.columns ≡ true → t ≡ simple t.name t.tree t.columns t.key t.primary t.uniques t.orders → IsPlainForm t
+plain_form t columns is = (
+  record {
+    checks = ap (λ (x : Table). x.checks) is;
+    references = ap (λ (x : Table). x.references) is;
+    computed = ap (λ (x : Table). x.computed) is;
+    places = ap (λ (x : Table). x.stamps.places) is;
+    terms = ap (λ (x : Table). x.stamps.terms) is;
+    formats = ap (λ (x : Table). x.stamps.formats) is;
+  },
+  plain_columns t.columns columns,
+)
+
+plain_forms : (tables : List Table) → AllByRecursion (λ t. t ≡ simple t.name t.tree t.columns t.key t.primary t.uniques t.orders) tables → list_all (λ t. no_defaults t.columns) tables ≡ true → AllByRecursion IsPlainForm tables
+plain_forms [] all none = tt
+plain_forms (t ∷ tables) all none = let parts = and_parts _ _ none in (plain_form t parts.0 all.0, plain_forms tables all.1 parts.1)
+
+pub desk_is_plain : IsPlainSchema desk_schema
+desk_is_plain = (refl, plain_forms desk_tables are_simple refl)
+
+-- the tables that were made in memory
+pub made_in_memory : (old new : Held MemStore) (x : Unit {0}) → IsEmpty (state over_memory old) → Transacts (Grows schema_0 desk_schema) (state over_memory old) (state over_memory new) (Ok x) → new.schema ≡ desk_schema
+made_in_memory old new x empty acts = ((acts.done (memory_is_clean new)).2 (record { schema_is = empty.2; empty = tt })).schema_is
+
+pub decides_desk : (is : Bool) (schema plain : Schema) → plain ≡ desk_schema → Decides is ((schema ≡ plain) × IsPlainSchema plain) → Decides is (schema ≡ desk_schema)
+decides_desk is schema plain same d = (λ yes. (d.0 yes).0 ∙ same, λ it. d.1 (it ∙ sym same, subst IsPlainSchema (sym same) desk_is_plain))

@@ -1,0 +1,14 @@
+use Rattle.std.proofs.Common.{◌≡◌, ◌≤◌, take, Ok}
+use Rattle.std.specs.Bool.{Decides}
+use Rattle.sqlite.specs.Held.{state}
+use Rattle.review_statements.specs.Desk.{desk_tables}
+use Rattle.review_statements.specs.Ran.{Looks}
+use Rattle.review_tables.proofs.Ids.{Apart}
+use Rattle.review_tables.proofs.rowids.are_all_apart.Given as goal
+
+abbrev pub invariant-loop-at : goal.invariant-loop-at
+invariant-loop-at g l = record {
+  within : l.at ≤ 12;
+  reference : l.tx.conn.ghost_name ≡ l.fn.tx.conn.ghost_name;
+  looks : Looks (λ db is. Decides is (Apart db (take l.at desk_tables))) (state g.S.Store l.fn.tx.conn.now) (state g.S.Store l.tx.conn.now) (Ok l.are);
+}
