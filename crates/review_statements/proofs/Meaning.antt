@@ -1,7 +1,8 @@
 -- What the parts of texts mean: the tests of a WHERE, the values of an INSERT, and whole queries.
 use Rattle.std.proofs.Common.{◌≡◌, ◌≢◌, ◌∙◌, ◌&&◌, ◌++◌, ◌^◌, ◌-◌, ℕ, zero, suc, ℤ, get_or, List, [], ◌∷◌, Bool, cond, codes, Some, true, false, refl, sym, ap, map, filter, drop, slice_index_or, nat_le, subst, subst₂}
 use Rattle.std.specs.List.{list_all}
-use Rattle.std.specs.Ordering.{is_eq}
+use Rattle.std.specs.Ordering.{is_eq, nat_cmp}
+use Rattle.std.specs.Cmp.Lexicographic.{slice_cmp}
 use Rattle.std.specs.List.Sorted.{IsPermutation}
 use Rattle.std.proofs.lemmas.List.{get_or-drop}
 use Rattle.sqlite_schema.specs.declared.schema.Kind.TheVariants.{Integer}
@@ -9,20 +10,21 @@ use Rattle.sqlite_value.specs.declared.value.Value.{Value}
 use Rattle.sqlite_value.specs.declared.value.Value.TheVariants.{Null, Int, Real, Text, Blob}
 use Rattle.sqlite_value.specs.declared.keys.Collation.TheVariants.{Binary}
 use Rattle.sqlite_value.specs.Order.{Row, column, value_cmp}
-use Rattle.sqlite_value.proofs.OrderLemmas.{value_cmp-Null}
+use Rattle.sqlite_value.proofs.OrderLemmas.{value_cmp-Null, value_cmp-Text}
 use Rattle.sqlite_trees.specs.Tree.{Trees, rowid}
 use Rattle.sqlite_sql.specs.Term.{col, eval, holds}
 use Rattle.sqlite_sql.specs.Ops.{unary, binary, is_true, is_null, from_truth}
 use Rattle.sqlite_sql.specs.Program.{overlay}
 use Rattle.sqlite_sql.specs.declared.ops.BinaryOp.TheVariants.{Compare}
 use Rattle.sqlite_sql.specs.declared.ops.CompareOp.TheVariants.{Eq}
-use Rattle.sqlite_sql.specs.declared.ops.UnaryOp.TheVariants.{ToNumeric}
+use Rattle.sqlite_sql.specs.declared.ops.UnaryOp.TheVariants.{ToNumeric, TypeOf}
 use Rattle.sqlite_rules.specs.Cast.{cast}
 use Rattle.sqlite_keyed.proofs.ListLemmas.{filter_same, map-map}
 use Rattle.sqlite.specs.State.{State, Shown}
 use Rattle.sqlite.proofs.Callers.{reads_as}
 use Rattle.review_statements.specs.Desk.{desk_schema}
-use Rattle.review_statements.specs.Content.{has_key, is_value}
+use Rattle.sqlite_trees.specs.View.{is_int}
+use Rattle.review_statements.specs.Content.{has_key, is_integer, is_value}
 use Rattle.review_statements.specs.Search.{At, FindsIds}
 use Rattle.review_statements.specs.Texts.{Asks, number_at, tests_for, tests_from, values_of, rows_where}
 use Rattle.review_statements.proofs.Queries.{passes, shows, selects}
@@ -59,6 +61,30 @@ equals (Real x) w there = rw there (told_true _)
 equals (Text t) w there = rw there (told_true _)
 equals (Blob b) w there = rw there (told_true _)
 
+-- the name of a type is the one that is asked for
+is_named : (name : List ℕ) → is_true (binary (Compare Eq Binary) (Text name) (Text (codes "integer"))) ≡ is_eq (slice_cmp nat_cmp name (codes "integer"))
+is_named name = equals (Text name) (Text (codes "integer")) refl ∙ ap is_eq (value_cmp-Text name (codes "integer"))
+
+-- only an integer has this type
+typed : (v : Value) → is_true (binary (Compare Eq Binary) (unary TypeOf v) (Text (codes "integer"))) ≡ is_int v
+unfolding unary
+typed Null = is_named (codes "null")
+typed (Int n) = is_named (codes "integer")
+typed (Real x) = is_named (codes "real")
+typed (Text t) = is_named (codes "text")
+typed (Blob b) = is_named (codes "blob")
+
+and_false : (b : Bool) → (b && false) ≡ false
+and_false true = refl
+and_false false = refl
+
+exact_integer : (v : Value) (n : ℤ) → (is_eq (value_cmp v (Int n)) && (is_int v && true)) ≡ is_integer v n
+exact_integer Null n = and_false _
+exact_integer (Int m) n = elim (is_eq (value_cmp (Int m) (Int n))) as (λ b. (b && true) ≡ b) [ true ↦ refl | false ↦ refl ]
+exact_integer (Real x) n = and_false _
+exact_integer (Text t) n = and_false _
+exact_integer (Blob b) n = and_false _
+
 -- ---- the tests of a key
 
 and_true : (b : Bool) → (b && true) ≡ b
@@ -80,7 +106,9 @@ module _ (params row : Row) where
 
   pub passes_one : (place at : ℕ) (v : Value) → column params at ≡ v → list_all (holds env) (tests_for place v at) ≡ is_value (column row place) v
   passes_one place at Null is = refl
-  passes_one place at (Int n) is = and_true _ ∙ (ap (λ x. is_true (binary (Compare Eq Binary) (column row place) x)) (as_number place at n is) ∙ equals (column row place) (Int n) refl)
+  passes_one place at (Int n) is =
+      (λ i. (ap (λ x. is_true (binary (Compare Eq Binary) (column row place) x)) (as_number place at n is) ∙ equals (column row place) (Int n) refl) i && (typed (column row place) i && true))
+      ∙ exact_integer (column row place) n
   passes_one place at (Real x) is = refl
   passes_one place at (Text t) is = and_true _ ∙ (ap (λ x. is_true (binary (Compare Eq Binary) (column row place) x)) is ∙ equals (column row place) (Text t) refl)
   passes_one place at (Blob b) is = refl

@@ -10,10 +10,15 @@ use Rattle.sqlite_trees.specs.Tree.{Trees, rowid}
 use Rattle.sqlite_rules.specs.Edit.{is_taken}
 use Rattle.sqlite_trees.specs.View.{is_int}
 
--- whether a value equals a number or a text, as SQL orders values; no other value is in a key
+-- whether a value is this integer; a real number that equals it is not
+abbrev pub is_integer : Value → ℤ → Bool
+is_integer (Int m) n = is_eq (value_cmp (Int m) (Int n))
+is_integer v n = false
+
+-- whether a value is this integer or this text; no other value is in a key
 abbrev pub is_value : Value → Value → Bool
 is_value v Null = false
-is_value v (Int n) = is_eq (value_cmp v (Int n))
+is_value v (Int n) = is_integer v n
 is_value v (Real x) = false
 is_value v (Text t) = is_eq (value_cmp v (Text t))
 is_value v (Blob b) = false

@@ -17,9 +17,10 @@ At = List (ℕ × Value)
 abbrev pub rows_at : At → List Raw → List Raw
 rows_at at rows = filter (has_key at) rows
 
--- a look-up: the tree of its table, the values that it asks for, the columns that it shows of a row, and how these read where it is a row of the table
+-- a look-up: the tree of its table, which rows of the table have a key, the values that it asks for, the columns that it shows of a row, and how these read where it is a row of the table
 pub record Search (A X : Type 0) : Type 0 where
   pub tree : ℕ
+  pub keyed : Raw → Bool
   pub at : A → At
   pub columns : List ℕ
   pub read : Raw → Option X
@@ -64,15 +65,16 @@ abbrev pub AreFound : {A X : Type 0} → Search A X → Trees → A → Option (
 AreFound s db a None = HasOdd (reads s) (rows_at (s.at a) (db s.tree))
 AreFound s db a (Some xs) = IsPermutation (map (reads s) (rows_at (s.at a) (db s.tree))) (map Some xs)
 
--- the values of a row and its key as they are put in, how they are stored, with a rowid where the table has no number of its own, and which rows are of the form of the table
+-- the values of a row and its key as they are put in, how they are stored, with a rowid where the table has no number of its own, and which keys and which rows are of the form of the table
 pub record Form (A X : Type 0) : Type 0 where
   pub values : A → X → Raw
   pub stored : A → X → ℤ → Raw
+  pub is_key : A → Bool
   pub is_good : X → Bool
 
 -- rows that are stored as they are put in, with a rowid before them
-abbrev pub with_rowid : {A X : Type 0} → (A → X → Raw) → (X → Bool) → Form A X
-with_rowid values good = record { values = values; stored = λ a x id. Int id ∷ values a x; is_good = good }
+abbrev pub with_rowid : {A X : Type 0} → (A → X → Raw) → (A → Bool) → (X → Bool) → Form A X
+with_rowid values formed good = record { values = values; stored = λ a x id. Int id ∷ values a x; is_key = formed; is_good = good }
 
 -- the first value is the rowid, and its column is left empty
 abbrev pub numbered : Raw → Raw
@@ -80,14 +82,15 @@ numbered [] = []
 numbered (number ∷ values) = number ∷ Null ∷ values
 
 -- rows that begin with a number which is their rowid
-abbrev pub with_number : {A X : Type 0} → (A → X → Raw) → (X → Bool) → Form A X
-with_number values good = record { values = values; stored = λ a x id. numbered (values a x); is_good = good }
+abbrev pub with_number : {A X : Type 0} → (A → X → Raw) → (A → Bool) → (X → Bool) → Form A X
+with_number values formed good = record { values = values; stored = λ a x id. numbered (values a x); is_key = formed; is_good = good }
 
--- A stored row has its key and reads as itself, and no row has two keys.
+-- A stored row has its key and reads as itself, no row has two keys, and one that has a key of the form of the table is among those that have a key.
 pub record IsLawful {A X : Type 0} (s : Search A X) (f : Form A X) : Type 0 where
   pub keyed : (a : A) (x : X) (id : ℤ) → has_key (s.at a) (f.stored a x id) ≡ true
   pub reads_back : (a : A) (x : X) (id : ℤ) → f.is_good x ≡ true → reads s (f.stored a x id) ≡ Some x
   pub exact : (a b : A) (r : Raw) → has_key (s.at a) r ≡ true → has_key (s.at b) r ≡ true → a ≡ b
+  pub known : (a : A) (r : Raw) → f.is_key a ≡ true → has_key (s.at a) r ≡ true → s.keyed r ≡ true
 
 -- a row is put under a key
 abbrev pub Puts : {A X : Type 0} → Search A X → Form A X → A → X → Trees → Trees → Type 0
@@ -107,6 +110,8 @@ pub record SetsRow {A X : Type 0} (s : Search A X) (key : A) (row : Option X) (o
   -- rows that are counted, where each row of the key is among them
   pub counted : (p : Raw → Bool) → ((r : Raw) → has_key (s.at key) r ≡ true → p r ≡ true)
       → length (filter p (new s.tree)) + length (rows_at (s.at key) (old s.tree)) ≡ length (filter p (old s.tree)) + count_of row
+  -- a row of the key has a key of the table
+  pub formed : (r : Raw) → has_key (s.at key) r ≡ true → s.keyed r ≡ true
   pub others : SparesOthers s.tree old new
 
 -- the changes are made, the last first

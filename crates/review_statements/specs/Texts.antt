@@ -10,7 +10,7 @@ use Rattle.sqlite_sql.specs.Term.{Term, lit, col, op1, op2}
 use Rattle.sqlite_sql.specs.Query.{Query, inner, end}
 use Rattle.sqlite_sql.specs.declared.ops.BinaryOp.TheVariants.{Compare}
 use Rattle.sqlite_sql.specs.declared.ops.CompareOp.TheVariants.{Eq}
-use Rattle.sqlite_sql.specs.declared.ops.UnaryOp.TheVariants.{ToNumeric}
+use Rattle.sqlite_sql.specs.declared.ops.UnaryOp.TheVariants.{ToNumeric, TypeOf}
 use Rattle.sqlite_schema.specs.declared.schema.Column.{Column}
 use Rattle.sqlite_schema.specs.declared.schema.Table.{Table}
 use Rattle.sqlite_schema.specs.declared.command.Command.{Command}
@@ -31,10 +31,14 @@ abbrev pub number_at : ℕ → ℕ → Term
 number_at zero at = col 0 at
 number_at (suc place) at = op1 ToNumeric (col 0 at)
 
--- a column equals the number or the text that is bound at a place; no other value is asked for
+-- a column has an integer, and no other number that equals one
+abbrev pub has_integer : ℕ → Term
+has_integer place = op2 (Compare Eq Binary) (op1 TypeOf (col 1 place)) (lit (Text (codes "integer")))
+
+-- a column has the number or the text that is bound at a place; no other value is asked for
 abbrev pub tests_for : ℕ → Value → ℕ → List Term
 tests_for place Null at = lit Null ∷ []
-tests_for place (Int n) at = op2 (Compare Eq Binary) (col 1 place) (number_at place at) ∷ []
+tests_for place (Int n) at = op2 (Compare Eq Binary) (col 1 place) (number_at place at) ∷ has_integer place ∷ []
 tests_for place (Real x) at = lit Null ∷ []
 tests_for place (Text t) at = op2 (Compare Eq Binary) (col 1 place) (col 0 at) ∷ []
 tests_for place (Blob b) at = lit Null ∷ []

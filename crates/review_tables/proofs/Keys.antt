@@ -5,13 +5,13 @@ use Rattle.std.proofs.lemmas.Bool.{cases_Bool, both_ways}
 use Rattle.std.proofs.lemmas.Cmp.{tied_itself}
 use Rattle.std.proofs.lemmas.Map.Lookups.{exact_bytes}
 use Rattle.sqlite_value.specs.declared.value.Value.{Value}
-use Rattle.sqlite_value.specs.declared.value.Value.TheVariants.{Int, Text}
+use Rattle.sqlite_value.specs.declared.value.Value.TheVariants.{Null, Int, Real, Text, Blob}
 use Rattle.sqlite_value.specs.Order.{Row, value_cmp}
 use Rattle.sqlite_value.proofs.OrderLemmas.{value_cmp_total, value_cmp-Int, value_cmp-Text}
 use Rattle.sqlite_trees.specs.Tree.{Trees}
 use Rattle.sqlite_keyed.proofs.ListLemmas.{filter-filter}
 use Rattle.sqlite_keyed.proofs.KeyedLemmas.{same_int as whole}
-use Rattle.review_statements.specs.Content.{has_key, Adds, Removes, Sets, SparesOthers, Then}
+use Rattle.review_statements.specs.Content.{has_key, is_value, Adds, Removes, Sets, SparesOthers, Then}
 use Rattle.review_statements.specs.Search.{At, Search, reads, only, Form, IsLawful, Puts, SetsRow}
 
 pub equal_is : (o : Ordering) → is_eq o ≡ true → o ≡ Equal
@@ -26,8 +26,16 @@ same_value v a b p q = sym (value_cmp_total.congr v a b (equal_is _ p)) ∙ equa
 pub same_whole : (v : Value) (m n : ℤ) → is_eq (value_cmp v (Int m)) ≡ true → is_eq (value_cmp v (Int n)) ≡ true → m ≡ n
 same_whole v m n p q = let e = sym (value_cmp-Int m n) ∙ same_value v (Int m) (Int n) p q in whole m n (ap is_eq e)
 
-pub same_int : (v : Value) (m n : ℕ) → is_eq (value_cmp v (Int (pos m))) ≡ true → is_eq (value_cmp v (Int (pos n))) ≡ true → m ≡ n
-same_int v m n p q = let z = same_whole v (pos m) (pos n) p q in cc
+-- the value that has this integer
+pub int_is : (v : Value) (n : ℤ) → is_value v (Int n) ≡ true → v ≡ Int n
+int_is Null n has = absurd (cc)
+int_is (Int m) n has = ap Int (same_whole (Int m) m n (ap is_eq (tied_itself value_cmp_total (Int m))) has)
+int_is (Real x) n has = absurd (cc)
+int_is (Text t) n has = absurd (cc)
+int_is (Blob b) n has = absurd (cc)
+
+pub same_int : (v : Value) (m n : ℕ) → is_value v (Int (pos m)) ≡ true → is_value v (Int (pos n)) ≡ true → m ≡ n
+same_int v m n p q = let e = sym (int_is v (pos m) p) ∙ int_is v (pos n) q in cc
 
 pub same_text : (v : Value) (s t : List ℕ) → is_eq (value_cmp v (Text s)) ≡ true → is_eq (value_cmp v (Text t)) ≡ true → s ≡ t
 same_text v s t p q = let e = sym (value_cmp-Text s t) ∙ same_value v (Text s) (Text t) p q in exact_bytes s t e
@@ -78,17 +86,18 @@ module _ {A X : Type 0} (s : Search A X) (f : Form A X) (lawful : IsLawful s f) 
   keys_apart : (a b : A) → a ≢ b → (r : Row) → has_key (s.at b) r ≡ true → has_key (s.at a) r ≡ false
   keys_apart a b other r is = elim (cases_Bool (has_key (s.at a) r)) [ inl too ↦ absurd (other (lawful.exact a b r too is)) | inr apart ↦ apart ]
 
-  pub row_gone : (key : A) (old new : Trees) → Removes s.tree (s.at key) old new → SetsRow s key None old new
-  row_gone key old new gone = let it = taken s.tree (s.at key) old new gone in record {
+  pub row_gone : (key : A) (old new : Trees) → f.is_key key ≡ true → Removes s.tree (s.at key) old new → SetsRow s key None old new
+  row_gone key old new formed gone = let it = taken s.tree (s.at key) old new gone in record {
     here = ap (only (reads s)) it.here;
     there = λ a other. ap (only (reads s)) (it.there (has_key (s.at a)) (λ r. keys_apart a key other r));
     apart = it.there;
     counted = λ p among. let e = left_counted (s.at key) p among (old s.tree) in let n = ap (λ l. length (filter p l)) gone.rows in omega (arith, e, n);
+    formed = λ r has. lawful.known key r formed has;
     others = it.others;
   }
 
-  pub row_put : (key : A) (x : X) (old new : Trees) → f.is_good x ≡ true → Then (Removes s.tree (s.at key)) (Puts s f key x) old new → SetsRow s key (Some x) old new
-  row_put key x old new good both =
+  pub row_put : (key : A) (x : X) (old new : Trees) → f.is_key key ≡ true → f.is_good x ≡ true → Then (Removes s.tree (s.at key)) (Puts s f key x) old new → SetsRow s key (Some x) old new
+  row_put key x old new formed good both =
       let id = both.2.0 in
       let row = f.stored key x id in
       let has = lawful.keyed key x id in
@@ -101,5 +110,6 @@ module _ {A X : Type 0} (s : Search A X) (f : Form A X) (lawful : IsLawful s f) 
             let n = ap (λ l. length (filter p l)) both.1.rows in
             let more = both.2.1.rows.count p (among row has) in
             omega (arith, e, n, more);
+        formed = λ r at. lawful.known key r formed at;
         others = it.others;
       }

@@ -89,7 +89,8 @@ pub trait Table {
 
     /// The values of a key.
     fn bind_key<'a>(key: &'a Self::Key) -> Result<Bound<'a>, Error>
-        ensures { IfOk result (λ values. values ≡ values_of (search.at key.now)) };
+        ensures values { IfOk result (λ values. values ≡ values_of (search.at key.now)) }
+        ensures formed { OnOk result (form.is_key key.now ≡ true) };
 
     /// The values of a row with its key; a text that is made for one of them is put into the buffer. It fails where the row would not read
     /// as itself.
@@ -130,13 +131,11 @@ pub fn insert<T: Table, S: Alter>(
 }
 
 /// Takes the rows of a key away.
-pub fn remove<T: Table, S: Alter>(
-    tx: &mut Transaction<'_, S>,
-    key: &T::Key,
-) -> Result<usize, Error>
+pub fn remove<T: Table, S: Alter>(tx: &mut Transaction<'_, S>, key: &T::Key) -> Result<usize, Error>
     ensures same_reference { tx.new.conn.ghost_name ≡ tx.old.conn.ghost_name }
     ensures ran { Inside (Removes T.search.tree (T.search.at key.now)) (state S.Store tx.old.conn.now) (state S.Store tx.new.conn.now) result }
     ensures open { Opens (state S.Store tx.old.conn.now) (state S.Store tx.new.conn.now) result }
+    ensures formed { OnOk result (T.form.is_key key.now ≡ true) }
 {
     let values = T::bind_key(key)?;
     tx.execute(T::DELETE, values.as_slice())

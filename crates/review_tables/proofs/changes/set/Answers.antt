@@ -13,5 +13,5 @@ returns-clause-ran g c =
     let s = g.T.Table.search in
     let key = c.args.key.now in
     let row = c.args.row.now in
-    told _ (SetsRow s key (Some row)) a b _ (tt {0}) (λ old new h. row_put s g.T.Table.form g.met.T.Table.lawful key row old new c.in_ok-insert.ensures.good h)
+    told _ (SetsRow s key (Some row)) a b _ (tt {0}) (λ old new h. row_put s g.T.Table.form g.met.T.Table.lawful key row old new c.in_ok-remove.ensures.formed c.in_ok-insert.ensures.good h)
     (next _ _ a m b _ _ c.in_ok-remove.ensures.ran c.in_ok-insert.ensures.ran)
