@@ -25,6 +25,7 @@ use Rattle.review_statements.specs.Search.{Search, Form, with_rowid, with_number
 use Rattle.review_records.specs.declared.rows.PlaceKey.{PlaceKey}
 use Rattle.review_records.specs.Forms.{both, where_is}
 use Rattle.review_change_records.specs.Paths.{paths_in, paths_text, are_read_back}
+use Rattle.review_change_records.specs.Keyed.{header_keyed, patch_keyed, vote_keyed, account_keyed, comment_keyed}
 
 -- ---- values of columns
 
@@ -97,7 +98,7 @@ headed _ _ _ _ _ _ _ _ = None
 -- the header of a change
 abbrev pub headers : Search ℕ Header
 headers = record {
-  tree = table.changes.tree;
+  tree = table.changes.tree; keyed = header_keyed;
   at = λ number. (0, Int (pos number)) ∷ [];
   columns = 2 ∷ 3 ∷ 4 ∷ 5 ∷ 6 ∷ 7 ∷ 8 ∷ 9 ∷ [];
   read = λ r. headed (where_is is_slashed_name (text_in (column r 0))) (where_is is_slashed_name (text_in (column r 1))) (where_is is_line (text_in (column r 2)))
@@ -105,7 +106,7 @@ headers = record {
 }
 
 abbrev pub header_form : Form ℕ Header
-header_form = with_number (λ number h. Int (pos number) ∷ Text h.project ∷ Text h.branch ∷ Text h.subject ∷ Int (pos h.owner) ∷ Text (state_name h.state) ∷ Int (pos (flag_number h.wip)) ∷ Int (pos h.place) ∷ Int (pos h.updated) ∷ []) (λ h. (is_utf8 h.project && is_slashed_name h.project) && ((is_utf8 h.branch && is_slashed_name h.branch) && ((is_utf8 h.subject && is_line h.subject) && (is_account_number h.owner && is_small h.place))))
+header_form = with_number (λ number h. Int (pos number) ∷ Text h.project ∷ Text h.branch ∷ Text h.subject ∷ Int (pos h.owner) ∷ Text (state_name h.state) ∷ Int (pos (flag_number h.wip)) ∷ Int (pos h.place) ∷ Int (pos h.updated) ∷ []) (is_within most_changes) (λ h. (is_utf8 h.project && is_slashed_name h.project) && ((is_utf8 h.branch && is_slashed_name h.branch) && ((is_utf8 h.subject && is_line h.subject) && (is_account_number h.owner && is_small h.place))))
 
 -- ---- patch sets
 
@@ -120,7 +121,7 @@ patch_in commit parent kind uploader paths =
 -- a patch set of a change
 abbrev pub patches : Search (ℕ × ℕ) PatchRow
 patches = record {
-  tree = table.patches.tree;
+  tree = table.patches.tree; keyed = patch_keyed;
   at = λ p. (1, Int (pos p.0)) ∷ (2, Int (pos p.1)) ∷ [];
   columns = 3 ∷ 4 ∷ 5 ∷ 6 ∷ 7 ∷ [];
   read = λ r. patch_in (column r 0) (column r 1) (column r 2) (column r 3) (column r 4);
@@ -129,14 +130,14 @@ patches = record {
 -- the patch sets of a change
 abbrev pub change_patches : Search ℕ (ℕ × PatchRow)
 change_patches = record {
-  tree = table.patches.tree;
+  tree = table.patches.tree; keyed = patch_keyed;
   at = λ change. (1, Int (pos change)) ∷ [];
   columns = 2 ∷ 3 ∷ 4 ∷ 5 ∷ 6 ∷ 7 ∷ [];
   read = λ r. both (where_is (is_within most_patches) (number_in (column r 0))) (patch_in (column r 1) (column r 2) (column r 3) (column r 4) (column r 5));
 }
 
 abbrev pub patch_form : Form (ℕ × ℕ) PatchRow
-patch_form = with_rowid (λ p x. Int (pos p.0) ∷ Int (pos p.1) ∷ Text x.commit ∷ Text x.parent ∷ Text (kind_name x.kind) ∷ Int (pos x.uploader) ∷ Text (paths_text x.paths) ∷ []) (λ x. (is_utf8 x.commit && is_commit x.commit) && ((is_utf8 x.parent && is_commit x.parent) && (is_account_number x.uploader && (is_utf8 (paths_text x.paths) && are_read_back x.paths))))
+patch_form = with_rowid (λ p x. Int (pos p.0) ∷ Int (pos p.1) ∷ Text x.commit ∷ Text x.parent ∷ Text (kind_name x.kind) ∷ Int (pos x.uploader) ∷ Text (paths_text x.paths) ∷ []) (λ p. is_within most_changes p.0 && is_within most_patches p.1) (λ x. (is_utf8 x.commit && is_commit x.commit) && ((is_utf8 x.parent && is_commit x.parent) && (is_account_number x.uploader && (is_utf8 (paths_text x.paths) && are_read_back x.paths))))
 
 -- ---- votes
 
@@ -147,7 +148,7 @@ vote_key _ _ _ = None
 -- a vote on a change
 abbrev pub votes : Search (ℕ × VoteKey) ℤ
 votes = record {
-  tree = table.votes.tree;
+  tree = table.votes.tree; keyed = vote_keyed;
   at = λ p. (1, Int (pos p.0)) ∷ (2, Int (pos p.1.patch)) ∷ (3, Text p.1.label) ∷ (4, Int (pos p.1.account)) ∷ [];
   columns = 5 ∷ [];
   read = λ r. where_is is_vote (integer_in (column r 0));
@@ -156,32 +157,32 @@ votes = record {
 -- the votes on a change
 abbrev pub change_votes : Search ℕ (VoteKey × ℤ)
 change_votes = record {
-  tree = table.votes.tree;
+  tree = table.votes.tree; keyed = vote_keyed;
   at = λ change. (1, Int (pos change)) ∷ [];
   columns = 2 ∷ 3 ∷ 4 ∷ 5 ∷ [];
   read = λ r. both (vote_key (where_is (is_within most_patches) (number_in (column r 0))) (where_is is_label (text_in (column r 1))) (where_is is_account_number (number_in (column r 2)))) (where_is is_vote (integer_in (column r 3)));
 }
 
 abbrev pub vote_form : Form (ℕ × VoteKey) ℤ
-vote_form = with_rowid (λ p v. Int (pos p.0) ∷ Int (pos p.1.patch) ∷ Text p.1.label ∷ Int (pos p.1.account) ∷ Int v ∷ []) (is_vote)
+vote_form = with_rowid (λ p v. Int (pos p.0) ∷ Int (pos p.1.patch) ∷ Text p.1.label ∷ Int (pos p.1.account) ∷ Int v ∷ []) (λ p. is_within most_changes p.0 && (is_within most_patches p.1.patch && ((is_utf8 p.1.label && is_label p.1.label) && is_account_number p.1.account))) (is_vote)
 
 -- ---- roles
 
 -- the role of an account
 abbrev pub roles : Search (ℕ × ℕ) Role
-roles = record { tree = table.reviewers.tree; at = λ p. (1, Int (pos p.0)) ∷ (2, Int (pos p.1)) ∷ []; columns = 3 ∷ []; read = λ r. named role_named (text_in (column r 0)) }
+roles = record { tree = table.reviewers.tree; keyed = account_keyed; at = λ p. (1, Int (pos p.0)) ∷ (2, Int (pos p.1)) ∷ []; columns = 3 ∷ []; read = λ r. named role_named (text_in (column r 0)) }
 
 -- the roles of a change
 abbrev pub change_roles : Search ℕ (ℕ × Role)
 change_roles = record {
-  tree = table.reviewers.tree;
+  tree = table.reviewers.tree; keyed = account_keyed;
   at = λ change. (1, Int (pos change)) ∷ [];
   columns = 2 ∷ 3 ∷ [];
   read = λ r. both (where_is is_account_number (number_in (column r 0))) (named role_named (text_in (column r 1)));
 }
 
 abbrev pub role_form : Form (ℕ × ℕ) Role
-role_form = with_rowid (λ p x. Int (pos p.0) ∷ Int (pos p.1) ∷ Text (role_name x) ∷ []) (λ x. true)
+role_form = with_rowid (λ p x. Int (pos p.0) ∷ Int (pos p.1) ∷ Text (role_name x) ∷ []) (λ p. is_within most_changes p.0 && is_account_number p.1) (λ x. true)
 
 -- ---- comments
 
@@ -198,7 +199,7 @@ comment_in patch path line author message unresolved answers request =
 -- a comment of a change
 abbrev pub comments : Search (ℕ × ℕ) CommentRow
 comments = record {
-  tree = table.comments.tree;
+  tree = table.comments.tree; keyed = comment_keyed;
   at = λ p. (1, Int (pos p.0)) ∷ (2, Int (pos p.1)) ∷ [];
   columns = 3 ∷ 4 ∷ 5 ∷ 6 ∷ 7 ∷ 8 ∷ 9 ∷ 10 ∷ [];
   read = λ r. comment_in (column r 0) (column r 1) (column r 2) (column r 3) (column r 4) (column r 5) (column r 6) (column r 7);
@@ -207,14 +208,14 @@ comments = record {
 -- the comments of a change
 abbrev pub change_comments : Search ℕ (ℕ × CommentRow)
 change_comments = record {
-  tree = table.comments.tree;
+  tree = table.comments.tree; keyed = comment_keyed;
   at = λ change. (1, Int (pos change)) ∷ [];
   columns = 2 ∷ 3 ∷ 4 ∷ 5 ∷ 6 ∷ 7 ∷ 8 ∷ 9 ∷ 10 ∷ [];
   read = λ r. both (where_is (is_within most_comments) (number_in (column r 0))) (comment_in (column r 1) (column r 2) (column r 3) (column r 4) (column r 5) (column r 6) (column r 7) (column r 8));
 }
 
 abbrev pub comment_form : Form (ℕ × ℕ) CommentRow
-comment_form = with_rowid (λ p x. Int (pos p.0) ∷ Int (pos p.1) ∷ Int (pos x.patch) ∷ Text x.path ∷ Int (pos x.line) ∷ Int (pos x.author) ∷ Text x.message ∷ Int (pos (flag_number x.unresolved)) ∷ Int (pos (answers_number x.answers)) ∷ Int (pos x.request) ∷ []) (λ x. is_within most_patches x.patch && ((is_utf8 x.path && is_place x.path) && (is_small x.line && (is_account_number x.author && ((is_utf8 x.message && is_message x.message) && is_answer x.answers)))))
+comment_form = with_rowid (λ p x. Int (pos p.0) ∷ Int (pos p.1) ∷ Int (pos x.patch) ∷ Text x.path ∷ Int (pos x.line) ∷ Int (pos x.author) ∷ Text x.message ∷ Int (pos (flag_number x.unresolved)) ∷ Int (pos (answers_number x.answers)) ∷ Int (pos x.request) ∷ []) (λ p. is_within most_changes p.0 && is_within most_comments p.1) (λ x. is_within most_patches x.patch && ((is_utf8 x.path && is_place x.path) && (is_small x.line && (is_account_number x.author && ((is_utf8 x.message && is_message x.message) && is_answer x.answers)))))
 
 -- ---- calls
 
@@ -225,7 +226,7 @@ called _ _ = None
 -- that an account is in the attention set
 abbrev pub calls : Search (ℕ × ℕ) Called
 calls = record {
-  tree = table.attention.tree;
+  tree = table.attention.tree; keyed = account_keyed;
   at = λ p. (1, Int (pos p.0)) ∷ (2, Int (pos p.1)) ∷ [];
   columns = 3 ∷ 4 ∷ [];
   read = λ r. called (where_is is_line (text_in (column r 0))) (number_in (column r 1));
@@ -234,25 +235,25 @@ calls = record {
 -- the attention set of a change
 abbrev pub change_calls : Search ℕ (ℕ × Called)
 change_calls = record {
-  tree = table.attention.tree;
+  tree = table.attention.tree; keyed = account_keyed;
   at = λ change. (1, Int (pos change)) ∷ [];
   columns = 2 ∷ 3 ∷ 4 ∷ [];
   read = λ r. both (where_is is_account_number (number_in (column r 0))) (called (where_is is_line (text_in (column r 1))) (number_in (column r 2)));
 }
 
 abbrev pub call_form : Form (ℕ × ℕ) Called
-call_form = with_rowid (λ p x. Int (pos p.0) ∷ Int (pos p.1) ∷ Text x.reason ∷ Int (pos x.request) ∷ []) (λ x. is_utf8 x.reason && is_line x.reason)
+call_form = with_rowid (λ p x. Int (pos p.0) ∷ Int (pos p.1) ∷ Text x.reason ∷ Int (pos x.request) ∷ []) (λ p. is_within most_changes p.0 && is_account_number p.1) (λ x. is_utf8 x.reason && is_line x.reason)
 
 -- ---- other look-ups
 
 -- the numbers of changes
 abbrev pub change_numbers : Search (Unit {0}) ℕ
-change_numbers = record { tree = table.changes.tree; at = λ u. []; columns = 0 ∷ []; read = λ r. number_in (column r 0) }
+change_numbers = record { tree = table.changes.tree; keyed = header_keyed; at = λ u. []; columns = 0 ∷ []; read = λ r. number_in (column r 0) }
 
 -- the changes for a branch, each with its place
 abbrev pub change_places : Search BranchKey (ℕ × ℕ)
 change_places = record {
-  tree = table.changes.tree;
+  tree = table.changes.tree; keyed = header_keyed;
   at = λ b. (2, Text b.project) ∷ (3, Text b.branch) ∷ [];
   columns = 0 ∷ 8 ∷ [];
   read = λ r. both (where_is (is_within most_changes) (number_in (column r 0))) (where_is is_small (number_in (column r 1)));
@@ -261,7 +262,7 @@ change_places = record {
 -- the patch sets that have a commit
 abbrev pub sent : Search (List ℕ) (ℕ × ℕ)
 sent = record {
-  tree = table.patches.tree;
+  tree = table.patches.tree; keyed = patch_keyed;
   at = λ commit. (3, Text commit) ∷ [];
   columns = 1 ∷ 2 ∷ [];
   read = λ r. both (where_is (is_within most_changes) (number_in (column r 0))) (where_is (is_within most_patches) (number_in (column r 1)));
@@ -270,7 +271,7 @@ sent = record {
 -- the change at a place of a branch
 abbrev pub changes_at : Search PlaceKey ℕ
 changes_at = record {
-  tree = table.changes.tree;
+  tree = table.changes.tree; keyed = header_keyed;
   at = λ k. (2, Text k.project) ∷ (3, Text k.branch) ∷ (8, Int (pos k.place)) ∷ [];
   columns = 0 ∷ [];
   read = λ r. where_is (is_within most_changes) (number_in (column r 0));
@@ -278,4 +279,4 @@ changes_at = record {
 
 -- the numbers of the patch sets of a change
 abbrev pub patch_numbers : Search ℕ ℕ
-patch_numbers = record { tree = table.patches.tree; at = change_patches.at; columns = 2 ∷ []; read = λ r. where_is (is_within most_patches) (number_in (column r 0)) }
+patch_numbers = record { tree = table.patches.tree; keyed = patch_keyed; at = change_patches.at; columns = 2 ∷ []; read = λ r. where_is (is_within most_patches) (number_in (column r 0)) }

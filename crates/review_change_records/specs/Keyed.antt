@@ -4,8 +4,7 @@ use Rattle.sqlite_value.specs.Order.{Row, column}
 use Rattle.review_names.specs.Forms.{is_label, is_within, most_changes, most_comments, most_patches}
 use Rattle.review_names.specs.Names.{is_account_number}
 use Rattle.review_tables.specs.Columns.{text_in}
-use Rattle.review_records.specs.Forms.{where_is}
-use Rattle.review_records.specs.Keyed.{is_number}
+use Rattle.review_records.specs.Keyed.{is_number, where_is}
 
 abbrev pub header_keyed : Row → Bool
 header_keyed r = is_number (is_within most_changes) (column r 0)

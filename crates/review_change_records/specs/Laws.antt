@@ -1,5 +1,5 @@
 -- The laws of the tables of changes.
-use Rattle.std.proofs.Common.{◌≡◌, ◌∙◌, ◌&&◌, nat_lt, ℕ, suc, zero, pos, List, [], ◌∷◌, Option, Some, None, Bool, true, false, refl, ap, sym, subst, inl, inr}
+use Rattle.std.proofs.Common.{◌≡◌, ◌∙◌, ◌&&◌, is_some, nat_lt, ℕ, suc, zero, pos, List, [], ◌∷◌, Option, Some, None, Bool, true, false, refl, ap, sym, subst, inl, inr}
 use Rattle.std.specs.Ordering.{nat_cmp, is_eq, ordering_then}
 use Rattle.std.specs.Cmp.Lexicographic.{slice_cmp}
 use Rattle.std.specs.declared.cmp.Ordering.{Ordering}
@@ -34,9 +34,11 @@ use Rattle.review_tables.specs.Columns.{number_in, text_in}
 use Rattle.review_statements.specs.Content.{has_key}
 use Rattle.review_tables.specs.Fronts.{IsExact, IsFront}
 use Rattle.review_statements.specs.Search.{IsLawful, reads}
-use Rattle.review_tables.proofs.Keys.{equal_is, itself, same_int, same_text}
+use Rattle.review_statements.specs.Content.{is_value}
+use Rattle.review_tables.proofs.Keys.{equal_is, itself, same_int, same_text, text_is as stored_text}
+use Rattle.review_records.specs.Keyed.{is_number}
 use Rattle.review_records.specs.Forms.{where_is}
-use Rattle.review_records.specs.Laws.{at_number, both_are, numbers_exact, one_number, passed, reads_text}
+use Rattle.review_records.specs.Laws.{at_number, both_are, keyed_number, numbers_exact, one_number, passed, reads_text}
 use Rattle.review_change_records.specs.Paths.{are_read_back, are_same, paths_in, paths_text, were_read}
 use Rattle.review_change_records.specs.Forms.{answered, answers_number, call_form, calls, change_calls, change_comments, change_patches, change_roles, change_votes, comment_form, comments, flag_number, flagged, header_form, headers, is_answer, is_small, named, patch_form, patched, patches, sent, role_form, roles, state_name, state_named, vote_form, vote_key, votes}
 
@@ -87,6 +89,7 @@ header_lawful = record {
       let place : is_small h.place ≡ true = four.1 in
       rw (reads_text is_slashed_name h.project one.0, reads_text is_slashed_name h.branch two.0, reads_text is_line h.subject three.0, owner, place, reads_state h.state, reads_flag h.wip) refl;
   exact = λ a b r p q. same_int (column r 0) a b (and_parts _ _ p).0 (and_parts _ _ q).0;
+  known = λ a r formed has. keyed_number (is_within most_changes) (column r 0) a formed (and_parts _ _ has).0;
 }
 
 -- ---- patch sets
@@ -124,7 +127,13 @@ reads_paths paths good =
 two_keyed : (a b : ℕ) → (is_eq (value_cmp (Int (pos a)) (Int (pos a))) && (is_eq (value_cmp (Int (pos b)) (Int (pos b))) && true)) ≡ true
 two_keyed a b = (λ i. itself (Int (pos a)) i && (itself (Int (pos b)) i && true))
 
-two_exact : (v w : Value) (a b : ℕ × ℕ) → (is_eq (value_cmp v (Int (pos a.0))) && (is_eq (value_cmp w (Int (pos a.1))) && true)) ≡ true → (is_eq (value_cmp v (Int (pos b.0))) && (is_eq (value_cmp w (Int (pos b.1))) && true)) ≡ true → a ≡ b
+two_known : (test : ℕ → Bool) (v w : Value) (a : ℕ × ℕ) → (is_within most_changes a.0 && test a.1) ≡ true → (is_value v (Int (pos a.0)) && (is_value w (Int (pos a.1)) && true)) ≡ true → (is_number (is_within most_changes) v && is_number test w) ≡ true
+two_known test v w a formed has =
+    let good = and_parts _ _ formed in
+    let one = and_parts _ _ has in
+    and_from _ _ (keyed_number (is_within most_changes) v a.0 good.0 one.0) (keyed_number test w a.1 good.1 (and_parts _ _ one.1).0)
+
+two_exact : (v w : Value) (a b : ℕ × ℕ) → (is_value v (Int (pos a.0)) && (is_value w (Int (pos a.1)) && true)) ≡ true → (is_value v (Int (pos b.0)) && (is_value w (Int (pos b.1)) && true)) ≡ true → a ≡ b
 two_exact v w a b p q =
     let one = and_parts _ _ p in
     let two = and_parts _ _ q in
@@ -142,6 +151,7 @@ patch_lawful = record {
       let uploader : is_account_number x.uploader ≡ true = three.0 in
       rw (reads_text is_commit x.commit one.0, reads_text is_commit x.parent two.0, reads_kind x.kind, uploader, reads_paths x.paths three.1) refl;
   exact = λ a b r p q. two_exact (column r 1) (column r 2) a b p q;
+  known = λ a r formed has. two_known (is_within most_patches) (column r 1) (column r 2) a formed has;
 }
 
 pub patches_of_change : IsFront nat_cmp change_patches patches
@@ -157,7 +167,7 @@ patches_of_change = record {
 -- ---- roles
 
 pub role_lawful : IsLawful roles role_form
-role_lawful = record { keyed = λ p x id. two_keyed p.0 p.1; reads_back = λ p x id good. reads_role x; exact = λ a b r p q. two_exact (column r 1) (column r 2) a b p q }
+role_lawful = record { keyed = λ p x id. two_keyed p.0 p.1; reads_back = λ p x id good. reads_role x; exact = λ a b r p q. two_exact (column r 1) (column r 2) a b p q; known = λ a r formed has. two_known is_account_number (column r 1) (column r 2) a formed has }
 
 pub roles_of_change : IsFront nat_cmp change_roles roles
 roles_of_change = record {
@@ -176,6 +186,7 @@ call_lawful = record {
   keyed = λ p x id. two_keyed p.0 p.1;
   reads_back = λ p x id good. rw (reads_text is_line x.reason good) refl;
   exact = λ a b r p q. two_exact (column r 1) (column r 2) a b p q;
+  known = λ a r formed has. two_known is_account_number (column r 1) (column r 2) a formed has;
 }
 
 pub calls_of_change : IsFront nat_cmp change_calls calls
@@ -204,6 +215,7 @@ comment_lawful = record {
       let author : is_account_number x.author ≡ true = four.0 in
       rw (patch, reads_text is_place x.path two.0, line, author, reads_text is_message x.message five.0, reads_flag x.unresolved, reads_answer x.answers five.1) refl;
   exact = λ a b r p q. two_exact (column r 1) (column r 2) a b p q;
+  known = λ a r formed has. two_known (is_within most_comments) (column r 1) (column r 2) a formed has;
 }
 
 pub comments_of_change : IsFront nat_cmp change_comments comments
@@ -247,6 +259,16 @@ vote_lawful = record {
       let label : a.1.label ≡ b.1.label = same_text (column r 3) a.1.label b.1.label three.0 third.0 in
       let account : a.1.account ≡ b.1.account = same_int (column r 4) a.1.account b.1.account (and_parts _ _ three.1).0 (and_parts _ _ third.1).0 in
       (λ i. (change i, record { patch = patch i; label = label i; account = account i }));
+  known = λ a r formed has.
+      let good = and_parts _ _ formed in
+      let better = and_parts _ _ good.1 in
+      let best = and_parts _ _ better.1 in
+      let one = and_parts _ _ has in
+      let two = and_parts _ _ one.1 in
+      let three = and_parts _ _ two.1 in
+      let label = stored_text (column r 3) a.1.label three.0 in
+      and_from _ _ (keyed_number (is_within most_changes) (column r 1) a.0 good.0 one.0) (and_from _ _ (keyed_number (is_within most_patches) (column r 2) a.1.patch better.0 two.0)
+      (and_from _ _ (ap (λ v. is_some (where_is is_label (text_in v))) label ∙ ap is_some (reads_text is_label a.1.label best.0)) (keyed_number is_account_number (column r 4) a.1.account best.1 (and_parts _ _ three.1).0)));
 }
 
 both_equal : (o p : Ordering) → is_eq (ordering_then o p) ≡ true → (is_eq o ≡ true) × (is_eq p ≡ true)

@@ -17,41 +17,38 @@ use Rattle.review_rows.specs.declared.rows.MemberKey.{MemberKey}
 use Rattle.review_tables.specs.Columns.{number_in, text_in}
 use Rattle.review_statements.specs.Desk as table
 use Rattle.review_statements.specs.Search.{Search, Form, with_rowid, with_number}
-
--- a value that passes a test
-abbrev pub where_is : {X : Type 0} → (X → Bool) → Option X → Option X
-where_is test None = None
-where_is test (Some x) = if test x then Some x else None
+pub use Rattle.review_records.specs.Keyed.{where_is}
+use Rattle.review_records.specs.Keyed.{account_keyed, member_keyed, project_keyed, base_keyed, answer_keyed}
 
 -- ---- accounts
 
 -- the name of an account, by its number
 abbrev pub accounts : Search ℕ (List ℕ)
-accounts = record { tree = table.accounts.tree; at = λ number. (0, Int (pos number)) ∷ []; columns = 2 ∷ []; read = λ r. where_is is_word (text_in (column r 0)) }
+accounts = record { tree = table.accounts.tree; keyed = account_keyed; at = λ number. (0, Int (pos number)) ∷ []; columns = 2 ∷ []; read = λ r. where_is is_word (text_in (column r 0)) }
 
 abbrev pub account_form : Form ℕ (List ℕ)
-account_form = with_number (λ number name. Int (pos number) ∷ Text name ∷ []) (λ name. is_utf8 name && is_word name)
+account_form = with_number (λ number name. Int (pos number) ∷ Text name ∷ []) is_account_number (λ name. is_utf8 name && is_word name)
 
 -- the number of an account, by its name
 abbrev pub account_names : Search (List ℕ) ℕ
-account_names = record { tree = table.accounts.tree; at = λ name. (2, Text name) ∷ []; columns = 0 ∷ []; read = λ r. where_is is_account_number (number_in (column r 0)) }
+account_names = record { tree = table.accounts.tree; keyed = account_keyed; at = λ name. (2, Text name) ∷ []; columns = 0 ∷ []; read = λ r. where_is is_account_number (number_in (column r 0)) }
 
 -- the numbers of accounts
 abbrev pub account_numbers : Search (Unit {0}) ℕ
-account_numbers = record { tree = table.accounts.tree; at = λ u. []; columns = 0 ∷ []; read = λ r. number_in (column r 0) }
+account_numbers = record { tree = table.accounts.tree; keyed = account_keyed; at = λ u. []; columns = 0 ∷ []; read = λ r. number_in (column r 0) }
 
 -- ---- members
 
 -- a member has no more than its key
 abbrev pub members : Search MemberKey (Unit {0})
-members = record { tree = table.members.tree; at = λ m. (1, Text m.group) ∷ (2, Int (pos m.account)) ∷ []; columns = 2 ∷ []; read = λ r. Some tt }
+members = record { tree = table.members.tree; keyed = member_keyed; at = λ m. (1, Text m.group) ∷ (2, Int (pos m.account)) ∷ []; columns = 2 ∷ []; read = λ r. Some tt }
 
 abbrev pub member_form : Form MemberKey (Unit {0})
-member_form = with_rowid (λ m row. Text m.group ∷ Int (pos m.account) ∷ []) (λ row. Rattle.std.specs.Prelude.true)
+member_form = with_rowid (λ m row. Text m.group ∷ Int (pos m.account) ∷ []) (λ m. is_account_number m.account) (λ row. Rattle.std.specs.Prelude.true)
 
 -- the same, with the account as the rest of a key that begins with the group
 abbrev pub member_parts : Search (List ℕ × ℕ) (Unit {0})
-member_parts = record { tree = table.members.tree; at = λ p. members.at (record { group = p.0; account = p.1 }); columns = members.columns; read = members.read }
+member_parts = record { tree = table.members.tree; keyed = member_keyed; at = λ p. members.at (record { group = p.0; account = p.1 }); columns = members.columns; read = members.read }
 
 -- the rest of a key, with a row that has no more
 abbrev pub alone : Option ℕ → Option (ℕ × Unit {0})
@@ -60,39 +57,39 @@ alone (Some n) = Some (n, tt)
 
 -- the members of a group
 abbrev pub group_members : Search (List ℕ) (ℕ × Unit {0})
-group_members = record { tree = table.members.tree; at = λ group. (1, Text group) ∷ []; columns = 2 ∷ []; read = λ r. alone (where_is is_account_number (number_in (column r 0))) }
+group_members = record { tree = table.members.tree; keyed = member_keyed; at = λ group. (1, Text group) ∷ []; columns = 2 ∷ []; read = λ r. alone (where_is is_account_number (number_in (column r 0))) }
 
 -- ---- projects
 
 -- the file of a project
 abbrev pub projects : Search (List ℕ) (List ℕ)
-projects = record { tree = table.projects.tree; at = λ project. (1, Text project) ∷ []; columns = 2 ∷ []; read = λ r. text_in (column r 0) }
+projects = record { tree = table.projects.tree; keyed = project_keyed; at = λ project. (1, Text project) ∷ []; columns = 2 ∷ []; read = λ r. text_in (column r 0) }
 
 abbrev pub project_form : Form (List ℕ) (List ℕ)
-project_form = with_rowid (λ project file. Text project ∷ Text file ∷ []) (λ file. is_utf8 file)
+project_form = with_rowid (λ project file. Text project ∷ Text file ∷ []) (λ project. Rattle.std.specs.Prelude.true) (λ file. is_utf8 file)
 
 -- whether a project is there, without its file
 abbrev pub project_names : Search (List ℕ) (Unit {0})
-project_names = record { tree = table.projects.tree; at = λ project. (1, Text project) ∷ []; columns = 1 ∷ []; read = λ r. Some tt }
+project_names = record { tree = table.projects.tree; keyed = project_keyed; at = λ project. (1, Text project) ∷ []; columns = 1 ∷ []; read = λ r. Some tt }
 
 -- ---- bases
 
 -- the commit of a base, by its place
 abbrev pub bases : Search PlaceKey (List ℕ)
 bases = record {
-  tree = table.bases.tree;
+  tree = table.bases.tree; keyed = base_keyed;
   at = λ b. (1, Text b.project) ∷ (2, Text b.branch) ∷ (3, Int (pos b.place)) ∷ [];
   columns = 4 ∷ [];
   read = λ r. where_is is_commit (text_in (column r 0));
 }
 
 abbrev pub base_form : Form PlaceKey (List ℕ)
-base_form = with_rowid (λ b commit. Text b.project ∷ Text b.branch ∷ Int (pos b.place) ∷ Text commit ∷ []) (λ commit. is_utf8 commit && is_commit commit)
+base_form = with_rowid (λ b commit. Text b.project ∷ Text b.branch ∷ Int (pos b.place) ∷ Text commit ∷ []) (λ b. Rattle.std.specs.Prelude.true) (λ commit. is_utf8 commit && is_commit commit)
 
 -- the places of a commit in a branch
 abbrev pub base_commits : Search Base ℕ
 base_commits = record {
-  tree = table.bases.tree;
+  tree = table.bases.tree; keyed = base_keyed;
   at = λ b. (1, Text b.project) ∷ (2, Text b.branch) ∷ (4, Text b.commit) ∷ [];
   columns = 3 ∷ [];
   read = λ r. number_in (column r 0);
@@ -100,7 +97,7 @@ base_commits = record {
 
 -- the commit of a base, with the place as the rest of a key that begins with the branch
 abbrev pub base_parts : Search (BranchKey × ℕ) (List ℕ)
-base_parts = record { tree = table.bases.tree; at = λ p. bases.at (record { project = p.0.project; branch = p.0.branch; place = p.1 }); columns = bases.columns; read = bases.read }
+base_parts = record { tree = table.bases.tree; keyed = base_keyed; at = λ p. bases.at (record { project = p.0.project; branch = p.0.branch; place = p.1 }); columns = bases.columns; read = bases.read }
 
 -- two things, where both are there
 abbrev pub both : {X Y : Type 0} → Option X → Option Y → Option (X × Y)
@@ -111,7 +108,7 @@ both (Some x) (Some y) = Some (x, y)
 -- the bases of a branch
 abbrev pub branch_bases : Search BranchKey (ℕ × List ℕ)
 branch_bases = record {
-  tree = table.bases.tree;
+  tree = table.bases.tree; keyed = base_keyed;
   at = λ b. (1, Text b.project) ∷ (2, Text b.branch) ∷ [];
   columns = 3 ∷ 4 ∷ [];
   read = λ r. both (where_is (nat_le 1) (number_in (column r 0))) (where_is is_commit (text_in (column r 1)));
@@ -119,7 +116,7 @@ branch_bases = record {
 
 -- the places of a branch's bases
 abbrev pub base_places : Search BranchKey ℕ
-base_places = record { tree = table.bases.tree; at = λ b. (1, Text b.project) ∷ (2, Text b.branch) ∷ []; columns = 3 ∷ []; read = λ r. number_in (column r 0) }
+base_places = record { tree = table.bases.tree; keyed = base_keyed; at = λ b. (1, Text b.project) ∷ (2, Text b.branch) ∷ []; columns = 3 ∷ []; read = λ r. number_in (column r 0) }
 
 -- ---- stored requests
 
@@ -130,14 +127,14 @@ answered _ _ _ = None
 
 abbrev pub answers : Search RequestKey Answered
 answers = record {
-  tree = table.answers.tree;
+  tree = table.answers.tree; keyed = answer_keyed;
   at = λ i. (1, Int (pos i.caller)) ∷ (2, Text i.id) ∷ [];
   columns = 3 ∷ 4 ∷ 5 ∷ [];
   read = λ r. answered (number_in (column r 0)) (text_in (column r 1)) (text_in (column r 2));
 }
 
 abbrev pub answer_form : Form RequestKey Answered
-answer_form = with_rowid (λ i a. Int (pos i.caller) ∷ Text i.id ∷ Int (pos a.request) ∷ Text a.content ∷ Text a.reply ∷ []) (λ a. is_utf8 a.content && is_utf8 a.reply)
+answer_form = with_rowid (λ i a. Int (pos i.caller) ∷ Text i.id ∷ Int (pos a.request) ∷ Text a.content ∷ Text a.reply ∷ []) (λ i. is_account_number i.caller) (λ a. is_utf8 a.content && is_utf8 a.reply)
 
 -- ---- the row of the desk
 
@@ -147,7 +144,7 @@ desk_row (Some version) (Some requests) = Some (record { version = version; requ
 desk_row _ _ = None
 
 abbrev pub desk : Search (Unit {0}) DeskRow
-desk = record { tree = table.desk.tree; at = λ u. []; columns = 1 ∷ 2 ∷ []; read = λ r. desk_row (number_in (column r 0)) (number_in (column r 1)) }
+desk = record { tree = table.desk.tree; keyed = λ r. Rattle.std.specs.Prelude.true; at = λ u. []; columns = 1 ∷ 2 ∷ []; read = λ r. desk_row (number_in (column r 0)) (number_in (column r 1)) }
 
 abbrev pub desk_form : Form (Unit {0}) DeskRow
-desk_form = with_rowid (λ u d. Int (pos d.version) ∷ Int (pos d.requests) ∷ []) (λ d. Rattle.std.specs.Prelude.true)
+desk_form = with_rowid (λ u d. Int (pos d.version) ∷ Int (pos d.requests) ∷ []) (λ u. Rattle.std.specs.Prelude.true) (λ d. Rattle.std.specs.Prelude.true)

@@ -1,11 +1,15 @@
 -- Which stored rows have a key of their table: those whose columns of the key read as values of its kinds.
-use Rattle.std.specs.Prelude.{ℕ, ◌&&◌, Bool, true, false, is_some, nat_le}
+use Rattle.std.specs.Prelude.{ℕ, ◌&&◌, Bool, true, false, Option, Some, None, is_some, if◌then◌else◌}
 use Rattle.sqlite_value.specs.declared.value.Value.{Value}
 use Rattle.sqlite_value.specs.declared.value.Value.TheVariants.{Null, Int, Real, Text, Blob}
 use Rattle.sqlite_value.specs.Order.{Row, column}
 use Rattle.review_names.specs.Names.{is_account_number}
 use Rattle.review_tables.specs.Columns.{number_in}
-use Rattle.review_records.specs.Forms.{where_is}
+
+-- a value that passes a test
+abbrev pub where_is : {X : Type 0} → (X → Bool) → Option X → Option X
+where_is test None = None
+where_is test (Some x) = if test x then Some x else None
 
 -- whether a value is a number that passes a test
 abbrev pub is_number : (ℕ → Bool) → Value → Bool
@@ -29,7 +33,7 @@ abbrev pub project_keyed : Row → Bool
 project_keyed r = is_text (column r 1)
 
 abbrev pub base_keyed : Row → Bool
-base_keyed r = is_text (column r 1) && (is_text (column r 2) && is_number (nat_le 1) (column r 3))
+base_keyed r = is_text (column r 1) && (is_text (column r 2) && is_some (number_in (column r 3)))
 
 abbrev pub answer_keyed : Row → Bool
 answer_keyed r = is_number is_account_number (column r 1) && is_text (column r 2)

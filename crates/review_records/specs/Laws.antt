@@ -1,5 +1,5 @@
 -- The laws of the tables.
-use Rattle.std.proofs.Common.{◌≡◌, ◌&&◌, nat_le, ℕ, pos, negsuc, List, Option, Some, None, Bool, true, refl, ap, sym, subst, inl, inr}
+use Rattle.std.proofs.Common.{◌≡◌, ◌&&◌, is_some, nat_le, ℕ, pos, negsuc, List, Option, Some, None, Bool, true, refl, ap, sym, subst, inl, inr}
 use Rattle.std.specs.Ordering.{nat_cmp, is_eq}
 use Rattle.std.proofs.lemmas.Cmp.{nat_cmp_total, tied_itself}
 use Rattle.std.proofs.lemmas.Map.Lookups.{exact_unsigned}
@@ -13,9 +13,19 @@ use Rattle.review_names.specs.Names.{is_word, is_account_number}
 use Rattle.review_tables.specs.Columns.{number_in, text_in}
 use Rattle.review_tables.specs.Fronts.{IsExact, IsFront}
 use Rattle.review_statements.specs.Search.{IsLawful}
-use Rattle.review_tables.proofs.Keys.{equal_is, itself, same_int, same_text}
+use Rattle.review_statements.specs.Content.{is_value}
+use Rattle.review_tables.proofs.Keys.{equal_is, int_is, itself, same_int, same_text, text_is}
+use Rattle.review_records.specs.Keyed.{is_number, is_text}
 use Rattle.review_records.specs.Forms.{where_is, alone, both, member_parts, group_members, base_parts, branch_bases, accounts, account_form, members, member_form, projects, project_form, bases, base_form, answers, answer_form, desk, desk_form}
 use Rattle.review_names.specs.Forms.{is_commit}
+
+-- a value that has a number of a kind is one of that kind
+pub keyed_number : (test : ℕ → Bool) (v : Value) (n : ℕ) → test n ≡ true → is_value v (Int (pos n)) ≡ true → is_number test v ≡ true
+keyed_number test v n good has = let is = int_is v (pos n) has in rw (is, good) refl
+
+-- a value that has a text is one
+pub keyed_text : (v : Value) (t : List ℕ) → is_value v (Text t) ≡ true → is_text v ≡ true
+keyed_text v t has = let is = text_is v t has in rw is refl
 
 -- a text of a form reads as itself
 pub reads_text : (form : List ℕ → Bool) (t : List ℕ) → (is_utf8 t && form t) ≡ true → where_is form (text_in (Text t)) ≡ Some t
@@ -26,6 +36,7 @@ account_lawful = record {
   keyed = λ number name id. ap (λ b. b && true) (itself (Int (pos number)));
   reads_back = λ number name id good. reads_text is_word name good;
   exact = λ a b r p q. same_int (column r 0) a b (and_parts _ _ p).0 (and_parts _ _ q).0;
+  known = λ a r formed has. keyed_number is_account_number (column r 0) a formed (and_parts _ _ has).0;
 }
 
 pub member_lawful : IsLawful members member_form
@@ -38,6 +49,9 @@ member_lawful = record {
       let group : a.group ≡ b.group = same_text (column r 1) a.group b.group one.0 two.0 in
       let account : a.account ≡ b.account = same_int (column r 2) a.account b.account (and_parts _ _ one.1).0 (and_parts _ _ two.1).0 in
       (λ i. record { group = group i; account = account i });
+  known = λ a r formed has.
+      let one = and_parts _ _ has in
+      and_from _ _ (keyed_text (column r 1) a.group one.0) (keyed_number is_account_number (column r 2) a.account formed (and_parts _ _ one.1).0);
 }
 
 reads_plain : (t : List ℕ) → is_utf8 t ≡ true → text_in (Text t) ≡ Some t
@@ -48,6 +62,7 @@ project_lawful = record {
   keyed = λ project file id. ap (λ b. b && true) (itself (Text project));
   reads_back = λ project file id good. reads_plain file good;
   exact = λ a b r p q. same_text (column r 1) a b (and_parts _ _ p).0 (and_parts _ _ q).0;
+  known = λ a r formed has. keyed_text (column r 1) a (and_parts _ _ has).0;
 }
 
 pub base_lawful : IsLawful bases base_form
@@ -63,6 +78,11 @@ base_lawful = record {
       let branch : a.branch ≡ b.branch = same_text (column r 2) a.branch b.branch one_more.0 two_more.0 in
       let place : a.place ≡ b.place = same_int (column r 3) a.place b.place (and_parts _ _ one_more.1).0 (and_parts _ _ two_more.1).0 in
       (λ i. record { project = project i; branch = branch i; place = place i });
+  known = λ a r formed has.
+      let one = and_parts _ _ has in
+      let two = and_parts _ _ one.1 in
+      let place = int_is (column r 3) (pos a.place) (and_parts _ _ two.1).0 in
+      and_from _ _ (keyed_text (column r 1) a.project one.0) (and_from _ _ (keyed_text (column r 2) a.branch two.0) (ap (λ v. is_some (number_in v)) place));
 }
 
 pub answer_lawful : IsLawful answers answer_form
@@ -75,10 +95,13 @@ answer_lawful = record {
       let caller : a.caller ≡ b.caller = same_int (column r 1) a.caller b.caller one.0 two.0 in
       let id : a.id ≡ b.id = same_text (column r 2) a.id b.id (and_parts _ _ one.1).0 (and_parts _ _ two.1).0 in
       (λ k. record { caller = caller k; id = id k });
+  known = λ a r formed has.
+      let one = and_parts _ _ has in
+      and_from _ _ (keyed_number is_account_number (column r 1) a.caller formed one.0) (keyed_text (column r 2) a.id (and_parts _ _ one.1).0);
 }
 
 pub desk_lawful : IsLawful desk desk_form
-desk_lawful = record { keyed = λ u d id. refl; reads_back = λ u d id good. refl; exact = λ a b r p q. refl }
+desk_lawful = record { keyed = λ u d id. refl; reads_back = λ u d id good. refl; exact = λ a b r p q. refl; known = λ u r formed has. refl }
 
 -- ---- the rows of an owner
 
@@ -109,10 +132,10 @@ both_are (Some m) None x y is = absurd (cc)
 both_are {X = X} {Y = Y} (Some m) (Some n) x y is = let e = same_Some _ _ is in (ap (λ (p : X × Y). Some p.0) e, ap (λ (p : X × Y). Some p.1) e)
 
 -- a value that is a number has it as its key
-pub at_number : (v : Value) (n : ℕ) → number_in v ≡ Some n → is_eq (value_cmp v (Int (pos n))) ≡ true
-at_number v n is = subst (λ w. is_eq (value_cmp w (Int (pos n))) ≡ true) (sym (number_is v n is)) (itself (Int (pos n)))
+pub at_number : (v : Value) (n : ℕ) → number_in v ≡ Some n → is_value v (Int (pos n)) ≡ true
+at_number v n is = subst (λ w. is_value w (Int (pos n)) ≡ true) (sym (number_is v n is)) (itself (Int (pos n)))
 
-pub one_number : (v : Value) (m n : ℕ) → number_in v ≡ Some m → is_eq (value_cmp v (Int (pos n))) ≡ true → m ≡ n
+pub one_number : (v : Value) (m n : ℕ) → number_in v ≡ Some m → is_value v (Int (pos n)) ≡ true → m ≡ n
 one_number v m n is at = same_int v m n (at_number v m is) at
 
 pub members_of_group : IsFront nat_cmp group_members member_parts

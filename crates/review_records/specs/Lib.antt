@@ -1,3 +1,3 @@
+pub mod Keyed
 pub mod Forms
 pub mod Laws
-pub mod Keyed

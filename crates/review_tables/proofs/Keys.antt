@@ -40,6 +40,15 @@ same_int v m n p q = let e = sym (int_is v (pos m) p) ∙ int_is v (pos n) q in 
 pub same_text : (v : Value) (s t : List ℕ) → is_eq (value_cmp v (Text s)) ≡ true → is_eq (value_cmp v (Text t)) ≡ true → s ≡ t
 same_text v s t p q = let e = sym (value_cmp-Text s t) ∙ same_value v (Text s) (Text t) p q in exact_bytes s t e
 
+-- the value that has this text
+pub text_is : (v : Value) (t : List ℕ) → is_value v (Text t) ≡ true → v ≡ Text t
+unfolding value_cmp
+text_is Null t has = absurd (cc)
+text_is (Int m) t has = absurd (cc)
+text_is (Real x) t has = absurd (cc)
+text_is (Text s) t has = ap Text (same_text (Text s) s t (ap is_eq (tied_itself value_cmp_total (Text s))) has)
+text_is (Blob b) t has = absurd (cc)
+
 pub itself : (v : Value) → is_eq (value_cmp v v) ≡ true
 itself v = ap is_eq (tied_itself value_cmp_total v)
 
