@@ -2,7 +2,7 @@
 ghost use Rattle.std.specs.Prelude.{◌≡◌, ◌∷◌, [], length, nat_lt};
 ghost use Rattle.sqlite.specs.Held.{state};
 ghost use Rattle.sqlite_value.specs.declared.value.Value.TheVariants.{Text};
-ghost use Rattle.review_statements.specs.Desk.{bases};
+ghost use Rattle.review_statements.specs.Desk as table;
 ghost use Rattle.review_statements.specs.Greatest.{ShowsBeyond};
 ghost use Rattle.review_statements.specs.Ran.{Looks};
 ghost use Rattle.review_statements.specs.Search.{rows_at};
@@ -230,7 +230,7 @@ fn find_beyond<S: Alter>(
     project: &ProjectName,
 ) -> Result<Vec<Row>, Error>
     ensures same_reference { tx.new.conn.ghost_name ≡ tx.old.conn.ghost_name }
-    ensures looks { Looks (λ db rows. ShowsBeyond 99999 (rows_at ((1, Text project.now) ∷ []) (db bases.tree)) rows.items) (state S.Store tx.old.conn.now) (state S.Store tx.new.conn.now) result }
+    ensures looks { Looks (λ db rows. ShowsBeyond 99999 (rows_at ((1, Text project.now) ∷ []) (db table.bases.tree)) rows.items) (state S.Store tx.old.conn.now) (state S.Store tx.new.conn.now) result }
 {
     let values = Bound::new().text(project.as_str());
     tx.query_all(texts::FIND_BASE_BEYOND, values.as_slice())
@@ -239,7 +239,7 @@ fn find_beyond<S: Alter>(
 /// Whether a project has fewer than 100,000 bases.
 pub fn has_room<S: Alter>(tx: &mut Transaction<'_, S>, project: &ProjectName) -> Result<bool, Error>
     ensures same_reference { tx.new.conn.ghost_name ≡ tx.old.conn.ghost_name }
-    ensures looks { Looks (λ db is. nat_lt (length (rows_at ((1, Text project.now) ∷ []) (db bases.tree))) 100000 ≡ is) (state S.Store tx.old.conn.now) (state S.Store tx.new.conn.now) result }
+    ensures looks { Looks (λ db is. nat_lt (length (rows_at ((1, Text project.now) ∷ []) (db table.bases.tree))) 100000 ≡ is) (state S.Store tx.old.conn.now) (state S.Store tx.new.conn.now) result }
 {
     let rows = find_beyond(tx, project)?;
     Ok(rows.is_empty())

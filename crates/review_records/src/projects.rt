@@ -1,7 +1,7 @@
 //! The projects and their files.
 ghost use Rattle.std.specs.Prelude.{◌≡◌, [], length, nat_lt};
 ghost use Rattle.sqlite.specs.Held.{state};
-ghost use Rattle.review_statements.specs.Desk.{projects};
+ghost use Rattle.review_statements.specs.Desk as table;
 ghost use Rattle.review_statements.specs.Greatest.{ShowsBeyond};
 ghost use Rattle.review_statements.specs.Ran.{Looks};
 ghost use Rattle.review_statements.specs.Search.{rows_at};
@@ -128,7 +128,7 @@ impl Lookup for ProjectNames {
 // A project, where there are more than 999.
 fn find_beyond<S: Alter>(tx: &mut Transaction<'_, S>) -> Result<Vec<Row>, Error>
     ensures same_reference { tx.new.conn.ghost_name ≡ tx.old.conn.ghost_name }
-    ensures looks { Looks (λ db rows. ShowsBeyond 999 (rows_at [] (db projects.tree)) rows.items) (state S.Store tx.old.conn.now) (state S.Store tx.new.conn.now) result }
+    ensures looks { Looks (λ db rows. ShowsBeyond 999 (rows_at [] (db table.projects.tree)) rows.items) (state S.Store tx.old.conn.now) (state S.Store tx.new.conn.now) result }
 {
     tx.query_all(texts::FIND_PROJECT_BEYOND, &[])
 }
@@ -136,7 +136,7 @@ fn find_beyond<S: Alter>(tx: &mut Transaction<'_, S>) -> Result<Vec<Row>, Error>
 /// Whether there are fewer than 1,000 projects.
 pub fn has_room<S: Alter>(tx: &mut Transaction<'_, S>) -> Result<bool, Error>
     ensures same_reference { tx.new.conn.ghost_name ≡ tx.old.conn.ghost_name }
-    ensures looks { Looks (λ db is. nat_lt (length (db projects.tree)) 1000 ≡ is) (state S.Store tx.old.conn.now) (state S.Store tx.new.conn.now) result }
+    ensures looks { Looks (λ db is. nat_lt (length (db table.projects.tree)) 1000 ≡ is) (state S.Store tx.old.conn.now) (state S.Store tx.new.conn.now) result }
 {
     let rows = find_beyond(tx)?;
     Ok(rows.is_empty())
