@@ -1,35 +1,45 @@
 //! The changes of a branch, by their places.
 
 use crate::values::change_at;
-use review_records::numbers::to_sql;
 use review_records::rows::PlaceKey;
 use review_statements::texts;
+use review_tables::bound::Bound;
 use review_tables::table::Lookup;
 use review_words::ChangeNo;
-use sqlite::{Alter, Error, Row, Transaction, params};
+use sqlite::{Error, Row};
 use std::alloc::{AllocError, Global};
 
 /// The numbers of changes, by their places in a branch.
 pub struct ChangeAt;
 
 impl Lookup for ChangeAt {
+    ghost use Rattle.std.specs.Prelude.{pos};
+    ghost use Rattle.review_statements.specs.declared.texts.TheConstants.{FIND_CHANGE_AT};
+    ghost use Rattle.review_statements.proofs.TextsOfLookups.{find_change_at};
     ghost use Rattle.review_change_records.specs.Forms.{changes_at};
 
     type Key = PlaceKey;
 
     type Item = ChangeNo;
 
+    ghost sql = { FIND_CHANGE_AT.now };
+
     ghost search = { changes_at };
 
-    fn select<S: Alter>(tx: &mut Transaction<'_, S>, key: &PlaceKey) -> Result<Vec<Row>, Error> {
-        let place = to_sql(key.place)?;
-        tx.query_all(
-            texts::FIND_CHANGE_AT,
-            params![key.project.as_str(), key.branch.as_str(), place],
-        )
+    fn text() -> &'static str {
+        texts::FIND_CHANGE_AT
+    }
+
+    fn bind<'a>(key: &'a PlaceKey) -> Result<Bound<'a>, Error> {
+        Bound::new()
+            .text(key.project.as_str())
+            .text(key.branch.as_str())
+            .large(key.place)
     }
 
     fn read(_alloc: Global, row: &Row) -> Result<Option<ChangeNo>, AllocError> {
         Ok(change_at(row, 0))
     }
+
+    ghost asks = { λ k. find_change_at k.project k.branch (pos k.place) };
 }

@@ -2,33 +2,38 @@
 
 use review_changes::Called;
 use review_records::names::{account_at, name_at};
-use review_records::numbers::to_sql;
 use review_statements::texts;
+use review_tables::bound::Bound;
 use review_tables::columns::number_at;
-use review_tables::fronts::{Front, Parts};
+use review_tables::fronts::Front;
+use review_tables::table::{Lookup, Table};
 use review_words::{AccountNo, ChangeNo};
-use sqlite::{Alter, Error, Row, Transaction, params};
+use sqlite::{Error, Row};
 use std::alloc::{AllocError, Global};
 
 /// The attention set of a change, by accounts.
 pub struct Calls;
 
-impl Front for Calls {
-    ghost use Rattle.review_change_records.specs.Forms.{change_calls, calls};
-    ghost use Rattle.review_change_records.specs.Laws.{calls_of_change};
+impl Lookup for Calls {
+    ghost use Rattle.std.specs.Prelude.{pos};
+    ghost use Rattle.review_statements.specs.declared.texts.TheConstants.{FIND_CALLS};
+    ghost use Rattle.review_statements.proofs.TextsOfLookups.{find_calls};
+    ghost use Rattle.review_change_records.specs.Forms.{change_calls};
 
-    type Owner = ChangeNo;
+    type Key = ChangeNo;
 
-    type Part = AccountNo;
+    type Item = (AccountNo, Called);
 
-    type Item = Called;
+    ghost sql = { FIND_CALLS.now };
 
-    ghost search = { calls };
+    ghost search = { change_calls };
 
-    ghost front = { change_calls };
+    fn text() -> &'static str {
+        texts::FIND_CALLS
+    }
 
-    fn select<S: Alter>(tx: &mut Transaction<'_, S>, owner: &ChangeNo) -> Result<Vec<Row>, Error> {
-        tx.query_all(texts::FIND_CALLS, params![owner.get()])
+    fn bind<'a>(key: &'a ChangeNo) -> Result<Bound<'a>, Error> {
+        Ok(Bound::new().number(key.get()))
     }
 
     fn read(alloc: Global, row: &Row) -> Result<Option<(AccountNo, Called)>, AllocError> {
@@ -41,36 +46,66 @@ impl Front for Calls {
         Ok(Some((account, Called { reason, request })))
     }
 
+    ghost asks = { λ change. find_calls (pos change) };
+}
+
+impl Front for Calls {
+    ghost use Rattle.review_change_records.specs.Forms.{calls};
+    ghost use Rattle.review_change_records.specs.Laws.{calls_of_change};
+
+    type Part = AccountNo;
+
+    type Rest = Called;
+
+    ghost whole = { calls };
+
     ghost lawful = { calls_of_change };
 }
 
-impl Parts for Calls {
-    ghost use Rattle.review_change_records.specs.Forms.{call_form};
+impl Table for Calls {
+    ghost use Rattle.std.specs.Prelude.{pos};
+    ghost use Rattle.review_statements.specs.declared.texts.TheConstants.{INSERT_ATTENTION, DELETE_ATTENTION};
+    ghost use Rattle.review_statements.proofs.TextsOfChanges.{insert_attention, delete_attention};
+    ghost use Rattle.review_change_records.specs.Forms.{calls, call_form};
     ghost use Rattle.review_change_records.specs.Laws.{call_lawful};
+
+    type Key = (ChangeNo, AccountNo);
+
+    type Item = Called;
+
+    ghost insert_sql = { INSERT_ATTENTION.now };
+
+    ghost delete_sql = { DELETE_ATTENTION.now };
+
+    ghost search = { calls };
 
     ghost form = { call_form };
 
-    fn insert<S: Alter>(
-        tx: &mut Transaction<'_, S>,
+    fn insert_text() -> &'static str {
+        texts::INSERT_ATTENTION
+    }
+
+    fn delete_text() -> &'static str {
+        texts::DELETE_ATTENTION
+    }
+
+    fn bind_key<'a>(key: &'a (ChangeNo, AccountNo)) -> Result<Bound<'a>, Error> {
+        Ok(Bound::new().number(key.0.get()).number(key.1.get()))
+    }
+
+    fn bind_row<'a>(
         _alloc: Global,
-        owner: &ChangeNo,
-        part: &AccountNo,
-        row: &Called,
-    ) -> Result<usize, Error> {
-        let request = to_sql(row.request)?;
-        tx.execute(
-            texts::INSERT_ATTENTION,
-            params![owner.get(), part.get(), row.reason.as_str(), request],
-        )
+        key: &'a (ChangeNo, AccountNo),
+        row: &'a Called,
+        _buffer: &'a mut String,
+    ) -> Result<Bound<'a>, Error> {
+        let values = Calls::bind_key(key)?;
+        values.text(row.reason.as_str()).large(row.request)
     }
 
-    fn remove<S: Alter>(
-        tx: &mut Transaction<'_, S>,
-        owner: &ChangeNo,
-        part: &AccountNo,
-    ) -> Result<usize, Error> {
-        tx.execute(texts::DELETE_ATTENTION, params![owner.get(), part.get()])
-    }
+    ghost inserts = { λ p x. insert_attention (pos p.0) (pos p.1) x.reason (pos x.request) };
 
-    ghost kept = { call_lawful };
+    ghost deletes = { λ p. delete_attention (pos p.0) (pos p.1) };
+
+    ghost lawful = { call_lawful };
 }

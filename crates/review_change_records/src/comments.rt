@@ -6,33 +6,38 @@ use crate::values::{
 };
 use review_changes::{Comment, CommentRow};
 use review_records::names::{account_at, name_at};
-use review_records::numbers::to_sql;
 use review_statements::texts;
+use review_tables::bound::Bound;
 use review_tables::columns::number_at;
-use review_tables::fronts::{Front, Parts};
+use review_tables::fronts::Front;
+use review_tables::table::{Lookup, Table};
 use review_words::{ChangeNo, CommentNo};
-use sqlite::{Alter, Error, Row, Transaction, params};
+use sqlite::{Error, Row};
 use std::alloc::{AllocError, Global};
 
 /// The comments of a change, by their numbers.
 pub struct Comments;
 
-impl Front for Comments {
-    ghost use Rattle.review_change_records.specs.Forms.{change_comments, comments};
-    ghost use Rattle.review_change_records.specs.Laws.{comments_of_change};
+impl Lookup for Comments {
+    ghost use Rattle.std.specs.Prelude.{pos};
+    ghost use Rattle.review_statements.specs.declared.texts.TheConstants.{FIND_COMMENTS};
+    ghost use Rattle.review_statements.proofs.TextsOfLookups.{find_comments};
+    ghost use Rattle.review_change_records.specs.Forms.{change_comments};
 
-    type Owner = ChangeNo;
+    type Key = ChangeNo;
 
-    type Part = CommentNo;
+    type Item = (CommentNo, Comment);
 
-    type Item = Comment;
+    ghost sql = { FIND_COMMENTS.now };
 
-    ghost search = { comments };
+    ghost search = { change_comments };
 
-    ghost front = { change_comments };
+    fn text() -> &'static str {
+        texts::FIND_COMMENTS
+    }
 
-    fn select<S: Alter>(tx: &mut Transaction<'_, S>, owner: &ChangeNo) -> Result<Vec<Row>, Error> {
-        tx.query_all(texts::FIND_COMMENTS, params![owner.get()])
+    fn bind<'a>(key: &'a ChangeNo) -> Result<Bound<'a>, Error> {
+        Ok(Bound::new().number(key.get()))
     }
 
     fn read(alloc: Global, row: &Row) -> Result<Option<(CommentNo, Comment)>, AllocError> {
@@ -69,48 +74,76 @@ impl Front for Comments {
         Ok(Some((number, comment)))
     }
 
+    ghost asks = { λ change. find_comments (pos change) };
+}
+
+impl Front for Comments {
+    ghost use Rattle.review_change_records.specs.Forms.{comments};
+    ghost use Rattle.review_change_records.specs.Laws.{comments_of_change};
+
+    type Part = CommentNo;
+
+    type Rest = Comment;
+
+    ghost whole = { comments };
+
     ghost lawful = { comments_of_change };
 }
 
-impl Parts for Comments {
-    ghost use Rattle.review_change_records.specs.Forms.{comment_form};
+impl Table for Comments {
+    ghost use Rattle.review_change_records.specs.Forms.{flag_number, answers_number};
+    ghost use Rattle.std.specs.Prelude.{pos};
+    ghost use Rattle.review_statements.specs.declared.texts.TheConstants.{INSERT_COMMENT, DELETE_COMMENT};
+    ghost use Rattle.review_statements.proofs.TextsOfChanges.{insert_comment, delete_comment};
+    ghost use Rattle.review_change_records.specs.Forms.{comments, comment_form};
     ghost use Rattle.review_change_records.specs.Laws.{comment_lawful};
+
+    type Key = (ChangeNo, CommentNo);
+
+    type Item = Comment;
+
+    ghost insert_sql = { INSERT_COMMENT.now };
+
+    ghost delete_sql = { DELETE_COMMENT.now };
+
+    ghost search = { comments };
 
     ghost form = { comment_form };
 
-    fn insert<S: Alter>(
-        tx: &mut Transaction<'_, S>,
+    fn insert_text() -> &'static str {
+        texts::INSERT_COMMENT
+    }
+
+    fn delete_text() -> &'static str {
+        texts::DELETE_COMMENT
+    }
+
+    fn bind_key<'a>(key: &'a (ChangeNo, CommentNo)) -> Result<Bound<'a>, Error> {
+        Ok(Bound::new().number(key.0.get()).number(key.1.get()))
+    }
+
+    fn bind_row<'a>(
         _alloc: Global,
-        owner: &ChangeNo,
-        part: &CommentNo,
-        row: &Comment,
-    ) -> Result<usize, Error> {
+        key: &'a (ChangeNo, CommentNo),
+        row: &'a Comment,
+        _buffer: &'a mut String,
+    ) -> Result<Bound<'a>, Error> {
         let row = row.row();
-        let request = to_sql(row.request)?;
-        tx.execute(
-            texts::INSERT_COMMENT,
-            params![
-                owner.get(),
-                part.get(),
-                patch_number(row.patch),
-                row.path.as_str(),
-                small(row.line),
-                account_number(row.author),
-                row.message.as_str(),
-                flag_number(row.unresolved),
-                answers_number(row.answers),
-                request
-            ],
-        )
+        let values = Comments::bind_key(key)?;
+        values
+            .number(patch_number(row.patch))
+            .text(row.path.as_str())
+            .number(small(row.line))
+            .number(account_number(row.author))
+            .text(row.message.as_str())
+            .number(flag_number(row.unresolved))
+            .number(answers_number(row.answers))
+            .large(row.request)
     }
 
-    fn remove<S: Alter>(
-        tx: &mut Transaction<'_, S>,
-        owner: &ChangeNo,
-        part: &CommentNo,
-    ) -> Result<usize, Error> {
-        tx.execute(texts::DELETE_COMMENT, params![owner.get(), part.get()])
-    }
+    ghost inserts = { λ p x. insert_comment (pos p.0) (pos p.1) (pos x.patch) x.path (pos x.line) (pos x.author) x.message (pos (flag_number x.unresolved)) (pos (answers_number x.answers)) (pos x.request) };
 
-    ghost kept = { comment_lawful };
+    ghost deletes = { λ p. delete_comment (pos p.0) (pos p.1) };
+
+    ghost lawful = { comment_lawful };
 }

@@ -5,30 +5,39 @@ use crate::values::{
 };
 use review_changes::Header;
 use review_records::names::{account_at, name_at};
-use review_records::numbers::to_sql;
 use review_rows::BranchKey;
 use review_statements::texts;
+use review_tables::bound::Bound;
 use review_tables::columns::number_at;
 use review_tables::greatest::Greatest;
 use review_tables::table::{Lookup, Table};
 use review_words::ChangeNo;
-use sqlite::{Alter, Error, Row, Transaction, params};
+use sqlite::{Error, Row};
 use std::alloc::{AllocError, Global};
 
 /// The headers, by the numbers of their changes.
 pub struct Headers;
 
 impl Lookup for Headers {
+    ghost use Rattle.std.specs.Prelude.{pos};
+    ghost use Rattle.review_statements.specs.declared.texts.TheConstants.{FIND_CHANGE};
+    ghost use Rattle.review_statements.proofs.TextsOfLookups.{find_change};
     ghost use Rattle.review_change_records.specs.Forms.{headers};
 
     type Key = ChangeNo;
 
     type Item = Header;
 
+    ghost sql = { FIND_CHANGE.now };
+
     ghost search = { headers };
 
-    fn select<S: Alter>(tx: &mut Transaction<'_, S>, key: &ChangeNo) -> Result<Vec<Row>, Error> {
-        tx.query_all(texts::FIND_CHANGE, params![key.get()])
+    fn text() -> &'static str {
+        texts::FIND_CHANGE
+    }
+
+    fn bind<'a>(key: &'a ChangeNo) -> Result<Bound<'a>, Error> {
+        Ok(Bound::new().number(key.get()))
     }
 
     fn read(alloc: Global, row: &Row) -> Result<Option<Header>, AllocError> {
@@ -62,39 +71,62 @@ impl Lookup for Headers {
             updated,
         }))
     }
+
+    ghost asks = { λ number. find_change (pos number) };
 }
 
 impl Table for Headers {
-    ghost use Rattle.review_change_records.specs.Forms.{header_form};
+    ghost use Rattle.review_change_records.specs.Forms.{state_name, flag_number};
+    ghost use Rattle.std.specs.Prelude.{pos};
+    ghost use Rattle.review_statements.specs.declared.texts.TheConstants.{INSERT_CHANGE, DELETE_CHANGE};
+    ghost use Rattle.review_statements.proofs.TextsOfChanges.{insert_change, delete_change};
+    ghost use Rattle.review_change_records.specs.Forms.{headers, header_form};
     ghost use Rattle.review_change_records.specs.Laws.{header_lawful};
+
+    type Key = ChangeNo;
+
+    type Item = Header;
+
+    ghost insert_sql = { INSERT_CHANGE.now };
+
+    ghost delete_sql = { DELETE_CHANGE.now };
+
+    ghost search = { headers };
 
     ghost form = { header_form };
 
-    fn insert<S: Alter>(
-        tx: &mut Transaction<'_, S>,
-        key: &ChangeNo,
-        row: &Header,
-    ) -> Result<usize, Error> {
-        let updated = to_sql(row.updated)?;
-        tx.execute(
-            texts::INSERT_CHANGE,
-            params![
-                key.get(),
-                row.project.as_str(),
-                row.branch.as_str(),
-                row.subject.as_str(),
-                account_number(row.owner),
-                state_name(row.state),
-                flag_number(row.wip),
-                small(row.place),
-                updated
-            ],
-        )
+    fn insert_text() -> &'static str {
+        texts::INSERT_CHANGE
     }
 
-    fn remove<S: Alter>(tx: &mut Transaction<'_, S>, key: &ChangeNo) -> Result<usize, Error> {
-        tx.execute(texts::DELETE_CHANGE, params![key.get()])
+    fn delete_text() -> &'static str {
+        texts::DELETE_CHANGE
     }
+
+    fn bind_key<'a>(key: &'a ChangeNo) -> Result<Bound<'a>, Error> {
+        Headers::bind(key)
+    }
+
+    fn bind_row<'a>(
+        _alloc: Global,
+        key: &'a ChangeNo,
+        row: &'a Header,
+        _buffer: &'a mut String,
+    ) -> Result<Bound<'a>, Error> {
+        Headers::bind(key)?
+            .text(row.project.as_str())
+            .text(row.branch.as_str())
+            .text(row.subject.as_str())
+            .number(account_number(row.owner))
+            .text(state_name(row.state))
+            .number(flag_number(row.wip))
+            .number(small(row.place))
+            .large(row.updated)
+    }
+
+    ghost inserts = { λ number h. insert_change (pos number) h.project h.branch h.subject (pos h.owner) (state_name h.state) (pos (flag_number h.wip)) (pos h.place) (pos h.updated) };
+
+    ghost deletes = { λ number. delete_change (pos number) };
 
     ghost lawful = { header_lawful };
 }
@@ -103,44 +135,61 @@ impl Table for Headers {
 pub struct LastChange;
 
 impl Greatest for LastChange {
+    ghost use Rattle.review_statements.specs.declared.texts.TheConstants.{FIND_LAST_CHANGE};
+    ghost use Rattle.review_statements.proofs.TextsOfLookups.{find_last_change};
     ghost use Rattle.review_change_records.specs.Forms.{change_numbers};
 
     type Key = ();
 
     type Item = u64;
 
+    ghost sql = { FIND_LAST_CHANGE.now };
+
     ghost search = { change_numbers };
 
     ghost place = { 0 };
 
-    fn select<S: Alter>(tx: &mut Transaction<'_, S>, _key: &()) -> Result<Vec<Row>, Error> {
-        tx.query_all(texts::FIND_LAST_CHANGE, &[])
+    fn text() -> &'static str {
+        texts::FIND_LAST_CHANGE
+    }
+
+    fn bind<'a>(_key: &'a ()) -> Result<Bound<'a>, Error> {
+        Ok(Bound::new())
     }
 
     fn read(_alloc: Global, row: &Row) -> Result<Option<u64>, AllocError> {
         Ok(number_at(row, 0))
     }
+
+    ghost asks = { λ _. find_last_change };
 }
 
 /// The change with the greatest place of a branch, and its place.
 pub struct LastJoined;
 
 impl Greatest for LastJoined {
+    ghost use Rattle.review_statements.specs.declared.texts.TheConstants.{FIND_LAST_JOINED};
+    ghost use Rattle.review_statements.proofs.TextsOfLookups.{find_last_joined};
     ghost use Rattle.review_change_records.specs.Forms.{change_places};
 
     type Key = BranchKey;
 
     type Item = (ChangeNo, u32);
 
+    ghost sql = { FIND_LAST_JOINED.now };
+
     ghost search = { change_places };
 
     ghost place = { 8 };
 
-    fn select<S: Alter>(tx: &mut Transaction<'_, S>, key: &BranchKey) -> Result<Vec<Row>, Error> {
-        tx.query_all(
-            texts::FIND_LAST_JOINED,
-            params![key.project.as_str(), key.branch.as_str()],
-        )
+    fn text() -> &'static str {
+        texts::FIND_LAST_JOINED
+    }
+
+    fn bind<'a>(key: &'a BranchKey) -> Result<Bound<'a>, Error> {
+        Ok(Bound::new()
+            .text(key.project.as_str())
+            .text(key.branch.as_str()))
     }
 
     fn read(_alloc: Global, row: &Row) -> Result<Option<(ChangeNo, u32)>, AllocError> {
@@ -149,4 +198,6 @@ impl Greatest for LastJoined {
         };
         Ok(Some((change, place)))
     }
+
+    ghost asks = { λ b. find_last_joined b.project b.branch };
 }

@@ -8,12 +8,13 @@ use crate::values::{account_number, kind_at, patch_at};
 use review_changes::PatchRow;
 use review_records::names::{account_at, name_at};
 use review_statements::texts;
+use review_tables::bound::Bound;
 use review_tables::columns::text_at;
-use review_tables::fronts::{Front, Parts};
+use review_tables::fronts::Front;
 use review_tables::greatest::Greatest;
-use review_tables::table::Lookup;
+use review_tables::table::{Lookup, Table};
 use review_words::{ChangeNo, PatchNo};
-use sqlite::{Alter, Error, Row, Transaction, params};
+use sqlite::{Error, Row};
 use std::alloc::{AllocError, Global};
 
 // A patch set from five columns.
@@ -50,68 +51,91 @@ fn read_patch(alloc: Global, row: &Row, from: usize) -> Result<Option<PatchRow>,
 pub struct PatchSets;
 
 impl Lookup for PatchSets {
+    ghost use Rattle.std.specs.Prelude.{pos};
+    ghost use Rattle.review_statements.specs.declared.texts.TheConstants.{FIND_PATCH};
+    ghost use Rattle.review_statements.proofs.TextsOfLookups.{find_patch};
     ghost use Rattle.review_change_records.specs.Forms.{patches};
 
     type Key = (ChangeNo, PatchNo);
 
     type Item = PatchRow;
 
+    ghost sql = { FIND_PATCH.now };
+
     ghost search = { patches };
 
-    fn select<S: Alter>(
-        tx: &mut Transaction<'_, S>,
-        key: &(ChangeNo, PatchNo),
-    ) -> Result<Vec<Row>, Error> {
-        tx.query_all(texts::FIND_PATCH, params![key.0.get(), key.1.get()])
+    fn text() -> &'static str {
+        texts::FIND_PATCH
+    }
+
+    fn bind<'a>(key: &'a (ChangeNo, PatchNo)) -> Result<Bound<'a>, Error> {
+        Ok(Bound::new().number(key.0.get()).number(key.1.get()))
     }
 
     fn read(alloc: Global, row: &Row) -> Result<Option<PatchRow>, AllocError> {
         read_patch(alloc, row, 0)
     }
+
+    ghost asks = { λ p. find_patch (pos p.0) (pos p.1) };
 }
 
 /// The greatest number of a patch set of a change.
 pub struct LastPatch;
 
 impl Greatest for LastPatch {
+    ghost use Rattle.std.specs.Prelude.{pos};
+    ghost use Rattle.review_statements.specs.declared.texts.TheConstants.{FIND_LAST_PATCH};
+    ghost use Rattle.review_statements.proofs.TextsOfLookups.{find_last_patch};
     ghost use Rattle.review_change_records.specs.Forms.{patch_numbers};
 
     type Key = ChangeNo;
 
     type Item = PatchNo;
 
+    ghost sql = { FIND_LAST_PATCH.now };
+
     ghost search = { patch_numbers };
 
     ghost place = { 2 };
 
-    fn select<S: Alter>(tx: &mut Transaction<'_, S>, key: &ChangeNo) -> Result<Vec<Row>, Error> {
-        tx.query_all(texts::FIND_LAST_PATCH, params![key.get()])
+    fn text() -> &'static str {
+        texts::FIND_LAST_PATCH
+    }
+
+    fn bind<'a>(key: &'a ChangeNo) -> Result<Bound<'a>, Error> {
+        Ok(Bound::new().number(key.get()))
     }
 
     fn read(_alloc: Global, row: &Row) -> Result<Option<PatchNo>, AllocError> {
         Ok(patch_at(row, 0))
     }
+
+    ghost asks = { λ change. find_last_patch (pos change) };
 }
 
 /// The patch sets of a change, by their numbers.
 pub struct Patches;
 
-impl Front for Patches {
-    ghost use Rattle.review_change_records.specs.Forms.{change_patches, patches};
-    ghost use Rattle.review_change_records.specs.Laws.{patches_of_change};
+impl Lookup for Patches {
+    ghost use Rattle.std.specs.Prelude.{pos};
+    ghost use Rattle.review_statements.specs.declared.texts.TheConstants.{FIND_PATCHES};
+    ghost use Rattle.review_statements.proofs.TextsOfLookups.{find_patches};
+    ghost use Rattle.review_change_records.specs.Forms.{change_patches};
 
-    type Owner = ChangeNo;
+    type Key = ChangeNo;
 
-    type Part = PatchNo;
+    type Item = (PatchNo, PatchRow);
 
-    type Item = PatchRow;
+    ghost sql = { FIND_PATCHES.now };
 
-    ghost search = { patches };
+    ghost search = { change_patches };
 
-    ghost front = { change_patches };
+    fn text() -> &'static str {
+        texts::FIND_PATCHES
+    }
 
-    fn select<S: Alter>(tx: &mut Transaction<'_, S>, owner: &ChangeNo) -> Result<Vec<Row>, Error> {
-        tx.query_all(texts::FIND_PATCHES, params![owner.get()])
+    fn bind<'a>(key: &'a ChangeNo) -> Result<Bound<'a>, Error> {
+        Ok(Bound::new().number(key.get()))
     }
 
     fn read(alloc: Global, row: &Row) -> Result<Option<(PatchNo, PatchRow)>, AllocError> {
@@ -124,49 +148,78 @@ impl Front for Patches {
         Ok(Some((number, patch)))
     }
 
+    ghost asks = { λ change. find_patches (pos change) };
+}
+
+impl Front for Patches {
+    ghost use Rattle.review_change_records.specs.Forms.{patches};
+    ghost use Rattle.review_change_records.specs.Laws.{patches_of_change};
+
+    type Part = PatchNo;
+
+    type Rest = PatchRow;
+
+    ghost whole = { patches };
+
     ghost lawful = { patches_of_change };
 }
 
-impl Parts for Patches {
-    ghost use Rattle.review_change_records.specs.Forms.{patch_form};
+impl Table for Patches {
+    ghost use Rattle.review_names.specs.Kinds.{kind_name};
+    ghost use Rattle.review_change_records.specs.Paths.{paths_text};
+    ghost use Rattle.std.specs.Prelude.{pos};
+    ghost use Rattle.review_statements.specs.declared.texts.TheConstants.{INSERT_PATCH, DELETE_PATCH};
+    ghost use Rattle.review_statements.proofs.TextsOfChanges.{insert_patch, delete_patch};
+    ghost use Rattle.review_change_records.specs.Forms.{patches, patch_form};
     ghost use Rattle.review_change_records.specs.Laws.{patch_lawful};
+
+    type Key = (ChangeNo, PatchNo);
+
+    type Item = PatchRow;
+
+    ghost insert_sql = { INSERT_PATCH.now };
+
+    ghost delete_sql = { DELETE_PATCH.now };
+
+    ghost search = { patches };
 
     ghost form = { patch_form };
 
-    fn insert<S: Alter>(
-        tx: &mut Transaction<'_, S>,
+    fn insert_text() -> &'static str {
+        texts::INSERT_PATCH
+    }
+
+    fn delete_text() -> &'static str {
+        texts::DELETE_PATCH
+    }
+
+    fn bind_key<'a>(key: &'a (ChangeNo, PatchNo)) -> Result<Bound<'a>, Error> {
+        Ok(Bound::new().number(key.0.get()).number(key.1.get()))
+    }
+
+    fn bind_row<'a>(
         alloc: Global,
-        owner: &ChangeNo,
-        part: &PatchNo,
-        row: &PatchRow,
-    ) -> Result<usize, Error> {
+        key: &'a (ChangeNo, PatchNo),
+        row: &'a PatchRow,
+        buffer: &'a mut String,
+    ) -> Result<Bound<'a>, Error> {
         // What would not read back is not stored; the paths of a patch set always do.
         if !is_read_back(alloc, &row.paths)? {
             return Err(Error::InvalidQuery);
         }
-        let paths = paths_text(alloc, row.paths.as_slice())?;
-        let text = paths.as_str();
-        tx.execute(
-            texts::INSERT_PATCH,
-            params![
-                owner.get(),
-                part.get(),
-                row.commit.as_str(),
-                row.parent.as_str(),
-                row.kind.name(),
-                account_number(row.uploader),
-                text
-            ],
-        )
+        *buffer = paths_text(alloc, row.paths.as_slice())?;
+        let values = Patches::bind_key(key)?;
+        Ok(values
+            .text(row.commit.as_str())
+            .text(row.parent.as_str())
+            .text(row.kind.name())
+            .number(account_number(row.uploader))
+            .text(buffer.as_str()))
     }
 
-    fn remove<S: Alter>(
-        tx: &mut Transaction<'_, S>,
-        owner: &ChangeNo,
-        part: &PatchNo,
-    ) -> Result<usize, Error> {
-        tx.execute(texts::DELETE_PATCH, params![owner.get(), part.get()])
-    }
+    ghost inserts = { λ p x. insert_patch (pos p.0) (pos p.1) x.commit x.parent (kind_name x.kind) (pos x.uploader) (paths_text x.paths) };
 
-    ghost kept = { patch_lawful };
+    ghost deletes = { λ p. delete_patch (pos p.0) (pos p.1) };
+
+    ghost lawful = { patch_lawful };
 }

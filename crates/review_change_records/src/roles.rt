@@ -3,30 +3,36 @@
 use crate::values::role_at;
 use review_records::names::account_at;
 use review_statements::texts;
-use review_tables::fronts::{Front, Parts};
+use review_tables::bound::Bound;
+use review_tables::fronts::Front;
+use review_tables::table::{Lookup, Table};
 use review_words::{AccountNo, ChangeNo, Role};
-use sqlite::{Alter, Error, Row, Transaction, params};
+use sqlite::{Error, Row};
 use std::alloc::{AllocError, Global};
 
 /// The reviewers and CCs of a change, by their accounts.
 pub struct Roles;
 
-impl Front for Roles {
-    ghost use Rattle.review_change_records.specs.Forms.{change_roles, roles};
-    ghost use Rattle.review_change_records.specs.Laws.{roles_of_change};
+impl Lookup for Roles {
+    ghost use Rattle.std.specs.Prelude.{pos};
+    ghost use Rattle.review_statements.specs.declared.texts.TheConstants.{FIND_REVIEWERS};
+    ghost use Rattle.review_statements.proofs.TextsOfLookups.{find_reviewers};
+    ghost use Rattle.review_change_records.specs.Forms.{change_roles};
 
-    type Owner = ChangeNo;
+    type Key = ChangeNo;
 
-    type Part = AccountNo;
+    type Item = (AccountNo, Role);
 
-    type Item = Role;
+    ghost sql = { FIND_REVIEWERS.now };
 
-    ghost search = { roles };
+    ghost search = { change_roles };
 
-    ghost front = { change_roles };
+    fn text() -> &'static str {
+        texts::FIND_REVIEWERS
+    }
 
-    fn select<S: Alter>(tx: &mut Transaction<'_, S>, owner: &ChangeNo) -> Result<Vec<Row>, Error> {
-        tx.query_all(texts::FIND_REVIEWERS, params![owner.get()])
+    fn bind<'a>(key: &'a ChangeNo) -> Result<Bound<'a>, Error> {
+        Ok(Bound::new().number(key.get()))
     }
 
     fn read(alloc: Global, row: &Row) -> Result<Option<(AccountNo, Role)>, AllocError> {
@@ -37,35 +43,67 @@ impl Front for Roles {
         Ok(Some((account, role)))
     }
 
+    ghost asks = { λ change. find_reviewers (pos change) };
+}
+
+impl Front for Roles {
+    ghost use Rattle.review_change_records.specs.Forms.{roles};
+    ghost use Rattle.review_change_records.specs.Laws.{roles_of_change};
+
+    type Part = AccountNo;
+
+    type Rest = Role;
+
+    ghost whole = { roles };
+
     ghost lawful = { roles_of_change };
 }
 
-impl Parts for Roles {
-    ghost use Rattle.review_change_records.specs.Forms.{role_form};
+impl Table for Roles {
+    ghost use Rattle.review_words.specs.Texts.{role_name};
+    ghost use Rattle.std.specs.Prelude.{pos};
+    ghost use Rattle.review_statements.specs.declared.texts.TheConstants.{INSERT_REVIEWER, DELETE_REVIEWER};
+    ghost use Rattle.review_statements.proofs.TextsOfChanges.{insert_reviewer, delete_reviewer};
+    ghost use Rattle.review_change_records.specs.Forms.{roles, role_form};
     ghost use Rattle.review_change_records.specs.Laws.{role_lawful};
+
+    type Key = (ChangeNo, AccountNo);
+
+    type Item = Role;
+
+    ghost insert_sql = { INSERT_REVIEWER.now };
+
+    ghost delete_sql = { DELETE_REVIEWER.now };
+
+    ghost search = { roles };
 
     ghost form = { role_form };
 
-    fn insert<S: Alter>(
-        tx: &mut Transaction<'_, S>,
+    fn insert_text() -> &'static str {
+        texts::INSERT_REVIEWER
+    }
+
+    fn delete_text() -> &'static str {
+        texts::DELETE_REVIEWER
+    }
+
+    fn bind_key<'a>(key: &'a (ChangeNo, AccountNo)) -> Result<Bound<'a>, Error> {
+        Ok(Bound::new().number(key.0.get()).number(key.1.get()))
+    }
+
+    fn bind_row<'a>(
         _alloc: Global,
-        owner: &ChangeNo,
-        part: &AccountNo,
-        row: &Role,
-    ) -> Result<usize, Error> {
-        tx.execute(
-            texts::INSERT_REVIEWER,
-            params![owner.get(), part.get(), row.name()],
-        )
+        key: &'a (ChangeNo, AccountNo),
+        row: &'a Role,
+        _buffer: &'a mut String,
+    ) -> Result<Bound<'a>, Error> {
+        let values = Roles::bind_key(key)?;
+        Ok(values.text(row.name()))
     }
 
-    fn remove<S: Alter>(
-        tx: &mut Transaction<'_, S>,
-        owner: &ChangeNo,
-        part: &AccountNo,
-    ) -> Result<usize, Error> {
-        tx.execute(texts::DELETE_REVIEWER, params![owner.get(), part.get()])
-    }
+    ghost inserts = { λ p x. insert_reviewer (pos p.0) (pos p.1) (role_name x) };
 
-    ghost kept = { role_lawful };
+    ghost deletes = { λ p. delete_reviewer (pos p.0) (pos p.1) };
+
+    ghost lawful = { role_lawful };
 }

@@ -2,25 +2,34 @@
 
 use crate::values::{change_at, patch_at};
 use review_statements::texts;
+use review_tables::bound::Bound;
 use review_tables::table::Lookup;
 use review_words::{ChangeNo, CommitName, PatchNo};
-use sqlite::{Alter, Error, Row, Transaction, params};
+use sqlite::{Error, Row};
 use std::alloc::{AllocError, Global};
 
 /// The patch sets that have a commit, each by its change and its number.
 pub struct Sent;
 
 impl Lookup for Sent {
+    ghost use Rattle.review_statements.specs.declared.texts.TheConstants.{FIND_SENT};
+    ghost use Rattle.review_statements.proofs.TextsOfLookups.{find_sent};
     ghost use Rattle.review_change_records.specs.Forms.{sent};
 
     type Key = CommitName;
 
     type Item = (ChangeNo, PatchNo);
 
+    ghost sql = { FIND_SENT.now };
+
     ghost search = { sent };
 
-    fn select<S: Alter>(tx: &mut Transaction<'_, S>, key: &CommitName) -> Result<Vec<Row>, Error> {
-        tx.query_all(texts::FIND_SENT, params![key.as_str()])
+    fn text() -> &'static str {
+        texts::FIND_SENT
+    }
+
+    fn bind<'a>(key: &'a CommitName) -> Result<Bound<'a>, Error> {
+        Ok(Bound::new().text(key.as_str()))
     }
 
     fn read(_alloc: Global, row: &Row) -> Result<Option<(ChangeNo, PatchNo)>, AllocError> {
@@ -29,4 +38,6 @@ impl Lookup for Sent {
         };
         Ok(Some((change, patch)))
     }
+
+    ghost asks = { find_sent };
 }

@@ -4,30 +4,36 @@ use crate::values::{patch_at, vote_at, vote_value};
 use review_changes::{Vote, VoteKey};
 use review_records::names::{account_at, name_at};
 use review_statements::texts;
-use review_tables::fronts::{Front, Parts};
+use review_tables::bound::Bound;
+use review_tables::fronts::Front;
+use review_tables::table::{Lookup, Table};
 use review_words::ChangeNo;
-use sqlite::{Alter, Error, Row, Transaction, params};
+use sqlite::{Error, Row};
 use std::alloc::{AllocError, Global};
 
 /// The votes on a change, by patch set, label and account.
 pub struct Votes;
 
-impl Front for Votes {
-    ghost use Rattle.review_change_records.specs.Forms.{change_votes, votes};
-    ghost use Rattle.review_change_records.specs.Laws.{votes_of_change};
+impl Lookup for Votes {
+    ghost use Rattle.std.specs.Prelude.{pos};
+    ghost use Rattle.review_statements.specs.declared.texts.TheConstants.{FIND_VOTES};
+    ghost use Rattle.review_statements.proofs.TextsOfLookups.{find_votes};
+    ghost use Rattle.review_change_records.specs.Forms.{change_votes};
 
-    type Owner = ChangeNo;
+    type Key = ChangeNo;
 
-    type Part = VoteKey;
+    type Item = (VoteKey, Vote);
 
-    type Item = Vote;
+    ghost sql = { FIND_VOTES.now };
 
-    ghost search = { votes };
+    ghost search = { change_votes };
 
-    ghost front = { change_votes };
+    fn text() -> &'static str {
+        texts::FIND_VOTES
+    }
 
-    fn select<S: Alter>(tx: &mut Transaction<'_, S>, owner: &ChangeNo) -> Result<Vec<Row>, Error> {
-        tx.query_all(texts::FIND_VOTES, params![owner.get()])
+    fn bind<'a>(key: &'a ChangeNo) -> Result<Bound<'a>, Error> {
+        Ok(Bound::new().number(key.get()))
     }
 
     fn read(alloc: Global, row: &Row) -> Result<Option<(VoteKey, Vote)>, AllocError> {
@@ -49,49 +55,70 @@ impl Front for Votes {
         Ok(Some((key, vote)))
     }
 
+    ghost asks = { λ change. find_votes (pos change) };
+}
+
+impl Front for Votes {
+    ghost use Rattle.review_change_records.specs.Forms.{votes};
+    ghost use Rattle.review_change_records.specs.Laws.{votes_of_change};
+
+    type Part = VoteKey;
+
+    type Rest = Vote;
+
+    ghost whole = { votes };
+
     ghost lawful = { votes_of_change };
 }
 
-impl Parts for Votes {
-    ghost use Rattle.review_change_records.specs.Forms.{vote_form};
+impl Table for Votes {
+    ghost use Rattle.std.specs.Prelude.{pos};
+    ghost use Rattle.review_statements.specs.declared.texts.TheConstants.{INSERT_VOTE, DELETE_VOTE};
+    ghost use Rattle.review_statements.proofs.TextsOfChanges.{insert_vote, delete_vote};
+    ghost use Rattle.review_change_records.specs.Forms.{votes, vote_form};
     ghost use Rattle.review_change_records.specs.Laws.{vote_lawful};
+
+    type Key = (ChangeNo, VoteKey);
+
+    type Item = Vote;
+
+    ghost insert_sql = { INSERT_VOTE.now };
+
+    ghost delete_sql = { DELETE_VOTE.now };
+
+    ghost search = { votes };
 
     ghost form = { vote_form };
 
-    fn insert<S: Alter>(
-        tx: &mut Transaction<'_, S>,
+    fn insert_text() -> &'static str {
+        texts::INSERT_VOTE
+    }
+
+    fn delete_text() -> &'static str {
+        texts::DELETE_VOTE
+    }
+
+    fn bind_key<'a>(key: &'a (ChangeNo, VoteKey)) -> Result<Bound<'a>, Error> {
+        Ok(Bound::new()
+            .number(key.0.get())
+            .number(key.1.patch.get())
+            .text(key.1.label.as_str())
+            .number(key.1.account.get()))
+    }
+
+    fn bind_row<'a>(
         _alloc: Global,
-        owner: &ChangeNo,
-        part: &VoteKey,
-        row: &Vote,
-    ) -> Result<usize, Error> {
-        tx.execute(
-            texts::INSERT_VOTE,
-            params![
-                owner.get(),
-                part.patch.get(),
-                part.label.as_str(),
-                part.account.get(),
-                vote_value(*row)
-            ],
-        )
+        key: &'a (ChangeNo, VoteKey),
+        row: &'a Vote,
+        _buffer: &'a mut String,
+    ) -> Result<Bound<'a>, Error> {
+        let values = Votes::bind_key(key)?;
+        Ok(values.signed(vote_value(*row)))
     }
 
-    fn remove<S: Alter>(
-        tx: &mut Transaction<'_, S>,
-        owner: &ChangeNo,
-        part: &VoteKey,
-    ) -> Result<usize, Error> {
-        tx.execute(
-            texts::DELETE_VOTE,
-            params![
-                owner.get(),
-                part.patch.get(),
-                part.label.as_str(),
-                part.account.get()
-            ],
-        )
-    }
+    ghost inserts = { λ p v. insert_vote (pos p.0) (pos p.1.patch) p.1.label (pos p.1.account) v };
 
-    ghost kept = { vote_lawful };
+    ghost deletes = { λ p. delete_vote (pos p.0) (pos p.1.patch) p.1.label (pos p.1.account) };
+
+    ghost lawful = { vote_lawful };
 }

@@ -1,32 +1,39 @@
 //! The stored requests.
-ghost use Rattle.std.specs.Prelude.{string_bytes};
+ghost use Rattle.std.specs.Prelude.{◌≡◌, string_bytes, IfOk};
 
-use crate::numbers::to_sql;
+use crate::names::account_number;
 use crate::rows::{Answered, RequestKey, Text};
 use review_rows::Kept;
 use review_statements::texts;
+use review_tables::bound::Bound;
 use review_tables::columns::{number_at, text_at};
-use review_tables::table::{Lookup, Records};
-use sqlite::{Alter, Error, Row, Transaction, params};
+use review_tables::table::{Lookup, Table};
+use sqlite::{Error, Row};
 use std::alloc::{AllocError, Global};
 
 /// The stored requests, by their identities.
 pub struct Answers;
 
 impl Lookup for Answers {
+    ghost use Rattle.std.specs.Prelude.{pos};
+    ghost use Rattle.review_statements.specs.declared.texts.TheConstants.{FIND_ANSWER};
+    ghost use Rattle.review_statements.proofs.TextsOfLookups.{find_answer};
     ghost use Rattle.review_records.specs.Forms.{answers};
 
     type Key = RequestKey;
 
     type Item = Answered;
 
+    ghost sql = { FIND_ANSWER.now };
+
     ghost search = { answers };
 
-    fn select<S: Alter>(tx: &mut Transaction<'_, S>, key: &RequestKey) -> Result<Vec<Row>, Error> {
-        tx.query_all(
-            texts::FIND_ANSWER,
-            params![key.caller.get(), key.id.as_str()],
-        )
+    fn text() -> &'static str {
+        texts::FIND_ANSWER
+    }
+
+    fn bind<'a>(key: &'a RequestKey) -> Result<Bound<'a>, Error> {
+        Ok(Bound::new().number(key.caller.get()).text(key.id.as_str()))
     }
 
     fn read(alloc: Global, row: &Row) -> Result<Option<Answered>, AllocError> {
@@ -43,42 +50,76 @@ impl Lookup for Answers {
             reply: Text::copy(alloc, reply)?,
         }))
     }
+
+    ghost asks = { λ i. find_answer (pos i.caller) i.id };
 }
 
-impl Records for Answers {
-    ghost use Rattle.review_records.specs.Forms.{answer_form};
+impl Table for Answers {
+    ghost use Rattle.std.specs.Prelude.{pos};
+    ghost use Rattle.review_statements.specs.declared.texts.TheConstants.{INSERT_ANSWER, DELETE_ANSWER};
+    ghost use Rattle.review_statements.proofs.TextsOfChanges.{insert_answer, delete_answer};
+    ghost use Rattle.review_records.specs.Forms.{answers, answer_form};
     ghost use Rattle.review_records.specs.Laws.{answer_lawful};
 
-    type Record = Kept;
+    type Key = RequestKey;
+
+    type Item = Answered;
+
+    ghost insert_sql = { INSERT_ANSWER.now };
+
+    ghost delete_sql = { DELETE_ANSWER.now };
+
+    ghost search = { answers };
 
     ghost form = { answer_form };
 
-    ghost key = { λ k. record { caller = k.caller; id = k.id } };
-
-    ghost item = { λ k. record { request = k.request; content = string_bytes k.content; reply = string_bytes k.reply } };
-
-    fn insert_record<S: Alter>(tx: &mut Transaction<'_, S>, whole: &Kept) -> Result<usize, Error> {
-        let request = to_sql(whole.request)?;
-        let content = whole.content.as_str();
-        let reply = whole.reply.as_str();
-        tx.execute(
-            texts::INSERT_ANSWER,
-            params![
-                whole.caller.get(),
-                whole.id.as_str(),
-                request,
-                content,
-                reply
-            ],
-        )
+    fn insert_text() -> &'static str {
+        texts::INSERT_ANSWER
     }
 
-    fn remove_record<S: Alter>(tx: &mut Transaction<'_, S>, whole: &Kept) -> Result<usize, Error> {
-        tx.execute(
-            texts::DELETE_ANSWER,
-            params![whole.caller.get(), whole.id.as_str()],
-        )
+    fn delete_text() -> &'static str {
+        texts::DELETE_ANSWER
     }
+
+    fn bind_key<'a>(key: &'a RequestKey) -> Result<Bound<'a>, Error> {
+        let caller = account_number(key.caller);
+        Ok(Bound::new().number(caller).text(key.id.as_str()))
+    }
+
+    fn bind_row<'a>(
+        _alloc: Global,
+        key: &'a RequestKey,
+        row: &'a Answered,
+        _buffer: &'a mut String,
+    ) -> Result<Bound<'a>, Error> {
+        let values = Answers::bind(key)?.large(row.request)?;
+        Ok(values.text(row.content.as_str()).text(row.reply.as_str()))
+    }
+
+    ghost inserts = { λ i a. insert_answer (pos i.caller) i.id (pos a.request) a.content a.reply };
+
+    ghost deletes = { λ i. delete_answer (pos i.caller) i.id };
 
     ghost lawful = { answer_lawful };
+}
+
+/// The identity of a request that is to be stored.
+pub fn key_of(alloc: Global, kept: &Kept) -> Result<RequestKey, AllocError>
+    ensures { IfOk result (λ key. key ≡ record { caller = kept.now.caller; id = kept.now.id }) }
+{
+    Ok(RequestKey {
+        caller: kept.caller,
+        id: kept.id.copy(alloc)?,
+    })
+}
+
+/// The rest of a request that is to be stored.
+pub fn rest_of(alloc: Global, kept: &Kept) -> Result<Answered, AllocError>
+    ensures { IfOk result (λ row. row ≡ record { request = kept.now.request; content = string_bytes kept.now.content; reply = string_bytes kept.now.reply }) }
+{
+    Ok(Answered {
+        request: kept.request,
+        content: Text::copy(alloc, kept.content.as_str())?,
+        reply: Text::copy(alloc, kept.reply.as_str())?,
+    })
 }

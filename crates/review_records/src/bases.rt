@@ -2,86 +2,103 @@
 ghost use Rattle.std.specs.Prelude.{◌≡◌, ◌∷◌, [], length, nat_lt};
 ghost use Rattle.sqlite.specs.Held.{state};
 ghost use Rattle.sqlite_value.specs.declared.value.Value.TheVariants.{Text};
+ghost use Rattle.review_statements.specs.Desk as table;
 ghost use Rattle.review_statements.specs.Greatest.{ShowsBeyond};
 ghost use Rattle.review_statements.specs.Ran.{Looks};
 ghost use Rattle.review_statements.specs.Search.{rows_at};
 
 use crate::names::{name_at, place_at};
-use crate::numbers::to_sql;
 use crate::rows::{PlaceKey, PlaceNo};
-use review_rows::{Base, BaseRow, BranchKey};
+use review_rows::{Base, BranchKey};
 use review_statements::texts;
+use review_tables::bound::Bound;
 use review_tables::columns::number_at;
 use review_tables::fronts::Front;
 use review_tables::greatest::Greatest;
-use review_tables::table::{Lookup, Records};
+use review_tables::table::{Lookup, Table};
 use review_words::{CommitName, ProjectName};
-use sqlite::{Alter, Error, Row, Transaction, params};
+use sqlite::{Alter, Error, Row, Transaction};
 use std::alloc::{AllocError, Global};
 
 /// The commits of bases, by their places.
 pub struct Bases;
 
 impl Lookup for Bases {
+    ghost use Rattle.std.specs.Prelude.{pos};
+    ghost use Rattle.review_statements.specs.declared.texts.TheConstants.{FIND_BASE};
+    ghost use Rattle.review_statements.proofs.TextsOfLookups.{find_base};
     ghost use Rattle.review_records.specs.Forms.{bases};
 
     type Key = PlaceKey;
 
     type Item = CommitName;
 
+    ghost sql = { FIND_BASE.now };
+
     ghost search = { bases };
 
-    fn select<S: Alter>(tx: &mut Transaction<'_, S>, key: &PlaceKey) -> Result<Vec<Row>, Error> {
-        let place = to_sql(key.place)?;
-        tx.query_all(
-            texts::FIND_BASE,
-            params![key.project.as_str(), key.branch.as_str(), place],
-        )
+    fn text() -> &'static str {
+        texts::FIND_BASE
+    }
+
+    fn bind<'a>(key: &'a PlaceKey) -> Result<Bound<'a>, Error> {
+        Bound::new()
+            .text(key.project.as_str())
+            .text(key.branch.as_str())
+            .large(key.place)
     }
 
     fn read(alloc: Global, row: &Row) -> Result<Option<CommitName>, AllocError> {
         name_at(alloc, row, 0)
     }
+
+    ghost asks = { λ b. find_base b.project b.branch (pos b.place) };
 }
 
-impl Records for Bases {
-    ghost use Rattle.review_records.specs.Forms.{base_form};
+impl Table for Bases {
+    ghost use Rattle.std.specs.Prelude.{pos};
+    ghost use Rattle.review_statements.specs.declared.texts.TheConstants.{INSERT_BASE, DELETE_BASE};
+    ghost use Rattle.review_statements.proofs.TextsOfChanges.{insert_base, delete_base};
+    ghost use Rattle.review_records.specs.Forms.{bases, base_form};
     ghost use Rattle.review_records.specs.Laws.{base_lawful};
 
-    type Record = BaseRow;
+    type Key = PlaceKey;
+
+    type Item = CommitName;
+
+    ghost insert_sql = { INSERT_BASE.now };
+
+    ghost delete_sql = { DELETE_BASE.now };
+
+    ghost search = { bases };
 
     ghost form = { base_form };
 
-    ghost key = { λ r. record { project = r.project; branch = r.branch; place = r.place } };
-
-    ghost item = { λ r. r.commit };
-
-    fn insert_record<S: Alter>(
-        tx: &mut Transaction<'_, S>,
-        whole: &BaseRow,
-    ) -> Result<usize, Error> {
-        let place = to_sql(whole.place)?;
-        tx.execute(
-            texts::INSERT_BASE,
-            params![
-                whole.project.as_str(),
-                whole.branch.as_str(),
-                place,
-                whole.commit.as_str()
-            ],
-        )
+    fn insert_text() -> &'static str {
+        texts::INSERT_BASE
     }
 
-    fn remove_record<S: Alter>(
-        tx: &mut Transaction<'_, S>,
-        whole: &BaseRow,
-    ) -> Result<usize, Error> {
-        let place = to_sql(whole.place)?;
-        tx.execute(
-            texts::DELETE_BASE,
-            params![whole.project.as_str(), whole.branch.as_str(), place],
-        )
+    fn delete_text() -> &'static str {
+        texts::DELETE_BASE
     }
+
+    fn bind_key<'a>(key: &'a PlaceKey) -> Result<Bound<'a>, Error> {
+        Bases::bind(key)
+    }
+
+    fn bind_row<'a>(
+        _alloc: Global,
+        key: &'a PlaceKey,
+        row: &'a CommitName,
+        _buffer: &'a mut String,
+    ) -> Result<Bound<'a>, Error> {
+        let values = Bases::bind(key)?;
+        Ok(values.text(row.as_str()))
+    }
+
+    ghost inserts = { λ b commit. insert_base b.project b.branch (pos b.place) commit };
+
+    ghost deletes = { λ b. delete_base b.project b.branch (pos b.place) };
 
     ghost lawful = { base_lawful };
 }
@@ -90,52 +107,60 @@ impl Records for Bases {
 pub struct BaseCommits;
 
 impl Lookup for BaseCommits {
+    ghost use Rattle.review_statements.specs.declared.texts.TheConstants.{FIND_BASE_COMMIT};
+    ghost use Rattle.review_statements.proofs.TextsOfLookups.{find_base_commit};
     ghost use Rattle.review_records.specs.Forms.{base_commits};
 
     type Key = Base;
 
     type Item = u64;
 
+    ghost sql = { FIND_BASE_COMMIT.now };
+
     ghost search = { base_commits };
 
-    fn select<S: Alter>(tx: &mut Transaction<'_, S>, key: &Base) -> Result<Vec<Row>, Error> {
-        tx.query_all(
-            texts::FIND_BASE_COMMIT,
-            params![
-                key.project.as_str(),
-                key.branch.as_str(),
-                key.commit.as_str()
-            ],
-        )
+    fn text() -> &'static str {
+        texts::FIND_BASE_COMMIT
+    }
+
+    fn bind<'a>(key: &'a Base) -> Result<Bound<'a>, Error> {
+        Ok(Bound::new()
+            .text(key.project.as_str())
+            .text(key.branch.as_str())
+            .text(key.commit.as_str()))
     }
 
     fn read(_alloc: Global, row: &Row) -> Result<Option<u64>, AllocError> {
         Ok(number_at(row, 0))
     }
+
+    ghost asks = { λ b. find_base_commit b.project b.branch b.commit };
 }
 
 /// The bases of a branch, by their places.
 pub struct BranchBases;
 
-impl Front for BranchBases {
-    ghost use Rattle.review_records.specs.Forms.{base_parts, branch_bases};
-    ghost use Rattle.review_records.specs.Laws.{bases_of_branch};
+impl Lookup for BranchBases {
+    ghost use Rattle.review_statements.specs.declared.texts.TheConstants.{FIND_BRANCH};
+    ghost use Rattle.review_statements.proofs.TextsOfLookups.{find_branch};
+    ghost use Rattle.review_records.specs.Forms.{branch_bases};
 
-    type Owner = BranchKey;
+    type Key = BranchKey;
 
-    type Part = PlaceNo;
+    type Item = (PlaceNo, CommitName);
 
-    type Item = CommitName;
+    ghost sql = { FIND_BRANCH.now };
 
-    ghost search = { base_parts };
+    ghost search = { branch_bases };
 
-    ghost front = { branch_bases };
+    fn text() -> &'static str {
+        texts::FIND_BRANCH
+    }
 
-    fn select<S: Alter>(tx: &mut Transaction<'_, S>, owner: &BranchKey) -> Result<Vec<Row>, Error> {
-        tx.query_all(
-            texts::FIND_BRANCH,
-            params![owner.project.as_str(), owner.branch.as_str()],
-        )
+    fn bind<'a>(key: &'a BranchKey) -> Result<Bound<'a>, Error> {
+        Ok(Bound::new()
+            .text(key.project.as_str())
+            .text(key.branch.as_str()))
     }
 
     fn read(alloc: Global, row: &Row) -> Result<Option<(PlaceNo, CommitName)>, AllocError> {
@@ -148,6 +173,19 @@ impl Front for BranchBases {
         Ok(Some((place, commit)))
     }
 
+    ghost asks = { λ b. find_branch b.project b.branch };
+}
+
+impl Front for BranchBases {
+    ghost use Rattle.review_records.specs.Forms.{base_parts};
+    ghost use Rattle.review_records.specs.Laws.{bases_of_branch};
+
+    type Part = PlaceNo;
+
+    type Rest = CommitName;
+
+    ghost whole = { base_parts };
+
     ghost lawful = { bases_of_branch };
 }
 
@@ -155,26 +193,35 @@ impl Front for BranchBases {
 pub struct LastPlace;
 
 impl Greatest for LastPlace {
+    ghost use Rattle.review_statements.specs.declared.texts.TheConstants.{FIND_LAST_PLACE};
+    ghost use Rattle.review_statements.proofs.TextsOfLookups.{find_last_place};
     ghost use Rattle.review_records.specs.Forms.{base_places};
 
     type Key = BranchKey;
 
     type Item = u64;
 
+    ghost sql = { FIND_LAST_PLACE.now };
+
     ghost search = { base_places };
 
     ghost place = { 3 };
 
-    fn select<S: Alter>(tx: &mut Transaction<'_, S>, key: &BranchKey) -> Result<Vec<Row>, Error> {
-        tx.query_all(
-            texts::FIND_LAST_PLACE,
-            params![key.project.as_str(), key.branch.as_str()],
-        )
+    fn text() -> &'static str {
+        texts::FIND_LAST_PLACE
+    }
+
+    fn bind<'a>(key: &'a BranchKey) -> Result<Bound<'a>, Error> {
+        Ok(Bound::new()
+            .text(key.project.as_str())
+            .text(key.branch.as_str()))
     }
 
     fn read(_alloc: Global, row: &Row) -> Result<Option<u64>, AllocError> {
         Ok(number_at(row, 0))
     }
+
+    ghost asks = { λ b. find_last_place b.project b.branch };
 }
 
 // A base of a project, where it has more than 99,999.
@@ -183,15 +230,16 @@ fn find_beyond<S: Alter>(
     project: &ProjectName,
 ) -> Result<Vec<Row>, Error>
     ensures same_reference { tx.new.conn.ghost_name ≡ tx.old.conn.ghost_name }
-    ensures looks { Looks (λ db rows. ShowsBeyond 99999 (rows_at ((1, Text project.now) ∷ []) (db 6)) rows.items) (state S.Store tx.old.conn.now) (state S.Store tx.new.conn.now) result }
+    ensures looks { Looks (λ db rows. ShowsBeyond 99999 (rows_at ((1, Text project.now) ∷ []) (db table.bases.tree)) rows.items) (state S.Store tx.old.conn.now) (state S.Store tx.new.conn.now) result }
 {
-    tx.query_all(texts::FIND_BASE_BEYOND, params![project.as_str()])
+    let values = Bound::new().text(project.as_str());
+    tx.query_all(texts::FIND_BASE_BEYOND, values.as_slice())
 }
 
 /// Whether a project has fewer than 100,000 bases.
 pub fn has_room<S: Alter>(tx: &mut Transaction<'_, S>, project: &ProjectName) -> Result<bool, Error>
     ensures same_reference { tx.new.conn.ghost_name ≡ tx.old.conn.ghost_name }
-    ensures looks { Looks (λ db is. nat_lt (length (rows_at ((1, Text project.now) ∷ []) (db 6))) 100000 ≡ is) (state S.Store tx.old.conn.now) (state S.Store tx.new.conn.now) result }
+    ensures looks { Looks (λ db is. nat_lt (length (rows_at ((1, Text project.now) ∷ []) (db table.bases.tree))) 100000 ≡ is) (state S.Store tx.old.conn.now) (state S.Store tx.new.conn.now) result }
 {
     let rows = find_beyond(tx, project)?;
     Ok(rows.is_empty())

@@ -1,27 +1,35 @@
 //! The one row of the desk.
 
-use crate::numbers::to_sql;
 use crate::rows::DeskRow;
 use review_statements::texts;
+use review_tables::bound::Bound;
 use review_tables::columns::number_at;
-use review_tables::table::{Lookup, Records};
-use sqlite::{Alter, Error, Row, Transaction, params};
+use review_tables::table::{Lookup, Table};
+use sqlite::{Error, Row};
 use std::alloc::{AllocError, Global};
 
 /// The row of the desk.
 pub struct Desk;
 
 impl Lookup for Desk {
+    ghost use Rattle.review_statements.specs.declared.texts.TheConstants.{FIND_DESK};
+    ghost use Rattle.review_statements.proofs.TextsOfLookups.{find_desk};
     ghost use Rattle.review_records.specs.Forms.{desk};
 
     type Key = ();
 
     type Item = DeskRow;
 
+    ghost sql = { FIND_DESK.now };
+
     ghost search = { desk };
 
-    fn select<S: Alter>(tx: &mut Transaction<'_, S>, _key: &()) -> Result<Vec<Row>, Error> {
-        tx.query_all(texts::FIND_DESK, &[])
+    fn text() -> &'static str {
+        texts::FIND_DESK
+    }
+
+    fn bind<'a>(_key: &'a ()) -> Result<Bound<'a>, Error> {
+        Ok(Bound::new())
     }
 
     fn read(_alloc: Global, row: &Row) -> Result<Option<DeskRow>, AllocError> {
@@ -30,36 +38,54 @@ impl Lookup for Desk {
         };
         Ok(Some(DeskRow { version, requests }))
     }
+
+    ghost asks = { λ _. find_desk };
 }
 
-impl Records for Desk {
-    ghost use Rattle.review_records.specs.Forms.{desk_form};
+impl Table for Desk {
+    ghost use Rattle.std.specs.Prelude.{pos};
+    ghost use Rattle.review_statements.specs.declared.texts.TheConstants.{INSERT_DESK, DELETE_DESK};
+    ghost use Rattle.review_statements.proofs.TextsOfChanges.{insert_desk, delete_desk};
+    ghost use Rattle.review_records.specs.Forms.{desk, desk_form};
     ghost use Rattle.review_records.specs.Laws.{desk_lawful};
 
-    type Record = DeskRow;
+    type Key = ();
+
+    type Item = DeskRow;
+
+    ghost insert_sql = { INSERT_DESK.now };
+
+    ghost delete_sql = { DELETE_DESK.now };
+
+    ghost search = { desk };
 
     ghost form = { desk_form };
 
-    ghost key = { λ _. tt };
-
-    ghost item = { λ d. d };
-
-    fn insert_record<S: Alter>(
-        tx: &mut Transaction<'_, S>,
-        whole: &DeskRow,
-    ) -> Result<usize, Error> {
-        let version = to_sql(whole.version)?;
-        let requests = to_sql(whole.requests)?;
-        tx.execute(texts::INSERT_DESK, params![version, requests])
+    fn insert_text() -> &'static str {
+        texts::INSERT_DESK
     }
 
-    fn remove_record<S: Alter>(
-        tx: &mut Transaction<'_, S>,
-        whole: &DeskRow,
-    ) -> Result<usize, Error> {
-        let _whole = whole;
-        tx.execute(texts::DELETE_DESK, &[])
+    fn delete_text() -> &'static str {
+        texts::DELETE_DESK
     }
+
+    fn bind_key<'a>(_key: &'a ()) -> Result<Bound<'a>, Error> {
+        Ok(Bound::new())
+    }
+
+    fn bind_row<'a>(
+        _alloc: Global,
+        _key: &'a (),
+        row: &'a DeskRow,
+        _buffer: &'a mut String,
+    ) -> Result<Bound<'a>, Error> {
+        let values = Bound::new().large(row.version)?;
+        values.large(row.requests)
+    }
+
+    ghost inserts = { λ _ d. insert_desk (pos d.version) (pos d.requests) };
+
+    ghost deletes = { λ _. delete_desk };
 
     ghost lawful = { desk_lawful };
 }

@@ -7,6 +7,5 @@ pub mod bases;
 pub mod desk;
 pub mod members;
 pub mod names;
-pub mod numbers;
 pub mod projects;
 pub mod rows;

@@ -1,61 +1,93 @@
 //! The members of groups.
 
-use crate::names::account_at;
+use crate::names::{account_at, account_number};
 use review_rows::MemberKey;
 use review_statements::texts;
+use review_tables::bound::Bound;
 use review_tables::fronts::Front;
 use review_tables::table::{Lookup, Table};
 use review_words::{AccountNo, GroupName};
-use sqlite::{Alter, Error, Row, Transaction, params};
+use sqlite::{Error, Row};
 use std::alloc::{AllocError, Global};
 
 /// The members, each by its group and its account.
 pub struct Members;
 
 impl Lookup for Members {
+    ghost use Rattle.std.specs.Prelude.{pos};
+    ghost use Rattle.review_statements.specs.declared.texts.TheConstants.{FIND_MEMBER};
+    ghost use Rattle.review_statements.proofs.TextsOfLookups.{find_member};
     ghost use Rattle.review_records.specs.Forms.{members};
 
     type Key = MemberKey;
 
     type Item = ();
 
+    ghost sql = { FIND_MEMBER.now };
+
     ghost search = { members };
 
-    fn select<S: Alter>(tx: &mut Transaction<'_, S>, key: &MemberKey) -> Result<Vec<Row>, Error> {
-        tx.query_all(
-            texts::FIND_MEMBER,
-            params![key.group.as_str(), key.account.get()],
-        )
+    fn text() -> &'static str {
+        texts::FIND_MEMBER
+    }
+
+    fn bind<'a>(key: &'a MemberKey) -> Result<Bound<'a>, Error> {
+        Ok(Bound::new()
+            .text(key.group.as_str())
+            .number(key.account.get()))
     }
 
     fn read(_alloc: Global, _row: &Row) -> Result<Option<()>, AllocError> {
         Ok(Some(()))
     }
+
+    ghost asks = { λ m. find_member m.group (pos m.account) };
 }
 
 impl Table for Members {
-    ghost use Rattle.review_records.specs.Forms.{member_form};
+    ghost use Rattle.std.specs.Prelude.{pos};
+    ghost use Rattle.review_statements.specs.declared.texts.TheConstants.{INSERT_MEMBER, DELETE_MEMBER};
+    ghost use Rattle.review_statements.proofs.TextsOfChanges.{insert_member, delete_member};
+    ghost use Rattle.review_records.specs.Forms.{members, member_form};
     ghost use Rattle.review_records.specs.Laws.{member_lawful};
+
+    type Key = MemberKey;
+
+    type Item = ();
+
+    ghost insert_sql = { INSERT_MEMBER.now };
+
+    ghost delete_sql = { DELETE_MEMBER.now };
+
+    ghost search = { members };
 
     ghost form = { member_form };
 
-    fn insert<S: Alter>(
-        tx: &mut Transaction<'_, S>,
-        key: &MemberKey,
-        _row: &(),
-    ) -> Result<usize, Error> {
-        tx.execute(
-            texts::INSERT_MEMBER,
-            params![key.group.as_str(), key.account.get()],
-        )
+    fn insert_text() -> &'static str {
+        texts::INSERT_MEMBER
     }
 
-    fn remove<S: Alter>(tx: &mut Transaction<'_, S>, key: &MemberKey) -> Result<usize, Error> {
-        tx.execute(
-            texts::DELETE_MEMBER,
-            params![key.group.as_str(), key.account.get()],
-        )
+    fn delete_text() -> &'static str {
+        texts::DELETE_MEMBER
     }
+
+    fn bind_key<'a>(key: &'a MemberKey) -> Result<Bound<'a>, Error> {
+        let account = account_number(key.account);
+        Ok(Bound::new().text(key.group.as_str()).number(account))
+    }
+
+    fn bind_row<'a>(
+        _alloc: Global,
+        key: &'a MemberKey,
+        _row: &'a (),
+        _buffer: &'a mut String,
+    ) -> Result<Bound<'a>, Error> {
+        Members::bind(key)
+    }
+
+    ghost inserts = { λ m row. insert_member m.group (pos m.account) };
+
+    ghost deletes = { λ m. delete_member m.group (pos m.account) };
 
     ghost lawful = { member_lawful };
 }
@@ -63,22 +95,25 @@ impl Table for Members {
 /// The members of a group, by their accounts.
 pub struct GroupMembers;
 
-impl Front for GroupMembers {
-    ghost use Rattle.review_records.specs.Forms.{member_parts, group_members};
-    ghost use Rattle.review_records.specs.Laws.{members_of_group};
+impl Lookup for GroupMembers {
+    ghost use Rattle.review_statements.specs.declared.texts.TheConstants.{FIND_GROUP};
+    ghost use Rattle.review_statements.proofs.TextsOfLookups.{find_group};
+    ghost use Rattle.review_records.specs.Forms.{group_members};
 
-    type Owner = GroupName;
+    type Key = GroupName;
 
-    type Part = AccountNo;
+    type Item = (AccountNo, ());
 
-    type Item = ();
+    ghost sql = { FIND_GROUP.now };
 
-    ghost search = { member_parts };
+    ghost search = { group_members };
 
-    ghost front = { group_members };
+    fn text() -> &'static str {
+        texts::FIND_GROUP
+    }
 
-    fn select<S: Alter>(tx: &mut Transaction<'_, S>, owner: &GroupName) -> Result<Vec<Row>, Error> {
-        tx.query_all(texts::FIND_GROUP, params![owner.as_str()])
+    fn bind<'a>(key: &'a GroupName) -> Result<Bound<'a>, Error> {
+        Ok(Bound::new().text(key.as_str()))
     }
 
     fn read(_alloc: Global, row: &Row) -> Result<Option<(AccountNo, ())>, AllocError> {
@@ -87,6 +122,19 @@ impl Front for GroupMembers {
         };
         Ok(Some((account, ())))
     }
+
+    ghost asks = { find_group };
+}
+
+impl Front for GroupMembers {
+    ghost use Rattle.review_records.specs.Forms.{member_parts};
+    ghost use Rattle.review_records.specs.Laws.{members_of_group};
+
+    type Part = AccountNo;
+
+    type Rest = ();
+
+    ghost whole = { member_parts };
 
     ghost lawful = { members_of_group };
 }

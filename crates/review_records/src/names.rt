@@ -1,5 +1,5 @@
 //! Names and numbers, as they are read from columns.
-ghost use Rattle.std.specs.Prelude.{◌≡◌, Some, IfOk, nat_le, option_map, pos};
+ghost use Rattle.std.specs.Prelude.{◌≡◌, true, Some, IfOk, nat_le, option_map, pos};
 ghost use Rattle.sqlite_value.specs.Order.{column};
 ghost use Rattle.review_names.specs.Names.{is_account_number};
 ghost use Rattle.review_tables.specs.Columns.{number_in, text_in};
@@ -30,6 +30,15 @@ pub fn account_at(row: &Row, at: usize) -> Option<AccountNo>
     ensures { result ≡ where_is is_account_number (number_in (column row.now at)) }
 {
     AccountNo::from_number(number_at(row, at)?)
+}
+
+/// The number of an account.
+#[tactic(auto, unfolding(review_names::specs::Names::is_account_number))]
+pub fn account_number(account: AccountNo) -> u32
+    ensures number { result ≡ account }
+    ensures good { is_account_number account ≡ true }
+{
+    account.get()
 }
 
 /// The place whose number is in a column; none where it is no such number.

@@ -1,32 +1,41 @@
 //! The projects and their files.
 ghost use Rattle.std.specs.Prelude.{◌≡◌, [], length, nat_lt};
 ghost use Rattle.sqlite.specs.Held.{state};
+ghost use Rattle.review_statements.specs.Desk as table;
 ghost use Rattle.review_statements.specs.Greatest.{ShowsBeyond};
 ghost use Rattle.review_statements.specs.Ran.{Looks};
 ghost use Rattle.review_statements.specs.Search.{rows_at};
 
-use review_rows::ProjectRow;
 use review_statements::texts;
+use review_tables::bound::Bound;
 use review_tables::columns::text_at;
-use review_tables::table::{Lookup, Records};
+use review_tables::table::{Lookup, Table};
 use review_words::{FileText, ProjectName};
-use sqlite::{Alter, Error, Row, Transaction, params};
+use sqlite::{Alter, Error, Row, Transaction};
 use std::alloc::{AllocError, Global};
 
 /// The files of the projects.
 pub struct Projects;
 
 impl Lookup for Projects {
+    ghost use Rattle.review_statements.specs.declared.texts.TheConstants.{FIND_PROJECT};
+    ghost use Rattle.review_statements.proofs.TextsOfLookups.{find_project};
     ghost use Rattle.review_records.specs.Forms.{projects};
 
     type Key = ProjectName;
 
     type Item = FileText;
 
+    ghost sql = { FIND_PROJECT.now };
+
     ghost search = { projects };
 
-    fn select<S: Alter>(tx: &mut Transaction<'_, S>, key: &ProjectName) -> Result<Vec<Row>, Error> {
-        tx.query_all(texts::FIND_PROJECT, params![key.as_str()])
+    fn text() -> &'static str {
+        texts::FIND_PROJECT
+    }
+
+    fn bind<'a>(key: &'a ProjectName) -> Result<Bound<'a>, Error> {
+        Ok(Bound::new().text(key.as_str()))
     }
 
     fn read(alloc: Global, row: &Row) -> Result<Option<FileText>, AllocError> {
@@ -35,36 +44,52 @@ impl Lookup for Projects {
         };
         Ok(Some(FileText::from_str(alloc, text)?))
     }
+
+    ghost asks = { find_project };
 }
 
-impl Records for Projects {
-    ghost use Rattle.review_records.specs.Forms.{project_form};
+impl Table for Projects {
+    ghost use Rattle.review_statements.specs.declared.texts.TheConstants.{INSERT_PROJECT, DELETE_PROJECT};
+    ghost use Rattle.review_statements.proofs.TextsOfChanges.{insert_project, delete_project};
+    ghost use Rattle.review_records.specs.Forms.{projects, project_form};
     ghost use Rattle.review_records.specs.Laws.{project_lawful};
 
-    type Record = ProjectRow;
+    type Key = ProjectName;
+
+    type Item = FileText;
+
+    ghost insert_sql = { INSERT_PROJECT.now };
+
+    ghost delete_sql = { DELETE_PROJECT.now };
+
+    ghost search = { projects };
 
     ghost form = { project_form };
 
-    ghost key = { λ r. r.project };
-
-    ghost item = { λ r. r.file };
-
-    fn insert_record<S: Alter>(
-        tx: &mut Transaction<'_, S>,
-        whole: &ProjectRow,
-    ) -> Result<usize, Error> {
-        tx.execute(
-            texts::INSERT_PROJECT,
-            params![whole.project.as_str(), whole.file.as_str()],
-        )
+    fn insert_text() -> &'static str {
+        texts::INSERT_PROJECT
     }
 
-    fn remove_record<S: Alter>(
-        tx: &mut Transaction<'_, S>,
-        whole: &ProjectRow,
-    ) -> Result<usize, Error> {
-        tx.execute(texts::DELETE_PROJECT, params![whole.project.as_str()])
+    fn delete_text() -> &'static str {
+        texts::DELETE_PROJECT
     }
+
+    fn bind_key<'a>(key: &'a ProjectName) -> Result<Bound<'a>, Error> {
+        Projects::bind(key)
+    }
+
+    fn bind_row<'a>(
+        _alloc: Global,
+        key: &'a ProjectName,
+        row: &'a FileText,
+        _buffer: &'a mut String,
+    ) -> Result<Bound<'a>, Error> {
+        Ok(Bound::new().text(key.as_str()).text(row.as_str()))
+    }
+
+    ghost inserts = { insert_project };
+
+    ghost deletes = { delete_project };
 
     ghost lawful = { project_lawful };
 }
@@ -73,27 +98,37 @@ impl Records for Projects {
 pub struct ProjectNames;
 
 impl Lookup for ProjectNames {
+    ghost use Rattle.review_statements.specs.declared.texts.TheConstants.{FIND_PROJECT_NAME};
+    ghost use Rattle.review_statements.proofs.TextsOfLookups.{find_project_name};
     ghost use Rattle.review_records.specs.Forms.{project_names};
 
     type Key = ProjectName;
 
     type Item = ();
 
+    ghost sql = { FIND_PROJECT_NAME.now };
+
     ghost search = { project_names };
 
-    fn select<S: Alter>(tx: &mut Transaction<'_, S>, key: &ProjectName) -> Result<Vec<Row>, Error> {
-        tx.query_all(texts::FIND_PROJECT_NAME, params![key.as_str()])
+    fn text() -> &'static str {
+        texts::FIND_PROJECT_NAME
+    }
+
+    fn bind<'a>(key: &'a ProjectName) -> Result<Bound<'a>, Error> {
+        Ok(Bound::new().text(key.as_str()))
     }
 
     fn read(_alloc: Global, _row: &Row) -> Result<Option<()>, AllocError> {
         Ok(Some(()))
     }
+
+    ghost asks = { find_project_name };
 }
 
 // A project, where there are more than 999.
 fn find_beyond<S: Alter>(tx: &mut Transaction<'_, S>) -> Result<Vec<Row>, Error>
     ensures same_reference { tx.new.conn.ghost_name ≡ tx.old.conn.ghost_name }
-    ensures looks { Looks (λ db rows. ShowsBeyond 999 (rows_at [] (db 4)) rows.items) (state S.Store tx.old.conn.now) (state S.Store tx.new.conn.now) result }
+    ensures looks { Looks (λ db rows. ShowsBeyond 999 (rows_at [] (db table.projects.tree)) rows.items) (state S.Store tx.old.conn.now) (state S.Store tx.new.conn.now) result }
 {
     tx.query_all(texts::FIND_PROJECT_BEYOND, &[])
 }
@@ -101,7 +136,7 @@ fn find_beyond<S: Alter>(tx: &mut Transaction<'_, S>) -> Result<Vec<Row>, Error>
 /// Whether there are fewer than 1,000 projects.
 pub fn has_room<S: Alter>(tx: &mut Transaction<'_, S>) -> Result<bool, Error>
     ensures same_reference { tx.new.conn.ghost_name ≡ tx.old.conn.ghost_name }
-    ensures looks { Looks (λ db is. nat_lt (length (db 4)) 1000 ≡ is) (state S.Store tx.old.conn.now) (state S.Store tx.new.conn.now) result }
+    ensures looks { Looks (λ db is. nat_lt (length (db table.projects.tree)) 1000 ≡ is) (state S.Store tx.old.conn.now) (state S.Store tx.new.conn.now) result }
 {
     let rows = find_beyond(tx)?;
     Ok(rows.is_empty())

@@ -30,6 +30,13 @@ impl Text {
         })
     }
 
+    /// The text as it is lent.
+    pub fn as_str(&self) -> &str
+        ensures { result.now ≡ self.now }
+    {
+        self.text.as_str()
+    }
+
     /// The text itself.
     pub fn into_string(self) -> String
         ensures { string_bytes result ≡ self }

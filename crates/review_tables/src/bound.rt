@@ -1,8 +1,10 @@
 //! The values that a statement is asked with.
-ghost use Rattle.std.specs.Prelude.{◌≡◌, [], ◌∷◌, ◌++◌, ◌<◌, length, pos};
+ghost use Rattle.std.specs.Prelude.{◌≡◌, [], ◌∷◌, ◌++◌, ◌<◌, length, pos, true, IfOk};
+ghost use Rattle.std.specs.Str.{is_utf8};
 ghost use Rattle.sqlite_value.specs.declared.value.Value.TheVariants.{Int, Text};
 ghost use Rattle.sqlite.specs.Values.{bound};
 
+use sqlite::Error;
 use sqlite::types::ValueRef;
 use std::marker::Model;
 
@@ -49,17 +51,37 @@ impl<'a> Bound<'a> {
     }
 
     /// These values and a number after them.
-    pub fn number(self, number: i64) -> Bound<'a>
+    pub fn number(self, number: u32) -> Bound<'a>
+        requires { length self < 10 }
+        ensures { result ≡ self.entry ++ Int (pos number) ∷ [] }
+    {
+        self.with(ValueRef::Int(i64::from(number)))
+    }
+
+    /// These values and a number after them, which may be negative.
+    pub fn signed(self, number: i64) -> Bound<'a>
         requires { length self < 10 }
         ensures { result ≡ self.entry ++ Int number ∷ [] }
     {
         self.with(ValueRef::Int(number))
     }
 
+    /// These values and a number after them; SQL has none above 9,223,372,036,854,775,807.
+    pub fn large(self, number: u64) -> Result<Bound<'a>, Error>
+        requires { length self < 10 }
+        ensures { IfOk result (λ bound. bound ≡ self.entry ++ Int (pos number) ∷ []) }
+    {
+        match i64::try_from(number) {
+            Ok(number) => Ok(self.signed(number)),
+            Err(_) => Err(Error::InvalidQuery),
+        }
+    }
+
     /// These values and a text after them.
     pub fn text(self, text: &'a str) -> Bound<'a>
         requires { length self < 10 }
-        ensures { result ≡ self.entry ++ Text text.now ∷ [] }
+        ensures values { result ≡ self.entry ++ Text text.now ∷ [] }
+        ensures read { is_utf8 text.now ≡ true }
     {
         self.with(ValueRef::Text(text.as_bytes()))
     }

@@ -12,7 +12,6 @@ use std::alloc::{AllocError, Global};
 /// A look-up of the row with the greatest value of a column.
 pub trait Greatest {
     ghost use Rattle.std.specs.Prelude.{ℕ, List};
-    ghost use Rattle.std.specs.Borrow.{Bor};
     ghost use Rattle.review_statements.specs.Search.{Search};
     ghost use Rattle.review_statements.specs.Texts.{Asks, last_where};
 
@@ -23,16 +22,17 @@ pub trait Greatest {
     type Item: Drop;
 
     /// The text that asks for it.
-    const TEXT: &'static str;
-
-    /// The text that asks for it.
-    ghost TEXT: { Bor (List ℕ) };
+    ghost sql: { List ℕ };
 
     /// The table, its columns, and how the row is read.
     ghost search: { Search Self.Key Self.Item };
 
     /// The column.
     ghost place: { ℕ };
+
+    /// The text.
+    fn text() -> &'static str
+        ensures { result.now ≡ sql };
 
     /// The values that the text is asked with.
     fn bind<'a>(key: &'a Self::Key) -> Result<Bound<'a>, Error>
@@ -43,7 +43,7 @@ pub trait Greatest {
         ensures { IfOk result (λ item. item ≡ search.read row.now) };
 
     /// The text asks for the row with the greatest value among those that have these values.
-    ghost asks: { (key : Self.Key) → Asks TEXT.now (last_where search.tree (search.at key) search.columns place) };
+    ghost asks: { (key : Self.Key) → Asks sql (last_where search.tree (search.at key) search.columns place) };
 }
 
 // The row, as the store has it, or none.
@@ -55,7 +55,7 @@ fn select_last<G: Greatest, S: Alter>(
     ensures looks { Looks (λ db rows. FindsGreatest G.search G.place key.now db rows.items) (state S.Store tx.old.conn.now) (state S.Store tx.new.conn.now) result }
 {
     let values = G::bind(key)?;
-    tx.query_all(G::TEXT, values.as_slice())
+    tx.query_all(G::text(), values.as_slice())
 }
 
 // The first row as it reads, if there is one.

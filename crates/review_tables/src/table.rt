@@ -13,7 +13,6 @@ use std::alloc::{AllocError, Global};
 /// A look-up of rows by the values of some columns.
 pub trait Lookup {
     ghost use Rattle.std.specs.Prelude.{ℕ, List};
-    ghost use Rattle.std.specs.Borrow.{Bor};
     ghost use Rattle.review_statements.specs.Search.{Search};
     ghost use Rattle.review_statements.specs.Texts.{Asks, rows_where};
 
@@ -24,13 +23,14 @@ pub trait Lookup {
     type Item: Drop;
 
     /// The text that asks for them.
-    const TEXT: &'static str;
-
-    /// The text that asks for them.
-    ghost TEXT: { Bor (List ℕ) };
+    ghost sql: { List ℕ };
 
     /// The table, its columns, and how rows are read.
     ghost search: { Search Self.Key Self.Item };
+
+    /// The text.
+    fn text() -> &'static str
+        ensures { result.now ≡ sql };
 
     /// The values that the text is asked with.
     fn bind<'a>(key: &'a Self::Key) -> Result<Bound<'a>, Error>
@@ -41,7 +41,7 @@ pub trait Lookup {
         ensures { IfOk result (λ item. item ≡ search.read row.now) };
 
     /// The text asks for the rows that have these values.
-    ghost asks: { (key : Self.Key) → Asks TEXT.now (rows_where search.tree (search.at key) search.columns) };
+    ghost asks: { (key : Self.Key) → Asks sql (rows_where search.tree (search.at key) search.columns) };
 }
 
 /// The rows of a look-up, as the store has them, in any order.
@@ -53,13 +53,12 @@ pub fn select<L: Lookup, S: Alter>(
     ensures looks { Looks (λ db rows. Finds L.search key.now db rows.items) (state S.Store tx.old.conn.now) (state S.Store tx.new.conn.now) result }
 {
     let values = L::bind(key)?;
-    tx.query_all(L::TEXT, values.as_slice())
+    tx.query_all(L::text(), values.as_slice())
 }
 
 /// A table, whose rows are put in and taken away by their keys.
 pub trait Table {
     ghost use Rattle.std.specs.Prelude.{ℕ, List};
-    ghost use Rattle.std.specs.Borrow.{Bor};
     ghost use Rattle.review_statements.specs.Search.{Search, Form, IsLawful};
     ghost use Rattle.review_statements.specs.Texts.{Deletes, Inserts};
 
@@ -70,22 +69,24 @@ pub trait Table {
     type Item;
 
     /// The text that puts a row in.
-    const INSERT: &'static str;
-
-    /// The text that puts a row in.
-    ghost INSERT: { Bor (List ℕ) };
+    ghost insert_sql: { List ℕ };
 
     /// The text that takes the rows of a key away.
-    const DELETE: &'static str;
-
-    /// The text that takes the rows of a key away.
-    ghost DELETE: { Bor (List ℕ) };
+    ghost delete_sql: { List ℕ };
 
     /// How a row is looked up by its key.
     ghost search: { Search Self.Key Self.Item };
 
     /// How a row is stored.
     ghost form: { Form Self.Key Self.Item };
+
+    /// The text that puts a row in.
+    fn insert_text() -> &'static str
+        ensures { result.now ≡ insert_sql };
+
+    /// The text that takes the rows of a key away.
+    fn delete_text() -> &'static str
+        ensures { result.now ≡ delete_sql };
 
     /// The values of a key.
     fn bind_key<'a>(key: &'a Self::Key) -> Result<Bound<'a>, Error>
@@ -104,10 +105,10 @@ pub trait Table {
         ensures good { OnOk result (form.is_good row.now ≡ true) };
 
     /// The text puts rows in.
-    ghost inserts: { (key : Self.Key) (row : Self.Item) → Inserts INSERT.now search.tree (form.values key row) (form.stored key row) };
+    ghost inserts: { (key : Self.Key) (row : Self.Item) → Inserts insert_sql search.tree (form.values key row) (form.stored key row) };
 
     /// The text takes the rows of a key away.
-    ghost deletes: { (key : Self.Key) → Deletes DELETE.now search.tree (search.at key) };
+    ghost deletes: { (key : Self.Key) → Deletes delete_sql search.tree (search.at key) };
 
     /// A row has one key, and reads as what was put in.
     ghost lawful: { IsLawful search form };
@@ -127,7 +128,7 @@ pub fn insert<T: Table, S: Alter>(
 {
     let mut buffer = String::new(alloc);
     let values = T::bind_row(alloc, key, row, &mut buffer)?;
-    tx.execute(T::INSERT, values.as_slice())
+    tx.execute(T::insert_text(), values.as_slice())
 }
 
 /// Takes the rows of a key away.
@@ -138,5 +139,5 @@ pub fn remove<T: Table, S: Alter>(tx: &mut Transaction<'_, S>, key: &T::Key) -> 
     ensures formed { OnOk result (T.form.is_key key.now ≡ true) }
 {
     let values = T::bind_key(key)?;
-    tx.execute(T::DELETE, values.as_slice())
+    tx.execute(T::delete_text(), values.as_slice())
 }

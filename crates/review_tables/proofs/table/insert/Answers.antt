@@ -14,7 +14,7 @@ returns-clause-ran g c =
     let key = c.args.key.now in
     let row = c.args.row.now in
     let values : bound c.as_slice.result.now ≡ form.values key row = c.as_slice.ensures ∙ c.in_ok-values.ensures.values in
-    one_inside _ _ old new c.execute.result _ (λ count ready h. inserted _ old new ready count s.tree (form.values key row) (form.stored key row) (g.met.T.Table.inserts key row) h) (λ clean on. rw (c.INSERT.ensures, values) at (c.execute.ensures.runs clean on)) c.execute.ensures.survives
+    one_inside _ _ old new c.execute.result _ (λ count ready h. inserted _ old new ready count s.tree (form.values key row) (form.stored key row) (g.met.T.Table.inserts key row) h) (λ clean on. rw (c.insert_text.ensures, values) at (c.execute.ensures.runs clean on)) c.execute.ensures.survives
 
 pub returns-clause-open : goal.returns-clause-open
 returns-clause-open g c clean on =
