@@ -2,7 +2,7 @@
 use Rattle.std.specs.Prelude.{nat_le, ℕ, ℤ, pos, ◌&&◌, Bool, List, [], ◌∷◌, Option, Some, None, if◌then◌else◌, option_map}
 use Rattle.std.specs.Option.{option_and_then}
 use Rattle.std.specs.Str.{is_utf8}
-use Rattle.sqlite_value.specs.declared.value.Value.TheVariants.{Null, Int, Text}
+use Rattle.sqlite_value.specs.declared.value.Value.TheVariants.{Int, Text}
 use Rattle.sqlite_value.specs.Order.{column}
 use Rattle.review_names.specs.Names.{is_word}
 use Rattle.review_names.specs.Names.{is_account_number}
@@ -77,7 +77,8 @@ project_names = record { tree = table.projects.tree; keyed = project_keyed; at =
 -- the commit of a base, by its place
 abbrev pub bases : Search PlaceKey (List ℕ)
 bases = record {
-  tree = table.bases.tree; keyed = base_keyed;
+  tree = table.bases.tree;
+  keyed = base_keyed;
   at = λ b. (1, Text b.project) ∷ (2, Text b.branch) ∷ (3, Int (pos b.place)) ∷ [];
   columns = 4 ∷ [];
   read = λ r. where_is is_commit (text_in (column r 0));
@@ -89,7 +90,8 @@ base_form = with_rowid (λ b commit. Text b.project ∷ Text b.branch ∷ Int (p
 -- the places of a commit in a branch
 abbrev pub base_commits : Search Base ℕ
 base_commits = record {
-  tree = table.bases.tree; keyed = base_keyed;
+  tree = table.bases.tree;
+  keyed = base_keyed;
   at = λ b. (1, Text b.project) ∷ (2, Text b.branch) ∷ (4, Text b.commit) ∷ [];
   columns = 3 ∷ [];
   read = λ r. number_in (column r 0);
@@ -108,7 +110,8 @@ both (Some x) (Some y) = Some (x, y)
 -- the bases of a branch
 abbrev pub branch_bases : Search BranchKey (ℕ × List ℕ)
 branch_bases = record {
-  tree = table.bases.tree; keyed = base_keyed;
+  tree = table.bases.tree;
+  keyed = base_keyed;
   at = λ b. (1, Text b.project) ∷ (2, Text b.branch) ∷ [];
   columns = 3 ∷ 4 ∷ [];
   read = λ r. both (where_is (nat_le 1) (number_in (column r 0))) (where_is is_commit (text_in (column r 1)));
@@ -127,7 +130,8 @@ answered _ _ _ = None
 
 abbrev pub answers : Search RequestKey Answered
 answers = record {
-  tree = table.answers.tree; keyed = answer_keyed;
+  tree = table.answers.tree;
+  keyed = answer_keyed;
   at = λ i. (1, Int (pos i.caller)) ∷ (2, Text i.id) ∷ [];
   columns = 3 ∷ 4 ∷ 5 ∷ [];
   read = λ r. answered (number_in (column r 0)) (text_in (column r 1)) (text_in (column r 2));

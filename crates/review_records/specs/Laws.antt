@@ -8,7 +8,7 @@ use Rattle.std.proofs.lemmas.Option.{same_Some}
 use Rattle.std.proofs.lemmas.Bool.{and_parts, and_from, cases_Bool}
 use Rattle.sqlite_value.specs.declared.value.Value.TheVariants.{Null, Int, Real, Text, Blob}
 use Rattle.sqlite_value.specs.declared.value.Value.{Value}
-use Rattle.sqlite_value.specs.Order.{column, value_cmp}
+use Rattle.sqlite_value.specs.Order.{column}
 use Rattle.review_names.specs.Names.{is_word, is_account_number}
 use Rattle.review_tables.specs.Columns.{number_in, text_in}
 use Rattle.review_tables.specs.Fronts.{IsExact, IsFront}
