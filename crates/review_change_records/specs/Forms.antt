@@ -246,6 +246,20 @@ call_form = with_rowid (λ p x. Int (pos p.0) ∷ Int (pos p.1) ∷ Text x.reaso
 
 -- ---- other look-ups
 
+-- a branch, where both of its names are there
+abbrev pub branched : Option (List ℕ) → Option (List ℕ) → Option BranchKey
+branched (Some project) (Some branch) = Some (record { project = project; branch = branch })
+branched _ _ = None
+
+-- the branch that a change is for
+abbrev pub change_branches : Search ℕ BranchKey
+change_branches = record {
+  tree = table.changes.tree; keyed = header_keyed;
+  at = λ number. (0, Int (pos number)) ∷ [];
+  columns = 2 ∷ 3 ∷ [];
+  read = λ r. branched (where_is is_slashed_name (text_in (column r 0))) (where_is is_slashed_name (text_in (column r 1)));
+}
+
 -- the numbers of changes
 abbrev pub change_numbers : Search (Unit {0}) ℕ
 change_numbers = record { tree = table.changes.tree; keyed = header_keyed; at = λ u. []; columns = 0 ∷ []; read = λ r. number_in (column r 0) }

@@ -1,7 +1,9 @@
-//! The changes of a branch, by their places.
+//! The changes of a branch, by their places, and the branch of a change.
 
 use crate::values::change_at;
+use review_records::names::name_at;
 use review_records::rows::PlaceKey;
+use review_rows::BranchKey;
 use review_statements::texts;
 use review_tables::bound::Bound;
 use review_tables::table::Lookup;
@@ -42,4 +44,42 @@ impl Lookup for ChangeAt {
     }
 
     ghost asks = { λ k. find_change_at k.project k.branch (pos k.place) };
+}
+
+/// The branches of changes, by the numbers of these: what of a header tells whom it concerns, also where the rest of it is odd.
+pub struct ChangeBranches;
+
+impl Lookup for ChangeBranches {
+    ghost use Rattle.std.specs.Prelude.{pos};
+    ghost use Rattle.review_statements.specs.declared.texts.TheConstants.{FIND_CHANGE_BRANCH};
+    ghost use Rattle.review_statements.proofs.TextsOfLookups.{find_change_branch};
+    ghost use Rattle.review_change_records.specs.Forms.{change_branches};
+
+    type Key = ChangeNo;
+
+    type Item = BranchKey;
+
+    ghost sql = { FIND_CHANGE_BRANCH.now };
+
+    ghost search = { change_branches };
+
+    fn text() -> &'static str {
+        texts::FIND_CHANGE_BRANCH
+    }
+
+    fn bind<'a>(key: &'a ChangeNo) -> Result<Bound<'a>, Error> {
+        Ok(Bound::new().number(key.get()))
+    }
+
+    fn read(alloc: Global, row: &Row) -> Result<Option<BranchKey>, AllocError> {
+        let Some(project) = name_at(alloc, row, 0)? else {
+            return Ok(None);
+        };
+        let Some(branch) = name_at(alloc, row, 1)? else {
+            return Ok(None);
+        };
+        Ok(Some(BranchKey { project, branch }))
+    }
+
+    ghost asks = { λ number. find_change_branch (pos number) };
 }

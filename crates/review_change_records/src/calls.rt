@@ -1,7 +1,8 @@
 //! The attention sets of changes.
 
+use crate::values::change_number;
 use review_changes::Called;
-use review_records::names::{account_at, name_at};
+use review_records::names::{account_at, account_number, name_at};
 use review_statements::texts;
 use review_tables::bound::Bound;
 use review_tables::columns::number_at;
@@ -90,7 +91,8 @@ impl Table for Calls {
     }
 
     fn bind_key<'a>(key: &'a (ChangeNo, AccountNo)) -> Result<Bound<'a>, Error> {
-        Ok(Bound::new().number(key.0.get()).number(key.1.get()))
+        let (change, account) = (change_number(key.0), account_number(key.1));
+        Ok(Bound::new().number(change).number(account))
     }
 
     fn bind_row<'a>(

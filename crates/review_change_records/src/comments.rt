@@ -1,11 +1,11 @@
 //! The comments of changes.
 
 use crate::values::{
-    account_number, answers_at, answers_number, comment_at, flag_at, flag_number, patch_at,
+    answers_at, answers_number, change_number, comment_at, comment_number, flag_at, flag_number, patch_at,
     patch_number, small, small_at,
 };
 use review_changes::{Comment, CommentRow};
-use review_records::names::{account_at, name_at};
+use review_records::names::{account_at, account_number, name_at};
 use review_statements::texts;
 use review_tables::bound::Bound;
 use review_tables::columns::number_at;
@@ -119,7 +119,8 @@ impl Table for Comments {
     }
 
     fn bind_key<'a>(key: &'a (ChangeNo, CommentNo)) -> Result<Bound<'a>, Error> {
-        Ok(Bound::new().number(key.0.get()).number(key.1.get()))
+        let (change, comment) = (change_number(key.0), comment_number(key.1));
+        Ok(Bound::new().number(change).number(comment))
     }
 
     fn bind_row<'a>(

@@ -1,10 +1,10 @@
 //! The headers of changes.
 
 use crate::values::{
-    account_number, change_at, flag_at, flag_number, small, small_at, state_at, state_name,
+    change_at, change_number, flag_at, flag_number, small, small_at, state_at, state_name,
 };
 use review_changes::Header;
-use review_records::names::{account_at, name_at};
+use review_records::names::{account_at, account_number, name_at};
 use review_rows::BranchKey;
 use review_statements::texts;
 use review_tables::bound::Bound;
@@ -104,7 +104,7 @@ impl Table for Headers {
     }
 
     fn bind_key<'a>(key: &'a ChangeNo) -> Result<Bound<'a>, Error> {
-        Headers::bind(key)
+        Ok(Bound::new().number(change_number(*key)))
     }
 
     fn bind_row<'a>(

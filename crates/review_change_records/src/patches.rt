@@ -4,9 +4,9 @@ ghost use Rattle.sqlite_value.specs.Order.{column};
 ghost use Rattle.review_change_records.specs.Forms.{patch_in};
 
 use crate::paths::{is_read_back, paths_text, read_paths};
-use crate::values::{account_number, kind_at, patch_at};
+use crate::values::{change_number, kind_at, patch_at, patch_number};
 use review_changes::PatchRow;
-use review_records::names::{account_at, name_at};
+use review_records::names::{account_at, account_number, name_at};
 use review_statements::texts;
 use review_tables::bound::Bound;
 use review_tables::columns::text_at;
@@ -194,7 +194,8 @@ impl Table for Patches {
     }
 
     fn bind_key<'a>(key: &'a (ChangeNo, PatchNo)) -> Result<Bound<'a>, Error> {
-        Ok(Bound::new().number(key.0.get()).number(key.1.get()))
+        let (change, patch) = (change_number(key.0), patch_number(key.1));
+        Ok(Bound::new().number(change).number(patch))
     }
 
     fn bind_row<'a>(

@@ -1,7 +1,7 @@
 //! The reviewers and CCs of changes.
 
-use crate::values::role_at;
-use review_records::names::account_at;
+use crate::values::{change_number, role_at};
+use review_records::names::{account_at, account_number};
 use review_statements::texts;
 use review_tables::bound::Bound;
 use review_tables::fronts::Front;
@@ -88,7 +88,8 @@ impl Table for Roles {
     }
 
     fn bind_key<'a>(key: &'a (ChangeNo, AccountNo)) -> Result<Bound<'a>, Error> {
-        Ok(Bound::new().number(key.0.get()).number(key.1.get()))
+        let (change, account) = (change_number(key.0), account_number(key.1));
+        Ok(Bound::new().number(change).number(account))
     }
 
     fn bind_row<'a>(

@@ -4,7 +4,6 @@ ghost use Rattle.std.specs.Int.{w64};
 ghost use Rattle.sqlite_value.specs.Order.{column};
 ghost use Rattle.review_names.specs.Forms.{is_within, most_changes, most_comments, most_patches};
 ghost use Rattle.review_names.specs.Kinds.{kind_named};
-ghost use Rattle.review_names.specs.Names.{is_account_number};
 ghost use Rattle.review_words.specs.Texts.{role_named};
 ghost use Rattle.review_tables.specs.Columns.{number_in, text_in};
 ghost use Rattle.review_records.specs.Forms.{where_is};
@@ -12,7 +11,7 @@ ghost use Rattle.review_change_records.specs.Forms.{answered, answers_number, fl
 
 use review_changes::Vote;
 use review_tables::columns::{number_at, text_at};
-use review_words::{AccountNo, ChangeKind, ChangeNo, CommentNo, PatchNo, Role, State};
+use review_words::{ChangeKind, ChangeNo, CommentNo, PatchNo, Role, State};
 use sqlite::Row;
 use sqlite::types::ValueRef;
 
@@ -145,13 +144,13 @@ pub fn answers_number(answers: Option<CommentNo>) -> u32
     }
 }
 
-/// The number of an account.
-#[tactic(auto, unfolding(review_names::specs::Names::is_account_number))]
-pub fn account_number(account: AccountNo) -> u32
-    ensures number { result ≡ account }
-    ensures good { is_account_number account ≡ true }
+/// The number of a change.
+#[tactic(auto, unfolding(review_names::specs::Forms::is_within))]
+pub fn change_number(change: ChangeNo) -> u32
+    ensures number { result ≡ change }
+    ensures good { is_within most_changes change ≡ true }
 {
-    account.get()
+    change.get()
 }
 
 /// The number of a patch set.
@@ -161,6 +160,15 @@ pub fn patch_number(patch: PatchNo) -> u32
     ensures good { is_within most_patches patch ≡ true }
 {
     patch.get()
+}
+
+/// The number of a comment.
+#[tactic(auto, unfolding(review_names::specs::Forms::is_within))]
+pub fn comment_number(comment: CommentNo) -> u32
+    ensures number { result ≡ comment }
+    ensures good { is_within most_comments comment ≡ true }
+{
+    comment.get()
 }
 
 fn integer_at(row: &Row, at: usize) -> Option<i64>

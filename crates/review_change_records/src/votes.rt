@@ -1,8 +1,8 @@
 //! The votes on changes.
 
-use crate::values::{patch_at, vote_at, vote_value};
+use crate::values::{change_number, patch_at, patch_number, vote_at, vote_value};
 use review_changes::{Vote, VoteKey};
-use review_records::names::{account_at, name_at};
+use review_records::names::{account_at, account_number, name_at};
 use review_statements::texts;
 use review_tables::bound::Bound;
 use review_tables::fronts::Front;
@@ -99,11 +99,13 @@ impl Table for Votes {
     }
 
     fn bind_key<'a>(key: &'a (ChangeNo, VoteKey)) -> Result<Bound<'a>, Error> {
+        let (change, patch) = (change_number(key.0), patch_number(key.1.patch));
+        let account = account_number(key.1.account);
         Ok(Bound::new()
-            .number(key.0.get())
-            .number(key.1.patch.get())
+            .number(change)
+            .number(patch)
             .text(key.1.label.as_str())
-            .number(key.1.account.get()))
+            .number(account))
     }
 
     fn bind_row<'a>(

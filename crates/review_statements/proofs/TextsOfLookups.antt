@@ -3,7 +3,7 @@ use Rattle.std.proofs.Common.{ℕ, ℤ, List, [], ◌∷◌, codes, refl}
 use Rattle.sqlite_value.specs.declared.value.Value.TheVariants.{Int, Text}
 use Rattle.sqlite_tied.specs.Compute.{everything}
 use Rattle.sqlite.specs.Listing.{understood}
-use Rattle.review_statements.specs.declared.texts.TheConstants.{FIND_ACCOUNT, FIND_MEMBER, FIND_PROJECT, FIND_BASE, FIND_CHANGE, FIND_PATCH, FIND_VOTE, FIND_REVIEWER, FIND_COMMENT, FIND_ATTENTION, FIND_ANSWER, FIND_DESK, FIND_ACCOUNT_NAMED, FIND_GROUP, FIND_PROJECT_NAME, FIND_BASE_COMMIT, FIND_BRANCH, FIND_PATCHES, FIND_VOTES, FIND_REVIEWERS, FIND_COMMENTS, FIND_CALLS, FIND_SENT, FIND_CHANGE_AT, FIND_LAST_ACCOUNT, FIND_LAST_PLACE, FIND_LAST_CHANGE, FIND_LAST_JOINED, FIND_LAST_PATCH, FIND_PROJECT_BEYOND, FIND_BASE_BEYOND}
+use Rattle.review_statements.specs.declared.texts.TheConstants.{FIND_ACCOUNT, FIND_MEMBER, FIND_PROJECT, FIND_BASE, FIND_CHANGE, FIND_PATCH, FIND_VOTE, FIND_REVIEWER, FIND_COMMENT, FIND_ATTENTION, FIND_ANSWER, FIND_DESK, FIND_ACCOUNT_NAMED, FIND_GROUP, FIND_PROJECT_NAME, FIND_BASE_COMMIT, FIND_BRANCH, FIND_PATCHES, FIND_VOTES, FIND_REVIEWERS, FIND_COMMENTS, FIND_CALLS, FIND_CHANGE_BRANCH, FIND_SENT, FIND_CHANGE_AT, FIND_LAST_ACCOUNT, FIND_LAST_PLACE, FIND_LAST_CHANGE, FIND_LAST_JOINED, FIND_LAST_PATCH, FIND_PROJECT_BEYOND, FIND_BASE_BEYOND}
 use Rattle.review_statements.specs.Desk.{accounts, members, projects, bases, changes, patches, votes, reviewers, comments, attention, answers, desk}
 use Rattle.review_statements.specs.Texts.{Asks, rows_where, last_where, beyond_where}
 
@@ -94,6 +94,10 @@ find_comments change = record { names = codes "number" ∷ codes "patch" ∷ cod
 pub find_calls : (change : ℤ) → Asks FIND_CALLS.now (rows_where attention.tree ((1, Int change) ∷ []) (2 ∷ 3 ∷ 4 ∷ []))
 unfolding understood everything
 find_calls change = record { names = codes "account" ∷ codes "reason" ∷ codes "request" ∷ []; is = refl; plain = (refl, refl); unlisted = refl }
+
+pub find_change_branch : (number : ℤ) → Asks FIND_CHANGE_BRANCH.now (rows_where changes.tree ((0, Int number) ∷ []) (2 ∷ 3 ∷ []))
+unfolding understood everything
+find_change_branch number = record { names = codes "project" ∷ codes "branch" ∷ []; is = refl; plain = (refl, refl); unlisted = refl }
 
 pub find_sent : (commit_name : List ℕ) → Asks FIND_SENT.now (rows_where patches.tree ((3, Text commit_name) ∷ []) (1 ∷ 2 ∷ []))
 unfolding understood everything

@@ -188,6 +188,9 @@ pub const FIND_COMMENTS: &str =
 
 pub const FIND_CALLS: &str = "SELECT account, reason, request FROM attention WHERE change = ?1 AND typeof(change) = 'integer'";
 
+pub const FIND_CHANGE_BRANCH: &str =
+    "SELECT project, branch FROM changes WHERE number = ?1 AND typeof(number) = 'integer'";
+
 pub const FIND_SENT: &str = "SELECT change, patch FROM patches WHERE commit_name = ?1";
 
 pub const FIND_CHANGE_AT: &str =
