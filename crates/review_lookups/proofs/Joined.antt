@@ -1,5 +1,5 @@
 -- The changes that joined a branch, in the order of their places.
-use Rattle.std.proofs.Common.{◌≡◌, ◌∙◌, ◌<◌, ◌≤◌, ◌+◌, ◌++◌, ℕ, pos, List, [], ◌∷◌, true, Option, Some, All, Ok, refl, sym, ap, subst, inl, inr, ⊎_elim, arith}
+use Rattle.std.proofs.Common.{◌≡◌, ◌∙◌, ◌<◌, ◌≤◌, ◌+◌, ◌++◌, ℕ, pos, List, [], ◌∷◌, true, Option, Some, None, All, Ok, refl, sym, ap, subst, inl, inr, ⊎_elim, arith}
 use Rattle.std.specs.Prelude.{AllPairs}
 use Rattle.std.specs.List.{Contains}
 use Rattle.std.specs.Ordering.{is_eq}
@@ -18,11 +18,10 @@ use Rattle.review_changes.specs.Parts.{AHeader}
 use Rattle.review_changes.specs.declared.rows.Header.{Header}
 use Rattle.review_changes.specs.declared.rows.PatchRow.{PatchRow}
 use Rattle.review_rows.specs.declared.rows.BranchKey.{BranchKey}
-use Rattle.review_rows.specs.Known.{HaveJoined, IsAtPlace, IsBefore, IsCurrent, IsJoinedAt}
+use Rattle.review_rows.specs.Known.{HaveJoined, IsAtPlace, IsBefore, IsJoinedAt}
 use Rattle.review_rows.specs.Rows.{APart}
 use Rattle.review_kept_changes.proofs.Listed.{one_joined, one_place}
 use Rattle.review_statements.specs.Content.{has_key}
-use Rattle.review_tables.specs.Fronts.{Knows}
 use Rattle.review_statements.specs.Greatest.{HasGreatest}
 use Rattle.review_statements.specs.Ran.{Looks}
 use Rattle.review_statements.specs.Search.{only, reads, row_at, rows_at}
@@ -31,7 +30,8 @@ use Rattle.review_tables.proofs.Keys.{itself}
 use Rattle.review_records.specs.declared.rows.PlaceKey.{PlaceKey}
 use Rattle.review_records.specs.Laws.{one_number, passed}
 use Rattle.review_change_records.specs.Forms.{change_places, changes_at, headers}
-use Rattle.review_lookups.specs.Joins.{IsOnlyAt, NoneAbove, branch_of}
+use Rattle.review_lookups.specs.Joins.{IsHeaderAt, IsLastPlace, IsOnlyAt, NoneAbove, TellsAt, TellsCurrent, branch_of}
+use Rattle.review_lookups.specs.Loads.{IfTold}
 use Rattle.review_lookups.specs.Tables.{tables_at, told}
 use Rattle.review_lookups.proofs.Joining.{among}
 use Rattle.review_lookups.proofs.Telling.{has_in, in_has}
@@ -57,15 +57,14 @@ only_one db key n found m at =
     sym (one_number (column it.0 0) n m (passed (is_within most_changes) _ n read) (and_parts _ _ it.3).0)
 
 -- the change that was found at a place, with its current patch set
-pub joined_is : (db : Trees) (key : PlaceKey) (n : ℕ) (found : Option (Option Header)) (h : Header) (sets : Option PatchRow) (patch : PatchRow) → found ≡ Some (Some h) → sets ≡ Some patch
-    → h.project ≡ key.project → h.branch ≡ key.branch → h.place ≡ key.place → 0 < key.place
-    → Some (Some n) ≡ row_at changes_at db key → found ≡ row_at headers db n → Knows sets (IsCurrent (tables_at db).row n) → IsOnlyAt key db (record { change = n; commit = patch.commit })
-joined_is db key n found h sets patch some known project branch place low at stands knows = record {
+pub joined_is : (db : Trees) (key : PlaceKey) (n : ℕ) (found : Option (Option Header)) (sets : Option PatchRow) (patch : PatchRow) → IsHeaderAt found key.project key.branch key.place → sets ≡ Some patch → 0 < key.place
+    → Some (Some n) ≡ row_at changes_at db key → found ≡ row_at headers db n → TellsCurrent n db sets → IsOnlyAt key db (record { change = n; commit = patch.commit })
+joined_is db key n found sets patch head known low at stands knows = record {
   here = record {
     from_one = low;
-    at = record { header = h; stands = ap (told (λ x. APart (AHeader x))) (sym stands ∙ some); project = project; branch = branch; placed = place };
+    at = record { header = head.0; stands = ap (told (λ x. APart (AHeader x))) (sym stands ∙ head.1); project = head.2; branch = head.3; placed = head.4 };
     patch = patch;
-    current = subst (λ o. Knows o (IsCurrent (tables_at db).row n)) known knows;
+    current = subst (TellsCurrent n db) known knows;
     commit = refl;
   };
   only = only_one db key n (sym at);
@@ -128,23 +127,23 @@ all_joined key db last count joined enough none so = record {
 
 -- the changes of so many places were found
 abbrev pub SoFar : BranchKey → ℕ → ℕ → List JoinedChange → Trees → Unit {0} → Type 0
-SoFar key last count joined db u = NoneAbove key last db × AreUpTo key db count joined
+SoFar key last count joined db u = IsLastPlace key db last × AreUpTo key db count joined
 
 -- what is known of one, and of all
 abbrev pub KnowsOne : PlaceKey → Trees → Option JoinedChange → Type 0
-KnowsOne key db found = Knows found (IsOnlyAt key db)
+KnowsOne key db found = TellsAt key db found
 
 abbrev pub KnowsAll : BranchKey → Trees → Option (List JoinedChange) → Type 0
-KnowsAll key db found = Knows found (HaveJoined (tables_at db).row key)
+KnowsAll key db found = IfTold db (HaveJoined (tables_at db).row key) found
 
 -- what is found of the greatest place
 abbrev pub KnowsLast : BranchKey → Trees → Option (Option (ℕ × ℕ)) → Type 0
 KnowsLast key db found = HasGreatest change_places 8 key db found
 
-pub joined_first : (key : BranchKey) (last : ℕ) (found : Option (Option (ℕ × ℕ))) (o : Option ℕ) (a b : State) → o ≡ Some last → ((db : Trees) → HasGreatest change_places 8 key db found → Knows o (λ last. NoneAbove key last db))
+pub joined_first : (key : BranchKey) (last : ℕ) (found : Option (Option (ℕ × ℕ))) (o : Option ℕ) (a b : State) → o ≡ Some last → ((db : Trees) → HasGreatest change_places 8 key db found → IfTold db (IsLastPlace key db) o)
     → Looks (KnowsLast key) a b (Ok found) → Looks (SoFar key last 0 []) a b (Ok (tt {0}))
 joined_first key last found o a b is knows looks =
-    look_on (KnowsLast key) (SoFar key last 0 []) a b found (Ok (tt {0})) looks (λ db h. (subst (λ o. Knows o (λ last. NoneAbove key last db)) is (knows db h), none_yet key db))
+    look_on (KnowsLast key) (SoFar key last 0 []) a b found (Ok (tt {0})) looks (λ db h. (subst (IfTold db (IsLastPlace key db)) is (knows db h), none_yet key db))
 
 pub joined_more : (key : BranchKey) (last count : ℕ) (at : PlaceKey) (old new : List JoinedChange) (j : JoinedChange) (a b c : State) → at ≡ next_key key count → new ≡ old ++ j ∷ []
     → Looks (SoFar key last count old) a b (Ok (tt {0})) → Looks (KnowsOne at) b c (Ok (Some j)) → Looks (SoFar key last (count + 1) new) a c (Ok (tt {0}))
@@ -154,4 +153,14 @@ joined_more key last count at old new j a b c is now so one =
 
 pub joined_all : (key : BranchKey) (last count : ℕ) (joined : List JoinedChange) (a b : State) → last ≤ count → Looks (SoFar key last count joined) a b (Ok (tt {0})) → Looks (KnowsAll key) a b (Ok (Some joined))
 joined_all key last count joined a b enough so =
-    look_on (SoFar key last count joined) (KnowsAll key) a b (tt {0}) (Ok (Some joined)) so (λ db h. all_joined key db last count joined enough h.0 h.1)
+    look_on (SoFar key last count joined) (KnowsAll key) a b (tt {0}) (Ok (Some joined)) so (λ db h. all_joined key db last count joined enough h.0.above h.1)
+
+-- at a place none is told
+pub joined_none : (key : BranchKey) (last count : ℕ) (at : PlaceKey) (old : List JoinedChange) (a b c : State) → at ≡ next_key key count → count < last
+    → Looks (SoFar key last count old) a b (Ok (tt {0})) → Looks (KnowsOne at) b c (Ok None) → Looks (KnowsAll key) a c (Ok None)
+joined_none key last count at old a b c is more so one =
+    look_on _ (KnowsAll key) a c None (Ok None) (look_both (SoFar key last count old) (KnowsOne at) a b c (tt {0}) (Ok None) so one)
+    (λ db h. elim (h.0.0.there (omega (arith, more))) [
+      | inl damaged ↦ damaged
+      | inr stands ↦ subst (λ k. KnowsOne k db None) is h.1 last stands.0 (omega (arith, more)) stands.1
+    ])

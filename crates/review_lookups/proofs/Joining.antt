@@ -21,12 +21,12 @@ use Rattle.review_statements.specs.Search.{reads, row_at, rows_at}
 use Rattle.review_records.specs.Laws.{both_are, number_is, passed}
 use Rattle.review_change_records.specs.Forms.{change_places, headed, headers, is_small}
 use Rattle.review_change_records.specs.Laws.{at_text}
-use Rattle.review_lookups.specs.Joins.{NoneAbove}
+use Rattle.review_lookups.specs.Joins.{IsHeaderAt, NoneAbove}
 use Rattle.review_lookups.specs.Tables.{tables_at, told}
 use Rattle.review_lookups.proofs.Sending.{all_has, header_from, part_found}
 use Rattle.review_lookups.proofs.Telling.{greater, has_in, in_has, stored_row}
 
-headed_at : (a b s : Option (List ℕ)) (o : Option ℕ) (t : Option State) (w : Option Bool) (p u : Option ℕ) (h : Header) → headed a b s o t w p u ≡ Some h → (a ≡ Some h.project) × (b ≡ Some h.branch) × (p ≡ Some h.place)
+pub headed_at : (a b s : Option (List ℕ)) (o : Option ℕ) (t : Option State) (w : Option Bool) (p u : Option ℕ) (h : Header) → headed a b s o t w p u ≡ Some h → (a ≡ Some h.project) × (b ≡ Some h.branch) × (p ≡ Some h.place)
 headed_at None b s o t w p u h is = absurd (cc)
 headed_at (Some a) None s o t w p u h is = absurd (cc)
 headed_at (Some a) (Some b) None o t w p u h is = absurd (cc)
@@ -69,10 +69,10 @@ none_above db key n m great p k less at =
 pub none_at_all : (db : Trees) (key : BranchKey) (m : ℕ) → HasGreatest change_places 8 key db None → NoneAbove key m db
 none_at_all db key m none p k less at = let it = among db key p k at in subst (λ l. Has l it.0) none it.1
 
-pub last_joined : (db : Trees) (key : BranchKey) (n m : ℕ) (h : Header) → HasGreatest change_places 8 key db (Some (Some (n, m))) → row_at headers db n ≡ Some (Some h) → h.project ≡ key.project → h.branch ≡ key.branch → h.place ≡ m → IsLastJoined (tables_at db).row key m
-last_joined db key n m h great stands project branch place = record {
+pub last_joined : (db : Trees) (key : BranchKey) (n m : ℕ) (found : Option (Option Header)) → HasGreatest change_places 8 key db (Some (Some (n, m))) → found ≡ row_at headers db n → IsHeaderAt found key.project key.branch m → IsLastJoined (tables_at db).row key m
+last_joined db key n m found great stands head = record {
   above = none_above db key n m great;
-  there = inr (n, record { header = h; stands = ap (told (λ x. APart (AHeader x))) stands; project = project; branch = branch; placed = place });
+  there = inr (n, record { header = head.0; stands = ap (told (λ x. APart (AHeader x))) (sym stands ∙ head.1); project = head.2; branch = head.3; placed = head.4 });
 }
 
 pub none_joined : (db : Trees) (key : BranchKey) → HasGreatest change_places 8 key db None → IsLastJoined (tables_at db).row key 0

@@ -6,3 +6,4 @@ pub mod Current
 pub mod Joining
 pub mod Joined
 pub mod Odd
+pub mod Placed

@@ -1,18 +1,16 @@
 -- What shows that tables are those of no history: rows without a key, and rows that don't read.
-use Rattle.std.proofs.Common.{◌≡◌, ◌∙◌, ◌⊎◌, ◌<◌, ◌&&◌, ◌||◌, ℕ, ℤ, pos, zero, List, [], ◌∷◌, Option, Some, None, option_map, Bool, true, false, not, filter, is_some, refl, sym, ap, subst, inl, inr, Ordering, nat_le, arith, leb-true, leb-false, nat_lt}
+use Rattle.std.proofs.Common.{◌≡◌, ◌∙◌, ◌⊎◌, ◌&&◌, ℕ, List, [], ◌∷◌, Option, Some, None, Bool, true, false, not, is_some, refl, sym, ap, subst, inl, inr, Ordering, nat_le, arith, leb-true}
 use Rattle.std.specs.List.{list_any}
 use Rattle.std.specs.Ordering.{nat_cmp, is_eq}
 use Rattle.std.proofs.lemmas.Bool.{cases_Bool, and_from, and_parts, or_right, or_cases, lt-ltb}
-use Rattle.std.proofs.lemmas.Option.{same_Some}
 use Rattle.sqlite_value.specs.Order.{Row as Raw, column, value_cmp}
 use Rattle.sqlite_value.specs.declared.value.Value.TheVariants.{Text}
 use Rattle.sqlite_trees.specs.Tree.{Trees}
 use Rattle.sqlite_rules.specs.Lists.{Has}
 use Rattle.review_names.specs.Forms.{is_commit, is_label, is_within, most_changes, most_comments, most_patches}
 use Rattle.review_names.specs.Names.{is_account_number, is_word}
-use Rattle.review_changes.specs.Parts.{TheHeader, PatchOf, VoteOf, RoleOf, CommentOf, AttentionOf, AHeader, APatch, ARole, AComment, ACall}
+use Rattle.review_changes.specs.Parts.{PatchOf, VoteOf, RoleOf, CommentOf, AttentionOf, APatch, ARole, AComment, ACall}
 use Rattle.review_changes.specs.Seen.{vote_cmp}
-use Rattle.review_changes.specs.declared.rows.VoteKey.{VoteKey}
 use Rattle.review_rows.specs.declared.rows.Base.{Base}
 use Rattle.review_rows.specs.declared.rows.BranchKey.{BranchKey}
 use Rattle.review_rows.proofs.Readings.{reading_of}
@@ -23,7 +21,7 @@ use Rattle.review_rows.specs.Shelf.{IsDamaged}
 use Rattle.review_statements.specs.Content.{has_key}
 use Rattle.review_statements.specs.Greatest.{HasGreatest, HasOne}
 use Rattle.review_statements.specs.Search.{Search, only, reads, row_at, rows_at}
-use Rattle.review_tables.specs.Columns.{number_in, text_in}
+use Rattle.review_tables.specs.Columns.{number_in}
 use Rattle.review_tables.specs.Fronts.{AreParts}
 use Rattle.review_tables.proofs.Keys.{same_text}
 use Rattle.review_records.specs.Forms.{where_is, alone, both, accounts, account_names, account_numbers, bases, base_commits, base_places, desk, branch_bases, base_parts, group_members, member_parts}
@@ -43,7 +41,7 @@ any_in p [] x has is = absurd has
 any_in p (y ∷ xs) x (inl same) is = let it : p y ≡ true = subst (λ z. p z ≡ true) same is in rw it refl
 any_in p (y ∷ xs) x (inr has) is = or_right (p y) (list_any p xs) (any_in p xs x has is)
 
-any_has : {X : Type 0} (p : X → Bool) (xs : List X) → list_any p xs ≡ true → (x : X) × Has xs x × (p x ≡ true)
+pub any_has : {X : Type 0} (p : X → Bool) (xs : List X) → list_any p xs ≡ true → (x : X) × Has xs x × (p x ≡ true)
 any_has p [] is = absurd (cc)
 any_has p (x ∷ xs) is = elim (or_cases _ _ is) [
   | inl here ↦ (x, inl refl, here)
@@ -68,7 +66,7 @@ unkeyed db tree keyed listed r has bad =
 
 -- ---- values
 
-no_number : (test : ℕ → Bool) (o : Option ℕ) → where_is test o ≡ None → is_some (where_is test o) ≡ false
+pub no_number : (test : ℕ → Bool) (o : Option ℕ) → where_is test o ≡ None → is_some (where_is test o) ≡ false
 no_number test o is = ap is_some is
 
 -- a number that reads, but isn't one of a kind
@@ -86,7 +84,7 @@ pub false_and : (a b : Bool) → a ≡ false → (a && b) ≡ false
 false_and a b is = rw is refl
 
 -- which of two things is missing
-both_missing : {X Y : Type 0} (a : Option X) (b : Option Y) → both a b ≡ None → (a ≡ None) ⊎ ((x : X) × (a ≡ Some x) × (b ≡ None))
+pub both_missing : {X Y : Type 0} (a : Option X) (b : Option Y) → both a b ≡ None → (a ≡ None) ⊎ ((x : X) × (a ≡ Some x) × (b ≡ None))
 both_missing None b is = inl refl
 both_missing (Some x) None is = inr (x, refl, refl)
 both_missing (Some x) (Some y) is = absurd (cc)
@@ -233,7 +231,7 @@ last_place_damaged db key great =
 -- ---- look-ups by a name and by a commit
 
 -- the row that has a key is what the key has, unless the key is odd
-only_with : {X : Type 0} (read : Raw → Option X) (rows : List Raw) (r : Raw) → Has rows r → (only read rows ≡ Some None) ⊎ (only read rows ≡ Some (read r))
+pub only_with : {X : Type 0} (read : Raw → Option X) (rows : List Raw) (r : Raw) → Has rows r → (only read rows ≡ Some None) ⊎ (only read rows ≡ Some (read r))
 only_with read [] r has = absurd has
 only_with read (s ∷ []) r (inl same) = inr (ap (λ x. Some (read x)) (sym same))
 only_with read (s ∷ []) r (inr has) = absurd has

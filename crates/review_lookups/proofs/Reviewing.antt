@@ -21,7 +21,7 @@ use Rattle.review_kept_changes.specs.Kept as kept
 use Rattle.review_kept_changes.specs.Loads.{Show}
 use Rattle.review_rows.specs.Changes.{change}
 use Rattle.review_rows.specs.Known.{HasChange, IsLast, header_key, part_of}
-use Rattle.review_rows.specs.Rows.{PartKey, APart, Row, vote_row}
+use Rattle.review_rows.specs.Rows.{PartKey, APart, vote_row}
 use Rattle.review_changes.specs.Votes.{voted}
 use Rattle.review_rows.specs.Shelf.{IsDamaged}
 use Rattle.review_rows.proofs.Readings.{reading_of}

@@ -19,13 +19,13 @@ use Rattle.review_rows.specs.Known.{IsBaseOrNot, IsInBranch, IsMergedWith, IsSen
 use Rattle.review_rows.specs.Rows.{APart}
 use Rattle.review_chain.specs.declared.links.Standing.TheVariants.{InBranch, PatchSet, Nowhere}
 use Rattle.review_statements.specs.Content.{has_key}
-use Rattle.review_tables.specs.Fronts.{Knows}
 use Rattle.review_statements.specs.Ran.{Looks}
 use Rattle.review_statements.specs.Search.{AreFound, reads, row_at, rows_at}
 use Rattle.review_tables.proofs.Found.{look_on, look_both}
 use Rattle.review_change_records.specs.Forms.{headers, patches, sent}
 use Rattle.review_change_records.specs.Laws.{same_bytes, sent_by_key, sent_is}
-use Rattle.review_lookups.specs.Senders.{Examines, HasSent, IsFoundSent, IsLastSet, IsOutside, IsSentIn, IsSentWith, KnowsIf}
+use Rattle.review_lookups.specs.Senders.{Examines, HasSent, IsFoundSent, IsLastSet, IsOutside, IsSentIn, IsSentWith, TellsIf}
+use Rattle.review_lookups.specs.Loads.{IfTold}
 use Rattle.review_lookups.specs.Tables.{tables_at, told}
 use Rattle.review_lookups.proofs.Telling.{has_in, in_has, own_bytes, stored_row}
 
@@ -90,13 +90,13 @@ module _ (merged : Bool) (base : Base) (n p : ℕ) (db : Trees) where
       )
 
   -- whether it has sent the commit is whether its rows say so
-  pub sent_told : (h : Header) (x : PatchRow) (b : Bool) → row_at headers db n ≡ Some (Some h) → row_at patches db (n, p) ≡ Some (Some x) → MatchBool b (IsSentWith merged base h x) (IsSentWith merged base h x → ⊥) → KnowsIf (HasSent merged base (n, p) db) (Some b)
+  pub sent_told : (h : Header) (x : PatchRow) (b : Bool) → row_at headers db n ≡ Some (Some h) → row_at patches db (n, p) ≡ Some (Some x) → MatchBool b (IsSentWith merged base h x) (IsSentWith merged base h x → ⊥) → TellsIf db (HasSent merged base (n, p) db) (Some b)
   sent_told h x true stands row is = has_sent h x stands row is
   sent_told h x false stands row is = λ s. is (sent_with h x stands row s)
 
 -- one that has sent the commit, and whether its patch set is the last
-pub sent_and_last : (merged : Bool) (base : Base) (e : ℕ × ℕ) (db : Trees) (last : Option Bool) → merged ≡ true → HasSent merged base e db → KnowsIf (IsLastSet e db) last → Examines merged base e db last
-sent_and_last merged base e db None to_be has is = tt
+pub sent_and_last : (merged : Bool) (base : Base) (e : ℕ × ℕ) (db : Trees) (last : Option Bool) → merged ≡ true → HasSent merged base e db → TellsIf db (IsLastSet e db) last → Examines merged base e db last
+sent_and_last merged base e db None to_be has is = is
 sent_and_last merged base e db (Some true) to_be has is = (has, λ yes. is)
 sent_and_last merged base e db (Some false) to_be has is = λ so. is (so.1 to_be)
 
@@ -140,7 +140,7 @@ Seen merged base items i db u = AreFound sent db base.commit (Some items) × All
 
 -- what is found of all of them, where none is odd
 abbrev pub KnowsSent : Bool → Base → Trees → Option (Option (ℕ × ℕ)) → Type 0
-KnowsSent merged base db found = Knows found (IsFoundSent merged base db)
+KnowsSent merged base db found = IfTold db (IsFoundSent merged base db) found
 
 module _ (merged : Bool) (base : Base) (items : List (ℕ × ℕ)) (i : ℕ) (e : ℕ × ℕ) (a b c : State) (below : i < length items) (is : e ≡ get_or items i e) (seen : Looks (Seen merged base items i) a b (Ok (tt {0}))) where
   pub seen_more : Looks (Examines merged base e) b c (Ok (Some false)) → Looks (Seen merged base items (i + 1)) a c (Ok (tt {0}))
@@ -204,3 +204,8 @@ module _ (base : Base) (db : Trees) where
 
   pub stands_nowhere : IsOutside base db → (found : Option (ℕ × ℕ)) → IsFoundSent false base db found → found ≡ None → StandsAs (tables_at db).row base Nowhere
   stands_nowhere outside found sent is = (outside, sender_told base db None (subst (IsFoundSent false base db) is sent))
+
+-- what was told of each of them is damage
+pub seen_damaged : (merged : Bool) (base : Base) (items : List (ℕ × ℕ)) (i : ℕ) (e : ℕ × ℕ) (a b c : State) → Looks (Seen merged base items i) a b (Ok (tt {0})) → Looks (Examines merged base e) b c (Ok None) → Looks (KnowsSent merged base) a c (Ok None)
+seen_damaged merged base items i e a b c seen odd =
+    look_on _ (KnowsSent merged base) a c None (Ok None) (look_both (Seen merged base items i) (Examines merged base e) a b c (tt {0}) (Ok None) seen odd) (λ db h. h.1)

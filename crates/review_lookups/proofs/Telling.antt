@@ -17,7 +17,7 @@ use Rattle.sqlite_keyed.proofs.ListLemmas.{all_weaker, filter_none}
 use Rattle.review_names.specs.Forms.{is_commit}
 use Rattle.review_names.specs.Names.{is_word}
 use Rattle.review_words.specs.History.{Entry, is_listed, bases as history_bases}
-use Rattle.review_table.specs.Rows.{row_in, rows_of}
+use Rattle.review_table.specs.Rows.{row_in}
 use Rattle.review_rows.specs.declared.rows.Base.{Base}
 use Rattle.review_rows.specs.declared.rows.BranchKey.{BranchKey}
 use Rattle.review_rows.specs.declared.rows.Rows.{Rows}
@@ -33,7 +33,7 @@ use Rattle.review_kept_changes.specs.Loads.{AreInOrder}
 use Rattle.review_kept_changes.proofs.Looked.{based_from}
 use Rattle.review_tables.specs.Columns.{number_in, text_in}
 use Rattle.review_statements.specs.Content.{has_key}
-use Rattle.review_tables.specs.Fronts.{HaveRows, Knows}
+use Rattle.review_tables.specs.Fronts.{HaveRows}
 use Rattle.review_statements.specs.Greatest.{HasGreatest, IsGreatest}
 use Rattle.review_statements.specs.Search.{only, reads, row_at, rows_at}
 use Rattle.review_tables.proofs.Keys.{equal_is, itself}

@@ -1,10 +1,11 @@
 -- Which changes joined a branch.
-use Rattle.std.specs.Prelude.{ℕ, ◌≡◌, ◌<◌, ◌≤◌, ◌⊎◌, Option, Some, None}
+use Rattle.std.specs.Prelude.{ℕ, ◌≡◌, ◌<◌, ◌≤◌, ◌⊎◌, List, Option, Some, None}
 use Rattle.sqlite_trees.specs.Tree.{Trees}
 use Rattle.review_words.specs.declared.shown.JoinedChange.{JoinedChange}
 use Rattle.review_records.specs.declared.rows.PlaceKey.{PlaceKey}
 use Rattle.review_rows.specs.declared.rows.BranchKey.{BranchKey}
 use Rattle.review_changes.specs.Parts.{PatchOf}
+use Rattle.review_changes.specs.declared.rows.Header.{Header}
 use Rattle.review_changes.specs.declared.rows.PatchRow.{PatchRow}
 use Rattle.review_rows.specs.Known.{IsAtPlace, IsCurrent, IsJoinedAt}
 use Rattle.review_rows.specs.Rows.{PartKey}
@@ -19,6 +20,10 @@ branch_of key = record { project = key.project; branch = key.branch }
 pub record IsOnlyAt (key : PlaceKey) (db : Trees) (joined : JoinedChange) : Type 0 where
   pub here : IsJoinedAt (tables_at db).row (branch_of key) key.place joined
   pub only : (n : ℕ) → IsAtPlace (tables_at db).row (branch_of key) key.place n → n ≡ joined.change
+
+-- what was found is the header of a change for the branch, at the place in it
+abbrev pub IsHeaderAt : Option (Option Header) → List ℕ → List ℕ → ℕ → Type 0
+IsHeaderAt found project branch place = (h : Header) × (found ≡ Some (Some h)) × (h.project ≡ project) × (h.branch ≡ branch) × (h.place ≡ place)
 
 -- the current patch set of a change; where none is told it has none, or the tables are those of no history
 abbrev pub TellsCurrent : ℕ → Trees → Option PatchRow → Type 0

@@ -34,8 +34,8 @@ fn current(number: PatchNo, found: Option<Option<PatchRow>>) -> Option<PatchRow>
 {
     let _number = number;
     match found {
-        Some(Some(patch)) => Some(patch),
-        Some(None) | None => None,
+        Some(patch) => patch,
+        None => None,
     }
 }
 
@@ -49,7 +49,10 @@ fn find_current<S: Alter>(
     ensures looks { Looks (TellsCurrent change) (state S.Store tx.old.conn.now) (state S.Store tx.new.conn.now) result }
 {
     let last = find_greatest::<LastPatch, S>(tx, alloc, &change)?;
-    let Some(Some(number)) = last else {
+    let Some(number) = last else {
+        return Ok(None);
+    };
+    let Some(number) = number else {
         return Ok(None);
     };
     let found = find::<PatchSets, S>(tx, alloc, &(change, number))?;
@@ -66,14 +69,16 @@ fn joined_at(
     requires { 0 < key.now.place }
     ensures { (db : Trees) → Some (Some change) ≡ row_at changes_at db key.now → header ≡ row_at headers db change → TellsCurrent change db patch → IfTold db (IsOnlyAt key.now db) result }
 {
-    let (Some(Some(header)), Some(patch)) = (header, patch) else {
-        return None;
-    };
     if !is_placed(&key.project, &key.branch, key.place, &header) {
         return None;
     }
-    let PatchRow { commit, .. } = patch;
-    Some(JoinedChange { change, commit })
+    match patch {
+        Some(patch) => Some(JoinedChange {
+            change,
+            commit: patch.commit,
+        }),
+        None => None,
+    }
 }
 
 // The change at a place of a branch with its current commit; none where there is none, or where a row of it is odd.
@@ -87,7 +92,10 @@ fn find_at<S: Alter>(
     ensures looks { Looks (TellsAt key.now) (state S.Store tx.old.conn.now) (state S.Store tx.new.conn.now) result }
 {
     let found = find::<ChangeAt, S>(tx, alloc, key)?;
-    let Some(Some(change)) = found else {
+    let Some(change) = found else {
+        return Ok(None);
+    };
+    let Some(change) = change else {
         return Ok(None);
     };
     let header = find::<Headers, S>(tx, alloc, &change)?;

@@ -1,5 +1,5 @@
 //! The last place that a change joined a branch at is looked up.
-ghost use Rattle.std.specs.Prelude.{◌≡◌, true, Some, None, IfOk};
+ghost use Rattle.std.specs.Prelude.{◌≡◌, true, false, Some, None, IfOk};
 ghost use Rattle.sqlite.specs.Held.{state};
 ghost use Rattle.sqlite_trees.specs.Tree.{Trees};
 ghost use Rattle.review_rows.specs.declared.rows.Want.TheVariants as want;
@@ -7,6 +7,7 @@ ghost use Rattle.review_statements.specs.Greatest.{HasGreatest};
 ghost use Rattle.review_statements.specs.Ran.{Looks};
 ghost use Rattle.review_statements.specs.Search.{row_at};
 ghost use Rattle.review_change_records.specs.Forms.{change_places, headers};
+ghost use Rattle.review_lookups.specs.Joins.{IsHeaderAt};
 ghost use Rattle.review_lookups.specs.Loads.{HasLearnt, Sees};
 
 use crate::learning::{learn_last_joined, learnt};
@@ -20,16 +21,24 @@ use review_words::{BranchName, ChangeNo, ProjectName};
 use sqlite::{Alter, Error, Transaction};
 use std::alloc::Global;
 
-/// Whether a header is that of a change for the branch, at the place in it.
-pub fn is_placed(project: &ProjectName, branch: &BranchName, place: u64, header: &Header) -> bool
-    ensures project { result ≡ true → header.now.project ≡ project.now }
-    ensures branch { result ≡ true → header.now.branch ≡ branch.now }
-    ensures place { result ≡ true → header.now.place ≡ place }
-    ensures other { result ≡ false → header.now.project ≡ project.now → header.now.branch ≡ branch.now → header.now.place ≡ place → ⊥ }
+/// Whether what was found is the header of a change for the branch, at the place in it.
+pub fn is_placed(
+    project: &ProjectName,
+    branch: &BranchName,
+    place: u64,
+    found: &Option<Option<Header>>,
+) -> bool
+    ensures is { result ≡ true → IsHeaderAt found.now project.now branch.now place }
+    ensures other { result ≡ false → IsHeaderAt found.now project.now branch.now place → ⊥ }
 {
-    header.project.as_str() == project.as_str()
-        && header.branch.as_str() == branch.as_str()
-        && u64::from(header.place) == place
+    match found {
+        Some(Some(header)) => {
+            header.project.as_str() == project.as_str()
+                && header.branch.as_str() == branch.as_str()
+                && u64::from(header.place) == place
+        }
+        Some(None) | None => false,
+    }
 }
 
 #[tactic(auto, using(crate::proofs::Telling::has_learnt))]
@@ -45,10 +54,7 @@ fn tell_last_joined(
     ensures learnt { result ≡ Sight.Learnt → HasLearnt (want.LastJoined branch.now) rows.old rows.new }
 {
     let _change = change;
-    let Some(Some(header)) = found else {
-        return Sight::Damaged;
-    };
-    if !is_placed(&branch.project, &branch.branch, u64::from(place), &header) {
+    if !is_placed(&branch.project, &branch.branch, u64::from(place), &found) {
         return Sight::Damaged;
     }
     learnt(learn_last_joined(alloc, branch, place, rows))

@@ -68,7 +68,10 @@ fn sent_by(
     let Some(patch) = patch else {
         return Some(false);
     };
-    let (Some(header), Some(patch)) = (header, patch) else {
+    let Some(header) = header else {
+        return None;
+    };
+    let Some(patch) = patch else {
         return None;
     };
     Some(is_sent_as(base, merged, &header, &patch))

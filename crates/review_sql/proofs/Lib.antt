@@ -7,3 +7,4 @@ pub mod Peeking
 pub mod Singles
 pub mod Shown
 pub mod Again
+pub mod Loaded

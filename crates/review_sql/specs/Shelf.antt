@@ -1,5 +1,5 @@
 -- What proofs see of a shelf in SQLite.
-use Rattle.std.specs.Prelude.{ℕ, ◌≡◌, ◌≤◌, map, false, Bool, List, Option, Some, None, Ok, IsTrue, if◌then◌else◌, refl, min}
+use Rattle.std.specs.Prelude.{ℕ, ◌≡◌, ◌≤◌, map, false, Bool, List, Option, Some, None, Result, Ok, Err, IsTrue, if◌then◌else◌, refl, min}
 use Rattle.std.proofs.Math.Nat.{min-le_right}
 use Rattle.std.specs.List.{Contains}
 use Rattle.review_statements.specs.declared.texts.TheConstants.{ANY_ROW, READ_ROWS}
@@ -15,6 +15,11 @@ use Rattle.sqlite.specs.Held.{Held, held_code, state}
 use Rattle.review_rows.specs.Count.{greatest_count}
 use Rattle.review_rows.specs.Rows.{Tables}
 use Rattle.review_rows.specs.Shelf.{Shown}
+use Rattle.review_rows.specs.declared.rows.Rows.{Rows}
+use Rattle.review_rows.specs.declared.shelf.ShelfFault.{ShelfFault}
+use Rattle.review_rows.specs.declared.shelf.ShelfFault.TheVariants.{Memory, Damaged}
+use Rattle.review_lookups.specs.declared.loading.Loaded.{Loaded}
+use Rattle.review_lookups.specs.declared.loading.Loaded.TheVariants as loaded
 use Rattle.review_statements.specs.Ran.{IsReady}
 use Rattle.review_sql.specs.First.{MakesDesk}
 use Rattle.review_lookups.specs.Tables.{tables_at, IsDesk}
@@ -76,3 +81,9 @@ IsAnyThere schema = (sql : List ℕ) × Contains (map (λ t. t.now) ANY_ROW) sql
 -- the text that reads all columns of each of the eleven tables of records is understood
 pub record AreAllRead (schema : Schema) : Type 0 where
   pub each : (sql : List ℕ) → Contains (map (λ t. t.now) READ_ROWS) sql → IsUnderstood schema sql
+
+-- what is answered of what the look-ups of a need found
+abbrev pub answer_of : Loaded → Result Rows ShelfFault
+answer_of (loaded.Rows rows) = Ok rows
+answer_of loaded.NoMemory = Err Memory
+answer_of loaded.Damaged = Err Damaged

@@ -6,7 +6,7 @@ ghost use Rattle.sqlite.specs.State.{HasCleanDisk};
 ghost use Rattle.review_rows.specs.Rows.{kept_row};
 ghost use Rattle.review_rows.specs.Shelf.{IsCounted, greatest_count};
 ghost use Rattle.review_statements.specs.Desk.{desk_schema, schema_0};
-ghost use Rattle.review_sql.specs.Shelf.{Stays};
+ghost use Rattle.review_sql.specs.Shelf.{Stays, answer_of};
 
 use crate::creating::make_desk;
 use crate::faults::DeskFault;
@@ -228,6 +228,17 @@ fn told<S: Alter>(conn: &mut Connection<S>, faults: &mut u64, error: Error) -> S
     }
 }
 
+// What is answered of what the look-ups found. No error of the store is among it, so none is told.
+fn answered(found: Loaded) -> Result<Rows, ShelfFault>
+    ensures { result ≡ answer_of found }
+{
+    match found {
+        Loaded::Rows(rows) => Ok(rows),
+        Loaded::NoMemory => Err(ShelfFault::Memory),
+        Loaded::Damaged => Err(ShelfFault::Damaged),
+    }
+}
+
 impl<S: Alter, O: Origin> Shelf for SqlShelf<S, O> {
     ghost use Rattle.review_sql.specs.Shelf.{shown, count_fits};
 
@@ -258,10 +269,7 @@ impl<S: Alter, O: Origin> Shelf for SqlShelf<S, O> {
     fn load(&mut self, alloc: Global, need: &Need) -> Result<Rows, ShelfFault> {
         let _settled = self.conn.is_autocommit();
         match load(&mut self.conn, alloc, &need.wants) {
-            Ok(Loaded::Rows(rows)) => Ok(rows),
-            Ok(Loaded::NoMemory) => Err(ShelfFault::Memory),
-            Ok(Loaded::Damaged) => Err(ShelfFault::Damaged),
-            Ok(Loaded::Odd) => Err(refuse(&mut self.faults)),
+            Ok(found) => answered(found),
             Err(error) => Err(told(&mut self.conn, &mut self.faults, error)),
         }
     }

@@ -1,5 +1,4 @@
-use Rattle.std.proofs.Common.{◌≡◌, ◌∙◌, Some, None, sym, ap, refl, rules}
-use Rattle.review_rows.specs.declared.rows.Want.TheVariants as want
+use Rattle.std.proofs.Common.{◌≡◌, ◌∙◌, Some, None, sym, ap, rules}
 use Rattle.review_records.specs.declared.rows.DeskRow.{DeskRow}
 use Rattle.review_lookups.specs.Tables.{number_of}
 use Rattle.review_lookups.proofs.Odd.{desk_damaged}
@@ -10,7 +9,7 @@ returns-in-Some-None-clause-told c = λ db is.
     let odd : c.args.found ≡ Some None = search rules in
     desk_damaged db (ap (number_of (λ (d : DeskRow). d.version)) (sym is ∙ odd))
 
-pub returns-in-None-clause-told : goal.returns-in-None-clause-told
-returns-in-None-clause-told c = λ db is.
+pub returns-in-Some-None-2-clause-told : goal.returns-in-Some-None-2-clause-told
+returns-in-Some-None-2-clause-told c = λ db is.
     let none : c.args.found ≡ None = search rules in
     desk_damaged db (ap (number_of (λ (d : DeskRow). d.version)) (sym is ∙ none))

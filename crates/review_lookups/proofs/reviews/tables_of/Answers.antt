@@ -1,14 +1,11 @@
-use Rattle.std.proofs.Common.{◌≡◌, ◌∙◌, ℕ, Some, None, [], ap, subst, true, false, rules}
+use Rattle.std.proofs.Common.{◌≡◌, ◌∙◌, Some, None, ap, subst, true, false, rules}
 use Rattle.std.specs.Option.{option_map}
 use Rattle.std.specs.Ordering.{nat_cmp}
-use Rattle.sqlite_trees.specs.Tree.{Trees}
 use Rattle.review_table.specs.Rows.{rows_of}
 use Rattle.review_changes.specs.Seen.{vote_cmp}
 use Rattle.review_kept_changes.specs.declared.edits.ChangeTables.{ChangeTables}
 use Rattle.review_tables.specs.Fronts.{AreParts}
 use Rattle.review_change_records.specs.Forms.{patches, votes, roles, comments, calls, change_patches, change_votes, change_roles, change_comments, change_calls}
-use Rattle.review_lookups.specs.declared.reviews.FoundRows.{FoundRows}
-use Rattle.review_lookups.specs.Reviews.{AreFoundRows}
 use Rattle.review_lookups.proofs.Odd.{patches_damaged, votes_damaged, roles_damaged, comments_damaged, calls_damaged}
 use Rattle.review_lookups.proofs.Reviewing.{header_damaged, none_told, some_told, tables_told, IsHeadless}
 use Rattle.review_lookups.proofs.reviews.tables_of.Goals as goal

@@ -2,8 +2,8 @@ use Rattle.std.proofs.Common.{◌≡◌, Bool, Option, Some, true, false, Ok, in
 use Rattle.sqlite.specs.Held.{state}
 use Rattle.sqlite_trees.specs.Tree.{Trees}
 use Rattle.review_rows.specs.Known.{IsBaseOrNot}
-use Rattle.review_tables.specs.Fronts.{Knows}
 use Rattle.review_tables.proofs.Found.{look_both, look_on}
+use Rattle.review_lookups.specs.Loads.{IfTold}
 use Rattle.review_lookups.specs.Tables.{tables_at}
 use Rattle.review_lookups.proofs.Sending.{looks_so}
 use Rattle.review_lookups.proofs.senders.find_standing.Goals as goal
@@ -11,7 +11,7 @@ use Rattle.review_lookups.proofs.senders.find_standing.Goals as goal
 pub returns-then-is-clause-looks : goal.returns-then-is-clause-looks
 returns-then-is-clause-looks g c =
     let base = c.args.base.now in
-    let F : Trees → Option Bool → Type 0 = λ db is. Knows is (IsBaseOrNot (tables_at db).row base) in
+    let F : Trees → Option Bool → Type 0 = λ db is. IfTold db (IsBaseOrNot (tables_at db).row base) is in
     let a = state g.S.Store c.args.tx.now.conn.now in
     let m = state g.S.Store c.is_base.new.tx.conn.now in
     let is : c.in_ok-found.found ≡ Some true = search rules in
@@ -20,7 +20,7 @@ returns-then-is-clause-looks g c =
 pub returns-clause-looks : goal.returns-clause-looks
 returns-clause-looks g c =
     let base = c.args.base.now in
-    let F : Trees → Option Bool → Type 0 = λ db is. Knows is (IsBaseOrNot (tables_at db).row base) in
+    let F : Trees → Option Bool → Type 0 = λ db is. IfTold db (IsBaseOrNot (tables_at db).row base) is in
     let s0 = state g.S.Store c.args.tx.now.conn.now in
     let s1 = state g.S.Store c.is_base.new.tx.conn.now in
     let s2 = state g.S.Store c.find_merged.new.tx.conn.now in

@@ -2,6 +2,7 @@ use Rattle.std.proofs.Common.{◌≡◌, Some, None, subst, rules}
 use Rattle.review_statements.specs.Greatest.{HasGreatest}
 use Rattle.review_change_records.specs.Forms.{patch_numbers}
 use Rattle.review_lookups.proofs.Current.{alone_told, last_told}
+use Rattle.review_lookups.proofs.Placed.{last_set_damaged}
 use Rattle.review_lookups.proofs.senders.is_last.Goals as goal
 
 pub returns-in-Some-Some : goal.returns-in-Some-Some
@@ -14,3 +15,8 @@ pub returns-in-None : goal.returns-in-None
 returns-in-None c = λ n db great.
     let none : c.args.found ≡ None = search rules in
     alone_told db n c.args.patch (subst (HasGreatest patch_numbers 2 n db) none great)
+
+pub returns-in-Some-None : goal.returns-in-Some-None
+returns-in-Some-None c = λ n db great.
+    let odd : c.args.found ≡ Some None = search rules in
+    last_set_damaged db n (subst (HasGreatest patch_numbers 2 n db) odd great)

@@ -1,0 +1,41 @@
+-- What is answered of what look-ups found.
+use Rattle.std.proofs.Common.{◌≡◌, ℕ, Bool, List, Option, Ok, IfOk, IsTrue}
+use Rattle.sqlite.specs.State.{HasCleanDisk}
+use Rattle.review_rows.specs.Rows.{Tables}
+use Rattle.review_statements.specs.Ran.{Serves}
+use Rattle.sqlite_trees.specs.declared.store.Store.{Ghosts}
+use Rattle.sqlite.specs.Held.{Held, state}
+use Rattle.review_rows.specs.Known.{Agrees, AreAsked}
+use Rattle.review_rows.specs.Shelf.{BlamesTables, IsDamaged, KeepsTables, Shows}
+use Rattle.review_rows.specs.declared.rows.Want.{Want}
+use Rattle.review_lookups.specs.declared.loading.Loaded.{Loaded}
+use Rattle.review_lookups.specs.declared.loading.Loaded.TheVariants as loaded
+use Rattle.review_lookups.specs.Loads.{AreLoaded, WereAsked}
+use Rattle.review_sql.specs.Shelf.{Holds, answer_of, tables_of}
+use Rattle.review_sql.proofs.Shown.{desk_if_open, same_shown, shown_now}
+
+pub was_asked : (wants : List Want) (found : Loaded) → WereAsked wants found → IfOk (answer_of found) (AreAsked wants)
+was_asked wants (loaded.Rows rows) asked = asked
+was_asked wants loaded.NoMemory asked = tt
+was_asked wants loaded.Damaged asked = tt
+
+pub keeps_loaded : (found : Loaded) (old new : Option Tables) → new ≡ old → KeepsTables (answer_of found) old new
+keeps_loaded (loaded.Rows rows) old new same = same
+keeps_loaded loaded.NoMemory old new same = same
+keeps_loaded loaded.Damaged old new same = same
+
+-- a call that read leaves the tables
+pub tables_kept : {S : Type 0} (g : Ghosts S) (old new : Held S) (is_ours : Bool) (requests : ℕ) → Holds g old is_ours requests → IsTrue is_ours → HasCleanDisk (state g new)
+    → (found : Loaded) → Serves AreLoaded (state g old) (state g new) (Ok found) → tables_of g new ≡ tables_of g old
+tables_kept g old new is_ours requests holds ours clean found it = let f = it.found clean (desk_if_open g old new is_ours requests holds ours) in same_shown g old new f.0 f.1 f.2
+
+module _ {S : Type 0} (g : Ghosts S) (conn : Held S) where
+  pub shows_loaded : (found : Loaded) → IsTrue (state g conn).is_open → AreLoaded (state g conn).now.trees found → IfOk (answer_of found) (λ rows. Shows (tables_of g conn) (λ t. Agrees t rows))
+  shows_loaded (loaded.Rows rows) is agree = shown_now g conn conn (λ t. Agrees t rows) is agree
+  shows_loaded loaded.NoMemory is agree = tt
+  shows_loaded loaded.Damaged is agree = tt
+
+  pub blames_loaded : (found : Loaded) → IsTrue (state g conn).is_open → AreLoaded (state g conn).now.trees found → BlamesTables (answer_of found) (tables_of g conn)
+  blames_loaded (loaded.Rows rows) is agree = tt
+  blames_loaded loaded.NoMemory is agree = tt
+  blames_loaded loaded.Damaged is damaged = shown_now g conn conn IsDamaged is damaged
