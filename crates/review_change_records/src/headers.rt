@@ -113,15 +113,17 @@ impl Table for Headers {
         row: &'a Header,
         _buffer: &'a mut String,
     ) -> Result<Bound<'a>, Error> {
-        Headers::bind(key)?
+        let state: &'a str = state_name(row.state);
+        let values = Headers::bind(key)?;
+        let named = values
             .text(row.project.as_str())
             .text(row.branch.as_str())
-            .text(row.subject.as_str())
-            .number(account_number(row.owner))
-            .text(state_name(row.state))
+            .text(row.subject.as_str());
+        let stated = named.number(account_number(row.owner)).text(state);
+        Ok(stated
             .number(flag_number(row.wip))
             .number(small(row.place))
-            .large(row.updated)
+            .large(row.updated)?)
     }
 
     ghost inserts = { λ number h. insert_change (pos number) h.project h.branch h.subject (pos h.owner) (state_name h.state) (pos (flag_number h.wip)) (pos h.place) (pos h.updated) };

@@ -1,14 +1,19 @@
 //! The stored requests.
-ghost use Rattle.std.specs.Prelude.{◌≡◌, string_bytes, IfOk};
+ghost use Rattle.std.specs.Prelude.{◌≡◌, Some, string_bytes, IfOk};
+ghost use Rattle.sqlite.specs.Held.{state};
+ghost use Rattle.review_statements.specs.Ran.{Inside, Opens};
+ghost use Rattle.review_statements.specs.Search.{SetsRow};
+ghost use Rattle.review_records.specs.Forms.{answers};
 
 use crate::names::account_number;
 use crate::rows::{Answered, RequestKey, Text};
 use review_rows::Kept;
 use review_statements::texts;
 use review_tables::bound::Bound;
+use review_tables::changes::set;
 use review_tables::columns::{number_at, text_at};
 use review_tables::table::{Lookup, Table};
-use sqlite::{Error, Row};
+use sqlite::{Alter, Error, Row, Transaction};
 use std::alloc::{AllocError, Global};
 
 /// The stored requests, by their identities.
@@ -103,8 +108,8 @@ impl Table for Answers {
     ghost lawful = { answer_lawful };
 }
 
-/// The identity of a request that is to be stored.
-pub fn key_of(alloc: Global, kept: &Kept) -> Result<RequestKey, AllocError>
+// The identity of a request that is to be stored.
+fn key_of(alloc: Global, kept: &Kept) -> Result<RequestKey, AllocError>
     ensures { IfOk result (λ key. key ≡ record { caller = kept.now.caller; id = kept.now.id }) }
 {
     Ok(RequestKey {
@@ -113,8 +118,8 @@ pub fn key_of(alloc: Global, kept: &Kept) -> Result<RequestKey, AllocError>
     })
 }
 
-/// The rest of a request that is to be stored.
-pub fn rest_of(alloc: Global, kept: &Kept) -> Result<Answered, AllocError>
+// The rest of a request that is to be stored.
+fn rest_of(alloc: Global, kept: &Kept) -> Result<Answered, AllocError>
     ensures { IfOk result (λ row. row ≡ record { request = kept.now.request; content = string_bytes kept.now.content; reply = string_bytes kept.now.reply }) }
 {
     Ok(Answered {
@@ -122,4 +127,15 @@ pub fn rest_of(alloc: Global, kept: &Kept) -> Result<Answered, AllocError>
         content: Text::copy(alloc, kept.content.as_str())?,
         reply: Text::copy(alloc, kept.reply.as_str())?,
     })
+}
+
+/// Stores a request in the place of what its identity has.
+pub fn put<S: Alter>(tx: &mut Transaction<'_, S>, alloc: Global, kept: &Kept) -> Result<(), Error>
+    ensures same_reference { tx.new.conn.ghost_name ≡ tx.old.conn.ghost_name }
+    ensures ran { Inside (SetsRow answers (record { caller = kept.now.caller; id = kept.now.id }) (Some (record { request = kept.now.request; content = string_bytes kept.now.content; reply = string_bytes kept.now.reply }))) (state S.Store tx.old.conn.now) (state S.Store tx.new.conn.now) result }
+    ensures open { Opens (state S.Store tx.old.conn.now) (state S.Store tx.new.conn.now) result }
+{
+    let key = key_of(alloc, kept)?;
+    let row = rest_of(alloc, kept)?;
+    set::<Answers, S>(tx, alloc, &key, &row)
 }

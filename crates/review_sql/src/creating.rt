@@ -9,7 +9,7 @@ use review_records::desk::Desk;
 use review_records::members::Members;
 use review_records::rows::DeskRow;
 use review_rows::MemberKey;
-use review_tables::changes::{change, put};
+use review_tables::changes::{change, set};
 use review_tables::creating::create_tables;
 use review_words::{AccountNo, admin_name, administrators};
 use sqlite::{Alter, Connection, Error, Transaction};
@@ -30,9 +30,9 @@ fn put_first<S: Alter>(tx: &mut Transaction<'_, S>, alloc: Global) -> Result<(),
         version: 1,
         requests: 0,
     };
-    change::<Accounts, S>(tx, &first, &name)?;
-    change::<Members, S>(tx, &member, &Some(()))?;
-    put::<Desk, S>(tx, &row)
+    change::<Accounts, S>(tx, alloc, &first, &name)?;
+    change::<Members, S>(tx, alloc, &member, &Some(()))?;
+    set::<Desk, S>(tx, alloc, &(), &row)
 }
 
 fn make<S: Alter>(tx: &mut Transaction<'_, S>, alloc: Global) -> Result<(), Error>

@@ -2,7 +2,10 @@
 ghost use Rattle.std.specs.Prelude.{◌≡◌, [], ◌+◌, ◌<◌, ◌^◌, false};
 ghost use Rattle.sqlite.specs.Held.{state};
 ghost use Rattle.review_statements.specs.Ran.{Inside, Within, Opens, Transacts};
-ghost use Rattle.review_sql.specs.Changes.{SetsDelta, SetsEdit, SetsEdits, SetsFour, SetsUnless, is_named};
+ghost use Rattle.review_rows.specs.declared.rows.ProjectRow.{ProjectRow as Project};
+ghost use Rattle.review_statements.specs.Search.{SetsAny};
+ghost use Rattle.review_records.specs.Forms.{bases, projects};
+ghost use Rattle.review_sql.specs.Changes.{SetsDelta, SetsEdit, SetsEdits, SetsFour, SetsUnless, is_named, place_of};
 ghost use Rattle.review_sql.specs.Commits.{Commits};
 
 use review_change_records::calls::Calls;
@@ -12,27 +15,68 @@ use review_change_records::patches::Patches;
 use review_change_records::roles::Roles;
 use review_change_records::votes::Votes;
 use review_records::accounts::Accounts;
-use review_records::answers::Answers;
+use review_records::answers;
 use review_records::bases::Bases;
 use review_records::desk::Desk;
 use review_records::members::Members;
 use review_records::projects::Projects;
-use review_records::rows::DeskRow;
-use review_rows::{ChangeEdit, Delta, Kept};
-use review_tables::changes::{change_all, put, put_any, set};
+use review_records::rows::{DeskRow, PlaceKey};
+use review_rows::{BaseRow, ChangeEdit, Delta, Kept, ProjectRow};
+use review_tables::changes::{change_all, set};
 use review_tables::fronts::change_parts;
 use review_words::ChangeNo;
 use sqlite::{Alter, Connection, Error, Transaction};
 use std::alloc::Global;
 
-fn write_four<S: Alter>(tx: &mut Transaction<'_, S>, delta: &Delta) -> Result<(), Error>
+// Puts the file of a project, where there is one.
+fn put_file<S: Alter>(
+    tx: &mut Transaction<'_, S>,
+    alloc: Global,
+    file: &Option<ProjectRow>,
+) -> Result<(), Error>
+    ensures same_reference { tx.new.conn.ghost_name ≡ tx.old.conn.ghost_name }
+    ensures ran { Inside (SetsAny projects (λ (r : Project). r.project) (λ r. r.file) file.now) (state S.Store tx.old.conn.now) (state S.Store tx.new.conn.now) result }
+{
+    match file {
+        Some(row) => set::<Projects, S>(tx, alloc, &row.project, &row.file),
+        None => Ok(()),
+    }
+}
+
+// Puts a base, where there is one.
+fn put_base<S: Alter>(
+    tx: &mut Transaction<'_, S>,
+    alloc: Global,
+    base: &Option<BaseRow>,
+) -> Result<(), Error>
+    ensures same_reference { tx.new.conn.ghost_name ≡ tx.old.conn.ghost_name }
+    ensures ran { Inside (SetsAny bases place_of (λ r. r.commit) base.now) (state S.Store tx.old.conn.now) (state S.Store tx.new.conn.now) result }
+{
+    match base {
+        Some(row) => {
+            let key = PlaceKey {
+                project: row.project.copy(alloc)?,
+                branch: row.branch.copy(alloc)?,
+                place: row.place,
+            };
+            set::<Bases, S>(tx, alloc, &key, &row.commit)
+        }
+        None => Ok(()),
+    }
+}
+
+fn write_four<S: Alter>(
+    tx: &mut Transaction<'_, S>,
+    alloc: Global,
+    delta: &Delta,
+) -> Result<(), Error>
     ensures same_reference { tx.new.conn.ghost_name ≡ tx.old.conn.ghost_name }
     ensures ran { Inside (SetsFour delta.now) (state S.Store tx.old.conn.now) (state S.Store tx.new.conn.now) result }
 {
-    change_all::<Accounts, S>(tx, &delta.accounts)?;
-    change_all::<Members, S>(tx, &delta.members)?;
-    put_any::<Projects, S>(tx, &delta.file)?;
-    put_any::<Bases, S>(tx, &delta.base)
+    change_all::<Accounts, S>(tx, alloc, &delta.accounts)?;
+    change_all::<Members, S>(tx, alloc, &delta.members)?;
+    put_file(tx, alloc, &delta.file)?;
+    put_base(tx, alloc, &delta.base)
 }
 
 fn write_edit<S: Alter>(
@@ -43,7 +87,7 @@ fn write_edit<S: Alter>(
     ensures same_reference { tx.new.conn.ghost_name ≡ tx.old.conn.ghost_name }
     ensures ran { Inside (SetsEdit edit.now) (state S.Store tx.old.conn.now) (state S.Store tx.new.conn.now) result }
 {
-    set::<Headers, S>(tx, &edit.change, &edit.header)?;
+    set::<Headers, S>(tx, alloc, &edit.change, &edit.header)?;
     change_parts::<Patches, S>(tx, alloc, &edit.change, &edit.patches)?;
     change_parts::<Votes, S>(tx, alloc, &edit.change, &edit.votes)?;
     change_parts::<Roles, S>(tx, alloc, &edit.change, &edit.roles)?;
@@ -99,7 +143,7 @@ fn write_delta<S: Alter>(
     ensures same_reference { tx.new.conn.ghost_name ≡ tx.old.conn.ghost_name }
     ensures ran { Inside (SetsDelta delta.now) (state S.Store tx.old.conn.now) (state S.Store tx.new.conn.now) result }
 {
-    write_four(tx, delta)?;
+    write_four(tx, alloc, delta)?;
     write_edits(tx, alloc, &delta.changes)
 }
 
@@ -116,12 +160,12 @@ fn write<S: Alter>(
     ensures open { Opens (state S.Store tx.old.conn.now) (state S.Store tx.new.conn.now) result }
 {
     write_delta(tx, alloc, delta)?;
-    put::<Answers, S>(tx, kept)?;
+    answers::put(tx, alloc, kept)?;
     let row = DeskRow {
         version: 1,
         requests: requests + 1,
     };
-    put::<Desk, S>(tx, &row)
+    set::<Desk, S>(tx, alloc, &(), &row)
 }
 
 /// Writes a delta and a request in one transaction, where so many requests were stored.

@@ -7,7 +7,7 @@ returns-clause-ran g c =
     let s0 = state g.S.Store c.args.tx.now.conn.now in
     let s1 = state g.S.Store c.change.new.tx.conn.now in
     let s2 = state g.S.Store c.change-2.new.tx.conn.now in
-    let s3 = state g.S.Store c.put.new.tx.conn.now in
+    let s3 = state g.S.Store c.set.new.tx.conn.now in
     let one = rw (c.first-first.ensures, c.in_ok-admin_name.ensures) at c.in_ok-change.ensures.ran in
     let two = rw (c.first-first.ensures, c.in_ok-administrators.ensures) at c.in_ok-change-2.ensures.ran in
-    next _ _ s0 s2 s3 _ c.put.result (next _ _ s0 s1 s2 _ _ one two) c.put.ensures.ran
+    next _ _ s0 s2 s3 _ c.set.result (next _ _ s0 s1 s2 _ _ one two) c.set.ensures.ran

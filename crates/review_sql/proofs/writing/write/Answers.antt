@@ -9,6 +9,6 @@ returns-clause-ran g c =
     let s0 = state g.S.Store c.args.tx.now.conn.now in
     let s1 = state g.S.Store c.write_delta.new.tx.conn.now in
     let s2 = state g.S.Store c.put.new.tx.conn.now in
-    let s3 = state g.S.Store c.put-2.new.tx.conn.now in
+    let s3 = state g.S.Store c.set.new.tx.conn.now in
     let both = next _ _ s0 s1 s2 _ _ c.in_ok-write_delta.ensures.ran c.in_ok-put.ensures.ran in
-    retold _ (Commits c.args.delta.now c.args.kept.now c.args.requests) s0 s3 c.put-2.result (commits c.args.delta.now c.args.kept.now c.args.requests) (next _ _ s0 s2 s3 _ c.put-2.result both c.put-2.ensures.ran)
+    retold _ (Commits c.args.delta.now c.args.kept.now c.args.requests) s0 s3 c.set.result (commits c.args.delta.now c.args.kept.now c.args.requests) (next _ _ s0 s2 s3 _ c.set.result both c.set.ensures.ran)

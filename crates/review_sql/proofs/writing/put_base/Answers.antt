@@ -1,0 +1,12 @@
+use Rattle.std.proofs.Common.{rules, refl, None}
+use Rattle.sqlite.specs.Held.{state}
+use Rattle.review_statements.specs.Search.{SetsAny}
+use Rattle.review_tables.proofs.Sequences.{still}
+use Rattle.review_records.specs.Forms.{bases}
+use Rattle.review_sql.specs.Changes.{place_of}
+use Rattle.review_sql.proofs.writing.put_base.Goals as goal
+
+pub returns-in-None-clause-ran : goal.returns-in-None-clause-ran
+returns-in-None-clause-ran g c =
+    let it = still (SetsAny bases place_of (λ r. r.commit) None) (state g.S.Store c.args.tx.now.conn.now) (tt {0}) (λ db. refl) in
+    search rules
