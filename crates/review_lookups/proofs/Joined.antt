@@ -20,7 +20,7 @@ use Rattle.review_changes.specs.declared.rows.PatchRow.{PatchRow}
 use Rattle.review_rows.specs.declared.rows.BranchKey.{BranchKey}
 use Rattle.review_rows.specs.Known.{HaveJoined, IsAtPlace, IsBefore, IsCurrent, IsJoinedAt}
 use Rattle.review_rows.specs.Rows.{APart}
-use Rattle.review_kept_changes.proofs.Listed.{one_joined, one_place}
+use Rattle.review_rows.proofs.Joins.{one_joined, one_place}
 use Rattle.review_statements.specs.Content.{has_key}
 use Rattle.review_tables.specs.Fronts.{Knows}
 use Rattle.review_statements.specs.Greatest.{HasGreatest}

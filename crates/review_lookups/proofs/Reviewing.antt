@@ -13,9 +13,9 @@ use Rattle.review_changes.specs.declared.rows.CommentRow.{CommentRow}
 use Rattle.review_changes.specs.declared.rows.PatchRow.{PatchRow}
 use Rattle.review_changes.specs.declared.rows.VoteKey.{VoteKey}
 use Rattle.review_words.specs.declared.changes.Role.{Role}
-use Rattle.review_kept_changes.specs.declared.edits.ChangeTables.{ChangeTables}
-use Rattle.review_kept_changes.specs.Kept as kept
-use Rattle.review_kept_changes.specs.Loads.{Show}
+use Rattle.review_change_rows.specs.declared.tables.ChangeTables.{ChangeTables}
+use Rattle.review_change_rows.specs.Tables as tables
+use Rattle.review_change_rows.specs.Tables.{Show}
 use Rattle.review_rows.specs.Changes.{change}
 use Rattle.review_rows.specs.Known.{HasChange, IsLast, header_key, part_of}
 use Rattle.review_rows.specs.Rows.{PartKey, APart, vote_row}
@@ -94,9 +94,9 @@ gap_damaged n db t have none h history view =
     let read = reading_of h history in
     by_change (change read.0 h n) (λ part. sym (have part) ∙ (view read.0 read.1).row_is (PartKey n part))
   where
-    by_change : (o : Option Change) → ((part : Part) → option_map APart (kept.part_in t part) ≡ option_map APart (part_of o part)) → ⊥
+    by_change : (o : Option Change) → ((part : Part) → option_map APart (tables.part_in t part) ≡ option_map APart (part_of o part)) → ⊥
     by_change None is = let bad = is TheHeader in cc
-    by_change (Some c) is = none c (λ part. part_from (kept.part_in t part) (part_row c part) (is part))
+    by_change (Some c) is = none c (λ part. part_from (tables.part_in t part) (part_row c part) (is part))
 
 pub headers_in : (db : Trees) (n : ℕ) → (tables_at db).row (header_key n) ≡ told (λ x. APart (AHeader x)) (only (reads headers) (Rattle.std.proofs.Common.filter (has_key ((0, Int (pos n)) ∷ [])) (rows_at [] (db 9))))
 headers_in db n = ap (λ l. told (λ x. APart (AHeader x)) (only (reads headers) (Rattle.std.proofs.Common.filter (has_key ((0, Int (pos n)) ∷ [])) l))) (sym (all_pass (db 9)))

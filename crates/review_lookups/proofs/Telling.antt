@@ -29,8 +29,8 @@ use Rattle.review_rows.specs.Shelf.{IsDamaged}
 use Rattle.review_rows.specs.View.{fact}
 use Rattle.review_rows.proofs.Readings.{reading_of}
 use Rattle.review_changes.specs.Change.{of_number}
-use Rattle.review_kept_changes.specs.Loads.{AreInOrder}
-use Rattle.review_kept_changes.proofs.Looked.{based_from}
+use Rattle.review_change_rows.specs.Tables.{AreInOrder}
+use Rattle.review_rows.proofs.Looked.{based_from}
 use Rattle.review_tables.specs.Columns.{number_in, text_in}
 use Rattle.review_statements.specs.Content.{has_key}
 use Rattle.review_tables.specs.Fronts.{HaveRows, Knows}

@@ -5,8 +5,8 @@ use Rattle.sqlite_trees.specs.Tree.{Trees}
 use Rattle.review_table.specs.Rows.{rows_of}
 use Rattle.review_changes.specs.Parts.{Part, TheHeader}
 use Rattle.review_changes.specs.Seen.{vote_cmp}
-use Rattle.review_kept_changes.specs.declared.edits.ChangeTables.{ChangeTables}
-use Rattle.review_kept_changes.specs.Kept as kept
+use Rattle.review_change_rows.specs.declared.tables.ChangeTables.{ChangeTables}
+use Rattle.review_change_rows.specs.Tables as tables
 use Rattle.review_rows.specs.Rows.{APart, OddRow}
 use Rattle.review_tables.specs.Fronts.{HaveRows, Knows}
 use Rattle.review_statements.specs.Search.{row_at}
@@ -38,7 +38,7 @@ pub record AreFoundRows (n : ℕ) (db : Trees) (f : FoundRows) : Type 0 where
 -- the rows of a change are those of its tables, where it has some
 abbrev pub HaveTables : ℕ → Trees → Option ChangeTables → Type 0
 HaveTables n db None = (part : Part) → part_in db n part ≡ None
-HaveTables n db (Some t) = (part : Part) → part_in db n part ≡ option_map APart (kept.part_in t part)
+HaveTables n db (Some t) = (part : Part) → part_in db n part ≡ option_map APart (tables.part_in t part)
 
 -- why the tables of a change are not told
 abbrev pub IsWhyNone : ℕ → Trees → Sight → Type 0

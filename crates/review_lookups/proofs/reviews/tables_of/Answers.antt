@@ -1,7 +1,7 @@
 use Rattle.std.proofs.Common.{◌≡◌, ◌∙◌, Some, None, [], ap, rules}
 use Rattle.std.specs.Option.{option_map}
 use Rattle.review_table.specs.Rows.{rows_of}
-use Rattle.review_kept_changes.specs.declared.edits.ChangeTables.{ChangeTables}
+use Rattle.review_change_rows.specs.declared.tables.ChangeTables.{ChangeTables}
 use Rattle.review_lookups.proofs.Reviewing.{none_told, tables_told}
 use Rattle.review_lookups.proofs.reviews.tables_of.Goals as goal
 

@@ -1,7 +1,7 @@
 use Rattle.std.proofs.Common.{◌≡◌, Some, rules, subst}
 use Rattle.review_rows.specs.declared.rows.Want.TheVariants as want
-use Rattle.review_kept_changes.specs.declared.loading.ChangeFault.TheVariants.{Gap}
-use Rattle.review_kept_changes.specs.Loads.{HaveFault}
+use Rattle.review_change_rows.specs.declared.loading.ChangeFault.TheVariants.{Gap}
+use Rattle.review_change_rows.specs.Tables.{HaveFault}
 use Rattle.review_lookups.specs.Reviews.{HaveTables}
 use Rattle.review_lookups.proofs.Reviewing.{gap_damaged, why_told}
 use Rattle.review_lookups.proofs.reviews.tell_change.Goals as goal
