@@ -21,7 +21,7 @@ use Rattle.review_changes.specs.Votes.{voted}
 use Rattle.review_rows.specs.declared.rows.BranchKey.{BranchKey}
 use Rattle.review_tables.specs.Columns.{number_in, text_in}
 use Rattle.review_statements.specs.Search.{Search, Form}
-use Rattle.review_records.specs.declared.rows.PlaceKey.{PlaceKey}
+use Rattle.review_rows.specs.declared.rows.PlaceKey.{PlaceKey}
 use Rattle.review_records.specs.Forms.{both, where_is}
 use Rattle.review_change_records.specs.Paths.{paths_in, paths_text, are_read_back}
 

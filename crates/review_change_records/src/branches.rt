@@ -2,7 +2,7 @@
 
 use crate::values::change_at;
 use review_records::numbers::to_sql;
-use review_records::rows::PlaceKey;
+use review_rows::PlaceKey;
 use review_statements::texts;
 use review_tables::table::Lookup;
 use review_words::ChangeNo;

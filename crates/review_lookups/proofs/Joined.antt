@@ -28,7 +28,7 @@ use Rattle.review_statements.specs.Ran.{Looks}
 use Rattle.review_statements.specs.Search.{only, reads, row_at, rows_at}
 use Rattle.review_tables.proofs.Found.{look_both, look_on}
 use Rattle.review_tables.proofs.Keys.{itself}
-use Rattle.review_records.specs.declared.rows.PlaceKey.{PlaceKey}
+use Rattle.review_rows.specs.declared.rows.PlaceKey.{PlaceKey}
 use Rattle.review_records.specs.Laws.{one_number, passed}
 use Rattle.review_change_records.specs.Forms.{change_places, changes_at, headers}
 use Rattle.review_lookups.specs.Joins.{IsOnlyAt, NoneAbove, branch_of}

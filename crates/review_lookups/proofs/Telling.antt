@@ -38,7 +38,7 @@ use Rattle.review_statements.specs.Greatest.{HasGreatest, IsGreatest}
 use Rattle.review_statements.specs.Search.{only, reads, row_at, rows_at}
 use Rattle.review_tables.proofs.Keys.{equal_is, itself}
 use Rattle.review_statements.proofs.Meaning.{all_pass}
-use Rattle.review_records.specs.declared.rows.PlaceKey.{PlaceKey}
+use Rattle.review_rows.specs.declared.rows.PlaceKey.{PlaceKey}
 use Rattle.review_records.specs.Forms.{accounts, account_names, account_numbers, member_parts, bases, base_commits, base_parts, base_places}
 use Rattle.review_records.specs.Laws.{number_is, passed}
 use Rattle.review_lookups.specs.declared.loading.Sight.{Sight}

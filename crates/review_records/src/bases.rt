@@ -8,13 +8,13 @@ ghost use Rattle.review_statements.specs.Search.{rows_at};
 
 use crate::names::{name_at, place_at};
 use crate::numbers::to_sql;
-use crate::rows::{PlaceKey, PlaceNo};
-use review_rows::{Base, BaseRow, BranchKey};
+use crate::rows::PlaceNo;
+use review_rows::{Base, BranchKey, PlaceKey};
 use review_statements::texts;
 use review_tables::columns::number_at;
 use review_tables::fronts::Front;
 use review_tables::greatest::Greatest;
-use review_tables::table::{Lookup, Records};
+use review_tables::table::{Lookup, Table};
 use review_words::{CommitName, ProjectName};
 use sqlite::{Alter, Error, Row, Transaction, params};
 use std::alloc::{AllocError, Global};
@@ -44,42 +44,34 @@ impl Lookup for Bases {
     }
 }
 
-impl Records for Bases {
+impl Table for Bases {
     ghost use Rattle.review_records.specs.Forms.{base_form};
     ghost use Rattle.review_records.specs.Laws.{base_lawful};
 
-    type Record = BaseRow;
-
     ghost form = { base_form };
 
-    ghost key = { λ r. record { project = r.project; branch = r.branch; place = r.place } };
-
-    ghost item = { λ r. r.commit };
-
-    fn insert_record<S: Alter>(
+    fn insert<S: Alter>(
         tx: &mut Transaction<'_, S>,
-        whole: &BaseRow,
+        key: &PlaceKey,
+        row: &CommitName,
     ) -> Result<usize, Error> {
-        let place = to_sql(whole.place)?;
+        let place = to_sql(key.place)?;
         tx.execute(
             texts::INSERT_BASE,
             params![
-                whole.project.as_str(),
-                whole.branch.as_str(),
+                key.project.as_str(),
+                key.branch.as_str(),
                 place,
-                whole.commit.as_str()
+                row.as_str()
             ],
         )
     }
 
-    fn remove_record<S: Alter>(
-        tx: &mut Transaction<'_, S>,
-        whole: &BaseRow,
-    ) -> Result<usize, Error> {
-        let place = to_sql(whole.place)?;
+    fn remove<S: Alter>(tx: &mut Transaction<'_, S>, key: &PlaceKey) -> Result<usize, Error> {
+        let place = to_sql(key.place)?;
         tx.execute(
             texts::DELETE_BASE,
-            params![whole.project.as_str(), whole.branch.as_str(), place],
+            params![key.project.as_str(), key.branch.as_str(), place],
         )
     }
 

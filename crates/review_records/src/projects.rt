@@ -5,10 +5,9 @@ ghost use Rattle.review_statements.specs.Greatest.{ShowsBeyond};
 ghost use Rattle.review_statements.specs.Ran.{Looks};
 ghost use Rattle.review_statements.specs.Search.{rows_at};
 
-use review_rows::ProjectRow;
 use review_statements::texts;
 use review_tables::columns::text_at;
-use review_tables::table::{Lookup, Records};
+use review_tables::table::{Lookup, Table};
 use review_words::{FileText, ProjectName};
 use sqlite::{Alter, Error, Row, Transaction, params};
 use std::alloc::{AllocError, Global};
@@ -37,33 +36,22 @@ impl Lookup for Projects {
     }
 }
 
-impl Records for Projects {
+impl Table for Projects {
     ghost use Rattle.review_records.specs.Forms.{project_form};
     ghost use Rattle.review_records.specs.Laws.{project_lawful};
 
-    type Record = ProjectRow;
-
     ghost form = { project_form };
 
-    ghost key = { λ r. r.project };
-
-    ghost item = { λ r. r.file };
-
-    fn insert_record<S: Alter>(
+    fn insert<S: Alter>(
         tx: &mut Transaction<'_, S>,
-        whole: &ProjectRow,
+        key: &ProjectName,
+        row: &FileText,
     ) -> Result<usize, Error> {
-        tx.execute(
-            texts::INSERT_PROJECT,
-            params![whole.project.as_str(), whole.file.as_str()],
-        )
+        tx.execute(texts::INSERT_PROJECT, params![key.as_str(), row.as_str()])
     }
 
-    fn remove_record<S: Alter>(
-        tx: &mut Transaction<'_, S>,
-        whole: &ProjectRow,
-    ) -> Result<usize, Error> {
-        tx.execute(texts::DELETE_PROJECT, params![whole.project.as_str()])
+    fn remove<S: Alter>(tx: &mut Transaction<'_, S>, key: &ProjectName) -> Result<usize, Error> {
+        tx.execute(texts::DELETE_PROJECT, params![key.as_str()])
     }
 
     ghost lawful = { project_lawful };

@@ -6,3 +6,4 @@ pub mod Readings
 pub mod Requested
 pub mod Looked
 pub mod Joins
+pub mod Puts

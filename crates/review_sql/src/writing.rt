@@ -2,7 +2,7 @@
 ghost use Rattle.std.specs.Prelude.{◌≡◌, [], ◌+◌, ◌<◌, ◌^◌, false};
 ghost use Rattle.sqlite.specs.Held.{state};
 ghost use Rattle.review_statements.specs.Ran.{Inside, Within, Opens, Transacts};
-ghost use Rattle.review_sql.specs.Changes.{SetsDelta, SetsEdit, SetsEdits, SetsFour, SetsUnless, is_named};
+ghost use Rattle.review_sql.specs.Changes.{SetsDelta, SetsEdit, SetsEdits, SetsFour, SetsPut, SetsUnless, is_named};
 ghost use Rattle.review_sql.specs.Commits.{Commits};
 
 use review_change_records::calls::Calls;
@@ -18,12 +18,27 @@ use review_records::desk::Desk;
 use review_records::members::Members;
 use review_records::projects::Projects;
 use review_records::rows::DeskRow;
-use review_rows::{ChangeEdit, Delta, Kept};
-use review_tables::changes::{change_all, put, put_any, set};
+use review_rows::{ChangeEdit, Delta, Kept, Put};
+use review_tables::changes::{change_all, put, set};
 use review_tables::fronts::change_parts;
+use review_tables::table::Table;
 use review_words::ChangeNo;
 use sqlite::{Alter, Connection, Error, Transaction};
 use std::alloc::Global;
+
+// Puts a row, where there is one.
+fn put_row<T: Table, S: Alter>(
+    tx: &mut Transaction<'_, S>,
+    put: &Option<Put<T::Key, T::Item>>,
+) -> Result<(), Error>
+    ensures same_reference { tx.new.conn.ghost_name ≡ tx.old.conn.ghost_name }
+    ensures ran { Inside (SetsPut T.search put.now) (state S.Store tx.old.conn.now) (state S.Store tx.new.conn.now) result }
+{
+    match put {
+        Some(put) => set::<T, S>(tx, &put.key, &put.row),
+        None => Ok(()),
+    }
+}
 
 fn write_four<S: Alter>(tx: &mut Transaction<'_, S>, delta: &Delta) -> Result<(), Error>
     ensures same_reference { tx.new.conn.ghost_name ≡ tx.old.conn.ghost_name }
@@ -31,8 +46,8 @@ fn write_four<S: Alter>(tx: &mut Transaction<'_, S>, delta: &Delta) -> Result<()
 {
     change_all::<Accounts, S>(tx, &delta.accounts)?;
     change_all::<Members, S>(tx, &delta.members)?;
-    put_any::<Projects, S>(tx, &delta.file)?;
-    put_any::<Bases, S>(tx, &delta.base)
+    put_row::<Projects, S>(tx, &delta.file)?;
+    put_row::<Bases, S>(tx, &delta.base)
 }
 
 fn write_edit<S: Alter>(

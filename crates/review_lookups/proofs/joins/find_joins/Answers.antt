@@ -1,6 +1,6 @@
 use Rattle.std.proofs.Common.{◌≡◌, ◌∙◌, ◌+◌, Some, Ok, subst, sym, rules, arith}
 use Rattle.sqlite.specs.Held.{state}
-use Rattle.review_records.specs.declared.rows.PlaceKey.{PlaceKey}
+use Rattle.review_rows.specs.declared.rows.PlaceKey.{PlaceKey}
 use Rattle.review_statements.specs.Ran.{Looks}
 use Rattle.review_lookups.proofs.Joined.{joined_all, joined_first, joined_more, KnowsAll, KnowsOne, SoFar}
 use Rattle.review_lookups.proofs.joins.find_joins.Goals as goal

@@ -2,13 +2,13 @@ use Rattle.std.proofs.Common.{pos, to_z-of_z, w64}
 use Rattle.sqlite.specs.Held.{state}
 use Rattle.review_statements.proofs.BaseTexts.{removes}
 use Rattle.review_tables.proofs.Sequences.{one_inside, opened}
-use Rattle.review_records.proofs.bases.BasesRecords.remove_record.Goals as goal
+use Rattle.review_records.proofs.bases.BasesTable.remove.Goals as goal
 
 pub returns-clause-ran : goal.returns-clause-ran
 returns-clause-ran g c =
     let old = state g.S.Store c.args.tx.now.conn.now in
     let new = state g.S.Store c.execute.new.self.conn.now in
-    one_inside _ _ old new c.execute.result _ (λ count ready h. removes old new c.args.whole.now.project c.args.whole.now.branch (pos c.args.whole.now.place) count ready h) (λ clean on. rw (c.params-to_sql.ensures, c.params-to_sql-2.ensures, c.params-to_sql-3.ensures, c.as_str.ensures.text, c.as_str-2.ensures.text, to_z-of_z {w = w64} {z = c.in_ok-place.place} c.in_ok-place.ensures.1, c.in_ok-place.ensures.0) at (c.execute.ensures.runs clean on)) c.execute.ensures.survives
+    one_inside _ _ old new c.execute.result _ (λ count ready h. removes old new c.args.key.now.project c.args.key.now.branch (pos c.args.key.now.place) count ready h) (λ clean on. rw (c.params-to_sql.ensures, c.params-to_sql-2.ensures, c.params-to_sql-3.ensures, c.as_str.ensures.text, c.as_str-2.ensures.text, to_z-of_z {w = w64} {z = c.in_ok-place.place} c.in_ok-place.ensures.1, c.in_ok-place.ensures.0) at (c.execute.ensures.runs clean on)) c.execute.ensures.survives
 
 pub returns-clause-open : goal.returns-clause-open
 returns-clause-open g c clean on =
