@@ -184,7 +184,11 @@ impl MemoryTables {
     }
 
     /// Puts a base, where there is one, or changes nothing.
-    fn put_base(&mut self, alloc: Global, base: &Option<Put<PlaceKey, CommitName>>) -> Result<(), AllocError>
+    fn put_base(
+        &mut self,
+        alloc: Global,
+        base: &Option<Put<PlaceKey, CommitName>>,
+    ) -> Result<(), AllocError>
         requires number { self.old.requests < 2 ^ 64 - 1 }
         requires bounded { IsBounded (desk_of self.old) }
         ensures added { OnOk result (IsWithBase base.now self.old.branches self.new.branches) }
