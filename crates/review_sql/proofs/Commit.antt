@@ -1,5 +1,5 @@
 -- What the statements of a commit do together.
-use Rattle.std.proofs.Common.{◌≡◌, ◌≢◌, ◌∙◌, ◌+◌, ◌≤◌, ◌==◌, ◌&&◌, ℕ, List, [], ◌∷◌, Option, Some, None, option_map, Bool, cond, Ordering, Less, Equal, Greater, true, false, is_some, refl, sym, ap, subst, arith, inl, inr, length, filter, eqb-true, eq-eqb}
+use Rattle.std.proofs.Common.{◌≡◌, ◌≢◌, ◌∙◌, ◌+◌, ◌≤◌, ℕ, List, [], ◌∷◌, Option, Some, None, option_map, cond, Ordering, Less, Equal, Greater, true, false, is_some, refl, sym, ap, subst, arith, inl, inr, length, filter, eqb-true, eq-eqb}
 use Rattle.std.specs.Str.{bytes_eq}
 use Rattle.std.specs.BTreeMap.{is_at}
 use Rattle.std.specs.Ordering.{nat_cmp, is_eq, ordering_then}
