@@ -3,6 +3,8 @@ use Rattle.std.proofs.Common.{◌≡◌, ℕ, ◌+◌, ◌==◌, List, [], ◌�
 use Rattle.std.specs.Prelude.{is_some, nat_lt, option_map, MatchOption}
 use Rattle.std.specs.List.{AllByRecursion, list_all}
 use Rattle.std.specs.Str.{bytes_eq}
+use Rattle.std.specs.Cmp.Lexicographic.{slice_cmp}
+use Rattle.std.proofs.lemmas.Map.Text.{is_eq-slice_cmp}
 use Rattle.std.specs.Ordering.{nat_cmp}
 use Rattle.std.specs.Cmp.{unsigned_tied}
 use Rattle.std.specs.BTreeMap.{is_at}
@@ -21,7 +23,9 @@ use Rattle.review_words.specs.declared.reply.Refusal.TheVariants.{UnknownCaller,
 use Rattle.review_words.specs.History.{Entry, account_count, name_of, name_taken, is_account, is_admin, is_listed, listed_members, file_text, is_project, project_count, bases, base_count}
 use Rattle.review_rows.specs.declared.rows.Rows.{Rows}
 use Rattle.review_rows.specs.declared.rows.Delta.{Delta}
-use Rattle.review_rows.specs.Rows.{Key, AccountKey, MemberKey, FileKey, BaseKey, PartKey, OddKey, Row, AccountRow, FileRow, BaseRow, APart, Count, Projects, BasesOf, member_cmp, account_change, member_change, file_after, base_after, edited, projects_after, bases_after, after, count_after, ChangesNothing}
+use Rattle.review_rows.specs.declared.rows.PlaceKey.{PlaceKey}
+use Rattle.review_rows.specs.Rows.{Key, AccountKey, MemberKey, FileKey, BaseKey, PartKey, OddKey, Row, AccountRow, FileRow, BaseRow, APart, Count, Projects, BasesOf, member_cmp, account_change, member_change, edited, after, count_after, after_put, count_put, place_cmp, ChangesNothing}
+use Rattle.review_rows.proofs.Puts.{at_place_of, no_base, no_base_more, no_file, no_project}
 use Rattle.review_rows.specs.declared.rows.Want.TheVariants as want
 use Rattle.review_rows.specs.Known.{known, Agrees, IsKnown, is_so, is_there, members_of, at_place}
 use Rattle.review_rows.specs.Steps.{OfCommand, command_wants}
@@ -116,14 +120,14 @@ empty_changes delta e = record { rows = rows; counts = counts }
     rows : (k : Key) (was : Option Row) → after delta k was ≡ was
     rows (AccountKey number) was = ap (λ l. after_change (account_change (change_of nat_cmp l number)) was) e.accounts
     rows (MemberKey group account) was = ap (λ l. after_change (member_change (change_of member_cmp l (member_of group account))) was) e.members
-    rows (FileKey project) was = ap (λ o. file_after o project was) e.file
-    rows (BaseKey project branch place) was = ap (λ o. base_after o project branch place was) e.base
+    rows (FileKey project) was = no_file delta e.file project was
+    rows (BaseKey project branch place) was = no_base delta e.base project branch place was
     rows (PartKey n part) was = ap (λ es. after_change (option_map (option_map APart) (edited es n part)) was) e.changes
     rows (OddKey o) was = refl
 
     counts : (row : Key → Option Row) (c : Count) (n : ℕ) → count_after delta row c n ≡ n
-    counts row Projects n = ap (λ o. projects_after o row n) e.file
-    counts row (BasesOf project) n = ap (λ o. bases_after o row project n) e.base
+    counts row Projects n = no_project delta e.file row n
+    counts row (BasesOf project) n = no_base_more delta e.base row project n
 
 refused_same : (reading : Reading) (h : List Entry) (caller : ℕ) (id : List ℕ) (command : Command) (refusal : Refusal) (k : Key) →
     fact reading (record { identity = record { caller = caller; id = id }; command = command; reply = Refused refusal } ∷ h) k ≡ fact reading h k
@@ -175,8 +179,8 @@ create_decided {reading = reading} h caller name delta number a b c d n da dm df
 }
   where
     counts : (k : Count) → counted (record { identity = record { caller = caller; id = [] }; command = CreateAccount name; reply = Done (made.Account number) } ∷ h) k ≡ count_after delta (fact reading h) k (counted h k)
-    counts Projects = sym (ap (λ o. projects_after o (fact reading h) (project_count h)) df)
-    counts (BasesOf project) = sym (ap (λ o. bases_after o (fact reading h) project (base_count h project)) db)
+    counts Projects = sym (no_project delta df (fact reading h) (project_count h))
+    counts (BasesOf project) = sym (no_base_more delta db (fact reading h) project (base_count h project))
 
     here : (m : ℕ) → is_at (nat_cmp number) m ≡ (m == account_count h + 1)
     here m = unsigned_tied number m ∙ (eq_sym number m ∙ ap (λ x. m == x) n)
@@ -187,8 +191,8 @@ create_decided {reading = reading} h caller name delta number a b c d n da dm df
         ∙ sym (ap (λ l. after_change (account_change (change_of nat_cmp l m)) (fact reading h (AccountKey m))) da
         ∙ ap (λ e. after_change (account_change (cond e (Some (Some name)) None)) (fact reading h (AccountKey m))) (here m))
     rows (MemberKey g m) = sym (ap (λ l. after_change (member_change (change_of member_cmp l (member_of g m))) (fact reading h (MemberKey g m))) dm)
-    rows (FileKey p) = sym (ap (λ o. file_after o p (fact reading h (FileKey p))) df)
-    rows (BaseKey p b n) = sym (ap (λ o. base_after o p b n (fact reading h (BaseKey p b n))) db)
+    rows (FileKey p) = sym (no_file delta df p (fact reading h (FileKey p)))
+    rows (BaseKey p b n) = sym (no_base delta db p b n (fact reading h (BaseKey p b n)))
     rows (PartKey m part) = sym (ap (λ es. after_change (option_map (option_map APart) (edited es m part)) (fact reading h (PartKey m part))) dc)
     rows (OddKey o) = refl
 
@@ -204,16 +208,16 @@ put_decided {reading = reading} h caller group members rows delta l a b c d da d
 }
   where
     counts : (k : Count) → counted (record { identity = record { caller = caller; id = [] }; command = PutGroup group members; reply = Done made.Nothing } ∷ h) k ≡ count_after delta (fact reading h) k (counted h k)
-    counts Projects = sym (ap (λ o. projects_after o (fact reading h) (project_count h)) df)
-    counts (BasesOf project) = sym (ap (λ o. bases_after o (fact reading h) project (base_count h project)) db)
+    counts Projects = sym (no_project delta df (fact reading h) (project_count h))
+    counts (BasesOf project) = sym (no_base_more delta db (fact reading h) project (base_count h project))
 
     each : (k : Key) → fact reading (record { identity = record { caller = caller; id = [] }; command = PutGroup group members; reply = Done made.Nothing } ∷ h) k ≡ after delta k (fact reading h k)
     each (AccountKey m) = sym (ap (λ l. after_change (account_change (change_of nat_cmp l m)) (fact reading h (AccountKey m))) da)
     each (MemberKey g m) =
         members_after group members (listed_members h g) (members_of (known rows (want.Group group))) g m (held_before h caller group members rows l g m)
         ∙ sym (ap (λ l. after_change (member_change (change_of member_cmp l (member_of g m))) (fact reading h (MemberKey g m))) dm)
-    each (FileKey p) = sym (ap (λ o. file_after o p (fact reading h (FileKey p))) df)
-    each (BaseKey p b n) = sym (ap (λ o. base_after o p b n (fact reading h (BaseKey p b n))) db)
+    each (FileKey p) = sym (no_file delta df p (fact reading h (FileKey p)))
+    each (BaseKey p b n) = sym (no_base delta db p b n (fact reading h (BaseKey p b n)))
     each (PartKey m part) = sym (ap (λ es. after_change (option_map (option_map APart) (edited es m part)) (fact reading h (PartKey m part))) dc)
     each (OddKey o) = refl
 
@@ -256,7 +260,7 @@ base_rows h project branch commit place p b n is =
 -- the base is the last of its branch
 pub base_decided : {reading : Reading} (h : List Entry) (caller : ℕ) (project branch commit : List ℕ) (place : ℕ) (delta : Delta) → place ≡ length (bases h project branch) + 1 →
     is_account h caller ≡ true → is_admin h caller ≡ true → is_project h project ≡ true → is_known reading h project branch commit ≡ false → nat_lt (base_count h project) 100000 ≡ true →
-    delta.accounts.items ≡ [] → delta.members.items ≡ [] → delta.file ≡ None → delta.base ≡ Some (record { project = project; branch = branch; place = place; commit = commit }) → delta.changes.items ≡ [] →
+    delta.accounts.items ≡ [] → delta.members.items ≡ [] → delta.file ≡ None → delta.base ≡ Some (record { key = record { project = project; branch = branch; place = place }; row = commit }) → delta.changes.items ≡ [] →
     IsDecided reading h caller (RecordBase project branch commit) delta (Done made.Nothing)
 base_decided {reading = reading} h caller project branch commit place delta is a b c d e da dm df db dc = record {
   reply_is = outcome_answer reading h caller (RecordBase project branch commit) (Done made.Nothing) (base_refused reading h caller project branch commit true true true false true a b c d e) refl;
@@ -268,23 +272,26 @@ base_decided {reading = reading} h caller project branch commit place delta is a
     free = ap (λ n. is_some (option_map BaseRow (at_place (bases h project branch) n))) is ∙ ap (λ o. is_some (option_map BaseRow o)) (place_is_free (bases h project branch))
 
     counts : (k : Count) → counted (record { identity = record { caller = caller; id = [] }; command = RecordBase project branch commit; reply = Done made.Nothing } ∷ h) k ≡ count_after delta (fact reading h) k (counted h k)
-    counts Projects = sym (ap (λ o. projects_after o (fact reading h) (project_count h)) df)
+    counts Projects = sym (no_project delta df (fact reading h) (project_count h))
     counts (BasesOf p) =
         sym (ap (λ t. cond (bytes_eq project p) (cond t (base_count h p) (base_count h p + 1)) (base_count h p)) free)
-        ∙ sym (ap (λ o. bases_after o (fact reading h) p (base_count h p)) db)
+        ∙ sym (ap (λ o. count_put (λ (k : PlaceKey). bytes_eq k.project p) o (λ (k : PlaceKey). fact reading h (BaseKey k.project k.branch k.place)) (base_count h p)) db)
 
     rows : (k : Key) → fact reading (record { identity = record { caller = caller; id = [] }; command = RecordBase project branch commit; reply = Done made.Nothing } ∷ h) k ≡ after delta k (fact reading h k)
     rows (AccountKey m) = sym (ap (λ l. after_change (account_change (change_of nat_cmp l m)) (fact reading h (AccountKey m))) da)
     rows (MemberKey g m) = sym (ap (λ l. after_change (member_change (change_of member_cmp l (member_of g m))) (fact reading h (MemberKey g m))) dm)
-    rows (FileKey p) = sym (ap (λ o. file_after o p (fact reading h (FileKey p))) df)
-    rows (BaseKey p b n) = base_rows h project branch commit place p b n is ∙ sym (ap (λ o. base_after o p b n (fact reading h (BaseKey p b n))) db)
+    rows (FileKey p) = sym (no_file delta df p (fact reading h (FileKey p)))
+    rows (BaseKey p b n) =
+        base_rows h project branch commit place p b n is
+        ∙ sym (ap (λ o. after_put place_cmp BaseRow o (record { project = p; branch = b; place = n }) (fact reading h (BaseKey p b n))) db
+        ∙ ap (λ t. cond t (Some (BaseRow commit)) (fact reading h (BaseKey p b n))) (at_place_of (record { project = project; branch = branch; place = place }) p b n))
     rows (PartKey m part) = sym (ap (λ es. after_change (option_map (option_map APart) (edited es m part)) (fact reading h (PartKey m part))) dc)
     rows (OddKey o) = refl
 
 -- the project has the file that is put
 pub file_decided : {reading : Reading} (h : List Entry) (caller : ℕ) (project text : List ℕ) (delta : Delta) →
     IsAnswerBy reading h caller (PutProject project text) (Done made.Nothing) →
-    delta.accounts.items ≡ [] → delta.members.items ≡ [] → delta.file ≡ Some (record { project = project; file = text }) → delta.base ≡ None → delta.changes.items ≡ [] →
+    delta.accounts.items ≡ [] → delta.members.items ≡ [] → delta.file ≡ Some (record { key = project; row = text }) → delta.base ≡ None → delta.changes.items ≡ [] →
     IsDecided reading h caller (PutProject project text) delta (Done made.Nothing)
 file_decided {reading = reading} h caller project text delta is da dm df db dc = record {
   reply_is = is;
@@ -293,8 +300,8 @@ file_decided {reading = reading} h caller project text delta is da dm df db dc =
 }
   where
     counts : (k : Count) → counted (record { identity = record { caller = caller; id = [] }; command = PutProject project text; reply = Done made.Nothing } ∷ h) k ≡ count_after delta (fact reading h) k (counted h k)
-    counts Projects = ap (λ b. cond b (project_count h) (project_count h + 1)) (sym (project_is reading h project)) ∙ sym (ap (λ o. projects_after o (fact reading h) (project_count h)) df)
-    counts (BasesOf p) = sym (ap (λ o. bases_after o (fact reading h) p (base_count h p)) db)
+    counts Projects = ap (λ b. cond b (project_count h) (project_count h + 1)) (sym (project_is reading h project)) ∙ sym (ap (λ o. count_put (λ p. true) o (λ p. fact reading h (FileKey p)) (project_count h)) df)
+    counts (BasesOf p) = sym (no_base_more delta db (fact reading h) p (base_count h p))
 
     file_where : (b : Bool) (o : Option (List ℕ)) → option_map FileRow (cond b (Some text) o) ≡ cond b (Some (FileRow text)) (option_map FileRow o)
     file_where true o = refl
@@ -303,7 +310,10 @@ file_decided {reading = reading} h caller project text delta is da dm df db dc =
     rows : (k : Key) → fact reading (record { identity = record { caller = caller; id = [] }; command = PutProject project text; reply = Done made.Nothing } ∷ h) k ≡ after delta k (fact reading h k)
     rows (AccountKey m) = sym (ap (λ l. after_change (account_change (change_of nat_cmp l m)) (fact reading h (AccountKey m))) da)
     rows (MemberKey g m) = sym (ap (λ l. after_change (member_change (change_of member_cmp l (member_of g m))) (fact reading h (MemberKey g m))) dm)
-    rows (FileKey p) = file_where (bytes_eq project p) (file_text h p) ∙ sym (ap (λ o. file_after o p (fact reading h (FileKey p))) df)
-    rows (BaseKey p b n) = sym (ap (λ o. base_after o p b n (fact reading h (BaseKey p b n))) db)
+    rows (FileKey p) =
+        file_where (bytes_eq project p) (file_text h p)
+        ∙ sym (ap (λ o. after_put (slice_cmp nat_cmp) FileRow o p (fact reading h (FileKey p))) df
+        ∙ ap (λ t. cond t (Some (FileRow text)) (fact reading h (FileKey p))) (is_eq-slice_cmp project p))
+    rows (BaseKey p b n) = sym (no_base delta db p b n (fact reading h (BaseKey p b n)))
     rows (PartKey m part) = sym (ap (λ es. after_change (option_map (option_map APart) (edited es m part)) (fact reading h (PartKey m part))) dc)
     rows (OddKey o) = refl

@@ -14,7 +14,7 @@ ghost use Rattle.review_rows.specs.Decisions.{NamesEachOnce};
 use crate::commits::is_known;
 use crate::keys::base_of;
 use review_account_decisions::{is_admin, nothing, refused};
-use review_rows::{BaseRow, BranchKey, Delta, Rows};
+use review_rows::{BranchKey, Delta, PlaceKey, Put, Rows};
 use review_words::{
     AccountNo, Answer, BranchName, CommitName, NotTaken, ProjectName, Refusal, Reply,
 };
@@ -57,11 +57,13 @@ pub fn record_base(
     };
     let place = rows.last_place(&key).saturating_add(1);
     let mut delta = nothing(alloc);
-    delta.base = Some(BaseRow {
-        project: key.project,
-        branch: key.branch,
-        place,
-        commit: base.commit,
+    delta.base = Some(Put {
+        key: PlaceKey {
+            project: key.project,
+            branch: key.branch,
+            place,
+        },
+        row: base.commit,
     });
     Ok((delta, Reply::Done(Answer::Nothing)))
 }

@@ -20,7 +20,8 @@ use Rattle.review_rows.specs.Answer.{first_refusal, has_right, refused_by}
 use Rattle.review_rows.specs.Changes.{Reading, change, change_count, is_known}
 use Rattle.review_rows.specs.Files.{File}
 use Rattle.review_rows.specs.Known.{known, IsKnown, number_of, part_of}
-use Rattle.review_rows.specs.Rows.{Key, AccountKey, MemberKey, FileKey, BaseKey, PartKey, OddKey, APart, Count, Projects, BasesOf, account_change, member_change, file_after, base_after, edited, projects_after, bases_after, after, count_after, part_change, member_cmp}
+use Rattle.review_rows.specs.Rows.{Key, AccountKey, MemberKey, FileKey, BaseKey, PartKey, OddKey, APart, Count, Projects, BasesOf, account_change, member_change, edited, after, count_after, part_change, member_cmp}
+use Rattle.review_rows.proofs.Puts.{no_base, no_base_more, no_file, no_project}
 use Rattle.review_rows.specs.Steps.{HasFile, OfCommand, command_wants, file_wants}
 use Rattle.review_rows.specs.View.{AreEnough, IsDecided, counted, fact}
 use Rattle.review_rows.specs.declared.rows.ChangeEdit.{ChangeEdit}
@@ -108,8 +109,8 @@ create_decided reading h caller new number patch c e delta passes n p made_is of
 }
   where
     counts : (k : Count) → counted (record { identity = record { caller = caller; id = [] }; command = CreateChange new; reply = Done (made.Change number patch) } ∷ h) k ≡ count_after delta (fact reading h) k (counted h k)
-    counts Projects = sym (ap (λ o. projects_after o (fact reading h) (project_count h)) df)
-    counts (BasesOf q) = sym (ap (λ o. bases_after o (fact reading h) q (base_count h q)) db)
+    counts Projects = sym (no_project delta df (fact reading h) (project_count h))
+    counts (BasesOf q) = sym (no_base_more delta db (fact reading h) q (base_count h q))
 
     here : (m : ℕ) → (e.change == m) ≡ (change_count h + 1 == m)
     here m = ap (λ x. x == m) (of ∙ n)
@@ -117,8 +118,8 @@ create_decided reading h caller new number patch c e delta passes n p made_is of
     rows : (k : Key) → fact reading (record { identity = record { caller = caller; id = [] }; command = CreateChange new; reply = Done (made.Change number patch) } ∷ h) k ≡ after delta k (fact reading h k)
     rows (AccountKey m) = sym (ap (λ l. after_change (account_change (change_of nat_cmp l m)) (fact reading h (AccountKey m))) da)
     rows (MemberKey g m) = sym (ap (λ l. after_change (member_change (change_of member_cmp l (record { group = g; account = m }))) (fact reading h (MemberKey g m))) dm)
-    rows (FileKey q) = sym (ap (λ o. file_after o q (fact reading h (FileKey q))) df)
-    rows (BaseKey q b m) = sym (ap (λ o. base_after o q b m (fact reading h (BaseKey q b m))) db)
+    rows (FileKey q) = sym (no_file delta df q (fact reading h (FileKey q)))
+    rows (BaseKey q b m) = sym (no_base delta db q b m (fact reading h (BaseKey q b m)))
     rows (PartKey m part) =
         edit_turns e m part (change reading h m) (begun new caller (length h + 1)) (change_count h + 1 == m) (here m)
         (λ t. ap (λ o. after_change (part_change e part) (part_of o part)) (ap (change reading h) (sym (eqb-true (change_count h + 1) m t)) ∙ none_yet reading h)

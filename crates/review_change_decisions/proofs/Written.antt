@@ -21,7 +21,8 @@ use Rattle.review_rows.specs.Answer.{IsAnswerBy, IsOf, IsUploadAnswer, comment_n
 use Rattle.review_rows.specs.Changes.{Reading, change, setting_of}
 use Rattle.review_rows.specs.Files.{File}
 use Rattle.review_rows.specs.Known.{known, number_of, part_of}
-use Rattle.review_rows.specs.Rows.{Key, Row, AccountKey, MemberKey, FileKey, BaseKey, PartKey, OddKey, APart, Count, Projects, BasesOf, account_change, member_change, file_after, base_after, edited, projects_after, bases_after, after, count_after, part_change, member_cmp}
+use Rattle.review_rows.specs.Rows.{Key, Row, AccountKey, MemberKey, FileKey, BaseKey, PartKey, OddKey, APart, Count, Projects, BasesOf, account_change, member_change, edited, after, count_after, part_change, member_cmp}
+use Rattle.review_rows.proofs.Puts.{no_base, no_base_more, no_file, no_project}
 use Rattle.review_rows.specs.Steps.{OfCommand}
 use Rattle.review_rows.specs.View.{AreEnough, IsDecided, counted, fact, view}
 use Rattle.review_rows.specs.declared.rows.Delta.{Delta}
@@ -62,8 +63,8 @@ rows_made : (reading : Reading) (h : List Entry) (n : ℕ) (c new : Change) (del
 rows_made reading h n c new delta told m (AccountKey a) = sym (ap (λ l. after_change (account_change (change_of nat_cmp l a)) (fact reading h (AccountKey a))) m.edits.accounts)
 rows_made reading h n c new delta told m (MemberKey g a) =
     sym (ap (λ l. after_change (member_change (change_of member_cmp l (record { group = g; account = a }))) (fact reading h (MemberKey g a))) m.edits.members)
-rows_made reading h n c new delta told m (FileKey q) = sym (ap (λ o. file_after o q (fact reading h (FileKey q))) m.edits.file)
-rows_made reading h n c new delta told m (BaseKey q b a) = sym (ap (λ o. base_after o q b a (fact reading h (BaseKey q b a))) m.edits.base)
+rows_made reading h n c new delta told m (FileKey q) = sym (no_file delta m.edits.file q (fact reading h (FileKey q)))
+rows_made reading h n c new delta told m (BaseKey q b a) = sym (no_base delta m.edits.base q b a (fact reading h (BaseKey q b a)))
 rows_made reading h n c new delta told m (PartKey k part) =
     edit_turns m.edit k part (change reading h k) new (n == k) (ap (λ x. x == k) m.named)
     (λ t. ap (λ o. after_change (part_change m.edit part) (part_of o part)) (here reading h n k c told t) ∙ m.becomes part)
@@ -71,8 +72,8 @@ rows_made reading h n c new delta told m (PartKey k part) =
 rows_made reading h n c new delta told m (OddKey o) = refl
 
 counts_made : (reading : Reading) (h : List Entry) (n : ℕ) (c new : Change) (delta : Delta) → MakesChange n c new delta → (k : Count) → counted h k ≡ count_after delta (fact reading h) k (counted h k)
-counts_made reading h n c new delta m Projects = sym (ap (λ o. projects_after o (fact reading h) (project_count h)) m.edits.file)
-counts_made reading h n c new delta m (BasesOf q) = sym (ap (λ o. bases_after o (fact reading h) q (base_count h q)) m.edits.base)
+counts_made reading h n c new delta m Projects = sym (no_project delta m.edits.file (fact reading h) (project_count h))
+counts_made reading h n c new delta m (BasesOf q) = sym (no_base_more delta m.edits.base (fact reading h) q (base_count h q))
 
 -- a command that makes of a change another is decided
 change_decided : (reading : Reading) (h : List Entry) (caller n : ℕ) (command : Command) (a : Answer) (c new : Change) (delta : Delta) → change reading h n ≡ Some c → MakesChange n c new delta →

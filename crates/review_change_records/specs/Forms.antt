@@ -22,7 +22,7 @@ use Rattle.review_rows.specs.declared.rows.BranchKey.{BranchKey}
 use Rattle.review_tables.specs.Columns.{number_in, text_in}
 use Rattle.review_statements.specs.Desk as table
 use Rattle.review_statements.specs.Search.{Search, Form, with_rowid, with_number}
-use Rattle.review_records.specs.declared.rows.PlaceKey.{PlaceKey}
+use Rattle.review_rows.specs.declared.rows.PlaceKey.{PlaceKey}
 use Rattle.review_records.specs.Forms.{both, where_is}
 use Rattle.review_change_records.specs.Paths.{paths_in, paths_text, are_read_back}
 use Rattle.review_change_records.specs.Keyed.{header_keyed, patch_keyed, vote_keyed, account_keyed, comment_keyed}

@@ -2,8 +2,7 @@
 
 use crate::values::change_at;
 use review_records::names::name_at;
-use review_records::rows::PlaceKey;
-use review_rows::BranchKey;
+use review_rows::{BranchKey, PlaceKey};
 use review_statements::texts;
 use review_tables::bound::Bound;
 use review_tables::table::Lookup;

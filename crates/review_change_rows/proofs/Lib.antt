@@ -1,3 +1,5 @@
 mod Becoming
 mod Numbered
 mod Edited
+pub mod Ordered
+pub mod Shown

@@ -1,3 +1,4 @@
 pub mod Differences
 pub mod Edits
 pub mod Same
+pub mod Tables

@@ -42,17 +42,17 @@ pub fn copied_patch(alloc: Global, patch: &NewPatch) -> Result<NewPatch, AllocEr
 
 /// The rows of a change that are kept by accounts: its votes, roles and attention set.
 #[derive(Drop)]
-struct Marks {
-    votes: Table<VoteKey, Vote>,
-    roles: Table<AccountNo, Role>,
-    attention: Table<AccountNo, Called>,
+pub struct Marks {
+    pub votes: Table<VoteKey, Vote>,
+    pub roles: Table<AccountNo, Role>,
+    pub attention: Table<AccountNo, Called>,
 }
 
 /// A change once more. An error where there was no memory for it.
 pub fn copied_change(alloc: Global, rows: &ChangeRows) -> Result<ChangeRows, AllocError>
     ensures { IfOk result (λ c. seen c ≡ seen rows.now) }
 {
-    let marks = copied_marks(alloc, rows)?;
+    let marks = copied_marks(alloc, &rows.votes, &rows.roles, &rows.attention)?;
     let header = copied_header(alloc, &rows.header)?;
     let patches = copied_patches(alloc, &rows.patches)?;
     let comments = copied_comments(alloc, &rows.comments)?;
@@ -66,15 +66,20 @@ pub fn copied_change(alloc: Global, rows: &ChangeRows) -> Result<ChangeRows, All
     })
 }
 
-// The votes, roles and attention set of a change once more.
-fn copied_marks(alloc: Global, rows: &ChangeRows) -> Result<Marks, AllocError>
-    ensures votes { IfOk result (λ m. (q : VoteKey) → row_in vote_cmp (rows_of m.votes) q ≡ row_in vote_cmp (rows_of rows.now.votes) q) }
-    ensures roles { IfOk result (λ m. (u : ℕ) → row_in nat_cmp (rows_of m.roles) u ≡ row_in nat_cmp (rows_of rows.now.roles) u) }
-    ensures attention { IfOk result (λ m. (u : ℕ) → row_in nat_cmp (rows_of m.attention) u ≡ row_in nat_cmp (rows_of rows.now.attention) u) }
+/// The votes, roles and attention set of a change once more. An error where there was no memory for them.
+pub fn copied_marks(
+    alloc: Global,
+    votes: &Table<VoteKey, Vote>,
+    roles: &Table<AccountNo, Role>,
+    attention: &Table<AccountNo, Called>,
+) -> Result<Marks, AllocError>
+    ensures votes { IfOk result (λ m. (q : VoteKey) → row_in vote_cmp (rows_of m.votes) q ≡ row_in vote_cmp (rows_of votes.now) q) }
+    ensures roles { IfOk result (λ m. (u : ℕ) → row_in nat_cmp (rows_of m.roles) u ≡ row_in nat_cmp (rows_of roles.now) u) }
+    ensures attention { IfOk result (λ m. (u : ℕ) → row_in nat_cmp (rows_of m.attention) u ≡ row_in nat_cmp (rows_of attention.now) u) }
 {
-    let votes = copied_table(alloc, &rows.votes)?;
-    let roles = copied_table(alloc, &rows.roles)?;
-    let attention = copied_table(alloc, &rows.attention)?;
+    let votes = copied_table(alloc, votes)?;
+    let roles = copied_table(alloc, roles)?;
+    let attention = copied_table(alloc, attention)?;
     Ok(Marks {
         votes,
         roles,

@@ -36,7 +36,7 @@ IsReadCause fault _ = ⊥
 pub record PutsFile (project text : List ℕ) (delta : Delta) : Type 0 where
   pub accounts : delta.accounts.items ≡ []
   pub members : delta.members.items ≡ []
-  pub file : delta.file ≡ Some (record { project = project; file = text })
+  pub file : delta.file ≡ Some (record { key = project; row = text })
   pub base : delta.base ≡ None
   pub changes : delta.changes.items ≡ []
 

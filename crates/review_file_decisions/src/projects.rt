@@ -20,7 +20,7 @@ ghost use Rattle.review_file_decisions.specs.Files.{room_in, file_refused, IsRea
 use review_account_decisions::{is_admin, nothing, refused};
 use review_file::{FileMemo, ProjectFile, ReadFault, ReadText, covers};
 use review_project_laws::one_file;
-use review_rows::{Delta, ProjectRow, Rows};
+use review_rows::{Delta, Put, Rows};
 use review_words::{AccountNo, Answer, FileFault, FileText, NotTaken, ProjectName, Refusal, Reply};
 use std::alloc::{AllocError, Global};
 
@@ -121,9 +121,9 @@ fn put_text(
     ensures delta { IfOk result (λ r. PutsFile project.now file.now r.0) }
     ensures once { IfOk result (λ r. NamesEachOnce r.0) }
 {
-    let project = project.copy(alloc)?;
-    let file = file.copy(alloc)?;
+    let key = project.copy(alloc)?;
+    let row = file.copy(alloc)?;
     let mut delta = nothing(alloc);
-    delta.file = Some(ProjectRow { project, file });
+    delta.file = Some(Put { key, row });
     Ok((delta, Reply::Done(Answer::Nothing)))
 }

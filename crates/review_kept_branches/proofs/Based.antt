@@ -4,9 +4,8 @@ use Rattle.std.specs.Int.{from_bool}
 use Rattle.std.proofs.Common.{zero, suc, ◌≡◌, ℕ, ◌+◌, ◌<◌, ◌≤◌, ◌==◌, Bool, true, false, cond, not, ◌&&◌, List, [], ◌∷◌, Option, Some, None, ap, sym, ◌∙◌, refl, subst, ⊎_elim, ◌⊎◌, inl, inr, eqb-true, arith}
 use Rattle.std.specs.Option.{is_some, IsSome, unwrap_or}
 use Rattle.std.specs.declared.cmp.Ordering.{Ordering}
-use Rattle.std.specs.declared.cmp.Ordering.TheVariants.{Less, Equal, Greater}
-use Rattle.std.specs.Ordering.{is_eq, nat_cmp, ordering_then}
-use Rattle.std.specs.Cmp.{unsigned_tied, IsTotalOrder}
+use Rattle.std.specs.Ordering.{nat_cmp}
+use Rattle.std.specs.Cmp.{IsTotalOrder}
 use Rattle.std.specs.Cmp.Lexicographic.{slice_cmp}
 use Rattle.std.specs.Str.{bytes_eq}
 use Rattle.std.specs.BTreeMap.{is_at}
@@ -14,54 +13,22 @@ use Rattle.std.proofs.lemmas.Bool.{cases_Bool, and_parts, cases_lt, eqb-false}
 use Rattle.std.proofs.lemmas.Slice.Eq.{bytes_eq-Decides}
 use Rattle.std.proofs.lemmas.Map.Text.{is_eq-slice_cmp}
 use Rattle.std.proofs.lemmas.Cmp.{then_total, on_total, nat_cmp_total, nat_list_cmp_total}
-use Rattle.std.proofs.lemmas.Map.Lookups.{CmpEqualImpliesEq, exact_unsigned, exact_bytes}
 use Rattle.review_table.specs.Rows.{row_in, after_change, changed, HasNoEmptyPlace, HasEmptyOnly}
 use Rattle.std.specs.List.{All}
 use Rattle.review_table.specs.declared.table.Change.{Change}
 use Rattle.review_rows.specs.declared.rows.BranchKey.{BranchKey}
-use Rattle.review_rows.specs.declared.rows.BaseRow.{BaseRow}
-use Rattle.review_rows.specs.Rows.{branch_cmp}
-use Rattle.review_kept_branches.specs.declared.keys.PlaceKey.{PlaceKey}
+use Rattle.review_rows.specs.declared.rows.Put.{Put}
+use Rattle.review_rows.specs.Rows.{branch_cmp, place_cmp}
+use Rattle.review_rows.specs.declared.rows.PlaceKey.{PlaceKey}
+use Rattle.review_rows.proofs.Puts.{at_place_of, is_eq-then}
 use Rattle.review_kept_branches.specs.declared.keys.CommitKey.{CommitKey}
-use Rattle.review_kept_branches.specs.Branches.{place_cmp, commit_cmp, base_at, total_in, last_in, place_of, AreListed, AreLast, IsLastPlace}
-
-is_eq-then : (a b : Ordering) → is_eq (ordering_then a b) ≡ (is_eq a && is_eq b)
-is_eq-then Less b = refl
-is_eq-then Equal b = refl
-is_eq-then Greater b = refl
-
-pub both_equal : (a b : Ordering) → ordering_then a b ≡ Equal → (a ≡ Equal) × (b ≡ Equal)
-both_equal Equal b e = (refl, e)
-both_equal Less b e = absurd (cc)
-both_equal Greater b e = absurd (cc)
-
--- the place of a base, asked by its parts
-pub at_place_of : (base : BaseRow) (p b : List ℕ) (n : ℕ) →
-    is_at (place_cmp (place_of base)) (record { project = p; branch = b; place = n }) ≡ (bytes_eq base.project p && (bytes_eq base.branch b && (base.place == n)))
-at_place_of base p b n =
-    is_eq-then (slice_cmp nat_cmp base.project p) (ordering_then (slice_cmp nat_cmp base.branch b) (nat_cmp base.place n))
-    ∙ (λ i. is_eq-slice_cmp base.project p i
-    && (is_eq-then (slice_cmp nat_cmp base.branch b) (nat_cmp base.place n) ∙ (λ j. is_eq-slice_cmp base.branch b j && unsigned_tied base.place n j)) i)
-
-pub exact_place : CmpEqualImpliesEq place_cmp
-exact_place x y e =
-    let one = both_equal (slice_cmp nat_cmp x.project y.project) (ordering_then (slice_cmp nat_cmp x.branch y.branch) (nat_cmp x.place y.place)) e in
-    let two = both_equal (slice_cmp nat_cmp x.branch y.branch) (nat_cmp x.place y.place) one.1 in
-    let p = exact_bytes x.project y.project one.0 in
-    let b = exact_bytes x.branch y.branch two.0 in
-    let n = exact_unsigned x.place y.place two.1 in
-    λ i. record { project = p i; branch = b i; place = n i }
+use Rattle.review_kept_branches.specs.Branches.{commit_cmp, base_at, total_in, last_in, AreListed, AreLast, IsLastPlace}
 
 pub commit_total : IsTotalOrder commit_cmp
 commit_total =
     then_total (on_total (λ (k : CommitKey). k.project) nat_list_cmp_total)
     (then_total (on_total (λ (k : CommitKey). k.branch) nat_list_cmp_total)
     (then_total (on_total (λ (k : CommitKey). k.commit) nat_list_cmp_total) (on_total (λ (k : CommitKey). k.place) nat_cmp_total)))
-
-pub place_total : IsTotalOrder place_cmp
-place_total =
-    then_total (on_total (λ (k : PlaceKey). k.project) nat_list_cmp_total)
-    (then_total (on_total (λ (k : PlaceKey). k.branch) nat_list_cmp_total) (on_total (λ (k : PlaceKey). k.place) nat_cmp_total))
 
 -- a table with another row at a key
 abbrev pub WithRow : {K X : Type 0} → (K → K → Ordering) → List (K × X) → K → X → List (K × X) → Type 0
@@ -83,30 +50,30 @@ IsGreater a b c = (a ≤ c) × (b ≤ c) × ((c ≡ a) ⊎ (c ≡ b))
 pub greater_of : (a b c : ℕ) → c ≡ max a b → IsGreater a b c
 greater_of a b c is = (omega arith, omega arith, ⊎_elim (λ (lt : a < b). inr (omega arith)) (λ (ge : b ≤ a). inl (omega arith)) (cases_lt a b))
 
-at_branch : (base : BaseRow) (p b : List ℕ) → is_at (branch_cmp (record { project = base.project; branch = base.branch })) (record { project = p; branch = b }) ≡ (bytes_eq base.project p && bytes_eq base.branch b)
+at_branch : (base : Put PlaceKey (List ℕ)) (p b : List ℕ) → is_at (branch_cmp (record { project = base.key.project; branch = base.key.branch })) (record { project = p; branch = b }) ≡ (bytes_eq base.key.project p && bytes_eq base.key.branch b)
 at_branch base p b =
-    is_eq-then (slice_cmp nat_cmp base.project p) (slice_cmp nat_cmp base.branch b) ∙ (λ i. is_eq-slice_cmp base.project p i && is_eq-slice_cmp base.branch b i)
+    is_eq-then (slice_cmp nat_cmp base.key.project p) (slice_cmp nat_cmp base.key.branch b) ∙ (λ i. is_eq-slice_cmp base.key.project p i && is_eq-slice_cmp base.key.branch b i)
 
-branch_of : BaseRow → BranchKey
-branch_of base = record { project = base.project; branch = base.branch }
+branch_of : Put PlaceKey (List ℕ) → BranchKey
+branch_of base = record { project = base.key.project; branch = base.key.branch }
 
 -- the last place of each branch, once a base is put
-pub last_more : (base : BaseRow) (last : ℕ) (lasts after : List (BranchKey × ℕ)) (old new : List (PlaceKey × List ℕ)) → AreLast lasts old →
-    IsGreater (last_in lasts base.project base.branch) base.place last → WithRow branch_cmp lasts (record { project = base.project; branch = base.branch }) last after →
-    WithRow place_cmp old (place_of base) base.commit new → AreLast after new
+pub last_more : (base : Put PlaceKey (List ℕ)) (last : ℕ) (lasts after : List (BranchKey × ℕ)) (old new : List (PlaceKey × List ℕ)) → AreLast lasts old →
+    IsGreater (last_in lasts base.key.project base.key.branch) base.key.place last → WithRow branch_cmp lasts (record { project = base.key.project; branch = base.key.branch }) last after →
+    WithRow place_cmp old base.key base.row new → AreLast after new
 last_more base last lasts after old new all greater ended put p b =
     ⊎_elim
-    (λ (t : (bytes_eq base.project p && bytes_eq base.branch b) ≡ true). here (and_parts (bytes_eq base.project p) (bytes_eq base.branch b) t) t)
-    (λ (f : (bytes_eq base.project p && bytes_eq base.branch b) ≡ false). there f)
-    (cases_Bool (bytes_eq base.project p && bytes_eq base.branch b))
+    (λ (t : (bytes_eq base.key.project p && bytes_eq base.key.branch b) ≡ true). here (and_parts (bytes_eq base.key.project p) (bytes_eq base.key.branch b) t) t)
+    (λ (f : (bytes_eq base.key.project p && bytes_eq base.key.branch b) ≡ false). there f)
+    (cases_Bool (bytes_eq base.key.project p && bytes_eq base.key.branch b))
   where
     key : BranchKey
     key = record { project = p; branch = b }
 
-    now_at : (n : ℕ) (c : Bool) → (bytes_eq base.project p && (bytes_eq base.branch b && (base.place == n))) ≡ c → base_at new p b n ≡ cond c (Some base.commit) (base_at old p b n)
-    now_at n c e = put (record { project = p; branch = b; place = n }) ∙ ap (λ x. cond x (Some base.commit) (base_at old p b n)) (at_place_of base p b n ∙ e)
+    now_at : (n : ℕ) (c : Bool) → (bytes_eq base.key.project p && (bytes_eq base.key.branch b && (base.key.place == n))) ≡ c → base_at new p b n ≡ cond c (Some base.row) (base_at old p b n)
+    now_at n c e = put (record { project = p; branch = b; place = n }) ∙ ap (λ x. cond x (Some base.row) (base_at old p b n)) (at_place_of base.key p b n ∙ e)
 
-    last_now : (c : Bool) → (bytes_eq base.project p && bytes_eq base.branch b) ≡ c → last_in after p b ≡ unwrap_or (cond c (Some last) (row_in branch_cmp lasts key)) 0
+    last_now : (c : Bool) → (bytes_eq base.key.project p && bytes_eq base.key.branch b) ≡ c → last_in after p b ≡ unwrap_or (cond c (Some last) (row_in branch_cmp lasts key)) 0
     last_now c e = ap (λ o. unwrap_or o 0) (ended key ∙ ap (λ x. cond x (Some last) (row_in branch_cmp lasts key)) (at_branch base p b ∙ e))
 
     off : (x y z : Bool) → (x && y) ≡ false → (x && (y && z)) ≡ false
@@ -114,59 +81,59 @@ last_more base last lasts after old new all greater ended put p b =
     off true false z e = refl
     off false y z e = refl
 
-    there : (bytes_eq base.project p && bytes_eq base.branch b) ≡ false → IsLastPlace new p b (last_in after p b)
+    there : (bytes_eq base.key.project p && bytes_eq base.key.branch b) ≡ false → IsLastPlace new p b (last_in after p b)
     there f =
         subst (IsLastPlace new p b) (sym (last_now false f))
         (record {
-          above = λ n lt. now_at n false (off (bytes_eq base.project p) (bytes_eq base.branch b) (base.place == n) f) ∙ (all p b).above n lt;
+          above = λ n lt. now_at n false (off (bytes_eq base.key.project p) (bytes_eq base.key.branch b) (base.key.place == n) f) ∙ (all p b).above n lt;
           there = ⊎_elim (λ z. inl z)
-              (λ s. inr (subst IsSome (sym (now_at (last_in lasts p b) false (off (bytes_eq base.project p) (bytes_eq base.branch b) (base.place == last_in lasts p b) f))) s)) (all p b).there;
+              (λ s. inr (subst IsSome (sym (now_at (last_in lasts p b) false (off (bytes_eq base.key.project p) (bytes_eq base.key.branch b) (base.key.place == last_in lasts p b) f))) s)) (all p b).there;
         })
 
-    here : (bytes_eq base.project p ≡ true) × (bytes_eq base.branch b ≡ true) → (bytes_eq base.project p && bytes_eq base.branch b) ≡ true → IsLastPlace new p b (last_in after p b)
+    here : (bytes_eq base.key.project p ≡ true) × (bytes_eq base.key.branch b ≡ true) → (bytes_eq base.key.project p && bytes_eq base.key.branch b) ≡ true → IsLastPlace new p b (last_in after p b)
     here both t =
-        let was : last_in lasts base.project base.branch ≡ last_in lasts p b = λ i. last_in lasts ((bytes_eq-Decides base.project p).0 both.0 i) ((bytes_eq-Decides base.branch b).0 both.1 i) in
+        let was : last_in lasts base.key.project base.key.branch ≡ last_in lasts p b = λ i. last_in lasts ((bytes_eq-Decides base.key.project p).0 both.0 i) ((bytes_eq-Decides base.key.branch b).0 both.1 i) in
         subst (IsLastPlace new p b) (sym (last_now true t))
         (record { above = λ n lt. beyond n lt was; there = reached was })
       where
-        on : (n : ℕ) → (bytes_eq base.project p && (bytes_eq base.branch b && (base.place == n))) ≡ (base.place == n)
-        on n = λ i. both.0 i && (both.1 i && (base.place == n))
+        on : (n : ℕ) → (bytes_eq base.key.project p && (bytes_eq base.key.branch b && (base.key.place == n))) ≡ (base.key.place == n)
+        on n = λ i. both.0 i && (both.1 i && (base.key.place == n))
 
         ne : (m n : ℕ) → m < n → (m == n) ≡ false
         ne m n lt = ⊎_elim (λ (t : (m == n) ≡ true). let e = eqb-true m n t in absurd (omega arith)) (λ f. f) (cases_Bool (m == n))
 
-        beyond : (n : ℕ) → last < n → last_in lasts base.project base.branch ≡ last_in lasts p b → base_at new p b n ≡ None
+        beyond : (n : ℕ) → last < n → last_in lasts base.key.project base.key.branch ≡ last_in lasts p b → base_at new p b n ≡ None
         beyond n lt was =
             let g = greater in
-            now_at n false (on n ∙ ne base.place n (let a = g.1 in omega arith)) ∙ (all p b).above n (let a = g.0 in omega arith)
+            now_at n false (on n ∙ ne base.key.place n (let a = g.1 in omega arith)) ∙ (all p b).above n (let a = g.0 in omega arith)
 
-        still : (c : Bool) → (base.place == last) ≡ c → IsSome (base_at old p b last) → IsSome (base_at new p b last)
+        still : (c : Bool) → (base.key.place == last) ≡ c → IsSome (base_at old p b last) → IsSome (base_at new p b last)
         still true e s = subst IsSome (sym (now_at last true (on last ∙ e))) refl
         still false e s = subst IsSome (sym (now_at last false (on last ∙ e))) s
 
-        put_here : (c : Bool) → (base.place == last) ≡ c → last ≡ base.place → IsSome (base_at new p b last)
+        put_here : (c : Bool) → (base.key.place == last) ≡ c → last ≡ base.key.place → IsSome (base_at new p b last)
         put_here true e same = subst IsSome (sym (now_at last true (on last ∙ e))) refl
-        put_here false e same = absurd (eqb-false base.place last e (sym same))
+        put_here false e same = absurd (eqb-false base.key.place last e (sym same))
 
-        reached : last_in lasts base.project base.branch ≡ last_in lasts p b → (last ≡ 0) ⊎ IsSome (base_at new p b last)
+        reached : last_in lasts base.key.project base.key.branch ≡ last_in lasts p b → (last ≡ 0) ⊎ IsSome (base_at new p b last)
         reached was =
             ⊎_elim
-            (λ (same : last ≡ last_in lasts base.project base.branch). ⊎_elim
+            (λ (same : last ≡ last_in lasts base.key.project base.key.branch). ⊎_elim
             (λ z. inl (same ∙ (was ∙ z)))
-            (λ s. inr (still (base.place == last) refl (subst (λ n. IsSome (base_at old p b n)) (sym (same ∙ was)) s)))
+            (λ s. inr (still (base.key.place == last) refl (subst (λ n. IsSome (base_at old p b n)) (sym (same ∙ was)) s)))
             (all p b).there)
-            (λ (same : last ≡ base.place). inr (put_here (base.place == last) refl same))
+            (λ (same : last ≡ base.key.place). inr (put_here (base.key.place == last) refl same))
             greater.2
 
 -- how many bases projects have, once one is put
-pub total_more : (base : BaseRow) (known : Bool) (total : ℕ) (old new : List (List ℕ × ℕ)) → total ≡ cond known (total_in old base.project) (total_in old base.project + 1) →
-    WithRow (slice_cmp nat_cmp) old base.project total new →
-    (p : List ℕ) → total_in new p ≡ cond (bytes_eq base.project p) (cond known (total_in old p) (total_in old p + 1)) (total_in old p)
+pub total_more : (base : Put PlaceKey (List ℕ)) (known : Bool) (total : ℕ) (old new : List (List ℕ × ℕ)) → total ≡ cond known (total_in old base.key.project) (total_in old base.key.project + 1) →
+    WithRow (slice_cmp nat_cmp) old base.key.project total new →
+    (p : List ℕ) → total_in new p ≡ cond (bytes_eq base.key.project p) (cond known (total_in old p) (total_in old p + 1)) (total_in old p)
 total_more base known total old new is with p =
-    ap (λ o. unwrap_or o 0) (with p ∙ ap (λ t. cond t (Some total) (row_in (slice_cmp nat_cmp) old p)) (is_eq-slice_cmp base.project p)) ∙ at (bytes_eq base.project p) refl
+    ap (λ o. unwrap_or o 0) (with p ∙ ap (λ t. cond t (Some total) (row_in (slice_cmp nat_cmp) old p)) (is_eq-slice_cmp base.key.project p)) ∙ at (bytes_eq base.key.project p) refl
   where
-    at : (t : Bool) → bytes_eq base.project p ≡ t → unwrap_or (cond t (Some total) (row_in (slice_cmp nat_cmp) old p)) 0 ≡ cond t (cond known (total_in old p) (total_in old p + 1)) (total_in old p)
-    at true t = is ∙ ap (λ x. cond known (total_in old x) (total_in old x + 1)) ((bytes_eq-Decides base.project p).0 t)
+    at : (t : Bool) → bytes_eq base.key.project p ≡ t → unwrap_or (cond t (Some total) (row_in (slice_cmp nat_cmp) old p)) 0 ≡ cond t (cond known (total_in old p) (total_in old p + 1)) (total_in old p)
+    at true t = is ∙ ap (λ x. cond known (total_in old x) (total_in old x + 1)) ((bytes_eq-Decides base.key.project p).0 t)
     at false t = refl
 
 -- what stands at a place of a branch, asked by copies of its parts

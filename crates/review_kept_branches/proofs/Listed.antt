@@ -12,11 +12,13 @@ use Rattle.std.proofs.lemmas.Slice.Eq.{bytes_eq-Decides}
 use Rattle.std.proofs.lemmas.Map.Lookups.{CmpEqualImpliesEq, exact_unsigned, exact_bytes}
 use Rattle.std.proofs.lemmas.Map.Views.{tells_apart}
 use Rattle.review_table.specs.Rows.{row_in}
-use Rattle.review_rows.specs.declared.rows.BaseRow.{BaseRow}
-use Rattle.review_kept_branches.specs.declared.keys.PlaceKey.{PlaceKey}
+use Rattle.review_rows.specs.declared.rows.Put.{Put}
+use Rattle.review_rows.specs.declared.rows.PlaceKey.{PlaceKey}
 use Rattle.review_kept_branches.specs.declared.keys.CommitKey.{CommitKey}
-use Rattle.review_kept_branches.specs.Branches.{place_cmp, commit_cmp, commit_at, place_of, greatest_place, is_stale, AreListed}
-use Rattle.review_kept_branches.proofs.Based.{WithRow, both_equal, commit_total, place_total, exact_place}
+use Rattle.review_rows.specs.Rows.{place_cmp}
+use Rattle.review_kept_branches.specs.Branches.{commit_cmp, commit_at, greatest_place, is_stale, AreListed}
+use Rattle.review_rows.proofs.Puts.{exact_place, place_total, both_equal}
+use Rattle.review_kept_branches.proofs.Based.{WithRow, commit_total}
 
 exact_commit : CmpEqualImpliesEq commit_cmp
 exact_commit x y e =
@@ -62,92 +64,92 @@ stood None p k commit h = absurd (cc)
 stood (Some c) p k commit h = same_place p k c commit (same_Some (commit_at p c) (commit_at k commit) h)
 
 -- a base is put at its place and into the index, and the one that stood there is taken out of the index
-pub record IsRelisted (base : BaseRow) (before : Option CommitKey) (commits mid after : List (CommitKey × Unit {0})) (old new : List (PlaceKey × List ℕ)) : Type 0 where
-  pub fits : base.place ≤ greatest_place
+pub record IsRelisted (base : Put PlaceKey (List ℕ)) (before : Option CommitKey) (commits mid after : List (CommitKey × Unit {0})) (old new : List (PlaceKey × List ℕ)) : Type 0 where
+  pub fits : base.key.place ≤ greatest_place
   pub all : AreListed commits old
-  pub was : before ≡ option_map (commit_at (place_of base)) (row_in place_cmp old (place_of base))
-  pub listed : WithRow commit_cmp commits (commit_at (place_of base) base.commit) tt mid
-  pub dropped : (q : CommitKey) → row_in commit_cmp after q ≡ cond (is_stale before base.commit q) None (row_in commit_cmp mid q)
-  pub put : WithRow place_cmp old (place_of base) base.commit new
+  pub was : before ≡ option_map (commit_at base.key) (row_in place_cmp old base.key)
+  pub listed : WithRow commit_cmp commits (commit_at base.key base.row) tt mid
+  pub dropped : (q : CommitKey) → row_in commit_cmp after q ≡ cond (is_stale before base.row q) None (row_in commit_cmp mid q)
+  pub put : WithRow place_cmp old base.key base.row new
 
-module _ (base : BaseRow) (before : Option CommitKey) (commits mid after : List (CommitKey × Unit {0})) (old new : List (PlaceKey × List ℕ)) where
+module _ (base : Put PlaceKey (List ℕ)) (before : Option CommitKey) (commits mid after : List (CommitKey × Unit {0})) (old new : List (PlaceKey × List ℕ)) where
   abbrev Relisted : Type 0
   Relisted = IsRelisted base before commits mid after old new
 
-  at_itself : (k : PlaceKey) → place_of base ≡ k → is_at (place_cmp (place_of base)) k ≡ true
-  at_itself k same = ap (λ (q : PlaceKey). is_at (place_cmp (place_of base)) q) (sym same) ∙ ap is_eq (tied_itself place_total (place_of base))
+  at_itself : (k : PlaceKey) → base.key ≡ k → is_at (place_cmp base.key) k ≡ true
+  at_itself k same = ap (λ (q : PlaceKey). is_at (place_cmp base.key) q) (sym same) ∙ ap is_eq (tied_itself place_total base.key)
 
   kept : Relisted → (q : CommitKey) → row_in commit_cmp commits q ≡ Some tt → row_in commit_cmp mid q ≡ Some tt
   kept r q had =
-      r.listed q ∙ (ap (cond (is_at (commit_cmp (commit_at (place_of base) base.commit)) q) (Some tt)) had
-      ∙ elim (is_at (commit_cmp (commit_at (place_of base) base.commit)) q) as (λ b. cond {A = Option (Unit {0})} b (Some tt) (Some tt) ≡ Some tt) [ true ↦ refl | false ↦ refl ])
+      r.listed q ∙ (ap (cond (is_at (commit_cmp (commit_at base.key base.row)) q) (Some tt)) had
+      ∙ elim (is_at (commit_cmp (commit_at base.key base.row)) q) as (λ b. cond {A = Option (Unit {0})} b (Some tt) (Some tt) ≡ Some tt) [ true ↦ refl | false ↦ refl ])
 
-  at_here : Relisted → (k : PlaceKey) → is_at (place_cmp (place_of base)) k ≡ true → row_in place_cmp new k ≡ Some base.commit
-  at_here r k t = r.put k ∙ ap (λ b. cond b (Some base.commit) (row_in place_cmp old k)) t
+  at_here : Relisted → (k : PlaceKey) → is_at (place_cmp base.key) k ≡ true → row_in place_cmp new k ≡ Some base.row
+  at_here r k t = r.put k ∙ ap (λ b. cond b (Some base.row) (row_in place_cmp old k)) t
 
-  elsewhere : Relisted → (k : PlaceKey) → is_at (place_cmp (place_of base)) k ≡ false → row_in place_cmp new k ≡ row_in place_cmp old k
-  elsewhere r k f = r.put k ∙ ap (λ b. cond b (Some base.commit) (row_in place_cmp old k)) f
+  elsewhere : Relisted → (k : PlaceKey) → is_at (place_cmp base.key) k ≡ false → row_in place_cmp new k ≡ row_in place_cmp old k
+  elsewhere r k f = r.put k ∙ ap (λ b. cond b (Some base.row) (row_in place_cmp old k)) f
 
   -- what is taken out stood at the place of the base
-  stale_here : Relisted → (k : PlaceKey) (commit : List ℕ) → is_stale before base.commit (commit_at k commit) ≡ true → (place_of base ≡ k) × (commit ≡ base.commit → ⊥)
-  stale_here r k commit h = let s = stale_is before base.commit (commit_at k commit) h in
-      (stood (row_in place_cmp old (place_of base)) (place_of base) k commit (sym r.was ∙ s.0), s.1)
+  stale_here : Relisted → (k : PlaceKey) (commit : List ℕ) → is_stale before base.row (commit_at k commit) ≡ true → (base.key ≡ k) × (commit ≡ base.row → ⊥)
+  stale_here r k commit h = let s = stale_is before base.row (commit_at k commit) h in
+      (stood (row_in place_cmp old base.key) base.key k commit (sym r.was ∙ s.0), s.1)
 
-  stays : Relisted → (q : CommitKey) → is_stale before base.commit q ≡ false → row_in commit_cmp mid q ≡ Some tt → row_in commit_cmp after q ≡ Some tt
+  stays : Relisted → (q : CommitKey) → is_stale before base.row q ≡ false → row_in commit_cmp mid q ≡ Some tt → row_in commit_cmp after q ≡ Some tt
   stays r q f there = r.dropped q ∙ (ap (λ b. cond b None (row_in commit_cmp mid q)) f ∙ there)
 
   there : Relisted → (k : PlaceKey) (commit : List ℕ) → row_in place_cmp new k ≡ Some commit → row_in commit_cmp after (commit_at k commit) ≡ Some tt
   there r k commit is =
       ⊎_elim
-      (λ (t : is_at (place_cmp (place_of base)) k ≡ true).
-      let same = tells_apart exact_place (place_of base) k t in
-      let text = same_Some base.commit commit (sym (at_here r k t) ∙ is) in
+      (λ (t : is_at (place_cmp base.key) k ≡ true).
+      let same = tells_apart exact_place base.key k t in
+      let text = same_Some base.row commit (sym (at_here r k t) ∙ is) in
       subst (λ (q : CommitKey). row_in commit_cmp after q ≡ Some tt) (λ i. commit_at (same i) (text i))
       (⊎_elim
-      (λ (s : is_stale before base.commit (commit_at (place_of base) base.commit) ≡ true). absurd ((stale_here r (place_of base) base.commit s).1 refl))
-      (λ (f : is_stale before base.commit (commit_at (place_of base) base.commit) ≡ false).
-      stays r (commit_at (place_of base) base.commit) f
-      (r.listed (commit_at (place_of base) base.commit)
-      ∙ ap (λ b. cond b (Some tt) (row_in commit_cmp commits (commit_at (place_of base) base.commit))) (itself (commit_at (place_of base) base.commit))))
-      (cases_Bool (is_stale before base.commit (commit_at (place_of base) base.commit)))))
-      (λ (f : is_at (place_cmp (place_of base)) k ≡ false).
+      (λ (s : is_stale before base.row (commit_at base.key base.row) ≡ true). absurd ((stale_here r base.key base.row s).1 refl))
+      (λ (f : is_stale before base.row (commit_at base.key base.row) ≡ false).
+      stays r (commit_at base.key base.row) f
+      (r.listed (commit_at base.key base.row)
+      ∙ ap (λ b. cond b (Some tt) (row_in commit_cmp commits (commit_at base.key base.row))) (itself (commit_at base.key base.row))))
+      (cases_Bool (is_stale before base.row (commit_at base.key base.row)))))
+      (λ (f : is_at (place_cmp base.key) k ≡ false).
       let had = (r.all.listed k commit).0 (sym (elsewhere r k f) ∙ is) in
       ⊎_elim
-      (λ (s : is_stale before base.commit (commit_at k commit) ≡ true). let bad : true ≡ false = sym (at_itself k (stale_here r k commit s).0) ∙ f in absurd (cc))
-      (λ (g : is_stale before base.commit (commit_at k commit) ≡ false). stays r (commit_at k commit) g (kept r (commit_at k commit) had))
-      (cases_Bool (is_stale before base.commit (commit_at k commit))))
-      (cases_Bool (is_at (place_cmp (place_of base)) k))
+      (λ (s : is_stale before base.row (commit_at k commit) ≡ true). let bad : true ≡ false = sym (at_itself k (stale_here r k commit s).0) ∙ f in absurd (cc))
+      (λ (g : is_stale before base.row (commit_at k commit) ≡ false). stays r (commit_at k commit) g (kept r (commit_at k commit) had))
+      (cases_Bool (is_stale before base.row (commit_at k commit))))
+      (cases_Bool (is_at (place_cmp base.key) k))
 
   only : Relisted → (k : PlaceKey) (commit : List ℕ) → row_in commit_cmp after (commit_at k commit) ≡ Some tt → row_in place_cmp new k ≡ Some commit
   only r k commit is =
-      let rest = left (is_stale before base.commit (commit_at k commit)) (row_in commit_cmp mid (commit_at k commit)) (sym (r.dropped (commit_at k commit)) ∙ is) in
+      let rest = left (is_stale before base.row (commit_at k commit)) (row_in commit_cmp mid (commit_at k commit)) (sym (r.dropped (commit_at k commit)) ∙ is) in
       ⊎_elim
-      (λ (t : is_at (commit_cmp (commit_at (place_of base) base.commit)) (commit_at k commit) ≡ true).
-      let same = tells_apart exact_commit (commit_at (place_of base) base.commit) (commit_at k commit) t in
-      at_here r k (at_itself k (same_place (place_of base) k base.commit commit same)) ∙ ap Some (ap (λ (q : CommitKey). q.commit) same))
-      (λ (f : is_at (commit_cmp (commit_at (place_of base) base.commit)) (commit_at k commit) ≡ false).
+      (λ (t : is_at (commit_cmp (commit_at base.key base.row)) (commit_at k commit) ≡ true).
+      let same = tells_apart exact_commit (commit_at base.key base.row) (commit_at k commit) t in
+      at_here r k (at_itself k (same_place base.key k base.row commit same)) ∙ ap Some (ap (λ (q : CommitKey). q.commit) same))
+      (λ (f : is_at (commit_cmp (commit_at base.key base.row)) (commit_at k commit) ≡ false).
       let had = (r.all.listed k commit).1 (sym (ap (λ b. cond b (Some tt) (row_in commit_cmp commits (commit_at k commit))) f) ∙ (sym (r.listed (commit_at k commit)) ∙ rest.1)) in
       ⊎_elim
-      (λ (t : is_at (place_cmp (place_of base)) k ≡ true).
-      let same = tells_apart exact_place (place_of base) k t in
+      (λ (t : is_at (place_cmp base.key) k ≡ true).
+      let same = tells_apart exact_place base.key k t in
       at_here r k t ∙ ap Some (sym (replaced k commit r same had rest.0)))
-      (λ (g : is_at (place_cmp (place_of base)) k ≡ false). elsewhere r k g ∙ had)
-      (cases_Bool (is_at (place_cmp (place_of base)) k)))
-      (cases_Bool (is_at (commit_cmp (commit_at (place_of base) base.commit)) (commit_at k commit)))
+      (λ (g : is_at (place_cmp base.key) k ≡ false). elsewhere r k g ∙ had)
+      (cases_Bool (is_at (place_cmp base.key) k)))
+      (cases_Bool (is_at (commit_cmp (commit_at base.key base.row)) (commit_at k commit)))
     where
       -- the commit that stood there and is not taken out is that of the base
-      replaced : (k : PlaceKey) (commit : List ℕ) → Relisted → place_of base ≡ k → row_in place_cmp old k ≡ Some commit → is_stale before base.commit (commit_at k commit) ≡ false → commit ≡ base.commit
+      replaced : (k : PlaceKey) (commit : List ℕ) → Relisted → base.key ≡ k → row_in place_cmp old k ≡ Some commit → is_stale before base.row (commit_at k commit) ≡ false → commit ≡ base.row
       replaced k commit r same had f =
           let stood_here : before ≡ Some (commit_at k commit) = r.was ∙ (λ i. option_map (commit_at (same i)) (row_in place_cmp old (same i))) ∙ ap (option_map (commit_at k)) had in
-          let g : is_stale (Some (commit_at k commit)) base.commit (commit_at k commit) ≡ false = ap (λ o. is_stale o base.commit (commit_at k commit)) (sym stood_here) ∙ f in
-          (bytes_eq-Decides commit base.commit).0 (off (bytes_eq commit base.commit) (is_at (commit_cmp (commit_at k commit)) (commit_at k commit)) g (itself (commit_at k commit)))
+          let g : is_stale (Some (commit_at k commit)) base.row (commit_at k commit) ≡ false = ap (λ o. is_stale o base.row (commit_at k commit)) (sym stood_here) ∙ f in
+          (bytes_eq-Decides commit base.row).0 (off (bytes_eq commit base.row) (is_at (commit_cmp (commit_at k commit)) (commit_at k commit)) g (itself (commit_at k commit)))
 
   -- the index has the bases and nothing else
   pub listed_more : Relisted → AreListed after new
   listed_more r = record {
     fits = λ k commit is. ⊎_elim
-        (λ (t : is_at (place_cmp (place_of base)) k ≡ true). subst (λ (q : PlaceKey). q.place ≤ greatest_place) (tells_apart exact_place (place_of base) k t) r.fits)
-        (λ (f : is_at (place_cmp (place_of base)) k ≡ false). r.all.fits k commit (sym (elsewhere r k f) ∙ is))
-        (cases_Bool (is_at (place_cmp (place_of base)) k));
+        (λ (t : is_at (place_cmp base.key) k ≡ true). subst (λ (q : PlaceKey). q.place ≤ greatest_place) (tells_apart exact_place base.key k t) r.fits)
+        (λ (f : is_at (place_cmp base.key) k ≡ false). r.all.fits k commit (sym (elsewhere r k f) ∙ is))
+        (cases_Bool (is_at (place_cmp base.key) k));
     listed = λ k commit. (there r k commit, only r k commit);
   }

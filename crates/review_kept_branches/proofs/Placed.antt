@@ -1,6 +1,6 @@
 -- The places of a branch: as a list, and found by a commit.
-use Rattle.std.proofs.Common.{◌≡◌, ℕ, ◌+◌, ◌<◌, ◌≤◌, ◌==◌, zero, suc, Bool, true, false, cond, ◌&&◌, not, List, [], ◌∷◌, ◌++◌, length, Option, Some, None, ap, sym, ◌∙◌, refl, ⊎_elim, eqb-true, eq-eqb, arith, length-append}
-use Rattle.std.specs.Option.{is_some, IsSome, option_map}
+use Rattle.std.proofs.Common.{◌≡◌, ℕ, ◌+◌, ◌<◌, ◌≤◌, ◌==◌, zero, suc, Bool, true, false, cond, ◌&&◌, not, List, [], ◌∷◌, ◌++◌, length, Some, None, ap, sym, ◌∙◌, refl, ⊎_elim, eqb-true, eq-eqb, arith, length-append}
+use Rattle.std.specs.Option.{is_some, IsSome}
 use Rattle.std.specs.Ordering.{is_le, is_lt, nat_cmp, ordering_then}
 use Rattle.std.specs.Cmp.{unsigned_ties}
 use Rattle.std.proofs.lemmas.Cmp.{nat_list_cmp_total, tied_itself}
@@ -8,7 +8,7 @@ use Rattle.std.proofs.lemmas.Bool.{cases_lt}
 use Rattle.review_rows.specs.declared.rows.BranchKey.{BranchKey}
 use Rattle.review_rows.specs.Known.{at_place}
 use Rattle.review_rows.proofs.Placing.{nothing_at_zero, past_end, some_at, placed_more}
-use Rattle.review_kept_branches.specs.declared.keys.PlaceKey.{PlaceKey}
+use Rattle.review_rows.specs.declared.rows.PlaceKey.{PlaceKey}
 use Rattle.review_kept_branches.specs.Branches.{base_at, commit_cmp, AreBases, IsLastPlace, greatest_place}
 
 -- a place before the last one that has none makes a gap

@@ -7,19 +7,15 @@ use Rattle.std.specs.BTreeMap.{is_at}
 use Rattle.std.specs.Str.{bytes_eq}
 use Rattle.review_table.specs.Rows.{row_in, is_named, HasNoEmptyPlace, HasEmptyOnly}
 use Rattle.review_rows.specs.declared.rows.BranchKey.{BranchKey}
-use Rattle.review_rows.specs.declared.rows.BaseRow.{BaseRow}
+use Rattle.review_rows.specs.declared.rows.Put.{Put}
 use Rattle.review_rows.specs.declared.rows.Base.{Base}
-use Rattle.review_rows.specs.Rows.{branch_cmp}
+use Rattle.review_rows.specs.Rows.{branch_cmp, place_cmp}
 use Rattle.review_rows.specs.Known.{at_place}
 use Rattle.review_kept_branches.specs.declared.branches.BasesFault.{BasesFault}
 use Rattle.review_kept_branches.specs.declared.branches.BasesFault.TheVariants.{Memory, Gap}
 use Rattle.review_kept_branches.specs.declared.branches.BaseChanges.{BaseChanges}
-use Rattle.review_kept_branches.specs.declared.keys.PlaceKey.{PlaceKey}
+use Rattle.review_rows.specs.declared.rows.PlaceKey.{PlaceKey}
 use Rattle.review_kept_branches.specs.declared.keys.CommitKey.{CommitKey}
-
--- by project, then by branch, then by place
-abbrev pub place_cmp : PlaceKey → PlaceKey → Ordering
-place_cmp a b = ordering_then (slice_cmp nat_cmp a.project b.project) (ordering_then (slice_cmp nat_cmp a.branch b.branch) (nat_cmp a.place b.place))
 
 -- by project, then by branch, then by commit, then by place
 abbrev pub commit_cmp : CommitKey → CommitKey → Ordering
@@ -71,14 +67,10 @@ pub record IsLastPlace (bases : List (PlaceKey × List ℕ)) (project branch : L
 abbrev pub AreLast : List (BranchKey × ℕ) → List (PlaceKey × List ℕ) → Type 0
 AreLast lasts bases = (project branch : List ℕ) → IsLastPlace bases project branch (last_in lasts project branch)
 
--- the key of a base
-abbrev pub place_of : BaseRow → PlaceKey
-place_of base = record { project = base.project; branch = base.branch; place = base.place }
-
 -- a base was put at its place
-pub record IsPut (base : BaseRow) (old new : BranchesView) : Type 0 where
-  pub bases : (k : PlaceKey) → row_in place_cmp new.bases k ≡ (if is_at (place_cmp (place_of base)) k then Some base.commit else row_in place_cmp old.bases k)
-  pub totals : (p : List ℕ) → total_in new.totals p ≡ (if bytes_eq base.project p then (if is_some (row_in place_cmp old.bases (place_of base)) then total_in old.totals p else total_in old.totals p + 1) else total_in old.totals p)
+pub record IsPut (base : Put PlaceKey (List ℕ)) (old new : BranchesView) : Type 0 where
+  pub bases : (k : PlaceKey) → row_in place_cmp new.bases k ≡ (if is_at (place_cmp base.key) k then Some base.row else row_in place_cmp old.bases k)
+  pub totals : (p : List ℕ) → total_in new.totals p ≡ (if bytes_eq base.key.project p then (if is_some (row_in place_cmp old.bases base.key) then total_in old.totals p else total_in old.totals p + 1) else total_in old.totals p)
 
 -- the bases of a branch are these, each at its place
 abbrev pub AreBases : List (PlaceKey × List ℕ) → BranchKey → List (List ℕ) → Type 0
@@ -95,11 +87,11 @@ IsCommitThere rows base true = (place : ℕ) × (base_at rows base.project base.
 IsCommitThere rows base false = (place : ℕ) → base_at rows base.project base.branch place ≡ Some base.commit → ⊥
 
 -- the changes put a base, where its branch has this last place then and its project so many bases
-pub record PutsBase (base : BaseRow) (branch : BranchKey) (last total : ℕ) (changes : BaseChanges) : Type 0 where
-  pub placed : changes.placed.items ≡ record { key = place_of base; row = Some base.commit } ∷ []
-  pub listed : changes.listed.items ≡ record { key = commit_at (place_of base) base.commit; row = Some tt } ∷ []
+pub record PutsBase (base : Put PlaceKey (List ℕ)) (branch : BranchKey) (last total : ℕ) (changes : BaseChanges) : Type 0 where
+  pub placed : changes.placed.items ≡ record { key = base.key; row = Some base.row } ∷ []
+  pub listed : changes.listed.items ≡ record { key = commit_at base.key base.row; row = Some tt } ∷ []
   pub ended : changes.ended.items ≡ record { key = branch; row = Some last } ∷ []
-  pub counted : changes.counted.items ≡ record { key = base.project; row = Some total } ∷ []
+  pub counted : changes.counted.items ≡ record { key = base.key.project; row = Some total } ∷ []
 
 -- every place of the tables has a row
 pub record HasNoSpare (bases : List (PlaceKey × Option (List ℕ))) (commits : List (CommitKey × Option (Unit {0}))) (lasts : List (BranchKey × Option ℕ)) (totals : List (List ℕ × Option ℕ)) : Type 0 where

@@ -3,12 +3,12 @@ ghost use Rattle.std.specs.Prelude.{◌≡◌, ◌∷◌, ◌-◌, ◌^◌, ◌<
 ghost use Rattle.std.specs.Ordering.{nat_cmp};
 ghost use Rattle.std.specs.Cmp.Lexicographic.{slice_cmp};
 ghost use Rattle.review_table.specs.Rows.{rows_of, row_in, HasNoEmptyPlace, HavePlaces};
-ghost use Rattle.review_rows.specs.Rows.{branch_cmp};
+ghost use Rattle.review_rows.specs.Rows.{branch_cmp, place_cmp};
 ghost use Rattle.review_kept_branches.specs.declared.keys.CommitKey.{CommitKey};
-ghost use Rattle.review_kept_branches.specs.Branches.{place_cmp, commit_cmp, base_at, total_in, IsLastPlace, IsPut, place_of, commit_at, is_stale, AreBases, IsCommitThere, IsUnlisted, PutsBase, HasNoSpare, HasSpareOnly};
+ghost use Rattle.review_kept_branches.specs.Branches.{commit_cmp, base_at, total_in, IsLastPlace, IsPut, commit_at, is_stale, AreBases, IsCommitThere, IsUnlisted, PutsBase, HasNoSpare, HasSpareOnly};
 
-use crate::keys::{CommitKey, PlaceKey};
-use review_rows::{Base, BaseRow, BranchKey, ShelfFault};
+use crate::keys::CommitKey;
+use review_rows::{Base, BranchKey, PlaceKey, Put, ShelfFault};
 use review_table::{Change, Key, Table};
 use review_words::{Bases, CommitName, ProjectName};
 use std::alloc::{AllocError, Global};
@@ -153,16 +153,16 @@ impl Branches {
     }
 
     /// Puts a base at its place, in place of one that stands there. Where there is no memory for it that is the error, and nothing changes.
-    pub fn put(&mut self, alloc: Global, base: &BaseRow) -> Result<(), AllocError>
-        requires { total_in self.old.totals base.now.project < 2 ^ 64 - 1 }
+    pub fn put(&mut self, alloc: Global, base: &Put<PlaceKey, CommitName>) -> Result<(), AllocError>
+        requires { total_in self.old.totals base.now.key.project < 2 ^ 64 - 1 }
         ensures put { OnOk result (IsPut base.now self.old self.new) }
         ensures same { OnErr result (self.new ≡ self.old) }
     {
         let branch = branch_of(alloc, base)?;
-        let last = self.last_place(&branch).max(base.place);
+        let last = self.last_place(&branch).max(base.key.place);
         let before = self.listed_at(alloc, base)?;
         let known = before.is_some();
-        let total = self.total(&base.project) + u64::from(!known);
+        let total = self.total(&base.key.project) + u64::from(!known);
         let changes = changes_of(alloc, base, branch, last, total)?;
         let reserved = reserve(
             alloc,
@@ -195,10 +195,14 @@ impl Branches {
     }
 
     // The key in the index of the base that stands at the place of one, where there is one.
-    fn listed_at(&self, alloc: Global, base: &BaseRow) -> Result<Option<CommitKey>, AllocError>
-        ensures { IfOk result (λ key. key ≡ option_map (commit_at (place_of base.now)) (row_in place_cmp self.now.bases (place_of base.now))) }
+    fn listed_at(
+        &self,
+        alloc: Global,
+        base: &Put<PlaceKey, CommitName>,
+    ) -> Result<Option<CommitKey>, AllocError>
+        ensures { IfOk result (λ key. key ≡ option_map (commit_at base.now.key) (row_in place_cmp self.now.bases base.now.key)) }
     {
-        let key = place_of(alloc, base)?;
+        let key = base.key.copy(alloc)?;
         let commit = match self.bases.get(&key) {
             Some(commit) => commit.copy(alloc)?,
             None => return Ok(None),
@@ -218,12 +222,16 @@ impl Branches {
 }
 
 // Takes the base that stood at a place before out of the index, where one with another commit stands there now.
-fn drop_stale(commits: &mut Table<CommitKey, ()>, before: &Option<CommitKey>, base: &BaseRow)
-    ensures rows { (q : CommitKey) → row_in commit_cmp (rows_of commits.new) q ≡ (if is_stale before.now base.now.commit q then None else row_in commit_cmp (rows_of commits.old) q) }
+fn drop_stale(
+    commits: &mut Table<CommitKey, ()>,
+    before: &Option<CommitKey>,
+    base: &Put<PlaceKey, CommitName>,
+)
+    ensures rows { (q : CommitKey) → row_in commit_cmp (rows_of commits.new) q ≡ (if is_stale before.now base.now.row q then None else row_in commit_cmp (rows_of commits.old) q) }
     ensures full { HasNoEmptyPlace commit_cmp commits.old → HasNoEmptyPlace commit_cmp commits.new }
 {
     if let Some(key) = before {
-        if key.commit.as_str() != base.commit.as_str() {
+        if key.commit.as_str() != base.row.as_str() {
             commits.remove(key);
         }
     }
@@ -251,7 +259,7 @@ struct BaseChanges {
 // The changes that put a base, where its branch has this last place then and its project so many bases.
 fn changes_of(
     alloc: Global,
-    base: &BaseRow,
+    base: &Put<PlaceKey, CommitName>,
     branch: BranchKey,
     last: u64,
     total: u64,
@@ -261,7 +269,7 @@ fn changes_of(
     let ended = ended_change(alloc, branch, last)?;
     let placed = placed_change(alloc, base)?;
     let listed = listed_change(alloc, base)?;
-    let counted = counted_change(alloc, &base.project, total)?;
+    let counted = counted_change(alloc, &base.key.project, total)?;
     Ok(BaseChanges {
         placed,
         listed,
@@ -273,18 +281,21 @@ fn changes_of(
 // The change that puts a base at its place.
 fn placed_change(
     alloc: Global,
-    base: &BaseRow,
+    base: &Put<PlaceKey, CommitName>,
 ) -> Result<Vec<Change<PlaceKey, CommitName>>, AllocError>
-    ensures { IfOk result (λ changes. changes.items ≡ record { key = place_of base.now; row = Some base.now.commit } ∷ []) }
+    ensures { IfOk result (λ changes. changes.items ≡ record { key = base.now.key; row = Some base.now.row } ∷ []) }
 {
-    let key = place_of(alloc, base)?;
-    let row = Some(base.commit.copy(alloc)?);
+    let key = base.key.copy(alloc)?;
+    let row = Some(base.row.copy(alloc)?);
     Ok(vec![in alloc; Change { key, row }]?)
 }
 
 // The change that puts it into the index.
-fn listed_change(alloc: Global, base: &BaseRow) -> Result<Vec<Change<CommitKey, ()>>, AllocError>
-    ensures { IfOk result (λ changes. changes.items ≡ record { key = commit_at (place_of base.now) base.now.commit; row = Some tt } ∷ []) }
+fn listed_change(
+    alloc: Global,
+    base: &Put<PlaceKey, CommitName>,
+) -> Result<Vec<Change<CommitKey, ()>>, AllocError>
+    ensures { IfOk result (λ changes. changes.items ≡ record { key = commit_at base.now.key base.now.row; row = Some tt } ∷ []) }
 {
     let key = listed_of(alloc, base)?;
     Ok(vec![in alloc;
@@ -374,33 +385,23 @@ fn release(
     totals.release(&changes.counted);
 }
 
-fn branch_of(alloc: Global, base: &BaseRow) -> Result<BranchKey, AllocError>
-    ensures { IfOk result (λ k. k ≡ record { project = base.now.project; branch = base.now.branch }) }
+fn branch_of(alloc: Global, base: &Put<PlaceKey, CommitName>) -> Result<BranchKey, AllocError>
+    ensures { IfOk result (λ k. k ≡ record { project = base.now.key.project; branch = base.now.key.branch }) }
 {
     Ok(BranchKey {
-        project: base.project.copy(alloc)?,
-        branch: base.branch.copy(alloc)?,
+        project: base.key.project.copy(alloc)?,
+        branch: base.key.branch.copy(alloc)?,
     })
 }
 
-fn place_of(alloc: Global, base: &BaseRow) -> Result<PlaceKey, AllocError>
-    ensures { IfOk result (λ k. k ≡ place_of base.now) }
-{
-    Ok(PlaceKey {
-        project: base.project.copy(alloc)?,
-        branch: base.branch.copy(alloc)?,
-        place: base.place,
-    })
-}
-
-fn listed_of(alloc: Global, base: &BaseRow) -> Result<CommitKey, AllocError>
-    ensures { IfOk result (λ k. k ≡ commit_at (place_of base.now) base.now.commit) }
+fn listed_of(alloc: Global, base: &Put<PlaceKey, CommitName>) -> Result<CommitKey, AllocError>
+    ensures { IfOk result (λ k. k ≡ commit_at base.now.key base.now.row) }
 {
     Ok(CommitKey {
-        project: base.project.copy(alloc)?,
-        branch: base.branch.copy(alloc)?,
-        commit: base.commit.copy(alloc)?,
-        place: base.place,
+        project: base.key.project.copy(alloc)?,
+        branch: base.key.branch.copy(alloc)?,
+        commit: base.row.copy(alloc)?,
+        place: base.key.place,
     })
 }
 

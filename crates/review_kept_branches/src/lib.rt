@@ -5,4 +5,4 @@ pub mod branches;
 pub mod keys;
 
 pub use branches::{BasesFault, Branches};
-pub use keys::{CommitKey, PlaceKey};
+pub use keys::CommitKey;

@@ -3,7 +3,7 @@ use Rattle.std.proofs.Common.{Option, Some, None, refl}
 use Rattle.std.specs.Option.{option_map, IsSome}
 use Rattle.review_changes.specs.Parts.{TheHeader}
 use Rattle.review_rows.specs.Rows.{APart}
-use Rattle.review_kept_changes.specs.declared.edits.ChangeTables.{ChangeTables}
+use Rattle.review_change_rows.specs.declared.tables.ChangeTables.{ChangeTables}
 use Rattle.review_kept_changes.specs.Kept.{part_where}
 
 -- a change that has tables has a header

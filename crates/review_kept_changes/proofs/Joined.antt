@@ -21,7 +21,7 @@ use Rattle.review_rows.specs.Rows.{APart, branch_cmp}
 use Rattle.review_rows.specs.Known.{IsAtPlace, IsLastJoined}
 use Rattle.review_rows.specs.declared.rows.BranchKey.{BranchKey as Branch}
 use Rattle.review_rows.proofs.Learning.{branch_total, exact_branch}
-use Rattle.review_kept_changes.specs.declared.edits.ChangeTables.{ChangeTables}
+use Rattle.review_change_rows.specs.declared.tables.ChangeTables.{ChangeTables}
 use Rattle.review_kept_changes.specs.declared.places.PlaceKey.{PlaceKey}
 use Rattle.review_kept_changes.specs.Kept.{is_placed, part_at, part_where, place_cmp, row_of, ArePlaced, IsPlaceKey}
 use Rattle.review_kept_changes.proofs.Placed.{exact_place}

@@ -6,11 +6,9 @@ pub mod Listing
 pub mod Heads
 pub mod Sending
 pub mod Left
-pub mod Ordered
 pub mod Shown
 pub mod Puts
 pub mod Placed
 pub mod Merged
 pub mod Joined
 pub mod Listed
-pub mod Looked

@@ -10,7 +10,6 @@ use Rattle.std.specs.declared.cmp.Ordering.TheVariants.{Less, Equal, Greater}
 use Rattle.std.specs.declared.ops.Bound.TheVariants.{Included}
 use Rattle.std.specs.BTreeMap.Range.{range_contains}
 use Rattle.std.specs.Ordering.{is_le, is_lt, nat_cmp, ordering_then}
-use Rattle.std.proofs.lemmas.Bool.{cases_lt}
 use Rattle.std.proofs.lemmas.Cmp.{ranked, tied_itself}
 use Rattle.std.proofs.lemmas.List.Elements.{All-push, Contains-append_left, Contains-push}
 use Rattle.std.proofs.lemmas.List.Quantifiers.{all_pairs_push}
@@ -20,50 +19,21 @@ use Rattle.review_words.specs.declared.shown.JoinedChange.{JoinedChange}
 use Rattle.review_table.specs.Rows.{row_in, rows_of}
 use Rattle.review_table.proofs.Lasts.{between, keys_filtered}
 use Rattle.review_table.proofs.Places.{row_between}
-use Rattle.review_changes.specs.Parts.{TheHeader, PatchOf, AHeader, APatch}
-use Rattle.review_changes.specs.declared.rows.Header.{Header}
+use Rattle.review_changes.specs.Parts.{TheHeader, AHeader}
 use Rattle.review_changes.specs.declared.rows.PatchRow.{PatchRow}
-use Rattle.review_rows.specs.Rows.{Key, PartKey, Row, APart, branch_cmp}
-use Rattle.review_rows.specs.Known.{HaveJoined, IsAtPlace, IsBefore, IsCurrent, IsJoinedAt}
+use Rattle.review_rows.specs.Rows.{Key, Row, APart, branch_cmp}
+use Rattle.review_rows.specs.Known.{HaveJoined, IsAtPlace, IsBefore, IsJoinedAt}
 use Rattle.review_rows.specs.declared.rows.BranchKey.{BranchKey as Branch}
 use Rattle.review_rows.proofs.Learning.{branch_total}
-use Rattle.review_kept_changes.specs.declared.edits.ChangeTables.{ChangeTables}
+use Rattle.review_change_rows.specs.declared.tables.ChangeTables.{ChangeTables}
 use Rattle.review_kept_changes.specs.declared.places.PlaceKey.{PlaceKey}
+use Rattle.review_rows.proofs.Joins.{one_joined, one_place}
 use Rattle.review_kept_changes.specs.Kept.{is_placed, part_where, place_cmp, row_of, AddsJoined, ArePlaced, IsCurrentOf, IsJoinedOrNot}
 use Rattle.review_kept_changes.proofs.Placed.{exact_place, place_total}
 use Rattle.review_kept_changes.proofs.Merged.{current_is, no_patch}
 use Rattle.review_kept_changes.proofs.Joined.{first_or_rest, from_place, to_place, key_at, own_branch, place_between, place_listed, placed_found, placed_is}
 
--- ---- one change, one place, one current patch set
-
-header_same : (h g : Header) → Some (APart (AHeader h)) ≡ Some (APart (AHeader g)) → h ≡ g
-header_same h g is = cc
-
-patch_same : (x y : PatchRow) → Some (APart (APatch x)) ≡ Some (APart (APatch y)) → x ≡ y
-patch_same x y is = cc
-
 module _ (row : Key → Option Row) (key : Branch) where
-  pub one_place : (n p q : ℕ) → IsAtPlace row key p n → IsAtPlace row key q n → p ≡ q
-  one_place n p q a b = sym a.placed ∙ ap (λ (h : Header). h.place) (header_same a.header b.header (sym a.stands ∙ b.stands)) ∙ b.placed
-
-  not_later : (n : ℕ) (x y : PatchRow) (a : IsCurrent row n x) (b : IsCurrent row n y) → a.number < b.number → ⊥
-  not_later n x y a b less = let f : None ≡ Some (APart (APatch y)) = sym (a.later b.number less) ∙ b.sent in absurd (cc)
-
-  one_patch : (n : ℕ) (x y : PatchRow) → IsCurrent row n x → IsCurrent row n y → x ≡ y
-  one_patch n x y a b =
-      ⊎_elim (λ less. absurd (not_later n x y a b less))
-      (λ least. ⊎_elim (λ less. absurd (not_later n y x b a less))
-      (λ most. let same : a.number ≡ b.number = omega (arith, least, most) in
-      patch_same x y (sym a.sent ∙ ap (λ m. row (PartKey n (PatchOf m))) same ∙ b.sent))
-      (cases_lt b.number a.number))
-      (cases_lt a.number b.number)
-
-  pub one_joined : (p q : ℕ) (j k : JoinedChange) → IsJoinedAt row key p j → IsJoinedAt row key q k → j.change ≡ k.change → j ≡ k
-  one_joined p q j k a b same =
-      let patch = one_patch k.change a.patch b.patch (subst (λ n. IsCurrent row n a.patch) same a.current) b.current in
-      let commit = sym a.commit ∙ ap (λ (x : PatchRow). x.commit) patch ∙ b.commit in
-      λ i. record { change = same i; commit = commit i }
-
   -- the list so far, and the keys that are left
   pub record AreJoinedSoFar (rest : List (PlaceKey × Unit {0})) (joined : List JoinedChange) : Type 0 where
     pub each : All (λ j. (place : ℕ) × IsJoinedAt row key place j) joined
@@ -109,7 +79,7 @@ module _ (row : Key → Option Row) (key : Branch) where
         each = All-push (λ x. (place : ℕ) × IsJoinedAt row key place x) joined j so.each (k.place, is);
         left = λ place x at. ⊎_elim (λ there. inl (Contains-append_left joined (j ∷ []) x there))
             (λ later. ⊎_elim
-            (λ same. inl (subst (Contains (joined ++ j ∷ [])) (sym (one_joined place k.place x j at is (ap (λ (y : PlaceKey). y.change) same ∙ sym found.0))) (Contains-push joined j)))
+            (λ same. inl (subst (Contains (joined ++ j ∷ [])) (sym (one_joined row key place k.place x j at is (ap (λ (y : PlaceKey). y.change) same ∙ sym found.0))) (Contains-push joined j)))
             (λ there. inr there)
             (first_or_rest exact_place (key_at key place x.change) k rest later))
             (so.left place x at);
@@ -117,7 +87,7 @@ module _ (row : Key → Option Row) (key : Branch) where
             (λ i d below p q before at.
             let a = get_or joined i d in
             let less = (so.behind i d below p before).0 in
-            let place = one_place j.change k.place q is.at at in
+            let place = one_place row key j.change k.place q is.at at in
             ⊎_elim (λ lower. inl (subst (λ x. p < x) place lower)) (λ tied. inr (tied.0 ∙ place, subst (λ x. a.change < x) (sym found.0) tied.1))
             (less_parts p k.place a.change k.change k.branch own.0 less));
         sorted = so.sorted.1;
@@ -125,7 +95,7 @@ module _ (row : Key → Option Row) (key : Branch) where
         behind = All-push (λ x. (place : ℕ) → IsAtPlace row key place x.change → AllByRecursion (λ y. place_cmp (key_at key place x.change) y ≡ Less) (keys_of rest)) joined j
             (λ i d below place at. (so.behind i d below place at).1)
             (λ place at.
-            let same : k ≡ key_at key place j.change = λ i. record { branch = own.0 i; place = one_place j.change k.place place is.at at i; change = sym found.0 i } in
+            let same : k ≡ key_at key place j.change = λ i. record { branch = own.0 i; place = one_place row key j.change k.place place is.at at i; change = sym found.0 i } in
             subst (λ x. AllByRecursion (λ y. place_cmp x y ≡ Less) (keys_of rest)) same so.sorted.0);
       }
 

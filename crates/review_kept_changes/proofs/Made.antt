@@ -10,7 +10,7 @@ use Rattle.review_table.specs.Rows.{after_change, changed, change_of, row_in}
 use Rattle.review_changes.specs.Parts.{Part}
 use Rattle.review_rows.specs.Rows.{edited, part_change}
 use Rattle.review_rows.specs.declared.rows.ChangeEdit.{ChangeEdit}
-use Rattle.review_kept_changes.specs.declared.edits.ChangeTables.{ChangeTables}
+use Rattle.review_change_rows.specs.declared.tables.ChangeTables.{ChangeTables}
 use Rattle.review_kept_changes.specs.Kept.{part_at, part_where, PutAllEdited}
 
 -- the first change of a number decides, as the first edit does

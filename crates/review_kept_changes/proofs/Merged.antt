@@ -16,7 +16,7 @@ use Rattle.review_changes.specs.declared.rows.PatchRow.{PatchRow}
 use Rattle.review_rows.specs.Rows.{APart}
 use Rattle.review_rows.specs.Known.{IsCurrent, IsMergedWith, IsSentBy}
 use Rattle.review_rows.specs.declared.rows.Base.{Base}
-use Rattle.review_kept_changes.specs.declared.edits.ChangeTables.{ChangeTables}
+use Rattle.review_change_rows.specs.declared.tables.ChangeTables.{ChangeTables}
 use Rattle.review_kept_changes.specs.Kept.{has_commit, is_sent, part_where, row_of, IsCurrentOf, IsFoundSent, IsLastOf, IsSentAs, IsSentIn}
 use Rattle.review_kept_changes.proofs.Sending.{sender_found, sender_with, patch_of, header_is}
 

@@ -15,7 +15,7 @@ use Rattle.review_changes.specs.declared.rows.Header.{Header}
 use Rattle.review_rows.specs.Rows.{branch_cmp, edited, part_change}
 use Rattle.review_rows.specs.declared.rows.ChangeEdit.{ChangeEdit}
 use Rattle.review_rows.proofs.Learning.{branch_total, exact_branch}
-use Rattle.review_kept_changes.specs.declared.edits.ChangeTables.{ChangeTables}
+use Rattle.review_change_rows.specs.declared.tables.ChangeTables.{ChangeTables}
 use Rattle.review_kept_changes.specs.declared.places.PlaceKey.{PlaceKey}
 use Rattle.review_kept_changes.specs.Kept.{part_at, place_cmp, place_of, placed_in, ArePlaced, ArePlaceKeys, IsPlaceKey}
 use Rattle.review_kept_changes.proofs.Puts.{all_so, first_named, named_left, named_right, put_there, puts_append, stays_there, OnlyPuts, WithKeys}

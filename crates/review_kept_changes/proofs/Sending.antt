@@ -16,7 +16,7 @@ use Rattle.review_changes.specs.declared.rows.PatchRow.{PatchRow}
 use Rattle.review_rows.specs.Rows.{APart}
 use Rattle.review_rows.specs.Known.{IsSender}
 use Rattle.review_rows.specs.declared.rows.Base.{Base}
-use Rattle.review_kept_changes.specs.declared.edits.ChangeTables.{ChangeTables}
+use Rattle.review_change_rows.specs.declared.tables.ChangeTables.{ChangeTables}
 use Rattle.review_kept_changes.specs.declared.kept.SentKey.{SentKey}
 use Rattle.review_kept_changes.specs.Kept.{has_commit, is_sent, part_where, row_of, sent_cmp, AreListed, IsNumbered}
 

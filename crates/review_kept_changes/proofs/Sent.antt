@@ -16,7 +16,7 @@ use Rattle.review_changes.specs.Parts.{Part, PatchOf, PartRow, APatch}
 use Rattle.review_changes.specs.declared.rows.PatchRow.{PatchRow}
 use Rattle.review_rows.specs.Rows.{edited, part_change}
 use Rattle.review_rows.specs.declared.rows.ChangeEdit.{ChangeEdit}
-use Rattle.review_kept_changes.specs.declared.edits.ChangeTables.{ChangeTables}
+use Rattle.review_change_rows.specs.declared.tables.ChangeTables.{ChangeTables}
 use Rattle.review_kept_changes.specs.declared.kept.SentKey.{SentKey}
 use Rattle.review_kept_changes.proofs.Puts.{all_so, first_named, later_named, named_left, named_right, put_there, puts_append, stays_there, OnlyPuts, WithKeys}
 use Rattle.review_kept_changes.specs.Kept.{part_at, sent_by, sent_cmp, sent_in, with_sent, AreListed, AreNumbered, IsNumbered}

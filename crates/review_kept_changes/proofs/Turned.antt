@@ -12,8 +12,9 @@ use Rattle.review_changes.specs.declared.rows.PatchRow.{PatchRow}
 use Rattle.review_changes.specs.declared.rows.VoteKey.{VoteKey}
 use Rattle.review_rows.specs.Rows.{part_change, vote_row}
 use Rattle.review_rows.specs.declared.rows.ChangeEdit.{ChangeEdit}
-use Rattle.review_kept_changes.specs.declared.edits.ChangeTables.{ChangeTables}
-use Rattle.review_kept_changes.specs.Kept.{part_in, AreEdited}
+use Rattle.review_change_rows.specs.declared.tables.ChangeTables.{ChangeTables}
+use Rattle.review_change_rows.specs.Tables.{part_in}
+use Rattle.review_kept_changes.specs.Kept.{AreEdited}
 
 after_mapped : {X Y : Type 0} (f : X → Y) (o : Option (Option X)) (was : Option X) → option_map f (after_change o was) ≡ after_change (option_map (option_map f) o) (option_map f was)
 after_mapped f None was = refl

@@ -8,30 +8,24 @@ use Rattle.std.specs.Cmp.Lexicographic.{slice_cmp}
 use Rattle.review_names.specs.Forms.{most_changes, most_patches}
 use Rattle.review_table.specs.declared.table.Change.{Change}
 use Rattle.review_table.specs.Rows.{after_change, is_named, row_in, rows_of, HasEmptyOnly, HasNoEmptyPlace, HavePlaces}
-use Rattle.review_changes.specs.Parts.{Part, TheHeader, PatchOf, VoteOf, RoleOf, CommentOf, AttentionOf, PartRow, AHeader, APatch, ARole, AComment, ACall}
-use Rattle.review_changes.specs.Seen.{vote_cmp}
+use Rattle.review_changes.specs.Change.{Change as ChangeSeen}
+use Rattle.review_changes.specs.Parts.{Part, TheHeader, PatchOf, PartRow, AHeader, APatch}
 use Rattle.review_words.specs.declared.shown.JoinedChange.{JoinedChange}
 use Rattle.review_words.specs.declared.shown.State.TheVariants.{Merged}
 use Rattle.review_changes.specs.declared.rows.Header.{Header}
 use Rattle.review_changes.specs.declared.rows.PatchRow.{PatchRow}
-use Rattle.review_rows.specs.Rows.{Key, PartKey, Row, APart, branch_cmp, part_change, vote_row}
-use Rattle.review_rows.specs.Known.{IsJoinedAt, IsSender, IsSentBy}
+use Rattle.review_rows.specs.Rows.{Key, PartKey, Row, APart, branch_cmp, part_change}
+use Rattle.review_rows.specs.Known.{HasChange, IsJoinedAt, IsSender, IsSentBy}
 use Rattle.review_rows.specs.declared.rows.Base.{Base}
 use Rattle.review_rows.specs.declared.rows.BranchKey.{BranchKey as Branch}
 use Rattle.review_rows.specs.declared.rows.ChangeEdit.{ChangeEdit}
-use Rattle.review_kept_changes.specs.declared.edits.ChangeTables.{ChangeTables}
+use Rattle.review_change_rows.specs.declared.tables.ChangeTables.{ChangeTables}
+use Rattle.review_change_rows.specs.declared.loading.ChangeFault.{ChangeFault}
+use Rattle.review_change_rows.specs.declared.loading.ChangeFault.TheVariants.{Memory, Gap}
+use Rattle.review_change_rows.specs.Tables.{part_in}
 use Rattle.review_kept_changes.specs.declared.kept.Prepared.{Prepared}
 use Rattle.review_kept_changes.specs.declared.kept.SentKey.{SentKey}
 use Rattle.review_kept_changes.specs.declared.places.PlaceKey.{PlaceKey}
-
--- the row of a change, in its tables
-abbrev pub part_in : ChangeTables → Part → Option PartRow
-part_in t TheHeader = Some (AHeader t.header)
-part_in t (PatchOf n) = option_map APatch (row_in nat_cmp (rows_of t.patches) n)
-part_in t (VoteOf n l a) = vote_row (row_in vote_cmp (rows_of t.votes) (record { patch = n; label = l; account = a }))
-part_in t (RoleOf u) = option_map ARole (row_in nat_cmp (rows_of t.roles) u)
-part_in t (CommentOf k) = option_map AComment (row_in nat_cmp (rows_of t.comments) k)
-part_in t (AttentionOf u) = option_map ACall (row_in nat_cmp (rows_of t.attention) u)
 
 -- the row of a change, where it has tables
 abbrev pub part_where : Option ChangeTables → Part → Option PartRow
@@ -46,6 +40,11 @@ part_at kept n part = part_where (row_in nat_cmp kept n) part
 abbrev pub row_of : List (ℕ × ChangeTables) → Key → Option Row
 row_of kept (PartKey n part) = option_map APart (part_at kept n part)
 row_of kept _ = None
+
+-- why the change of a number is not given: where its rows have a gap, they are those of no change, and not none
+abbrev pub IsUnread : List (ℕ × ChangeTables) → ℕ → ChangeFault → Type 0
+IsUnread kept n Memory = Unit {0}
+IsUnread kept n Gap = (c : Option ChangeSeen) → HasChange (row_of kept) n c → ⊥
 
 -- the tables are those of a change that an edit changes, where it had these rows before
 abbrev pub AreEdited : (Part → Option PartRow) → ChangeEdit → ChangeTables → Type 0

@@ -5,9 +5,9 @@ ghost use Rattle.review_table.specs.Rows.{row_in, rows_of};
 ghost use Rattle.review_rows.specs.Known.{HaveJoined, IsLastJoined};
 ghost use Rattle.review_kept_changes.specs.Kept.{is_placed, row_of, AddsJoined, IsCurrentOf, IsJoinedOrNot};
 
-use crate::edits::ChangeTables;
 use crate::kept::KeptChanges;
 use crate::places::{PlaceKey, greatest_place, is_placed, least_place};
+use review_change_rows::ChangeTables;
 use review_changes::PatchRow;
 use review_rows::BranchKey;
 use review_table::Key;

@@ -1,37 +1,18 @@
-//! The tables of one change, and what an edit makes of them.
+//! What an edit makes of the tables of one change.
 ghost use Rattle.std.specs.Prelude.{◌≡◌, ℕ, [], IfOk, OnOk, None, if◌then◌else◌};
 ghost use Rattle.std.specs.BTreeMap.{is_at};
 ghost use Rattle.std.specs.Ordering.{nat_cmp};
 ghost use Rattle.review_changes.specs.Seen.{vote_cmp};
 ghost use Rattle.review_changes.specs.declared.rows.VoteKey.{VoteKey};
 ghost use Rattle.review_table.specs.Rows.{changed, row_in, rows_of};
-ghost use Rattle.review_kept_changes.specs.Kept.{part_in, AreEdited};
+ghost use Rattle.review_change_rows.specs.Tables.{part_in};
+ghost use Rattle.review_kept_changes.specs.Kept.{AreEdited};
 
-use review_change_rows::{Copied, copied_header, copied_table};
-use review_changes::{Called, Comment, Header, PatchRow, Vote, VoteKey};
+use review_change_rows::copies::Marks;
+use review_change_rows::{ChangeTables, Copied, copied_header, copied_table};
 use review_rows::ChangeEdit;
 use review_table::{Change, Key, Table};
-use review_words::{AccountNo, CommentNo, PatchNo, Role};
 use std::alloc::{AllocError, Global};
-
-/// All rows of one change, its patch sets and comments by their numbers.
-#[derive(Drop)]
-pub struct ChangeTables {
-    pub header: Header,
-    pub patches: Table<PatchNo, PatchRow>,
-    pub votes: Table<VoteKey, Vote>,
-    pub roles: Table<AccountNo, Role>,
-    pub comments: Table<CommentNo, Comment>,
-    pub attention: Table<AccountNo, Called>,
-}
-
-/// The rows of a change that are kept by accounts: its votes, roles and attention set.
-#[derive(Drop)]
-pub(crate) struct Marks {
-    pub votes: Table<VoteKey, Vote>,
-    pub roles: Table<AccountNo, Role>,
-    pub attention: Table<AccountNo, Called>,
-}
 
 /// The tables of a change that an edit changes. An error where there was no memory for them.
 pub fn edited(

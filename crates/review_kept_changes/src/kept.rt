@@ -4,12 +4,12 @@ ghost use Rattle.std.specs.Ordering.{nat_cmp};
 ghost use Rattle.review_table.specs.Rows.{changed, row_in, rows_of};
 ghost use Rattle.review_rows.specs.Known.{HasChange, IsLast, IsMergedWith, IsSentBy, header_key};
 ghost use Rattle.review_changes.specs.Seen.{seen};
-ghost use Rattle.review_kept_changes.specs.Loads.{IsUnread};
-ghost use Rattle.review_kept_changes.specs.Kept.{is_sent, row_of, sent_by, sent_in, with_sent, AreNumbered, ArePrepared, HasRoomFor, IsFoundSent, IsFull, IsFullBut, IsLastOf, IsReady, IsSentAs, IsSentIn, PutsEdited, PutAllEdited};
+ghost use Rattle.review_change_rows.specs.Tables.{HaveFault, Show};
+ghost use Rattle.review_kept_changes.specs.Kept.{is_sent, row_of, sent_by, sent_in, with_sent, AreNumbered, ArePrepared, HasRoomFor, IsFoundSent, IsFull, IsFullBut, IsLastOf, IsReady, IsSentAs, IsSentIn, IsUnread, PutsEdited, PutAllEdited};
 
-use crate::edits::{ChangeTables, begun, edited};
-use crate::loading::{ChangeFault, change_rows};
+use crate::edits::{begun, edited};
 use crate::places::{PlaceKey, placed_by};
+use review_change_rows::{ChangeFault, ChangeTables, change_rows, copied_tables};
 use review_changes::{ChangeRows, PatchRow};
 use review_rows::{Base, ChangeEdit};
 use review_table::{Change, Key, Table};
@@ -81,7 +81,7 @@ impl KeptChanges {
         ensures fault { IfErr result (IsUnread (rows_of self.now.kept) number) }
     {
         match self.kept.get(&number) {
-            Some(tables) => Ok(Some(change_rows(alloc, tables)?)),
+            Some(tables) => Ok(Some(copied_rows(alloc, tables)?)),
             None => Ok(None),
         }
     }
@@ -214,6 +214,15 @@ impl KeptChanges {
         self.sent.release(&prepared.keys);
         self.placed.release(&prepared.places);
     }
+}
+
+// The change that tables show, which stay as they are, or why they show none.
+fn copied_rows(alloc: Global, tables: &ChangeTables) -> Result<ChangeRows, ChangeFault>
+    ensures shown { IfOk result (λ rows. Show tables.now (seen rows)) }
+    ensures fault { IfErr result (HaveFault tables.now) }
+{
+    let copy = copied_tables(alloc, tables)?;
+    change_rows(alloc, copy)
 }
 
 // Makes room for changes, which changes no row.

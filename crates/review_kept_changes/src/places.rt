@@ -2,7 +2,7 @@
 ghost use Rattle.std.specs.Prelude.{◌≡◌, ◌++◌, Some, IfOk, OnOk, flat_map};
 ghost use Rattle.review_kept_changes.specs.Kept.{is_placed, placed_in, ArePlaceKeys};
 
-use crate::edits::ChangeTables;
+use review_change_rows::ChangeTables;
 use review_rows::{BranchKey, ChangeEdit};
 use review_table::{Change, Key};
 use review_words::ChangeNo;

@@ -5,7 +5,7 @@ use Rattle.sqlite.specs.State.{State}
 use Rattle.review_rows.specs.declared.rows.Rows.{Rows}
 use Rattle.review_rows.specs.declared.rows.Want.{Want}
 use Rattle.review_rows.specs.Known.{AreAsked, Agrees}
-use Rattle.review_kept_changes.proofs.Looked.{asked_more, looked_agrees}
+use Rattle.review_rows.proofs.Looked.{asked_more, looked_agrees}
 use Rattle.review_statements.specs.Ran.{Looks}
 use Rattle.review_tables.proofs.Found.{look_on, look_both}
 use Rattle.review_lookups.specs.declared.loading.Sight.TheVariants as sight

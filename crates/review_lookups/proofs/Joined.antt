@@ -20,14 +20,14 @@ use Rattle.review_changes.specs.declared.rows.PatchRow.{PatchRow}
 use Rattle.review_rows.specs.declared.rows.BranchKey.{BranchKey}
 use Rattle.review_rows.specs.Known.{HaveJoined, IsAtPlace, IsBefore, IsJoinedAt}
 use Rattle.review_rows.specs.Rows.{APart}
-use Rattle.review_kept_changes.proofs.Listed.{one_joined, one_place}
-use Rattle.review_statements.specs.Content.{has_key}
+use Rattle.review_rows.proofs.Joins.{one_joined, one_place}
+use Rattle.review_statements.specs.Content.{has_key, is_value}
 use Rattle.review_statements.specs.Greatest.{HasGreatest}
 use Rattle.review_statements.specs.Ran.{Looks}
 use Rattle.review_statements.specs.Search.{only, reads, row_at, rows_at}
 use Rattle.review_tables.proofs.Found.{look_both, look_on}
 use Rattle.review_tables.proofs.Keys.{itself}
-use Rattle.review_records.specs.declared.rows.PlaceKey.{PlaceKey}
+use Rattle.review_rows.specs.declared.rows.PlaceKey.{PlaceKey}
 use Rattle.review_records.specs.Laws.{one_number, passed}
 use Rattle.review_change_records.specs.Forms.{change_places, changes_at, headers}
 use Rattle.review_lookups.specs.Joins.{IsHeaderAt, IsLastPlace, IsOnlyAt, NoneAbove, TellsAt, TellsCurrent, branch_of}
@@ -51,7 +51,7 @@ only_one db key n found m at =
     let it = among db (branch_of key) key.place m at in
     let row = has_in (has_key (change_places.at (branch_of key))) (db 9) it.0 it.1 in
     let parts = and_parts _ _ row.1 in
-    let placed : is_eq (value_cmp (column it.0 8) (Int (pos key.place))) ≡ true = subst (λ v. is_eq (value_cmp v (Int (pos key.place))) ≡ true) (sym it.2) (itself (Int (pos key.place))) in
+    let placed : is_value (column it.0 8) (Int (pos key.place)) ≡ true = subst (λ v. is_value v (Int (pos key.place)) ≡ true) (sym it.2) (itself (Int (pos key.place))) in
     let here = in_has (has_key (changes_at.at key)) (db 9) it.0 row.0 (and_from _ _ parts.0 (and_from _ _ (and_parts _ _ parts.1).0 (and_from _ _ placed refl))) in
     let read = one_row (reads changes_at) (rows_at (changes_at.at key) (db 9)) it.0 n found here in
     sym (one_number (column it.0 0) n m (passed (is_within most_changes) _ n read) (and_parts _ _ it.3).0)

@@ -1,5 +1,5 @@
 -- What shows that tables are those of no history: rows without a key, and rows that don't read.
-use Rattle.std.proofs.Common.{◌≡◌, ◌∙◌, ◌⊎◌, ◌&&◌, ℕ, List, [], ◌∷◌, Option, Some, None, Bool, true, false, not, is_some, refl, sym, ap, subst, inl, inr, Ordering, nat_le, arith, leb-true}
+use Rattle.std.proofs.Common.{◌≡◌, ◌∙◌, ◌⊎◌, ◌&&◌, ℕ, List, [], ◌∷◌, Option, Some, None, Bool, true, false, not, is_some, refl, sym, ap, subst, inl, inr, Ordering, nat_le, arith, leb-true, leb-false, option_map, zero, suc}
 use Rattle.std.specs.List.{list_any}
 use Rattle.std.specs.Ordering.{nat_cmp, is_eq}
 use Rattle.std.proofs.lemmas.Bool.{cases_Bool, and_from, and_parts, or_right, or_cases, lt-ltb}
@@ -15,9 +15,11 @@ use Rattle.review_rows.specs.declared.rows.Base.{Base}
 use Rattle.review_rows.specs.declared.rows.BranchKey.{BranchKey}
 use Rattle.review_rows.proofs.Readings.{reading_of}
 use Rattle.review_records.specs.declared.rows.DeskRow.{DeskRow}
-use Rattle.review_records.specs.declared.rows.PlaceKey.{PlaceKey}
+use Rattle.review_rows.specs.declared.rows.PlaceKey.{PlaceKey}
 use Rattle.review_rows.specs.Rows.{MemberKey, AccountKey, BaseKey, PartKey, OddKey, AccountRow, MemberRow, BaseRow, APart}
+use Rattle.review_rows.specs.Known.{at_place}
 use Rattle.review_rows.specs.Shelf.{IsDamaged}
+use Rattle.review_words.specs.History.{bases as history_bases}
 use Rattle.review_statements.specs.Content.{has_key}
 use Rattle.review_statements.specs.Greatest.{HasGreatest, HasOne}
 use Rattle.review_statements.specs.Search.{Search, only, reads, row_at, rows_at}
@@ -112,17 +114,48 @@ members_damaged db group none =
     (λ r has at is. unkeyed db 2 member_keyed (inr (inl refl)) r has (and_false (is_text (column r 1)) _ (no_number is_account_number (number_in (column r 2)) (alone_missing _ is))))
     (λ k twin. odd_damage (tables_at db) (MemberKey group k) (ap (told (λ u. MemberRow)) twin)) none
 
+-- no base stands before the first place
+before_first : (db : Trees) (key : BranchKey) (r : Raw) → Has (rows_at (bases.at (record { project = key.project; branch = key.branch; place = 0 })) (db 6)) r → IsDamaged (tables_at db)
+before_first db key r has h history view =
+    let read = reading_of h history in
+    some_base (rows_at (bases.at (record { project = key.project; branch = key.branch; place = 0 })) (db 6)) r has
+    ((view read.0 read.1).row_is (BaseKey key.project key.branch 0) ∙ ap (option_map BaseRow) (none_before (history_bases h key.project key.branch)))
+  where
+    none_before : (xs : List (List ℕ)) → at_place xs 0 ≡ None
+    none_before [] = refl
+    none_before (x ∷ xs) = refl
+
+    some_base : (rows : List Raw) (r : Raw) → Has rows r → told BaseRow (only (reads bases) rows) ≡ None → ⊥
+    some_base [] r has none = has
+    some_base (s ∷ []) r has none = by (reads bases s) none
+      where
+        by : (o : Option (List ℕ)) → told BaseRow (Some o) ≡ None → ⊥
+        by None e = cc
+        by (Some x) e = cc
+    some_base (s ∷ t ∷ rows) r has none = cc
+
 pub bases_odd : (db : Trees) (key : BranchKey) → AreParts nat_cmp branch_bases base_parts key db None → IsDamaged (tables_at db)
 bases_odd db key none =
     parts_damaged nat_cmp branch_bases base_parts key db
     (λ r has at is. elim (both_missing _ _ is) [
-      | inl place ↦ unkeyed db 6 base_keyed (inr (inr (inr (inl refl)))) r has (and_false (is_text (column r 1)) _ (and_false (is_text (column r 2)) _ (no_number (nat_le 1) (number_in (column r 3)) place)))
+      | inl place ↦ no_place r has at (number_in (column r 3)) refl place
       | inr commit ↦
           let p = and_parts _ _ at in
           let here = and_from _ _ p.0 (and_from _ _ (and_parts _ _ p.1).0 (and_from _ _ (at_number (column r 3) commit.0 (passed (nat_le 1) _ commit.0 commit.1)) refl)) in
           odd_damage (tables_at db) (BaseKey key.project key.branch commit.0) (ap (told BaseRow) (odd_at base_parts db (key, commit.0) r has here commit.2))
     ])
     (λ k twin. odd_damage (tables_at db) (BaseKey key.project key.branch k) (ap (told BaseRow) twin)) none
+  where
+    no_place : (r : Raw) → Has (db 6) r → has_key (branch_bases.at key) r ≡ true → (o : Option ℕ) → number_in (column r 3) ≡ o → where_is (nat_le 1) (number_in (column r 3)) ≡ None → IsDamaged (tables_at db)
+    no_place r has at None is none = unkeyed db 6 base_keyed (inr (inr (inr (inl refl)))) r has (and_false (is_text (column r 1)) _ (and_false (is_text (column r 2)) _ (ap is_some is)))
+    no_place r has at (Some zero) is none =
+        let p = and_parts _ _ at in
+        let here = and_from _ _ p.0 (and_from _ _ (and_parts _ _ p.1).0 (and_from _ _ (at_number (column r 3) 0 is) refl)) in
+        before_first db key r (in_has (has_key (bases.at (record { project = key.project; branch = key.branch; place = 0 }))) (db 6) r has here)
+    no_place r has at (Some (suc n)) is none = absurd (let e = sym (ap (where_is (nat_le 1)) is) ∙ none in positive n e)
+
+    positive : (n : ℕ) → where_is (nat_le 1) (Some (suc n)) ≡ None → ⊥
+    positive n is = elim (cases_Bool (nat_le 1 (suc n))) [ inl low ↦ (let e = rw low at is in cc) | inr high ↦ (let e = leb-false 1 (suc n) high in omega (arith, e)) ]
 
 module _ (db : Trees) (n : ℕ) where
   pub patches_damaged : AreParts nat_cmp change_patches patches n db None → IsDamaged (tables_at db)
@@ -195,7 +228,7 @@ module _ (db : Trees) (n : ℕ) where
 -- a greatest number that is too large, or none
 pub last_damaged : (test : ℕ → Bool) (keyed : Raw → Bool) (tree : ℕ) (db : Trees) (found : Option (Option ℕ)) → Has keyed_tables (tree, keyed)
     → ((r : Raw) → keyed r ≡ is_number test (column r 0)) → ((n : ℕ) → test n ≡ true → is_small n ≡ true)
-    → HasGreatest (record { tree = tree; at = λ (u : Unit {0}). []; shown = λ r. column r 0 ∷ []; read = λ r. number_in (column r 0) }) 0 tt db found
+    → HasGreatest (record { tree = tree; keyed = keyed; at = λ (u : Unit {0}). []; columns = 0 ∷ []; read = λ r. number_in (column r 0) }) 0 tt db found
     → where_is is_small (last_of found) ≡ None → IsDamaged (tables_at db)
 last_damaged test keyed tree db None listed is_keyed small great is = absurd (cc)
 last_damaged test keyed tree db (Some None) listed is_keyed small great is =
@@ -226,7 +259,7 @@ pub last_place_damaged : (db : Trees) (key : BranchKey) → HasGreatest base_pla
 last_place_damaged db key great =
     let r = great.0 in
     unkeyed db 6 base_keyed (inr (inr (inr (inl refl)))) r (has_in (has_key (base_places.at key)) (db 6) r great.1.among).0
-    (and_false (is_text (column r 1)) _ (and_false (is_text (column r 2)) _ (unread (nat_le 1) (number_in (column r 3)) (sym great.2))))
+    (and_false (is_text (column r 1)) _ (and_false (is_text (column r 2)) _ (ap is_some (sym great.2))))
 
 -- ---- look-ups by a name and by a commit
 
@@ -284,7 +317,7 @@ pub commit_damaged : (db : Trees) (base : Base) → HasOne base_commits base db 
 commit_damaged db base one =
     let r = one.0 in
     unkeyed db 6 base_keyed (inr (inr (inr (inl refl)))) r (has_in (has_key (base_commits.at base)) (db 6) r one.1).0
-    (and_false (is_text (column r 1)) _ (and_false (is_text (column r 2)) _ (unread (nat_le 1) (number_in (column r 3)) (sym one.2))))
+    (and_false (is_text (column r 1)) _ (and_false (is_text (column r 2)) _ (ap is_some (sym one.2))))
 
 -- ---- the row of the desk
 

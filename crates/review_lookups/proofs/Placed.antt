@@ -27,12 +27,12 @@ use Rattle.review_rows.proofs.Readings.{reading_of}
 use Rattle.review_branch_laws.proofs.Joined.{joined_distinct}
 use Rattle.review_branch_laws.proofs.Places.{get_placed, placed_get}
 use Rattle.review_branch_laws.proofs.Rows.{joined_row, placed_row, row_placed}
-use Rattle.review_statements.specs.Content.{has_key}
+use Rattle.review_statements.specs.Content.{has_key, is_value}
 use Rattle.review_statements.specs.Greatest.{HasGreatest}
 use Rattle.review_statements.specs.Search.{AreFound, only, reads, row_at, rows_at}
 use Rattle.review_tables.proofs.Keys.{itself, same_text}
 use Rattle.review_tables.specs.Columns.{number_in}
-use Rattle.review_records.specs.declared.rows.PlaceKey.{PlaceKey}
+use Rattle.review_rows.specs.declared.rows.PlaceKey.{PlaceKey}
 use Rattle.review_records.specs.Forms.{both, where_is}
 use Rattle.review_records.specs.Laws.{at_number, both_are, one_number, passed}
 use Rattle.review_change_records.specs.Forms.{change_places, changes_at, headed, headers, is_small, patch_numbers, patches, sent}
@@ -65,7 +65,7 @@ module _ (db : Trees) (key : PlaceKey) (r : Raw) (has : Has (db 9) r) (at : has_
   branch_at : is_eq (value_cmp (column r 3) (Text key.branch)) ≡ true
   branch_at = (and_parts _ _ (and_parts _ _ at).1).0
 
-  place_at : is_eq (value_cmp (column r 8) (Int (pos key.place))) ≡ true
+  place_at : is_value (column r 8) (Int (pos key.place)) ≡ true
   place_at = (and_parts _ _ (and_parts _ _ (and_parts _ _ at).1).1).0
 
   -- what a row of the key of a change reads as, where it is alone
@@ -201,7 +201,7 @@ gap_tells db key low none last n le at h history view =
     let it = among db (branch_of key) key.place m.0 m.1 in
     let row = has_in (has_key (change_places.at (branch_of key))) (db 9) it.0 it.1 in
     let parts = and_parts _ _ row.1 in
-    let placed : is_eq (value_cmp (column it.0 8) (Int (pos key.place))) ≡ true = subst (λ v. is_eq (value_cmp v (Int (pos key.place))) ≡ true) (sym it.2) (itself (Int (pos key.place))) in
+    let placed : is_value (column it.0 8) (Int (pos key.place)) ≡ true = subst (λ v. is_value v (Int (pos key.place)) ≡ true) (sym it.2) (itself (Int (pos key.place))) in
     let here = in_has (has_key (changes_at.at key)) (db 9) it.0 row.0 (and_from _ _ parts.0 (and_from _ _ (and_parts _ _ parts.1).0 (and_from _ _ placed refl))) in
     empty (rows_at (changes_at.at key) (db 9)) it.0 here none
   where

@@ -16,9 +16,9 @@ use Rattle.review_changes.specs.declared.rows.CommentRow.{CommentRow}
 use Rattle.review_changes.specs.declared.rows.PatchRow.{PatchRow}
 use Rattle.review_changes.specs.declared.rows.VoteKey.{VoteKey}
 use Rattle.review_words.specs.declared.changes.Role.{Role}
-use Rattle.review_kept_changes.specs.declared.edits.ChangeTables.{ChangeTables}
-use Rattle.review_kept_changes.specs.Kept as kept
-use Rattle.review_kept_changes.specs.Loads.{Show}
+use Rattle.review_change_rows.specs.declared.tables.ChangeTables.{ChangeTables}
+use Rattle.review_change_rows.specs.Tables as tables
+use Rattle.review_change_rows.specs.Tables.{Show}
 use Rattle.review_rows.specs.Changes.{change}
 use Rattle.review_rows.specs.Known.{HasChange, IsLast, header_key, part_of}
 use Rattle.review_rows.specs.Rows.{PartKey, APart, vote_row}
@@ -56,7 +56,7 @@ pub tables_told : (n : ℕ) (db : Trees) (t : ChangeTables) (f : FoundRows) → 
 tables_told n db t f is are part = by part (subst (AreFoundRows n db) is are)
   where
     by : (part : Part) → AreFoundRows n db (record { sets = record { header = Some (Some t.header); patches = Some t.patches; votes = Some t.votes }; talk = record { roles = Some t.roles; comments = Some t.comments; attention = Some t.attention } })
-        → part_in db n part ≡ option_map APart (kept.part_in t part)
+        → part_in db n part ≡ option_map APart (tables.part_in t part)
     by TheHeader are = ap (told (λ x. APart (AHeader x))) (sym are.sets.header)
     by (PatchOf k) are = ap (told (λ x. APart (APatch x))) (are.sets.patches k) ∙ part_whole APatch (row_in nat_cmp (rows_of t.patches) k)
     by (VoteOf k label u) are = ap vote_told (are.sets.votes (record { patch = k; label = label; account = u })) ∙ vote_whole (row_in vote_cmp (rows_of t.votes) (record { patch = k; label = label; account = u }))
@@ -185,9 +185,9 @@ gap_damaged n db t have none h history view =
     let read = reading_of h history in
     by_change (change read.0 h n) (λ part. sym (have part) ∙ (view read.0 read.1).row_is (PartKey n part))
   where
-    by_change : (o : Option Change) → ((part : Part) → option_map APart (kept.part_in t part) ≡ option_map APart (part_of o part)) → ⊥
+    by_change : (o : Option Change) → ((part : Part) → option_map APart (tables.part_in t part) ≡ option_map APart (part_of o part)) → ⊥
     by_change None is = let bad = is TheHeader in cc
-    by_change (Some c) is = none c (λ part. part_from (kept.part_in t part) (part_row c part) (is part))
+    by_change (Some c) is = none c (λ part. part_from (tables.part_in t part) (part_row c part) (is part))
 
 pub headers_in : (db : Trees) (n : ℕ) → (tables_at db).row (header_key n) ≡ told (λ x. APart (AHeader x)) (only (reads headers) (Rattle.std.proofs.Common.filter (has_key ((0, Int (pos n)) ∷ [])) (rows_at [] (db 9))))
 headers_in db n = ap (λ l. told (λ x. APart (AHeader x)) (only (reads headers) (Rattle.std.proofs.Common.filter (has_key ((0, Int (pos n)) ∷ [])) l))) (sym (all_pass (db 9)))

@@ -11,12 +11,13 @@ use Rattle.sqlite_rules.specs.Lists.{Has}
 use Rattle.sqlite.specs.State.{State}
 use Rattle.sqlite.specs.declared.error.Error.{Error}
 use Rattle.sqlite_keyed.proofs.ListLemmas.{all_map, all_unmap}
-use Rattle.review_changes.specs.Parts.{AHeader, APatch, PartRow}
+use Rattle.review_changes.specs.Parts.{TheHeader, PatchOf, AHeader, APatch, PartRow}
 use Rattle.review_changes.specs.declared.rows.Header.{Header}
 use Rattle.review_changes.specs.declared.rows.PatchRow.{PatchRow}
 use Rattle.review_rows.specs.declared.rows.Base.{Base}
 use Rattle.review_rows.specs.Known.{IsBaseOrNot, IsInBranch, IsMergedWith, IsSender, IsSentBy, StandsAs}
-use Rattle.review_rows.specs.Rows.{APart}
+use Rattle.review_rows.specs.Rows.{APart, PartKey}
+use Rattle.review_rows.specs.Shelf.{IsDamaged}
 use Rattle.review_chain.specs.declared.links.Standing.TheVariants.{InBranch, PatchSet, Nowhere}
 use Rattle.review_statements.specs.Content.{has_key}
 use Rattle.review_statements.specs.Ran.{Looks}
@@ -27,7 +28,7 @@ use Rattle.review_change_records.specs.Laws.{same_bytes, sent_by_key, sent_is}
 use Rattle.review_lookups.specs.Senders.{Examines, HasSent, IsFoundSent, IsLastSet, IsOutside, IsSentIn, IsSentWith, TellsIf}
 use Rattle.review_lookups.specs.Loads.{IfTold}
 use Rattle.review_lookups.specs.Tables.{tables_at, told}
-use Rattle.review_lookups.proofs.Telling.{has_in, in_has, own_bytes, stored_row}
+use Rattle.review_lookups.proofs.Telling.{has_in, in_has, odd_damage, own_bytes, stored_row}
 
 -- a row of a kind that was told is one that was found
 pub part_found : {X : Type 0} (kind : X → PartRow) (found : Option (Option X)) (row : PartRow) → told (λ x. APart (kind x)) found ≡ Some (APart row) → (x : X) × (kind x ≡ row) × (found ≡ Some (Some x))
@@ -61,6 +62,16 @@ module _ (merged : Bool) (base : Base) (n p : ℕ) (db : Trees) where
 
   pub no_patch : row_at patches db (n, p) ≡ None → HasSent merged base (n, p) db → ⊥
   no_patch none s = let e = sym none ∙ (ap (λ k. row_at patches db (n, k)) (sym s.1) ∙ patch_of db base n s.0) in cc
+
+  -- nor has one whose header is odd
+  pub odd_header : row_at headers db n ≡ Some None → HasSent merged base (n, p) db → ⊥
+  odd_header odd s = let e = sym odd ∙ header_of db base n s.0 in cc
+
+  -- nor one for another branch
+  pub elsewhere : (h : Header) → row_at headers db n ≡ Some (Some h) → (h.project ≡ base.project → h.branch ≡ base.branch → ⊥) → HasSent merged base (n, p) db → ⊥
+  elsewhere h stands other s =
+      let same = header_is s.0.header h (sym (header_of db base n s.0) ∙ stands) in
+      other (ap (λ (x : Header). x.project) (sym same) ∙ s.0.project) (ap (λ (x : Header). x.branch) (sym same) ∙ s.0.branch)
 
   has_sent : (h : Header) (x : PatchRow) → row_at headers db n ≡ Some (Some h) → row_at patches db (n, p) ≡ Some (Some x) → IsSentWith merged base h x → HasSent merged base (n, p) db
   has_sent h x stands row is =
@@ -209,3 +220,11 @@ module _ (base : Base) (db : Trees) where
 pub seen_damaged : (merged : Bool) (base : Base) (items : List (ℕ × ℕ)) (i : ℕ) (e : ℕ × ℕ) (a b c : State) → Looks (Seen merged base items i) a b (Ok (tt {0})) → Looks (Examines merged base e) b c (Ok None) → Looks (KnowsSent merged base) a c (Ok None)
 seen_damaged merged base items i e a b c seen odd =
     look_on _ (KnowsSent merged base) a c None (Ok None) (look_both (Seen merged base items i) (Examines merged base e) a b c (tt {0}) (Ok None) seen odd) (λ db h. h.1)
+
+-- ---- odd rows
+
+pub odd_header_damaged : (db : Trees) (n : ℕ) → row_at headers db n ≡ Some None → IsDamaged (tables_at db)
+odd_header_damaged db n odd = odd_damage (tables_at db) (PartKey n TheHeader) (ap (told (λ x. APart (AHeader x))) odd)
+
+pub odd_patch_damaged : (db : Trees) (n p : ℕ) → row_at patches db (n, p) ≡ Some None → IsDamaged (tables_at db)
+odd_patch_damaged db n p odd = odd_damage (tables_at db) (PartKey n (PatchOf p)) (ap (told (λ x. APart (APatch x))) odd)

@@ -10,7 +10,7 @@ use Rattle.std.proofs.lemmas.Option.{same_Some}
 use Rattle.sqlite_value.specs.declared.value.Value.{Value}
 use Rattle.sqlite_value.specs.declared.value.Value.TheVariants.{Null, Int, Real, Text, Blob}
 use Rattle.sqlite_value.specs.Order.{Row as Raw, column, value_cmp}
-use Rattle.sqlite_value.proofs.OrderLemmas.{value_cmp_total, value_cmp-Int}
+use Rattle.sqlite_value.proofs.OrderLemmas.{value_cmp-Int}
 use Rattle.sqlite_trees.specs.Tree.{Trees}
 use Rattle.sqlite_rules.specs.Lists.{Has}
 use Rattle.sqlite_keyed.proofs.ListLemmas.{all_weaker, filter_none}
@@ -29,16 +29,16 @@ use Rattle.review_rows.specs.Shelf.{IsDamaged}
 use Rattle.review_rows.specs.View.{fact}
 use Rattle.review_rows.proofs.Readings.{reading_of}
 use Rattle.review_changes.specs.Change.{of_number}
-use Rattle.review_kept_changes.specs.Loads.{AreInOrder}
-use Rattle.review_kept_changes.proofs.Looked.{based_from}
+use Rattle.review_change_rows.specs.Tables.{AreInOrder}
+use Rattle.review_rows.proofs.Looked.{based_from}
 use Rattle.review_tables.specs.Columns.{number_in, text_in}
-use Rattle.review_statements.specs.Content.{has_key}
+use Rattle.review_statements.specs.Content.{has_key, is_value}
 use Rattle.review_tables.specs.Fronts.{HaveRows}
 use Rattle.review_statements.specs.Greatest.{HasGreatest, IsGreatest}
 use Rattle.review_statements.specs.Search.{only, reads, row_at, rows_at}
-use Rattle.review_tables.proofs.Keys.{equal_is, itself}
+use Rattle.review_tables.proofs.Keys.{int_is, itself}
 use Rattle.review_statements.proofs.Meaning.{all_pass}
-use Rattle.review_records.specs.declared.rows.PlaceKey.{PlaceKey}
+use Rattle.review_rows.specs.declared.rows.PlaceKey.{PlaceKey}
 use Rattle.review_records.specs.Forms.{accounts, account_names, account_numbers, member_parts, bases, base_commits, base_parts, base_places}
 use Rattle.review_records.specs.Laws.{number_is, passed}
 use Rattle.review_lookups.specs.declared.loading.Sight.{Sight}
@@ -227,11 +227,11 @@ greater n m less =
     let before : int_lt (pos n) (pos m) ≡ false = elim (leb_tells (suc n) m) [ inl few ↦ absurd (omega (arith, few.1, less)) | inr many ↦ many.0 ] in
     rw (before, after) refl
 
-beyond_none : (v : Value) (m n : ℕ) → is_gt (value_cmp v (Int (pos m))) ≡ false → m < n → is_eq (value_cmp v (Int (pos n))) ≡ false
-beyond_none v m n most less = elim (cases_Bool (is_eq (value_cmp v (Int (pos n))))) [
+beyond_none : (v : Value) (m n : ℕ) → is_gt (value_cmp v (Int (pos m))) ≡ false → m < n → is_value v (Int (pos n)) ≡ false
+beyond_none v m n most less = elim (cases_Bool (is_value v (Int (pos n)))) [
   | inl same ↦
-      let e : value_cmp v (Int (pos m)) ≡ value_cmp (Int (pos n)) (Int (pos m)) = value_cmp_total.congr v (Int (pos n)) (Int (pos m)) (equal_is _ same) in
-      absurd (both_ways _ most (ap is_gt (e ∙ value_cmp-Int (pos n) (pos m)) ∙ greater n m less))
+      let less_so : is_gt (value_cmp (Int (pos n)) (Int (pos m))) ≡ false = subst (λ w. is_gt (value_cmp w (Int (pos m))) ≡ false) (int_is v (pos n) same) most in
+      absurd (both_ways _ less_so (ap is_gt (value_cmp-Int (pos n) (pos m)) ∙ greater n m less))
   | inr other ↦ other
 ]
 
@@ -244,7 +244,7 @@ module _ (place : ℕ) (found : List Raw) where
       filter_none (at_one n) found (all_weaker _ _ (λ q most. ap (λ b. b && true) (beyond_none (column q place) m n (subst (λ v. is_gt (value_cmp (column q place) v) ≡ false) is most) less)) found great.most)
 
   one_there : (r : Raw) (m : ℕ) → IsGreatest place found r → column r place ≡ Int (pos m) → Has (filter (at_one m) found) r
-  one_there r m great is = in_has (at_one m) found r great.among (and_from _ _ (subst (λ v. is_eq (value_cmp v (Int (pos m))) ≡ true) (sym is) (itself (Int (pos m)))) refl)
+  one_there r m great is = in_has (at_one m) found r great.among (and_from _ _ (subst (λ v. is_value v (Int (pos m)) ≡ true) (sym is) (itself (Int (pos m)))) refl)
 
 module _ {X : Type 0} (kind : X → Row) (read : Raw → Option X) (key : ℕ → Key) (db : Trees) (place : ℕ) (found : List Raw)
     (row_is : (n : ℕ) → (tables_at db).row (key n) ≡ told kind (only read (filter (has_key ((place, Int (pos n)) ∷ [])) found))) where

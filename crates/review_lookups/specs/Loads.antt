@@ -9,7 +9,7 @@ use Rattle.review_rows.specs.declared.rows.Want.{Want}
 use Rattle.review_rows.specs.Known.{at_place, AreAsked, Agrees, Found, Learns}
 use Rattle.review_rows.specs.Rows.{Tables}
 use Rattle.review_rows.specs.Shelf.{IsDamaged}
-use Rattle.review_kept_changes.specs.Looked.{LearnsFound}
+use Rattle.review_rows.specs.Known.{LearnsFound}
 use Rattle.review_lookups.specs.declared.loading.Sight.{Sight}
 use Rattle.review_lookups.specs.declared.loading.Sight.TheVariants as sight
 use Rattle.review_lookups.specs.declared.loading.Loaded.{Loaded}

@@ -11,8 +11,8 @@ use Rattle.review_changes.specs.declared.rows.PatchRow.{PatchRow}
 use Rattle.review_changes.specs.declared.rows.VoteKey.{VoteKey}
 use Rattle.review_changes.specs.Parts.{Part}
 use Rattle.review_changes.specs.Seen.{vote_cmp}
-use Rattle.review_kept_changes.specs.declared.edits.ChangeTables.{ChangeTables}
-use Rattle.review_kept_changes.specs.Kept as kept
+use Rattle.review_change_rows.specs.declared.tables.ChangeTables.{ChangeTables}
+use Rattle.review_change_rows.specs.Tables as tables
 use Rattle.review_rows.specs.Rows.{APart}
 use Rattle.review_rows.specs.Shelf.{IsDamaged}
 use Rattle.review_tables.specs.Fronts.{AreParts}
@@ -45,7 +45,7 @@ pub record AreFoundRows (n : ℕ) (db : Trees) (f : FoundRows) : Type 0 where
 -- the rows of a change are those of its tables, where it has some
 abbrev pub HaveTables : ℕ → Trees → Option ChangeTables → Type 0
 HaveTables n db None = (part : Part) → part_in db n part ≡ None
-HaveTables n db (Some t) = (part : Part) → part_in db n part ≡ option_map APart (kept.part_in t part)
+HaveTables n db (Some t) = (part : Part) → part_in db n part ≡ option_map APart (tables.part_in t part)
 
 -- why the tables of a change are not told
 abbrev pub IsWhyNone : ℕ → Trees → Sight → Type 0

@@ -12,8 +12,6 @@ use Rattle.review_records.specs.declared.rows.DeskRow.{DeskRow}
 use Rattle.review_records.specs.declared.rows.Answered.{Answered as Rest}
 use Rattle.review_change_records.specs.Forms.{headers, patches, votes, roles, comments, calls}
 use Rattle.review_records.specs.Forms.{accounts, members, projects, bases, answers, desk}
-use Rattle.review_records.specs.Keyed.{account_keyed, member_keyed, project_keyed, base_keyed, answer_keyed}
-use Rattle.review_change_records.specs.Keyed.{header_keyed, patch_keyed, vote_keyed, comment_keyed, account_keyed as of_account}
 
 -- a row as tables tell it; an odd one is none of its table
 abbrev pub told : {X : Type 0} → (X → Row) → Option (Option X) → Option Row
@@ -39,8 +37,8 @@ part_in db n (AttentionOf u) = told (λ x. APart (ACall x)) (row_at calls db (n,
 -- the tables of records, and which of their rows have a key
 abbrev pub keyed_tables : List (ℕ × (Raw → Bool))
 keyed_tables =
-    (accounts.tree, account_keyed) ∷ (members.tree, member_keyed) ∷ (projects.tree, project_keyed) ∷ (bases.tree, base_keyed) ∷ (answers.tree, answer_keyed)
-    ∷ (headers.tree, header_keyed) ∷ (patches.tree, patch_keyed) ∷ (votes.tree, vote_keyed) ∷ (roles.tree, of_account) ∷ (comments.tree, comment_keyed) ∷ (calls.tree, of_account) ∷ []
+    (accounts.tree, accounts.keyed) ∷ (members.tree, members.keyed) ∷ (projects.tree, projects.keyed) ∷ (bases.tree, bases.keyed) ∷ (answers.tree, answers.keyed)
+    ∷ (headers.tree, headers.keyed) ∷ (patches.tree, patches.keyed) ∷ (votes.tree, votes.keyed) ∷ (roles.tree, roles.keyed) ∷ (comments.tree, comments.keyed) ∷ (calls.tree, calls.keyed) ∷ []
 
 -- whether a row has no key of its table, as a member with a negative number
 abbrev pub has_unkeyed : List (ℕ × (Raw → Bool)) → Trees → Bool

@@ -18,9 +18,8 @@ use review_change_records::headers::{Headers, LastChange};
 use review_change_records::patches::Patches;
 use review_change_records::roles::Roles;
 use review_change_records::votes::Votes;
+use review_change_rows::{ChangeFault, ChangeTables, change_rows};
 use review_changes::{Called, Comment, Header, PatchRow, Vote, VoteKey};
-use review_kept_changes::loading::change_rows;
-use review_kept_changes::{ChangeFault, ChangeTables};
 use review_rows::Rows;
 use review_table::{Key, Table};
 use review_tables::fronts::find_parts;
@@ -198,7 +197,7 @@ fn tell_change(alloc: Global, number: ChangeNo, found: FoundRows, rows: &mut Row
 {
     match tables_of(found) {
         Ok(Some(tables)) => {
-            let change = change_rows(alloc, &tables);
+            let change = change_rows(alloc, tables);
             match change {
                 Ok(change) => learnt(rows.learn_change(number, Some(change))),
                 Err(ChangeFault::Memory) => Sight::NoMemory,

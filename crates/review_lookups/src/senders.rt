@@ -1,5 +1,5 @@
 //! The change that sent a commit is looked up, and what a commit is to a branch.
-ghost use Rattle.std.specs.Prelude.{◌≡◌, ℕ, true, false, IfOk, MatchBool};
+ghost use Rattle.std.specs.Prelude.{◌≡◌, ℕ, Bool, true, false, Some, None, IfOk, MatchBool};
 ghost use Rattle.sqlite.specs.Held.{state};
 ghost use Rattle.sqlite_trees.specs.Tree.{Trees};
 ghost use Rattle.review_rows.specs.declared.rows.Base.{Base};
@@ -17,16 +17,24 @@ use crate::branches::is_base;
 use crate::learning::{learn_change_of, learn_standing, learnt};
 use crate::loading::Sight;
 use review_chain::Standing;
+use review_change_records::branches::ChangeBranches;
 use review_change_records::headers::Headers;
 use review_change_records::patches::{LastPatch, PatchSets};
 use review_change_records::sent::Sent;
 use review_changes::{Header, PatchRow};
-use review_rows::{Base, Rows};
+use review_rows::{Base, BranchKey, Rows};
 use review_tables::greatest::find_greatest;
 use review_tables::reads::{find, find_all};
-use review_words::{ChangeNo, PatchNo, State};
+use review_words::{BranchName, ChangeNo, PatchNo, ProjectName, State};
 use sqlite::{Alter, Error, Transaction};
 use std::alloc::Global;
+
+// Whether these are the project and the branch.
+fn is_for(base: &Base, project: &ProjectName, branch: &BranchName) -> bool
+    ensures { result ≡ false → project.now ≡ base.now.project → branch.now ≡ base.now.branch → ⊥ }
+{
+    project.as_str() == base.project.as_str() && branch.as_str() == base.branch.as_str()
+}
 
 // Whether a change with the header is for the branch, and its patch set has the commit.
 fn is_sent(base: &Base, header: &Header, patch: &PatchRow) -> bool
@@ -53,7 +61,20 @@ fn is_sent_as(base: &Base, merged: bool, header: &Header, patch: &PatchRow) -> b
     }
 }
 
-// Whether a change for the branch has sent the commit by its patch set of a number; none where one of the two rows is odd, as in no history.
+// Whether a change whose patch set is odd has sent a commit by it: not where it is for another branch, and none else, since such a patch set
+// is one of no history.
+fn odd_patch(base: &Base, header: &Header) -> Option<bool>
+    ensures { (merged : Bool) (n p : ℕ) (db : Trees) → row_at headers db n ≡ Some (Some header.now) → row_at patches db (n, p) ≡ Some None → TellsIf db (HasSent merged base.now (n, p) db) result }
+{
+    if is_for(base, &header.project, &header.branch) {
+        None
+    } else {
+        Some(false)
+    }
+}
+
+// Whether a change for the branch has sent the commit by its patch set of a number; none where one of the two rows is odd, as in no history,
+// unless the header tells that the change is for another branch.
 fn sent_by(
     base: &Base,
     merged: bool,
@@ -72,9 +93,27 @@ fn sent_by(
         return None;
     };
     let Some(patch) = patch else {
-        return None;
+        return odd_patch(base, &header);
     };
     Some(is_sent_as(base, merged, &header, &patch))
+}
+
+fn is_odd(header: &Option<Option<Header>>) -> bool
+    ensures { result ≡ true → header.now ≡ Some None }
+{
+    matches!(header, Some(None))
+}
+
+// Whether a change whose header is odd has sent a commit: not where it is for another branch, and none else, since such a header is one of
+// no history.
+fn odd_sender(base: &Base, branch: Option<Option<BranchKey>>) -> Option<bool>
+    ensures { (merged : Bool) (n p : ℕ) (db : Trees) → row_at headers db n ≡ Some None → TellsIf db (HasSent merged base.now (n, p) db) result }
+{
+    let is_elsewhere = match branch {
+        Some(Some(branch)) => !is_for(base, &branch.project, &branch.branch),
+        Some(None) | None => false,
+    };
+    if is_elsewhere { Some(false) } else { None }
 }
 
 fn find_sender<S: Alter>(
@@ -89,6 +128,10 @@ fn find_sender<S: Alter>(
     ensures looks { Looks (λ db is. TellsIf db (HasSent merged base.now (change, patch) db) is) (state S.Store tx.old.conn.now) (state S.Store tx.new.conn.now) result }
 {
     let header = find::<Headers, S>(tx, alloc, &change)?;
+    if is_odd(&header) {
+        let branch = find::<ChangeBranches, S>(tx, alloc, &change)?;
+        return Ok(odd_sender(base, branch));
+    }
     let row = find::<PatchSets, S>(tx, alloc, &(change, patch))?;
     Ok(sent_by(base, merged, header, row))
 }

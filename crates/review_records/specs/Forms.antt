@@ -9,7 +9,7 @@ use Rattle.review_names.specs.Names.{is_account_number}
 use Rattle.review_names.specs.Forms.{is_commit}
 use Rattle.review_rows.specs.declared.rows.Base.{Base}
 use Rattle.review_rows.specs.declared.rows.BranchKey.{BranchKey}
-use Rattle.review_records.specs.declared.rows.PlaceKey.{PlaceKey}
+use Rattle.review_rows.specs.declared.rows.PlaceKey.{PlaceKey}
 use Rattle.review_records.specs.declared.rows.RequestKey.{RequestKey}
 use Rattle.review_records.specs.declared.rows.Answered.{Answered}
 use Rattle.review_records.specs.declared.rows.DeskRow.{DeskRow}

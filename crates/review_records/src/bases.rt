@@ -8,8 +8,8 @@ ghost use Rattle.review_statements.specs.Ran.{Looks};
 ghost use Rattle.review_statements.specs.Search.{rows_at};
 
 use crate::names::{name_at, place_at};
-use crate::rows::{PlaceKey, PlaceNo};
-use review_rows::{Base, BranchKey};
+use crate::rows::PlaceNo;
+use review_rows::{Base, BranchKey, PlaceKey};
 use review_statements::texts;
 use review_tables::bound::Bound;
 use review_tables::columns::number_at;

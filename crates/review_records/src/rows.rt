@@ -2,7 +2,7 @@
 ghost use Rattle.std.specs.Prelude.{◌≡◌, ◌≤◌, Some, None, IfOk, nat_le, string_bytes, if◌then◌else◌};
 
 use review_table::Key;
-use review_words::{AccountNo, BranchName, ProjectName, RequestId};
+use review_words::{AccountNo, RequestId};
 use std::alloc::{AllocError, Global};
 use std::marker::Model;
 
@@ -89,14 +89,6 @@ impl Key for PlaceNo {
     fn copy(&self, _alloc: Global) -> Result<PlaceNo, AllocError> {
         Ok(*self)
     }
-}
-
-/// A place of a branch.
-#[derive(Drop)]
-pub struct PlaceKey {
-    pub project: ProjectName,
-    pub branch: BranchName,
-    pub place: u64,
 }
 
 /// The identity of a request.

@@ -4,3 +4,6 @@ pub mod Adding
 pub mod Placing
 pub mod Readings
 pub mod Requested
+pub mod Looked
+pub mod Joins
+pub mod Puts

@@ -286,3 +286,7 @@ joined_of found = []
 pub record Learns (want : Want) (found : Found) (old new : Rows) : Type 0 where
   pub here : known new want ≡ Some found
   pub others : (w : Want) → (known new w ≡ known old w) ⊎ ((w ≡ want) × (known new w ≡ Some found))
+
+-- rows learn what a look-up finds
+abbrev pub LearnsFound : Tables → Want → Rows → Rows → Type 0
+LearnsFound t w old new = (f : Found) × IsFound t w f × Learns w f old new

@@ -1,8 +1,9 @@
 -- Rows of all tables as one type, read at a key: what tables hold, and what a delta changes.
-use Rattle.std.specs.Prelude.{ℕ, ℤ, ◌+◌, ◌≡◌, List, [], ◌∷◌, Option, Some, None, ◌&&◌, ◌==◌, is_some, option_map, if◌then◌else◌, string_bytes}
+use Rattle.std.specs.Prelude.{ℕ, ℤ, ◌+◌, ◌≡◌, List, [], ◌∷◌, Option, Some, None, Bool, true, ◌==◌, is_some, option_map, if◌then◌else◌, string_bytes}
 use Rattle.std.specs.declared.cmp.Ordering.{Ordering}
 use Rattle.std.specs.Ordering.{nat_cmp, ordering_then}
 use Rattle.std.specs.Cmp.Lexicographic.{slice_cmp}
+use Rattle.std.specs.BTreeMap.{is_at}
 use Rattle.std.specs.Str.{bytes_eq}
 use Rattle.review_table.specs.Rows.{change_of, after_change}
 use Rattle.review_changes.specs.Parts.{Part, TheHeader, PatchOf, VoteOf, RoleOf, CommentOf, AttentionOf, PartRow, AHeader, APatch, AVote, ARole, AComment, ACall}
@@ -14,9 +15,9 @@ use Rattle.review_words.specs.declared.reply.Reply.TheVariants.{Refused}
 use Rattle.review_rows.specs.declared.rows.MemberKey.{MemberKey as Member}
 use Rattle.review_rows.specs.declared.rows.BranchKey.{BranchKey as Branch}
 use Rattle.review_rows.specs.declared.rows.Base.{Base}
-use Rattle.review_rows.specs.declared.rows.BaseRow.{BaseRow as PlacedBase}
+use Rattle.review_rows.specs.declared.rows.PlaceKey.{PlaceKey}
+use Rattle.review_rows.specs.declared.rows.Put.{Put}
 use Rattle.review_rows.specs.declared.rows.ChangeEdit.{ChangeEdit}
-use Rattle.review_rows.specs.declared.rows.ProjectRow.{ProjectRow}
 use Rattle.review_rows.specs.declared.rows.Delta.{Delta}
 use Rattle.review_rows.specs.declared.rows.Kept.{Kept}
 
@@ -75,6 +76,10 @@ branch_cmp a b = ordering_then (slice_cmp nat_cmp a.project b.project) (slice_cm
 abbrev pub base_cmp : Base → Base → Ordering
 base_cmp a b = ordering_then (slice_cmp nat_cmp a.project b.project) (ordering_then (slice_cmp nat_cmp a.branch b.branch) (slice_cmp nat_cmp a.commit b.commit))
 
+-- by project, then by branch, then by place
+abbrev pub place_cmp : PlaceKey → PlaceKey → Ordering
+place_cmp a b = ordering_then (slice_cmp nat_cmp a.project b.project) (ordering_then (slice_cmp nat_cmp a.branch b.branch) (nat_cmp a.place b.place))
+
 -- the row of a member that is there
 abbrev pub member_row : Option (Unit {0}) → Option Row
 member_row None = None
@@ -90,16 +95,10 @@ abbrev pub account_change : Option (Option (List ℕ)) → Option (Option Row)
 account_change None = None
 account_change (Some r) = Some (option_map AccountRow r)
 
--- the row of a project that gets a file
-abbrev pub file_after : Option ProjectRow → List ℕ → Option Row → Option Row
-file_after None project was = was
-file_after (Some put) project was = if bytes_eq put.project project then Some (FileRow put.file) else was
-
--- the row of a base that is put at its place
-abbrev pub base_after : Option PlacedBase → List ℕ → List ℕ → ℕ → Option Row → Option Row
-base_after None project branch place was = was
-base_after (Some base) project branch place was =
-    if bytes_eq base.project project && (bytes_eq base.branch branch && (base.place == place)) then Some (BaseRow base.commit) else was
+-- the row of a key after a row may have been put, where it was this one before
+abbrev pub after_put : {K X : Type 0} → (K → K → Ordering) → (X → Row) → Option (Put K X) → K → Option Row → Option Row
+after_put cmp kind None q was = was
+after_put cmp kind (Some put) q was = if is_at (cmp put.key) q then Some (kind put.row) else was
 
 -- the row of a vote; a value of 0 is none
 abbrev pub vote_row : Option ℤ → Option PartRow
@@ -124,26 +123,20 @@ edited (e ∷ es) n part = if e.change == n then part_change e part else edited 
 abbrev pub after : Delta → Key → Option Row → Option Row
 after delta (AccountKey number) was = after_change (account_change (change_of nat_cmp delta.accounts.items number)) was
 after delta (MemberKey group account) was = after_change (member_change (change_of member_cmp delta.members.items (record { group = group; account = account }))) was
-after delta (FileKey project) was = file_after delta.file project was
-after delta (BaseKey project branch place) was = base_after delta.base project branch place was
+after delta (FileKey project) was = after_put (slice_cmp nat_cmp) FileRow delta.file project was
+after delta (BaseKey project branch place) was = after_put place_cmp BaseRow delta.base (record { project = project; branch = branch; place = place }) was
 after delta (PartKey n part) was = after_change (option_map (option_map APart) (edited delta.changes.items n part)) was
 after delta (OddKey o) was = was
 
--- one project more, where the row of the project that gets a file was none
-abbrev pub projects_after : Option ProjectRow → (Key → Option Row) → ℕ → ℕ
-projects_after None row n = n
-projects_after (Some put) row n = if is_some (row (FileKey put.project)) then n else n + 1
-
--- one base more of a project, where it gets one at a place that had none
-abbrev pub bases_after : Option PlacedBase → (Key → Option Row) → List ℕ → ℕ → ℕ
-bases_after None row project n = n
-bases_after (Some base) row project n =
-    if bytes_eq base.project project then (if is_some (row (BaseKey base.project base.branch base.place)) then n else n + 1) else n
+-- one row more of those whose keys pass a test, where one is put whose key had none
+abbrev pub count_put : {K X : Type 0} → (K → Bool) → Option (Put K X) → (K → Option Row) → ℕ → ℕ
+count_put test None row n = n
+count_put test (Some put) row n = if test put.key then (if is_some (row put.key) then n else n + 1) else n
 
 -- a count after a delta, where the rows were these and the count this one before
 abbrev pub count_after : Delta → (Key → Option Row) → Count → ℕ → ℕ
-count_after delta row Projects n = projects_after delta.file row n
-count_after delta row (BasesOf project) n = bases_after delta.base row project n
+count_after delta row Projects n = count_put (λ p. true) delta.file (λ p. row (FileKey p)) n
+count_after delta row (BasesOf project) n = count_put (λ k. bytes_eq k.project project) delta.base (λ k. row (BaseKey k.project k.branch k.place)) n
 
 -- no row and no count is changed, whatever they were
 pub record ChangesNothing (delta : Delta) : Type 0 where

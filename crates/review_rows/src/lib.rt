@@ -14,7 +14,6 @@ pub mod shelf;
 pub use links::RowLinks;
 pub use matter::Matter;
 pub use rows::{
-    Base, BaseRow, BranchKey, ChangeEdit, Counted, Delta, Kept, MemberKey, Need, ProjectRow, Rows,
-    Want,
+    Base, BranchKey, ChangeEdit, Counted, Delta, Kept, MemberKey, Need, PlaceKey, Put, Rows, Want,
 };
 pub use shelf::{Shelf, ShelfFault};

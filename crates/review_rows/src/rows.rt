@@ -63,20 +63,31 @@ impl Key for Base {
     }
 }
 
-/// The file of a project.
-#[derive(Debug, Drop)]
-pub struct ProjectRow {
-    pub project: ProjectName,
-    pub file: FileText,
-}
-
-/// A base of a branch at its place, which is counted from 1.
-#[derive(Debug, Drop)]
-pub struct BaseRow {
+/// A place of a branch, which is counted from 1.
+#[derive(Debug, PartialEq, Eq, PartialOrd, Ord, Drop)]
+pub struct PlaceKey {
     pub project: ProjectName,
     pub branch: BranchName,
     pub place: u64,
-    pub commit: CommitName,
+}
+
+impl Key for PlaceKey {
+    fn copy(&self, alloc: Global) -> Result<PlaceKey, AllocError> {
+        let project = self.project.copy(alloc)?;
+        let branch = self.branch.copy(alloc)?;
+        Ok(PlaceKey {
+            project,
+            branch,
+            place: self.place,
+        })
+    }
+}
+
+/// A row that is put under its key, in place of the one that stands there, if any does.
+#[derive(Drop)]
+pub struct Put<K, V> {
+    pub key: K,
+    pub row: V,
 }
 
 /// What a request makes of a change, row by row: its header anew, and of its other rows those that are new, changed or gone.
@@ -177,14 +188,14 @@ pub struct Rows {
     pub joined: Table<BranchKey, Listed<JoinedChange>>,
 }
 
-/// What a request changes: for each key that it names a new row, or none; the file of a project, a base of a branch, and the rows of
-/// changes.
+/// What a request changes: for each account and member that it names a new row, or none; the file of a project and the base at a place
+/// of a branch, neither of which is ever taken away; and the rows of changes.
 #[derive(Drop)]
 pub struct Delta {
     pub accounts: Vec<Change<AccountNo, AccountName>>,
     pub members: Vec<Change<MemberKey, ()>>,
-    pub file: Option<ProjectRow>,
-    pub base: Option<BaseRow>,
+    pub file: Option<Put<ProjectName, FileText>>,
+    pub base: Option<Put<PlaceKey, CommitName>>,
     pub changes: Vec<ChangeEdit>,
 }
 

@@ -1,9 +1,8 @@
 -- The tables after changes.
-use Rattle.std.proofs.Common.{◌≡◌, ℕ, ◌+◌, ◌≤◌, Bool, true, false, cond, ◌&&◌, ◌==◌, arith, List, [], ◌∷◌, ◌++◌, Option, Some, None, Result, Ok, Err, ap, sym, ◌∙◌, subst, refl, ◌⊎◌, inl, inr}
+use Rattle.std.proofs.Common.{◌≡◌, ℕ, ◌+◌, ◌≤◌, Bool, true, false, cond, arith, List, [], ◌∷◌, ◌++◌, Option, Some, None, Result, Ok, Err, ap, sym, ◌∙◌, subst, refl, ◌⊎◌, inl, inr}
 use Rattle.std.specs.Option.{IfSome, option_map, is_some}
 use Rattle.std.specs.Str.{bytes_eq}
 use Rattle.std.specs.Cmp.Lexicographic.{slice_cmp}
-use Rattle.std.proofs.lemmas.Map.Text.{is_eq-slice_cmp}
 use Rattle.std.specs.Prelude.{OnOk, OnErr}
 use Rattle.std.specs.declared.alloc.AllocError.{AllocError}
 use Rattle.std.specs.declared.cmp.Ordering.{Ordering}
@@ -20,9 +19,9 @@ use Rattle.review_words.specs.History.{Identity, is_same}
 use Rattle.review_rows.specs.declared.rows.MemberKey.{MemberKey as Member}
 use Rattle.review_rows.specs.declared.rows.Delta.{Delta}
 use Rattle.review_rows.specs.declared.rows.Kept.{Kept}
-use Rattle.review_rows.specs.declared.rows.BaseRow.{BaseRow as PlacedBase}
-use Rattle.review_rows.specs.declared.rows.ProjectRow.{ProjectRow}
-use Rattle.review_rows.specs.Rows.{Key, AccountKey, MemberKey, FileKey, BaseKey, PartKey, OddKey, Row, AccountRow, FileRow, BaseRow, APart, Count, Projects, BasesOf, AnswerRow, Answered, Tables, member_cmp, member_row, member_change, account_change, file_after, base_after, projects_after, bases_after, after, count_after, kept_row}
+use Rattle.review_rows.specs.declared.rows.PlaceKey.{PlaceKey}
+use Rattle.review_rows.specs.declared.rows.Put.{Put}
+use Rattle.review_rows.specs.Rows.{Key, AccountKey, MemberKey, FileKey, BaseKey, PartKey, OddKey, Row, AccountRow, FileRow, BaseRow, APart, Count, Projects, BasesOf, AnswerRow, Answered, Tables, member_cmp, member_row, member_change, account_change, after_put, count_put, place_cmp, after, count_after, kept_row}
 use Rattle.review_rows.specs.Shelf.{IsCommitted}
 use Rattle.review_changes.specs.Parts.{PartRow}
 use Rattle.review_rows.specs.Rows.{edited}
@@ -34,9 +33,7 @@ use Rattle.review_shelves.specs.declared.keys.NameKey.{NameKey}
 use Rattle.review_shelves.specs.declared.keys.StoredAnswer.{StoredAnswer}
 use Rattle.review_shelves.specs.declared.tables.MemoryTables.{MemoryTables}
 use Rattle.review_shelves.specs.Desk.{Desk, desk_of, tables_of, row_of, count_of, stored_row, file_changes, answer_cmp, name_cmp, IsNumber, AreInUse, IsIndexed, IsNumbered, IsBounded, IsSound, IsGiven, IsHeld, AreIndexed, KeepsNames, AreChangesOf, AreApplied, IsWithBase, HasRoom, HasRoomOnlyFor, with_branches, with_changes}
-use Rattle.review_kept_branches.specs.Branches.{BranchesView, place_cmp, base_at, total_in, place_of}
-use Rattle.review_kept_branches.specs.declared.keys.PlaceKey.{PlaceKey}
-use Rattle.review_kept_branches.proofs.Based.{at_place_of}
+use Rattle.review_kept_branches.specs.Branches.{BranchesView, total_in}
 use Rattle.review_shelves.proofs.Orders.{exact_member, exact_answer, at_answer}
 
 -- names that are listed stay so
@@ -113,29 +110,24 @@ answer_there : (b : Bool) (row : AnswerRow) (was : Option AnswerRow) → option_
 answer_there true row was = refl
 answer_there false row was = refl
 
--- the row of a project that gets a file
-file_there : (b : Bool) (file : List ℕ) (was : Option (List ℕ)) → option_map FileRow (after_change (cond b (Some (Some file)) None) was) ≡ cond b (Some (FileRow file)) (option_map FileRow was)
-file_there true file was = refl
-file_there false file was = refl
+-- the row of a key, where one is put
+row_put : {X : Type 0} (kind : X → Row) (b : Bool) (row : X) (was : Option X) → option_map kind (cond b (Some row) was) ≡ cond b (Some (kind row)) (option_map kind was)
+row_put kind true row was = refl
+row_put kind false row was = refl
 
-file_row_after : (put : Option ProjectRow) (project : List ℕ) (was : Option (List ℕ)) →
-    option_map FileRow (changed (slice_cmp nat_cmp) (file_changes put) project was) ≡ file_after put project (option_map FileRow was)
+change_put : {X : Type 0} (kind : X → Row) (b : Bool) (row : X) (was : Option X) → option_map kind (after_change (cond b (Some (Some row)) None) was) ≡ cond b (Some (kind row)) (option_map kind was)
+change_put kind true row was = refl
+change_put kind false row was = refl
+
+file_row_after : (put : Option (Put (List ℕ) (List ℕ))) (project : List ℕ) (was : Option (List ℕ)) →
+    option_map FileRow (changed (slice_cmp nat_cmp) (file_changes put) project was) ≡ after_put (slice_cmp nat_cmp) FileRow put project (option_map FileRow was)
 file_row_after None project was = refl
-file_row_after (Some put) project was =
-    ap (λ b. option_map FileRow (after_change (cond b (Some (Some put.file)) None) was)) (is_eq-slice_cmp put.project project) ∙ file_there (bytes_eq put.project project) put.file was
+file_row_after (Some put) project was = change_put FileRow (is_at (slice_cmp nat_cmp put.key) project) put.row was
 
--- the row of a base that is put
-base_there : (b : Bool) (commit : List ℕ) (was : Option (List ℕ)) → option_map BaseRow (cond b (Some commit) was) ≡ cond b (Some (BaseRow commit)) (option_map BaseRow was)
-base_there true commit was = refl
-base_there false commit was = refl
-
-base_row_after : (base : Option PlacedBase) (old new : BranchesView) → IsWithBase base old new → (p b : List ℕ) (n : ℕ) →
-    option_map BaseRow (base_at new.bases p b n) ≡ base_after base p b n (option_map BaseRow (base_at old.bases p b n))
-base_row_after None old new same p b n = ap (λ (v : BranchesView). option_map BaseRow (base_at v.bases p b n)) same
-base_row_after (Some base) old new put p b n =
-    let k : PlaceKey = record { project = p; branch = b; place = n } in
-    ap (option_map BaseRow) (put.bases k ∙ ap (λ t. cond t (Some base.commit) (row_in place_cmp old.bases k)) (at_place_of base p b n))
-    ∙ base_there (bytes_eq base.project p && (bytes_eq base.branch b && (base.place == n))) base.commit (base_at old.bases p b n)
+base_row_after : (base : Option (Put PlaceKey (List ℕ))) (old new : BranchesView) → IsWithBase base old new → (k : PlaceKey) →
+    option_map BaseRow (row_in place_cmp new.bases k) ≡ after_put place_cmp BaseRow base k (option_map BaseRow (row_in place_cmp old.bases k))
+base_row_after None old new same k = ap (λ (v : BranchesView). option_map BaseRow (row_in place_cmp v.bases k)) same
+base_row_after (Some base) old new put k = ap (option_map BaseRow) (put.bases k) ∙ row_put BaseRow (is_at (place_cmp base.key) k) base.row (row_in place_cmp old.bases k)
 
 -- the row of a change that is edited
 part_after : (change : Option (Option PartRow)) (was : Option PartRow) → option_map APart (after_change change was) ≡ after_change (option_map (option_map APart) change) (option_map APart was)
@@ -146,16 +138,23 @@ some_based : (o : Option (List ℕ)) → is_some (option_map BaseRow o) ≡ is_s
 some_based None = refl
 some_based (Some c) = refl
 
-total_after : (base : Option PlacedBase) (old new : Desk) → IsWithBase base old.branches new.branches → (p : List ℕ) →
-    total_in new.branches.totals p ≡ bases_after base (row_of old) p (total_in old.branches.totals p)
+-- the rows of projects and those of bases, each by its key
+abbrev files_of : (Key → Option Row) → List ℕ → Option Row
+files_of row p = row (FileKey p)
+
+abbrev bases_of : (Key → Option Row) → PlaceKey → Option Row
+bases_of row k = row (BaseKey k.project k.branch k.place)
+
+total_after : (base : Option (Put PlaceKey (List ℕ))) (old new : Desk) → IsWithBase base old.branches new.branches → (p : List ℕ) →
+    total_in new.branches.totals p ≡ count_put (λ k. bytes_eq k.project p) base (bases_of (row_of old)) (total_in old.branches.totals p)
 total_after None old new same p = ap (λ (v : BranchesView). total_in v.totals p) same
 total_after (Some base) old new put p =
     put.totals p
-    ∙ ap (λ t. cond (bytes_eq base.project p) (cond t (total_in old.branches.totals p) (total_in old.branches.totals p + 1)) (total_in old.branches.totals p))
-    (sym (some_based (row_in place_cmp old.branches.bases (place_of base))))
+    ∙ ap (λ t. cond (bytes_eq base.key.project p) (cond t (total_in old.branches.totals p) (total_in old.branches.totals p + 1)) (total_in old.branches.totals p))
+    (sym (some_based (row_in place_cmp old.branches.bases base.key)))
 
 pub committed : (delta : Delta) (kept : Kept) (changes : Changes) (projects : ℕ) (old new : Desk) → AreChangesOf delta kept changes → ArePrepared old.changes delta.changes.items changes.edits →
-    AreApplied old changes projects new → IsWithBase delta.base old.branches new.branches → projects ≡ projects_after delta.file (row_of old) old.projects → IsCommitted (tables_of old) delta (kept_row kept) (tables_of new)
+    AreApplied old changes projects new → IsWithBase delta.base old.branches new.branches → projects ≡ count_put (λ p. true) delta.file (files_of (row_of old)) old.projects → IsCommitted (tables_of old) delta (kept_row kept) (tables_of new)
 committed delta kept changes projects old new copies prepared applied based number = record {
   row_is = rows;
   count_is = counts;
@@ -184,7 +183,7 @@ committed delta kept changes projects old new copies prepared applied based numb
     rows (FileKey project) =
         ap (option_map FileRow) (applied.files project ∙ ap (λ cs. changed (slice_cmp nat_cmp) cs project (row_in (slice_cmp nat_cmp) old.files project)) copies.files)
         ∙ file_row_after delta.file project (row_in (slice_cmp nat_cmp) old.files project)
-    rows (BaseKey project branch place) = base_row_after delta.base old.branches new.branches based project branch place
+    rows (BaseKey project branch place) = base_row_after delta.base old.branches new.branches based (record { project = project; branch = branch; place = place })
     rows (PartKey n part) =
         ap (option_map APart) (made_by old.changes old.changes new.changes delta.changes.items changes.edits.tables.items prepared.tables refl applied.edits n part)
         ∙ part_after (edited delta.changes.items n part) (part_at old.changes n part)
@@ -219,24 +218,16 @@ total_bounded true true t n le = omega arith
 total_bounded true false t n le = omega arith
 total_bounded false c t n le = omega arith
 
-base_bounded : (base : Option PlacedBase) (row : Key → Option Row) (p : List ℕ) (t n : ℕ) → t ≤ n → bases_after base row p t ≤ n + 1
-base_bounded None row p t n le = omega arith
-base_bounded (Some base) row p t n le = total_bounded (bytes_eq base.project p) (is_some (row (BaseKey base.project base.branch base.place))) t n le
-
-file_bounded : (b : Bool) (t n : ℕ) → t ≤ n → cond b t (t + 1) ≤ n + 1
-file_bounded true t n le = omega arith
-file_bounded false t n le = omega arith
-
-projects_bounded : (put : Option ProjectRow) (row : Key → Option Row) (t n : ℕ) → t ≤ n → projects_after put row t ≤ n + 1
-projects_bounded None row t n le = omega arith
-projects_bounded (Some put) row t n le = file_bounded (is_some (row (FileKey put.project))) t n le
+count_bounded : {K X : Type 0} (test : K → Bool) (put : Option (Put K X)) (row : K → Option Row) (t n : ℕ) → t ≤ n → count_put test put row t ≤ n + 1
+count_bounded test None row t n le = omega arith
+count_bounded test (Some put) row t n le = total_bounded (test put.key) (is_some (row put.key)) t n le
 
 applied_bounded : (delta : Delta) (changes : Changes) (projects : ℕ) (old new : Desk) → AreApplied old changes projects new → IsWithBase delta.base old.branches new.branches →
-    projects ≡ projects_after delta.file (row_of old) old.projects → IsBounded old → IsBounded new
+    projects ≡ count_put (λ p. true) delta.file (files_of (row_of old)) old.projects → IsBounded old → IsBounded new
 applied_bounded delta changes projects old new applied based number bounded = record {
-  projects = subst (λ n. new.projects ≤ n) (sym applied.requests) (subst (λ n. n ≤ old.requests + 1) (sym (applied.projects_are ∙ number)) (projects_bounded delta.file (row_of old) old.projects old.requests bounded.projects));
+  projects = subst (λ n. new.projects ≤ n) (sym applied.requests) (subst (λ n. n ≤ old.requests + 1) (sym (applied.projects_are ∙ number)) (count_bounded (λ p. true) delta.file (files_of (row_of old)) old.projects old.requests bounded.projects));
   bases = λ p. subst (λ n. total_in new.branches.totals p ≤ n) (sym applied.requests)
-      (subst (λ n. n ≤ old.requests + 1) (sym (total_after delta.base old new based p)) (base_bounded delta.base (row_of old) p (total_in old.branches.totals p) old.requests (bounded.bases p)));
+      (subst (λ n. n ≤ old.requests + 1) (sym (total_after delta.base old new based p)) (count_bounded (λ k. bytes_eq k.project p) delta.base (bases_of (row_of old)) (total_in old.branches.totals p) old.requests (bounded.bases p)));
 }
 
 -- a name that was in the index is that of its account still, or one that an account had before it changed
@@ -265,7 +256,7 @@ pub record IsMadeSound (t : MemoryTables) : Type 0 where
 
 pub made_sound : (delta : Delta) (kept : Kept) (changes : Changes) (given : List NameKey) (projects : ℕ) (r : Result (Unit {0}) AllocError) (old new : MemoryTables) → AreChangesOf delta kept changes → All (IsGiven given) delta.accounts.items
     → KeepsNames (rows_of old.names) (rows_of new.names) → OnOk r (AreIndexed (rows_of new.names) given) → OnOk r (AreApplied (desk_of old) changes projects (desk_of new)) → OnOk r (IsWithBase delta.base old.branches new.branches)
-    → projects ≡ projects_after delta.file (row_of (desk_of old)) old.projects → OnErr r (desk_of new ≡ desk_of old) → IsSound old → IsMadeSound new
+    → projects ≡ count_put (λ p. true) delta.file (files_of (row_of (desk_of old))) old.projects → OnErr r (desk_of new ≡ desk_of old) → IsSound old → IsMadeSound new
 made_sound delta kept changes given projects (Ok u) old new copies are keeps listed done based number same sound = record {
   indexed = applied_indexed delta kept changes given projects old new copies are listed keeps done sound.indexed;
   numbered = applied_numbered delta kept changes projects (desk_of old) (desk_of new) copies done sound.numbered;
@@ -279,7 +270,7 @@ made_sound delta kept changes given projects (Err e) old new copies are keeps li
 }
 
 pub made_committed : (delta : Delta) (kept : Kept) (changes : Changes) (projects : ℕ) (r : Result (Unit {0}) AllocError) (old made new : Desk) → AreChangesOf delta kept changes →
-    ArePrepared old.changes delta.changes.items changes.edits → OnOk r (AreApplied old changes projects made) → OnOk r (IsWithBase delta.base old.branches made.branches) → projects ≡ projects_after delta.file (row_of old) old.projects → new ≡ made → OnOk r (IsCommitted (tables_of old) delta (kept_row kept) (tables_of new))
+    ArePrepared old.changes delta.changes.items changes.edits → OnOk r (AreApplied old changes projects made) → OnOk r (IsWithBase delta.base old.branches made.branches) → projects ≡ count_put (λ p. true) delta.file (files_of (row_of old)) old.projects → new ≡ made → OnOk r (IsCommitted (tables_of old) delta (kept_row kept) (tables_of new))
 made_committed delta kept changes projects (Ok u) old made new copies prepared done based number same =
     subst (λ d. IsCommitted (tables_of old) delta (kept_row kept) (tables_of d)) (sym same) (committed delta kept changes projects old made copies prepared done based number)
 made_committed delta kept changes projects (Err e) old made new copies prepared done based number same = tt

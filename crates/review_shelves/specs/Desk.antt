@@ -8,13 +8,13 @@ use Rattle.review_table.specs.declared.table.Change.{Change}
 use Rattle.review_table.specs.Rows.{row_in, rows_of, is_named, HasEmptyOnly, HasNoEmptyPlace, HavePlaces, changed}
 use Rattle.review_words.specs.History.{Identity}
 use Rattle.review_rows.specs.declared.rows.MemberKey.{MemberKey as Member}
-use Rattle.review_rows.specs.declared.rows.BaseRow.{BaseRow as PlacedBase}
-use Rattle.review_rows.specs.declared.rows.ProjectRow.{ProjectRow}
+use Rattle.review_rows.specs.declared.rows.PlaceKey.{PlaceKey}
+use Rattle.review_rows.specs.declared.rows.Put.{Put}
 use Rattle.review_rows.specs.declared.rows.Delta.{Delta}
 use Rattle.review_rows.specs.declared.rows.Kept.{Kept}
 use Rattle.review_rows.specs.Rows.{Key, AccountKey, MemberKey, FileKey, BaseKey, PartKey, OddKey, Row, AccountRow, FileRow, BaseRow, APart, Count, Projects, BasesOf, AnswerRow, Stored, Answered, Tables, member_cmp, member_row, kept_row}
 use Rattle.review_rows.specs.View.{tables_version}
-use Rattle.review_kept_changes.specs.declared.edits.ChangeTables.{ChangeTables}
+use Rattle.review_change_rows.specs.declared.tables.ChangeTables.{ChangeTables}
 use Rattle.review_kept_changes.specs.Kept.{KeptView, HasRoomFor, IsFull, part_at}
 use Rattle.review_kept_branches.specs.Branches.{BranchesView, IsPut, base_at, total_in}
 use Rattle.review_shelves.specs.declared.keys.NameKey.{NameKey}
@@ -166,9 +166,9 @@ pub record PutsAnswer (kept : Kept) (c : Change AnswerKey StoredAnswer) : Type 0
   pub row : stored_row (kept_row kept).identity c.row ≡ Some (kept_row kept)
 
 -- the change of a project's file
-abbrev pub file_changes : Option ProjectRow → List (Change (List ℕ) (List ℕ))
+abbrev pub file_changes : Option (Put (List ℕ) (List ℕ)) → List (Change (List ℕ) (List ℕ))
 file_changes None = []
-file_changes (Some put) = record { key = put.project; row = Some put.file } ∷ []
+file_changes (Some put) = record { key = put.key; row = Some put.row } ∷ []
 
 -- the changes are those of the delta, and the request's row
 pub record AreChangesOf (delta : Delta) (kept : Kept) (changes : Changes) : Type 0 where
@@ -207,7 +207,7 @@ pub record HasRoomOnlyFor (changes : Changes) (t : MemoryTables) : Type 0 where
   pub answers : HasEmptyOnly answer_cmp (is_named answer_cmp changes.answers.items) t.answers
 
 -- a base was put, where there is one to put
-abbrev pub IsWithBase : Option PlacedBase → BranchesView → BranchesView → Type 0
+abbrev pub IsWithBase : Option (Put PlaceKey (List ℕ)) → BranchesView → BranchesView → Type 0
 IsWithBase None old new = new ≡ old
 IsWithBase (Some base) old new = IsPut base old new
 

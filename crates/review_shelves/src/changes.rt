@@ -7,7 +7,7 @@ ghost use Rattle.review_shelves.specs.Desk.{IsNumber, IsHeld, IsGiven, AreChange
 
 use crate::keys::{AnswerKey, NameKey, StoredAnswer};
 use review_kept_changes::{KeptChanges, Prepared};
-use review_rows::{Delta, Kept, MemberKey, ProjectRow};
+use review_rows::{Delta, Kept, MemberKey, Put};
 use review_table::{Change, Key, Table};
 use review_words::{AccountName, AccountNo, FileText, ProjectName};
 use std::alloc::{AllocError, Global};
@@ -109,15 +109,15 @@ fn copied_member(
 
 fn copied_file(
     alloc: Global,
-    file: &Option<ProjectRow>,
+    file: &Option<Put<ProjectName, FileText>>,
 ) -> Result<Vec<Change<ProjectName, FileText>>, AllocError>
     ensures { IfOk result (λ v. v.items ≡ file_changes file.now) }
 {
     match file {
         Some(put) => Ok(vec![in alloc;
             Change {
-                key: put.project.copy(alloc)?,
-                row: Some(put.file.copy(alloc)?),
+                key: put.key.copy(alloc)?,
+                row: Some(put.row.copy(alloc)?),
             },
         ]?),
         None => Ok(Vec::new(alloc)),

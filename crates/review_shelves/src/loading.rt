@@ -8,7 +8,7 @@ ghost use Rattle.review_rows.specs.declared.rows.Counted.TheVariants as counted;
 ghost use Rattle.review_rows.specs.Rows.{AccountKey, member_cmp};
 ghost use Rattle.review_rows.specs.Known.{Agrees, AreAsked, IsLast, HasMembers, StandsAs};
 ghost use Rattle.review_shelves.specs.Desk.{tables_of, desk_of, row_of, IsIndexed, IsNumbered};
-ghost use Rattle.review_kept_changes.specs.Looked.{LearnsFound};
+ghost use Rattle.review_rows.specs.Known.{LearnsFound};
 ghost use Rattle.review_shelves.specs.Loads.{IsUnread};
 
 use crate::keys::NameKey;

@@ -1,10 +1,10 @@
 //! The tables of a desk in memory, and what changes in them.
-ghost use Rattle.std.specs.Prelude.{◌≡◌, Some, IfOk, OnOk, OnErr, ◌<◌, ◌^◌, ◌-◌, IsTrue, ◌↔◌, []};
+ghost use Rattle.std.specs.Prelude.{◌≡◌, Some, IfOk, OnOk, OnErr, ◌<◌, ◌^◌, ◌-◌, IsTrue, ◌↔◌, [], true};
 ghost use Rattle.std.specs.List.{All};
 ghost use Rattle.std.specs.Ordering.{nat_cmp};
 ghost use Rattle.std.specs.Cmp.Lexicographic.{slice_cmp};
 ghost use Rattle.review_table.specs.Rows.{row_in, rows_of, is_named, HasEmptyOnly, HasNoEmptyPlace};
-ghost use Rattle.review_rows.specs.Rows.{projects_after, kept_row, member_cmp};
+ghost use Rattle.review_rows.specs.Rows.{FileKey, count_put, kept_row, member_cmp};
 ghost use Rattle.review_rows.specs.declared.rows.Kept.{Kept};
 ghost use Rattle.review_shelves.specs.declared.changes.Changes.{Changes};
 ghost use Rattle.review_rows.specs.Shelf.{IsRecalled, IsCommitted};
@@ -17,10 +17,11 @@ use crate::changes::{Changes, names_given, names_held};
 use crate::keys::{AnswerKey, NameKey, StoredAnswer};
 use review_kept_branches::Branches;
 use review_kept_changes::{KeptChanges, Prepared};
-use review_rows::{BaseRow, Delta, Kept, MemberKey, ProjectRow};
+use review_rows::{Delta, Kept, MemberKey, PlaceKey, Put};
 use review_table::{Key, Table};
 use review_words::{
-    AccountName, AccountNo, FileText, ProjectName, RequestId, admin_name, administrators,
+    AccountName, AccountNo, CommitName, FileText, ProjectName, RequestId, admin_name,
+    administrators,
 };
 use std::alloc::{AllocError, Global};
 
@@ -112,12 +113,12 @@ impl MemoryTables {
     }
 
     /// How many projects there are once one gets a file.
-    fn projects_with(&self, file: &Option<ProjectRow>) -> u64
+    fn projects_with(&self, file: &Option<Put<ProjectName, FileText>>) -> u64
         requires { self.now.projects < 2 ^ 64 - 1 }
-        ensures { result ≡ projects_after file.now (row_of (desk_of self.now)) self.now.projects }
+        ensures { result ≡ count_put (λ p. true) file.now (λ p. row_of (desk_of self.now) (FileKey p)) self.now.projects }
     {
         match file {
-            Some(put) if self.files.get(&put.project).is_none() => self.projects + 1,
+            Some(put) if self.files.get(&put.key).is_none() => self.projects + 1,
             Some(_) | None => self.projects,
         }
     }
@@ -129,7 +130,7 @@ impl MemoryTables {
         given: &[NameKey],
         changes: Changes,
         projects: u64,
-        base: &Option<BaseRow>,
+        base: &Option<Put<PlaceKey, CommitName>>,
     ) -> Result<(), AllocError>
         requires number { self.old.requests < 2 ^ 64 - 1 }
         requires bounded { IsBounded (desk_of self.old) }
@@ -153,7 +154,7 @@ impl MemoryTables {
     fn put_base_beside(
         &mut self,
         alloc: Global,
-        base: &Option<BaseRow>,
+        base: &Option<Put<PlaceKey, CommitName>>,
         edits: &Prepared,
     ) -> Result<(), AllocError>
         requires number { self.old.requests < 2 ^ 64 - 1 }
@@ -183,7 +184,11 @@ impl MemoryTables {
     }
 
     /// Puts a base, where there is one, or changes nothing.
-    fn put_base(&mut self, alloc: Global, base: &Option<BaseRow>) -> Result<(), AllocError>
+    fn put_base(
+        &mut self,
+        alloc: Global,
+        base: &Option<Put<PlaceKey, CommitName>>,
+    ) -> Result<(), AllocError>
         requires number { self.old.requests < 2 ^ 64 - 1 }
         requires bounded { IsBounded (desk_of self.old) }
         ensures added { OnOk result (IsWithBase base.now self.old.branches self.new.branches) }
@@ -354,11 +359,11 @@ fn first_members(alloc: Global) -> Result<Table<MemberKey, ()>, AllocError>
 }
 
 // Drops the place of a project's file, where it holds none.
-fn release_file(files: &mut Table<ProjectName, FileText>, file: &Option<ProjectRow>)
+fn release_file(files: &mut Table<ProjectName, FileText>, file: &Option<Put<ProjectName, FileText>>)
     ensures same { rows_of files.new ≡ rows_of files.old }
     ensures filled { HasEmptyOnly (slice_cmp nat_cmp) (is_named (slice_cmp nat_cmp) (file_changes file.now)) files.old → HasNoEmptyPlace (slice_cmp nat_cmp) files.new }
 {
     if let Some(put) = file {
-        files.release_one(&put.project);
+        files.release_one(&put.key);
     }
 }

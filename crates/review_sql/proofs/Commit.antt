@@ -1,6 +1,7 @@
 -- What the statements of a commit do together.
-use Rattle.std.proofs.Common.{◌≡◌, ◌≢◌, ◌∙◌, ◌+◌, ◌≤◌, ◌==◌, ◌&&◌, ℕ, List, [], ◌∷◌, Option, Some, None, option_map, Bool, cond, Ordering, Less, Equal, Greater, true, false, is_some, refl, sym, ap, subst, arith, inl, inr, length, filter, eqb-true, eq-eqb}
+use Rattle.std.proofs.Common.{◌≡◌, ◌≢◌, ◌∙◌, ◌+◌, ◌≤◌, ℕ, List, [], ◌∷◌, Option, Some, None, option_map, cond, Ordering, Less, Equal, Greater, true, false, is_some, refl, sym, ap, subst, arith, inl, inr, length, filter, eqb-true, eq-eqb}
 use Rattle.std.specs.Str.{bytes_eq}
+use Rattle.std.specs.BTreeMap.{is_at}
 use Rattle.std.specs.Ordering.{nat_cmp, is_eq, ordering_then}
 use Rattle.std.specs.Cmp.Lexicographic.{slice_cmp}
 use Rattle.std.proofs.lemmas.Bool.{cases_Bool, and_parts, and_from, both_ways}
@@ -15,19 +16,19 @@ use Rattle.review_words.specs.History.{Identity, is_same}
 use Rattle.review_rows.specs.declared.rows.Delta.{Delta}
 use Rattle.review_rows.specs.declared.rows.Kept.{Kept}
 use Rattle.review_rows.specs.declared.rows.MemberKey.{MemberKey as Member}
-use Rattle.review_rows.specs.declared.rows.ProjectRow.{ProjectRow}
-use Rattle.review_rows.specs.declared.rows.BaseRow.{BaseRow as PlacedBase}
-use Rattle.review_rows.specs.Rows.{Key, AccountKey, MemberKey, FileKey, BaseKey, PartKey, OddKey, Row, AccountRow, MemberRow, FileRow, BaseRow, APart, edited, Count, Projects, BasesOf, Answered, member_cmp, member_change, account_change, file_after, base_after, kept_row, after, count_after, projects_after, bases_after}
+use Rattle.review_rows.specs.declared.rows.Put.{Put}
+use Rattle.review_rows.specs.Rows.{Key, AccountKey, MemberKey, FileKey, BaseKey, PartKey, OddKey, Row, AccountRow, MemberRow, FileRow, BaseRow, APart, edited, Count, Projects, BasesOf, Answered, member_cmp, member_change, account_change, after_put, count_put, place_cmp, kept_row, after, count_after}
 use Rattle.review_rows.specs.Shelf.{IsCommitted}
-use Rattle.review_records.specs.declared.rows.PlaceKey.{PlaceKey}
-use Rattle.review_statements.specs.Content.{Then, has_key}
+use Rattle.review_rows.proofs.Puts.{exact_place, place_total}
+use Rattle.review_rows.specs.declared.rows.PlaceKey.{PlaceKey}
+use Rattle.review_statements.specs.Content.{SparesOthers, Then, has_key}
 use Rattle.review_statements.specs.Desk.{is_tree}
 use Rattle.review_statements.specs.Ran.{OnDesk}
-use Rattle.review_statements.specs.Search.{row_at, rows_at, only, reads, SetsAny}
+use Rattle.review_statements.specs.Search.{row_at, rows_at, only, reads, Search}
 use Rattle.review_tables.specs.Fronts.{IsExact}
-use Rattle.review_tables.proofs.Changed.{rows_changed, rows_spare, any_spares}
+use Rattle.review_tables.proofs.Changed.{rows_changed, rows_spare}
 use Rattle.review_tables.proofs.Keys.{equal_is, same_text}
-use Rattle.review_sql.specs.Changes.{SetsDelta, SetsKept, SetsDesk, place_of}
+use Rattle.review_sql.specs.Changes.{SetsDelta, SetsKept, SetsDesk, SetsPut}
 use Rattle.review_records.specs.Forms.{accounts, members, projects, bases, answers}
 use Rattle.review_lookups.specs.Tables.{told, row_in, count_in, answer_in, stored_as, number_of, tables_at, IsDesk}
 use Rattle.review_sql.specs.Commits.{Commits, AreSingle}
@@ -58,6 +59,12 @@ members_exact = record {
   itself = λ a. then_equal (slice_cmp nat_cmp a.group a.group) (nat_cmp a.account a.account) (tied_itself nat_list_cmp_total a.group) (tied_itself nat_cmp_total a.account);
 }
 
+names_exact : IsExact (slice_cmp nat_cmp)
+names_exact = record { same = λ a b is. exact_bytes a b (equal_is _ is); itself = λ a. ap is_eq (tied_itself nat_list_cmp_total a) }
+
+places_exact : IsExact place_cmp
+places_exact = record { same = λ a b is. exact_place a b (equal_is _ is); itself = λ a. ap is_eq (tied_itself place_total a) }
+
 -- ---- rows
 
 told_account : (c : Option (Option (List ℕ))) (was : Option (Option (List ℕ))) → told AccountRow (after_change (option_map (option_map Some) c) was) ≡ after_change (account_change c) (told AccountRow was)
@@ -70,57 +77,24 @@ told_member None was = refl
 told_member (Some None) was = refl
 told_member (Some (Some u)) was = refl
 
-abbrev File : Option ProjectRow → Trees → Trees → Type 0
-File = SetsAny projects (λ (r : ProjectRow). r.project) (λ r. r.file)
+module _ {A X : Type 0} (s : Search A X) where
+  module _ (cmp : A → A → Ordering) (exact : IsExact cmp) (kind : X → Row) where
+    row_put : (o : Option (Put A X)) (old new : Trees) → SetsPut s o old new → (a : A) → told kind (row_at s new a) ≡ after_put cmp kind o a (told kind (row_at s old a))
+    row_put None old new h a = ap (λ (t : Trees). told kind (row_at s t a)) h
+    row_put (Some put) old new h a = elim (cases_Bool (is_at (cmp put.key) a)) [
+      | inl is ↦ rw is (subst (λ k. told kind (row_at s new k) ≡ Some (kind put.row)) (exact.same put.key a is) (ap (told kind) h.here))
+      | inr other ↦ rw other (ap (told kind) (h.there a (λ same. both_ways _ other (subst (λ k. is_at (cmp put.key) k ≡ true) (sym same) (exact.itself put.key)))))
+    ]
 
-abbrev Base : Option PlacedBase → Trees → Trees → Type 0
-Base = SetsAny bases place_of (λ r. r.commit)
-
-file_row : (o : Option ProjectRow) (old new : Trees) → File o old new → (p : List ℕ) → told FileRow (row_at projects new p) ≡ file_after o p (told FileRow (row_at projects old p))
-file_row None old new h p = ap (λ (t : Trees). told FileRow (row_at projects t p)) h
-file_row (Some put) old new h p = elim (cases_Bool (bytes_eq put.project p)) [
-  | inl is ↦ rw is (subst (λ k. told FileRow (row_at projects new k) ≡ Some (FileRow put.file)) (same_bytes put.project p is) (ap (told FileRow) h.here))
-  | inr other ↦ rw other (ap (told FileRow) (h.there p (λ same. both_ways _ other (own_bytes put.project p (sym same)))))
-]
-
-abbrev at_base : PlacedBase → List ℕ → List ℕ → ℕ → Bool
-at_base b project branch place = bytes_eq b.project project && (bytes_eq b.branch branch && (b.place == place))
-
-base_row : (o : Option PlacedBase) (old new : Trees) → Base o old new → (project branch : List ℕ) (place : ℕ)
-    → told BaseRow (row_at bases new (record { project = project; branch = branch; place = place })) ≡ base_after o project branch place (told BaseRow (row_at bases old (record { project = project; branch = branch; place = place })))
-base_row None old new h project branch place = ap (λ (t : Trees). told BaseRow (row_at bases t (record { project = project; branch = branch; place = place }))) h
-base_row (Some b) old new h project branch place = elim (cases_Bool (at_base b project branch place)) [
-  | inl is ↦
-      let one = and_parts _ _ is in
-      let two = and_parts _ _ one.1 in
-      rw is (subst (λ k. told BaseRow (row_at bases new k) ≡ Some (BaseRow b.commit)) (λ i. record { project = same_bytes b.project project one.0 i; branch = same_bytes b.branch branch two.0 i; place = eqb-true b.place place two.1 i }) (ap (told BaseRow) h.here))
-  | inr other ↦ rw other (ap (told BaseRow) (h.there (record { project = project; branch = branch; place = place })
-      (λ same. both_ways (at_base b project branch place) other (and_from _ _ (own_bytes b.project project (sym (ap (λ k. k.project) same))) (and_from _ _ (own_bytes b.branch branch (sym (ap (λ k. k.branch) same))) (eq-eqb b.place place (sym (ap (λ k. k.place) same))))))))
-]
+  put_spares : (o : Option (Put A X)) (old new : Trees) → SetsPut s o old new → SparesOthers s.tree old new
+  put_spares None old new h = λ t is other. ap (λ (d : Trees). d t) h
+  put_spares (Some put) old new h = h.others
 
 -- ---- counts
 
 all_pass : (rows : List Raw) → filter (λ r. true) rows ≡ rows
 all_pass [] = refl
 all_pass (r ∷ rows) = ap (λ l. r ∷ l) (all_pass rows)
-
--- a count of projects after a file was put, where the rows of projects were these
-abbrev count_after_file : Option ProjectRow → (List ℕ → Option Row) → ℕ → ℕ
-count_after_file None row n = n
-count_after_file (Some put) row n = cond (is_some (row put.project)) n (n + 1)
-
-file_counts : (o : Option ProjectRow) (row : Key → Option Row) (n : ℕ) → count_after_file o (λ p. row (FileKey p)) n ≡ projects_after o row n
-file_counts None row n = refl
-file_counts (Some put) row n = refl
-
--- a count of bases after one was put
-abbrev count_after_base : Option PlacedBase → (PlaceKey → Option Row) → List ℕ → ℕ → ℕ
-count_after_base None row project n = n
-count_after_base (Some b) row project n = cond (bytes_eq b.project project) (cond (is_some (row (place_of b))) n (n + 1)) n
-
-base_counts : (o : Option PlacedBase) (row : Key → Option Row) (project : List ℕ) (n : ℕ) → count_after_base o (λ k. row (BaseKey k.project k.branch k.place)) project n ≡ bases_after o row project n
-base_counts None row project n = refl
-base_counts (Some b) row project n = refl
 
 -- one more where the key had no row, and as many where it had one
 counted_as : {X : Type 0} (kind : X → Row) (read : Raw → Option X) (rows : List Raw) (n m : ℕ) → length rows ≤ 1 → m + length rows ≡ n + 1 → m ≡ cond (is_some (told kind (only read rows))) n (n + 1)
@@ -132,20 +106,21 @@ counted_as {X} kind read (r ∷ []) n m single more = go (read r) (omega (arith,
     go (Some x) same = same
 counted_as kind read (r ∷ s ∷ rows) n m single more = absurd (omega (arith, single))
 
-file_count : (o : Option ProjectRow) (old new : Trees) → File o old new → ((p : List ℕ) → length (rows_at (projects.at p) (old 4)) ≤ 1) → length (new 4) ≡ count_after_file o (λ p. told FileRow (row_at projects old p)) (length (old 4))
+file_count : (o : Option (Put (List ℕ) (List ℕ))) (old new : Trees) → SetsPut projects o old new → ((p : List ℕ) → length (rows_at (projects.at p) (old 4)) ≤ 1)
+    → length (new 4) ≡ count_put (λ p. true) o (λ p. told FileRow (row_at projects old p)) (length (old 4))
 file_count None old new h single = ap (λ (t : Trees). length (t 4)) h
 file_count (Some put) old new h single =
-    counted_as FileRow (reads projects) (rows_at (projects.at put.project) (old 4)) (length (old 4)) (length (new 4)) (single put.project)
+    counted_as FileRow (reads projects) (rows_at (projects.at put.key) (old 4)) (length (old 4)) (length (new 4)) (single put.key)
     (let e = h.counted (λ r. true) (λ r has. refl) in rw (all_pass (new 4), all_pass (old 4)) at e)
 
-base_count : (o : Option PlacedBase) (old new : Trees) → Base o old new → ((k : PlaceKey) → length (rows_at (bases.at k) (old 6)) ≤ 1) → (project : List ℕ)
-    → length (rows_at ((1, Text project) ∷ []) (new 6)) ≡ count_after_base o (λ k. told BaseRow (row_at bases old k)) project (length (rows_at ((1, Text project) ∷ []) (old 6)))
+base_count : (o : Option (Put PlaceKey (List ℕ))) (old new : Trees) → SetsPut bases o old new → ((k : PlaceKey) → length (rows_at (bases.at k) (old 6)) ≤ 1) → (project : List ℕ)
+    → length (rows_at ((1, Text project) ∷ []) (new 6)) ≡ count_put (λ k. bytes_eq k.project project) o (λ k. told BaseRow (row_at bases old k)) (length (rows_at ((1, Text project) ∷ []) (old 6)))
 base_count None old new h single project = ap (λ (t : Trees). length (rows_at ((1, Text project) ∷ []) (t 6))) h
-base_count (Some b) old new h single project = elim (cases_Bool (bytes_eq b.project project)) [
-  | inl is ↦ rw is (counted_as BaseRow (reads bases) (rows_at (bases.at (place_of b)) (old 6)) (length (rows_at ((1, Text project) ∷ []) (old 6))) (length (rows_at ((1, Text project) ∷ []) (new 6))) (single (place_of b))
-      (h.counted (has_key ((1, Text project) ∷ [])) (λ r has. subst (λ p. has_key ((1, Text p) ∷ []) r ≡ true) (same_bytes b.project project is) (and_from _ _ (and_parts _ _ has).0 refl))))
+base_count (Some b) old new h single project = elim (cases_Bool (bytes_eq b.key.project project)) [
+  | inl is ↦ rw is (counted_as BaseRow (reads bases) (rows_at (bases.at b.key) (old 6)) (length (rows_at ((1, Text project) ∷ []) (old 6))) (length (rows_at ((1, Text project) ∷ []) (new 6))) (single b.key)
+      (h.counted (has_key ((1, Text project) ∷ [])) (λ r has. subst (λ p. has_key ((1, Text p) ∷ []) r ≡ true) (same_bytes b.key.project project is) (and_from _ _ (and_parts _ _ has).0 refl))))
   | inr other ↦ rw other (ap length (h.apart (has_key ((1, Text project) ∷ [])) (λ r has. elim (cases_Bool (has_key ((1, Text project) ∷ []) r)) [
-    | inl too ↦ absurd (both_ways _ other (own_bytes b.project project (same_text (column r 1) b.project project (and_parts _ _ has).0 (and_parts _ _ too).0)))
+    | inl too ↦ absurd (both_ways _ other (own_bytes b.key.project project (same_text (column r 1) b.key.project project (and_parts _ _ has).0 (and_parts _ _ too).0)))
     | inr apart ↦ apart
   ])))
 ]
@@ -190,10 +165,10 @@ module _ (delta : Delta) (kept : Kept) (n : ℕ) (a b : Trees) (single : AreSing
   late t is other p q = last t is p q ∙ edits_spare [] delta.changes.items u t1 h.1.1.2 t is other
 
   base_spares : (t : ℕ) → is_tree t ≡ true → t ≢ 6 → u t ≡ d3 t
-  base_spares t is p = any_spares bases place_of (λ r. r.commit) delta.base d3 u h.1.1.1.2 t is p
+  base_spares t is p = put_spares bases delta.base d3 u h.1.1.1.2 t is p
 
   file_spares : (t : ℕ) → is_tree t ≡ true → t ≢ 4 → d3 t ≡ d2 t
-  file_spares t is p = any_spares projects (λ r. r.project) (λ r. r.file) delta.file d2 d3 h.1.1.1.1.2 t is p
+  file_spares t is p = put_spares projects delta.file d2 d3 h.1.1.1.1.2 t is p
 
   member_spares : (t : ℕ) → is_tree t ≡ true → t ≢ 2 → d2 t ≡ d1 t
   member_spares t is p = rows_spare members delta.members.items d1 d2 h.1.1.1.1.1.2 t is p
@@ -243,11 +218,11 @@ module _ (delta : Delta) (kept : Kept) (n : ℕ) (a b : Trees) (single : AreSing
       ∙ ap (λ l. after_change (member_change (change_of member_cmp delta.members.items k)) (told (λ u. MemberRow) (only (reads members) (rows_at (members.at k) l)))) was_2))
   rows (FileKey project) =
       ap (λ l. told FileRow (only (reads projects) (rows_at (projects.at project) l))) at_4
-      ∙ (file_row delta.file d2 d3 h.1.1.1.1.2 project ∙ ap (λ l. file_after delta.file project (told FileRow (only (reads projects) (rows_at (projects.at project) l)))) was_4)
+      ∙ (row_put projects (slice_cmp nat_cmp) names_exact FileRow delta.file d2 d3 h.1.1.1.1.2 project ∙ ap (λ l. after_put (slice_cmp nat_cmp) FileRow delta.file project (told FileRow (only (reads projects) (rows_at (projects.at project) l)))) was_4)
   rows (BaseKey project branch place) =
       let k : PlaceKey = record { project = project; branch = branch; place = place } in
       ap (λ l. told BaseRow (only (reads bases) (rows_at (bases.at k) l))) at_6
-      ∙ (base_row delta.base d3 u h.1.1.1.2 project branch place ∙ ap (λ l. base_after delta.base project branch place (told BaseRow (only (reads bases) (rows_at (bases.at k) l)))) was_6)
+      ∙ (row_put bases place_cmp places_exact BaseRow delta.base d3 u h.1.1.1.2 k ∙ ap (λ l. after_put place_cmp BaseRow delta.base k (told BaseRow (only (reads bases) (rows_at (bases.at k) l)))) was_6)
   rows (PartKey n part) =
       part_same t1 b (last 9 refl (λ e. omega (arith, e)) (λ e. omega (arith, e))) (last 11 refl (λ e. omega (arith, e)) (λ e. omega (arith, e))) (last 14 refl (λ e. omega (arith, e)) (λ e. omega (arith, e)))
       (last 16 refl (λ e. omega (arith, e)) (λ e. omega (arith, e))) (last 18 refl (λ e. omega (arith, e)) (λ e. omega (arith, e))) (last 20 refl (λ e. omega (arith, e)) (λ e. omega (arith, e))) n part
@@ -258,12 +233,11 @@ module _ (delta : Delta) (kept : Kept) (n : ℕ) (a b : Trees) (single : AreSing
   counts : (c : Count) → count_in b c ≡ count_after delta (row_in a) c (count_in a c)
   counts Projects =
       ap length at_4 ∙ (file_count delta.file d2 d3 h.1.1.1.1.2 (λ p. subst (λ l. length (rows_at (projects.at p) l) ≤ 1) (sym was_4) (single.projects_are p))
-      ∙ (ap (λ l. count_after_file delta.file (λ p. told FileRow (only (reads projects) (rows_at (projects.at p) l))) (length l)) was_4 ∙ file_counts delta.file (row_in a) (length (a 4))))
+      ∙ ap (λ l. count_put (λ p. true) delta.file (λ p. told FileRow (only (reads projects) (rows_at (projects.at p) l))) (length l)) was_4)
   counts (BasesOf project) =
       ap (λ l. length (rows_at ((1, Text project) ∷ []) l)) at_6
       ∙ (base_count delta.base d3 u h.1.1.1.2 (λ k. subst (λ l. length (rows_at (bases.at k) l) ≤ 1) (sym was_6) (single.bases_are k)) project
-      ∙ (ap (λ l. count_after_base delta.base (λ k. told BaseRow (only (reads bases) (rows_at (bases.at k) l))) project (length (rows_at ((1, Text project) ∷ []) l))) was_6
-      ∙ base_counts delta.base (row_in a) project (length (rows_at ((1, Text project) ∷ []) (a 6)))))
+      ∙ ap (λ l. count_put (λ (k : PlaceKey). bytes_eq k.project project) delta.base (λ k. told BaseRow (only (reads bases) (rows_at (bases.at k) l))) (length (rows_at ((1, Text project) ∷ []) l))) was_6)
 
   pub committed : IsCommitted (tables_at a) delta (kept_row kept) (tables_at b)
   committed = record {

@@ -14,7 +14,7 @@ use Rattle.review_statements.specs.Desk.{desk_schema, projects as project_table,
 use Rattle.review_statements.specs.Ran.{IsReady}
 use Rattle.review_statements.specs.Search.{rows_at}
 use Rattle.review_tables.proofs.Single.{equal_values, differ_ids, one_passes}
-use Rattle.review_records.specs.declared.rows.PlaceKey.{PlaceKey}
+use Rattle.review_rows.specs.declared.rows.PlaceKey.{PlaceKey}
 use Rattle.review_records.specs.Forms.{projects, bases}
 use Rattle.review_sql.specs.Commits.{AreSingle}
 

@@ -1,29 +1,27 @@
 -- What a delta does to the trees, table by table.
-use Rattle.std.specs.Prelude.{ℕ, ◌≡◌, ◌==◌, ◌++◌, Bool, true, false, List, [], ◌∷◌, Some}
+use Rattle.std.specs.Prelude.{ℕ, ◌≡◌, ◌==◌, ◌++◌, Bool, true, false, List, [], ◌∷◌, Option, Some, None}
 use Rattle.std.specs.List.{list_any}
 use Rattle.sqlite_trees.specs.Tree.{Trees}
 use Rattle.review_rows.specs.declared.rows.ChangeEdit.{ChangeEdit}
 use Rattle.review_rows.specs.declared.rows.Delta.{Delta}
 use Rattle.review_rows.specs.declared.rows.Kept.{Kept}
-use Rattle.review_rows.specs.declared.rows.ProjectRow.{ProjectRow}
-use Rattle.review_rows.specs.declared.rows.BaseRow.{BaseRow}
+use Rattle.review_rows.specs.declared.rows.Put.{Put}
 use Rattle.std.specs.Prelude.{string_bytes}
 use Rattle.review_statements.specs.Content.{Then}
 use Rattle.review_tables.specs.Fronts.{SetsParts}
-use Rattle.review_statements.specs.Search.{SetsRow, SetsRows, SetsAny}
-use Rattle.review_records.specs.declared.rows.PlaceKey.{PlaceKey}
+use Rattle.review_statements.specs.Search.{Search, SetsRow, SetsRows}
 use Rattle.review_change_records.specs.Forms.{headers, patches, votes, roles, comments, calls}
 use Rattle.review_records.specs.Forms.{accounts, members, projects, bases, answers, desk}
 
--- the key of a base
-abbrev pub place_of : BaseRow → PlaceKey
-place_of r = record { project = r.project; branch = r.branch; place = r.place }
+-- a row is put, where there is one
+abbrev pub SetsPut : {A X : Type 0} → Search A X → Option (Put A X) → Trees → Trees → Type 0
+SetsPut s None old new = new ≡ old
+SetsPut s (Some put) old new = SetsRow s put.key (Some put.row) old new
 
 -- the rows of accounts, members, projects and bases of a delta are put or taken away
 abbrev pub SetsFour : Delta → Trees → Trees → Type 0
 SetsFour delta =
-    Then (Then (Then (SetsRows accounts delta.accounts.items) (SetsRows members delta.members.items)) (SetsAny projects (λ (r : ProjectRow). r.project) (λ r. r.file) delta.file))
-    (SetsAny bases place_of (λ r. r.commit) delta.base)
+    Then (Then (Then (SetsRows accounts delta.accounts.items) (SetsRows members delta.members.items)) (SetsPut projects delta.file)) (SetsPut bases delta.base)
 
 -- the rows of a change are put or taken away
 abbrev pub SetsEdit : ChangeEdit → Trees → Trees → Type 0

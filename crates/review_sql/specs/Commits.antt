@@ -8,7 +8,7 @@ use Rattle.review_rows.specs.declared.rows.Delta.{Delta}
 use Rattle.review_rows.specs.declared.rows.Kept.{Kept}
 use Rattle.review_statements.specs.Ran.{IsReady}
 use Rattle.review_statements.specs.Search.{rows_at}
-use Rattle.review_records.specs.declared.rows.PlaceKey.{PlaceKey}
+use Rattle.review_rows.specs.declared.rows.PlaceKey.{PlaceKey}
 use Rattle.review_records.specs.Forms.{projects, bases}
 use Rattle.review_lookups.specs.Tables.{tables_at, IsDesk}
 

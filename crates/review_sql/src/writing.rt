@@ -2,10 +2,7 @@
 ghost use Rattle.std.specs.Prelude.{◌≡◌, [], ◌+◌, ◌<◌, ◌^◌, false};
 ghost use Rattle.sqlite.specs.Held.{state};
 ghost use Rattle.review_statements.specs.Ran.{Inside, Within, Opens, Transacts};
-ghost use Rattle.review_rows.specs.declared.rows.ProjectRow.{ProjectRow as Project};
-ghost use Rattle.review_statements.specs.Search.{SetsAny};
-ghost use Rattle.review_records.specs.Forms.{bases, projects};
-ghost use Rattle.review_sql.specs.Changes.{SetsDelta, SetsEdit, SetsEdits, SetsFour, SetsUnless, is_named, place_of};
+ghost use Rattle.review_sql.specs.Changes.{SetsDelta, SetsEdit, SetsEdits, SetsFour, SetsPut, SetsUnless, is_named};
 ghost use Rattle.review_sql.specs.Commits.{Commits};
 
 use review_change_records::calls::Calls;
@@ -20,47 +17,26 @@ use review_records::bases::Bases;
 use review_records::desk::Desk;
 use review_records::members::Members;
 use review_records::projects::Projects;
-use review_records::rows::{DeskRow, PlaceKey};
-use review_rows::{BaseRow, ChangeEdit, Delta, Kept, ProjectRow};
+use review_records::rows::DeskRow;
+use review_rows::{ChangeEdit, Delta, Kept, Put};
 use review_tables::changes::{change_all, set};
 use review_tables::fronts::change_parts;
+use review_tables::table::Table;
 use review_words::ChangeNo;
 use sqlite::{Alter, Connection, Error, Transaction};
 use std::alloc::Global;
 
-// Puts the file of a project, where there is one.
-fn put_file<S: Alter>(
+// Puts a row, where there is one.
+fn put_row<T: Table, S: Alter>(
     tx: &mut Transaction<'_, S>,
     alloc: Global,
-    file: &Option<ProjectRow>,
+    put: &Option<Put<T::Key, T::Item>>,
 ) -> Result<(), Error>
     ensures same_reference { tx.new.conn.ghost_name ≡ tx.old.conn.ghost_name }
-    ensures ran { Inside (SetsAny projects (λ (r : Project). r.project) (λ r. r.file) file.now) (state S.Store tx.old.conn.now) (state S.Store tx.new.conn.now) result }
+    ensures ran { Inside (SetsPut T.search put.now) (state S.Store tx.old.conn.now) (state S.Store tx.new.conn.now) result }
 {
-    match file {
-        Some(row) => set::<Projects, S>(tx, alloc, &row.project, &row.file),
-        None => Ok(()),
-    }
-}
-
-// Puts a base, where there is one.
-fn put_base<S: Alter>(
-    tx: &mut Transaction<'_, S>,
-    alloc: Global,
-    base: &Option<BaseRow>,
-) -> Result<(), Error>
-    ensures same_reference { tx.new.conn.ghost_name ≡ tx.old.conn.ghost_name }
-    ensures ran { Inside (SetsAny bases place_of (λ r. r.commit) base.now) (state S.Store tx.old.conn.now) (state S.Store tx.new.conn.now) result }
-{
-    match base {
-        Some(row) => {
-            let key = PlaceKey {
-                project: row.project.copy(alloc)?,
-                branch: row.branch.copy(alloc)?,
-                place: row.place,
-            };
-            set::<Bases, S>(tx, alloc, &key, &row.commit)
-        }
+    match put {
+        Some(put) => set::<T, S>(tx, alloc, &put.key, &put.row),
         None => Ok(()),
     }
 }
@@ -75,8 +51,8 @@ fn write_four<S: Alter>(
 {
     change_all::<Accounts, S>(tx, alloc, &delta.accounts)?;
     change_all::<Members, S>(tx, alloc, &delta.members)?;
-    put_file(tx, alloc, &delta.file)?;
-    put_base(tx, alloc, &delta.base)
+    put_row::<Projects, S>(tx, alloc, &delta.file)?;
+    put_row::<Bases, S>(tx, alloc, &delta.base)
 }
 
 fn write_edit<S: Alter>(

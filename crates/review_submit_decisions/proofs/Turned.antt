@@ -14,7 +14,8 @@ use Rattle.review_changes.specs.Parts.{Part, PartRow, part_row}
 use Rattle.review_rows.specs.Answer.{IsAnswerBy}
 use Rattle.review_rows.specs.Changes.{Reading, change, joined, joining, joining_at, place_in}
 use Rattle.review_rows.specs.Known.{part_of}
-use Rattle.review_rows.specs.Rows.{Key, AccountKey, MemberKey, FileKey, BaseKey, PartKey, OddKey, APart, Count, Projects, BasesOf, account_change, member_change, file_after, base_after, edited, projects_after, bases_after, after, count_after, part_change, member_cmp}
+use Rattle.review_rows.specs.Rows.{Key, AccountKey, MemberKey, FileKey, BaseKey, PartKey, OddKey, APart, Count, Projects, BasesOf, account_change, member_change, edited, after, count_after, part_change, member_cmp}
+use Rattle.review_rows.proofs.Puts.{no_base, no_base_more, no_file, no_project}
 use Rattle.review_rows.specs.View.{IsDecided, counted, fact}
 use Rattle.review_rows.specs.declared.rows.ChangeEdit.{ChangeEdit}
 use Rattle.review_rows.specs.declared.rows.Delta.{Delta}
@@ -106,8 +107,8 @@ rows_turn reading h caller n rows project branch chain last edits delta all many
     sym (ap (λ l. after_change (account_change (change_of nat_cmp l a)) (fact reading h (AccountKey a))) only.accounts)
 rows_turn reading h caller n rows project branch chain last edits delta all many are only known id (MemberKey g a) =
     sym (ap (λ l. after_change (member_change (change_of member_cmp l (record { group = g; account = a }))) (fact reading h (MemberKey g a))) only.members)
-rows_turn reading h caller n rows project branch chain last edits delta all many are only known id (FileKey q) = sym (ap (λ o. file_after o q (fact reading h (FileKey q))) only.file)
-rows_turn reading h caller n rows project branch chain last edits delta all many are only known id (BaseKey q b a) = sym (ap (λ o. base_after o q b a (fact reading h (BaseKey q b a))) only.base)
+rows_turn reading h caller n rows project branch chain last edits delta all many are only known id (FileKey q) = sym (no_file delta only.file q (fact reading h (FileKey q)))
+rows_turn reading h caller n rows project branch chain last edits delta all many are only known id (BaseKey q b a) = sym (no_base delta only.base q b a (fact reading h (BaseKey q b a)))
 rows_turn reading h caller n rows project branch chain last edits delta all many are only known id (PartKey k part) =
     ap (λ o. option_map APart (part_of o part)) (sym (joining_is reading h rows project branch chain last k all many (known k)))
     ∙ (sym (edits_turn rows (length h + 1) chain last k part edits (change reading h k) are (known k))
@@ -116,8 +117,8 @@ rows_turn reading h caller n rows project branch chain last edits delta all many
 
 counts_turn : (reading : Reading) (h : List Entry) (caller n : ℕ) (chain : List ℕ) (edits : List ChangeEdit) (delta : Delta) → EditsChanges edits delta →
     (id : List ℕ) (k : Count) → counted (entry_of caller id n chain ∷ h) k ≡ count_after delta (fact reading h) k (counted h k)
-counts_turn reading h caller n chain edits delta only id Projects = sym (ap (λ o. projects_after o (fact reading h) (project_count h)) only.file)
-counts_turn reading h caller n chain edits delta only id (BasesOf q) = sym (ap (λ o. bases_after o (fact reading h) q (base_count h q)) only.base)
+counts_turn reading h caller n chain edits delta only id Projects = sym (no_project delta only.file (fact reading h) (project_count h))
+counts_turn reading h caller n chain edits delta only id (BasesOf q) = sym (no_base_more delta only.base (fact reading h) q (base_count h q))
 
 -- a submit of a chain that joins is decided
 pub joined_decided : (reading : Reading) (h : List Entry) (caller n : ℕ) (rows : Rows) (project branch : List ℕ) (chain : List ℕ) (last : ℕ) (edits : List ChangeEdit) (delta : Delta) →

@@ -2,8 +2,8 @@ use Rattle.std.proofs.Common.{sym, subst}
 use Rattle.std.specs.Ordering.{nat_cmp}
 use Rattle.std.specs.Cmp.Lexicographic.{slice_cmp}
 use Rattle.review_table.specs.Rows.{HasEmptyOnly, is_named}
-use Rattle.review_rows.specs.Rows.{branch_cmp}
-use Rattle.review_kept_branches.specs.Branches.{place_cmp, commit_cmp}
+use Rattle.review_rows.specs.Rows.{branch_cmp, place_cmp}
+use Rattle.review_kept_branches.specs.Branches.{commit_cmp}
 use Rattle.review_kept_branches.proofs.branches.release.Goals as goal
 
 pub returns-clause-full : goal.returns-clause-full

@@ -1,6 +1,7 @@
 use Rattle.std.proofs.Common.{◌∙◌, None}
 use Rattle.std.proofs.lemmas.Result.{IfOk-weaker}
-use Rattle.review_kept_changes.specs.Kept.{part_in, AreEdited}
+use Rattle.review_change_rows.specs.Tables.{part_in}
+use Rattle.review_kept_changes.specs.Kept.{AreEdited}
 use Rattle.review_kept_changes.proofs.Turned.{bare_before}
 use Rattle.review_kept_changes.proofs.edits.begun.Goals as goal
 

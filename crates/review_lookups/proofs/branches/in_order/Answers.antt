@@ -1,8 +1,8 @@
 use Rattle.std.proofs.Common.{◌≡◌, ◌+◌, ◌∙◌, ◌++◌, ap, sym, subst, Some, [], arith, length}
 use Rattle.std.proofs.lemmas.Grind.{common_steps}
 use Rattle.review_table.specs.Rows.{rows_of}
-use Rattle.review_kept_changes.specs.Loads.{numbered}
-use Rattle.review_kept_changes.proofs.Ordered.{gap, in_order, numbered_more}
+use Rattle.review_change_rows.specs.Tables.{numbered}
+use Rattle.review_change_rows.proofs.Ordered.{gap, in_order, numbered_more}
 use Rattle.review_lookups.specs.Loads.{IsOrdered}
 use Rattle.review_lookups.proofs.Telling.{ordered, unordered}
 use Rattle.review_lookups.proofs.branches.in_order.Goals as goal

@@ -1,6 +1,6 @@
 use Rattle.std.proofs.Common.{◌≡◌, ◌∙◌, ◌+◌, Some, None, Ok, subst, sym, rules, arith}
 use Rattle.sqlite.specs.Held.{state}
-use Rattle.review_records.specs.declared.rows.PlaceKey.{PlaceKey}
+use Rattle.review_rows.specs.declared.rows.PlaceKey.{PlaceKey}
 use Rattle.review_statements.specs.Ran.{Looks}
 use Rattle.review_tables.proofs.Found.{look_on}
 use Rattle.review_lookups.specs.Joins.{IsLastPlace}

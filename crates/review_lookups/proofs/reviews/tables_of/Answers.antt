@@ -3,7 +3,7 @@ use Rattle.std.specs.Option.{option_map}
 use Rattle.std.specs.Ordering.{nat_cmp}
 use Rattle.review_table.specs.Rows.{rows_of}
 use Rattle.review_changes.specs.Seen.{vote_cmp}
-use Rattle.review_kept_changes.specs.declared.edits.ChangeTables.{ChangeTables}
+use Rattle.review_change_rows.specs.declared.tables.ChangeTables.{ChangeTables}
 use Rattle.review_tables.specs.Fronts.{AreParts}
 use Rattle.review_change_records.specs.Forms.{patches, votes, roles, comments, calls, change_patches, change_votes, change_roles, change_comments, change_calls}
 use Rattle.review_lookups.proofs.Odd.{patches_damaged, votes_damaged, roles_damaged, comments_damaged, calls_damaged}

@@ -23,8 +23,9 @@ returns-in_default-header c = λ n p db stands row.
 
 pub returns-in_default-patch-2 : goal.returns-in_default-patch-2
 returns-in_default-patch-2 c = λ n p db stands row.
+    let some : c.args.header ≡ Some (Some c.in-Some-header.header) = search rules in
     let odd : c.args.patch ≡ Some None = search rules in
-    odd_damage (tables_at db) (PartKey n (PatchOf p)) (ap (told (λ x. APart (APatch x))) (sym row ∙ odd))
+    c.odd_patch.ensures c.args.merged n p db (sym stands ∙ some) (sym row ∙ odd)
 
 pub returns : goal.returns
 returns c = λ n p db stands row.

@@ -3,9 +3,10 @@ use Rattle.std.proofs.lemmas.Grind.{common_steps}
 use Rattle.std.specs.Map.Iter.{deref_pair}
 use Rattle.std.specs.Ordering.{is_le, is_lt}
 use Rattle.review_table.specs.Rows.{row_in, rows_of}
-use Rattle.review_kept_branches.specs.declared.keys.PlaceKey.{PlaceKey}
+use Rattle.review_rows.specs.declared.rows.PlaceKey.{PlaceKey}
 use Rattle.review_kept_branches.specs.declared.keys.CommitKey.{CommitKey}
-use Rattle.review_kept_branches.specs.Branches.{BranchesView, commit_cmp, place_cmp}
+use Rattle.review_rows.specs.Rows.{place_cmp}
+use Rattle.review_kept_branches.specs.Branches.{BranchesView, commit_cmp}
 use Rattle.review_kept_branches.proofs.Placed.{between_places}
 use Rattle.review_kept_branches.proofs.branches.Branches.has.Goals as goal
 

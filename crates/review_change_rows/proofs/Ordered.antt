@@ -12,7 +12,7 @@ use Rattle.std.proofs.lemmas.Bool.{cases_lt}
 use Rattle.std.proofs.lemmas.Bool.Decides.{nat_tests}
 use Rattle.review_table.specs.Rows.{row_in}
 use Rattle.review_changes.specs.Change.{of_number}
-use Rattle.review_kept_changes.specs.Loads.{AreInOrder, numbered}
+use Rattle.review_change_rows.specs.Tables.{AreInOrder, numbered}
 
 -- one more row under the next number
 pub numbered_more : {X : Type 0} (k : ℕ) (xs : List X) (m : ℕ) (x : X) (rest : List (ℕ × X)) → m ≡ k + length xs + 1 → numbered k (xs ++ x ∷ []) ++ rest ≡ numbered k xs ++ (m, x) ∷ rest

@@ -1,16 +1,25 @@
--- Which change tables show, and why they show none.
-use Rattle.std.specs.Prelude.{ℕ, ◌+◌, ◌≡◌, List, [], ◌∷◌, Option}
+-- The tables of one change: which change they show, and why they show none.
+use Rattle.std.specs.Prelude.{ℕ, ◌+◌, ◌≡◌, List, [], ◌∷◌, Option, Some, option_map}
 use Rattle.std.specs.Ordering.{nat_cmp}
-use Rattle.review_table.specs.Rows.{row_in}
+use Rattle.review_table.specs.Rows.{row_in, rows_of}
 use Rattle.review_changes.specs.Change.{Change, of_number}
-use Rattle.review_changes.specs.Parts.{Part, part_row}
-use Rattle.review_rows.specs.Known.{HasChange}
+use Rattle.review_changes.specs.Parts.{Part, TheHeader, PatchOf, VoteOf, RoleOf, CommentOf, AttentionOf, PartRow, AHeader, APatch, ARole, AComment, ACall, part_row}
+use Rattle.review_changes.specs.Seen.{vote_cmp}
+use Rattle.review_rows.specs.Rows.{vote_row}
 use Rattle.review_rows.specs.declared.shelf.ShelfFault.{ShelfFault}
 use Rattle.review_rows.specs.declared.shelf.ShelfFault.TheVariants as shelf
-use Rattle.review_kept_changes.specs.declared.edits.ChangeTables.{ChangeTables}
-use Rattle.review_kept_changes.specs.declared.loading.ChangeFault.{ChangeFault}
-use Rattle.review_kept_changes.specs.declared.loading.ChangeFault.TheVariants.{Memory, Gap}
-use Rattle.review_kept_changes.specs.Kept.{part_in, row_of}
+use Rattle.review_change_rows.specs.declared.tables.ChangeTables.{ChangeTables}
+use Rattle.review_change_rows.specs.declared.loading.ChangeFault.{ChangeFault}
+use Rattle.review_change_rows.specs.declared.loading.ChangeFault.TheVariants.{Memory, Gap}
+
+-- the row of a change, in its tables
+abbrev pub part_in : ChangeTables → Part → Option PartRow
+part_in t TheHeader = Some (AHeader t.header)
+part_in t (PatchOf n) = option_map APatch (row_in nat_cmp (rows_of t.patches) n)
+part_in t (VoteOf n l a) = vote_row (row_in vote_cmp (rows_of t.votes) (record { patch = n; label = l; account = a }))
+part_in t (RoleOf u) = option_map ARole (row_in nat_cmp (rows_of t.roles) u)
+part_in t (CommentOf k) = option_map AComment (row_in nat_cmp (rows_of t.comments) k)
+part_in t (AttentionOf u) = option_map ACall (row_in nat_cmp (rows_of t.attention) u)
 
 -- the rows are these, each under its number
 abbrev pub AreInOrder : {X : Type 0} → List (ℕ × X) → List X → Type 0
@@ -29,11 +38,6 @@ Show t c = (part : Part) → part_in t part ≡ part_row c part
 abbrev pub HaveFault : ChangeTables → ChangeFault → Type 0
 HaveFault t Memory = Unit {0}
 HaveFault t Gap = (c : Change) → Show t c → ⊥
-
--- why the change of a number is not given: where its rows have a gap, they are those of no change, and not none
-abbrev pub IsUnread : List (ℕ × ChangeTables) → ℕ → ChangeFault → Type 0
-IsUnread kept n Memory = Unit {0}
-IsUnread kept n Gap = (c : Option Change) → HasChange (row_of kept) n c → ⊥
 
 -- the fault of a shelf where a change is not given
 abbrev pub fault_of : ChangeFault → ShelfFault
