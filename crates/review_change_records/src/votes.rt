@@ -99,11 +99,13 @@ impl Table for Votes {
     }
 
     fn bind_key<'a>(key: &'a (ChangeNo, VoteKey)) -> Result<Bound<'a>, Error> {
-        Ok(Bound::new()
-            .number(key.0.get())
-            .number(key.1.patch.get())
-            .text(key.1.label.as_str())
-            .number(key.1.account.get()))
+        Ok(
+            Bound::new()
+                .number(key.0.get())
+                .number(key.1.patch.get())
+                .text(key.1.label.as_str())
+                .number(key.1.account.get()),
+        )
     }
 
     fn bind_row<'a>(

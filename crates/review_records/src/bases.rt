@@ -124,10 +124,12 @@ impl Lookup for BaseCommits {
     }
 
     fn bind<'a>(key: &'a Base) -> Result<Bound<'a>, Error> {
-        Ok(Bound::new()
-            .text(key.project.as_str())
-            .text(key.branch.as_str())
-            .text(key.commit.as_str()))
+        Ok(
+            Bound::new()
+                .text(key.project.as_str())
+                .text(key.branch.as_str())
+                .text(key.commit.as_str()),
+        )
     }
 
     fn read(_alloc: Global, row: &Row) -> Result<Option<u64>, AllocError> {
@@ -158,9 +160,11 @@ impl Lookup for BranchBases {
     }
 
     fn bind<'a>(key: &'a BranchKey) -> Result<Bound<'a>, Error> {
-        Ok(Bound::new()
-            .text(key.project.as_str())
-            .text(key.branch.as_str()))
+        Ok(
+            Bound::new()
+                .text(key.project.as_str())
+                .text(key.branch.as_str()),
+        )
     }
 
     fn read(alloc: Global, row: &Row) -> Result<Option<(PlaceNo, CommitName)>, AllocError> {
@@ -212,9 +216,11 @@ impl Greatest for LastPlace {
     }
 
     fn bind<'a>(key: &'a BranchKey) -> Result<Bound<'a>, Error> {
-        Ok(Bound::new()
-            .text(key.project.as_str())
-            .text(key.branch.as_str()))
+        Ok(
+            Bound::new()
+                .text(key.project.as_str())
+                .text(key.branch.as_str()),
+        )
     }
 
     fn read(_alloc: Global, row: &Row) -> Result<Option<u64>, AllocError> {

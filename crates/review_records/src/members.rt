@@ -32,9 +32,11 @@ impl Lookup for Members {
     }
 
     fn bind<'a>(key: &'a MemberKey) -> Result<Bound<'a>, Error> {
-        Ok(Bound::new()
-            .text(key.group.as_str())
-            .number(key.account.get()))
+        Ok(
+            Bound::new()
+                .text(key.group.as_str())
+                .number(key.account.get()),
+        )
     }
 
     fn read(_alloc: Global, _row: &Row) -> Result<Option<()>, AllocError> {

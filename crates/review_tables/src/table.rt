@@ -131,10 +131,7 @@ pub fn insert<T: Table, S: Alter>(
 }
 
 /// Takes the rows of a key away.
-pub fn remove<T: Table, S: Alter>(
-    tx: &mut Transaction<'_, S>,
-    key: &T::Key,
-) -> Result<usize, Error>
+pub fn remove<T: Table, S: Alter>(tx: &mut Transaction<'_, S>, key: &T::Key) -> Result<usize, Error>
     ensures same_reference { tx.new.conn.ghost_name ≡ tx.old.conn.ghost_name }
     ensures ran { Inside (Removes T.search.tree (T.search.at key.now)) (state S.Store tx.old.conn.now) (state S.Store tx.new.conn.now) result }
     ensures open { Opens (state S.Store tx.old.conn.now) (state S.Store tx.new.conn.now) result }

@@ -1,4 +1,4 @@
-use Rattle.std.proofs.Common.{◌≡◌, ◌∙◌, ◌+◌, suc, take, Ok, subst, sym, arith}
+use Rattle.std.proofs.Common.{◌≡◌, ◌∙◌, ◌+◌, suc, take, Ok, subst, arith}
 use Rattle.sqlite.specs.Held.{state}
 use Rattle.review_statements.specs.Desk.{desk_tables, schema_0, schema_of}
 use Rattle.review_statements.specs.Ran.{Within}

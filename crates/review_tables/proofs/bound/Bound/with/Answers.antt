@@ -1,4 +1,4 @@
-use Rattle.std.proofs.Common.{◌≡◌, ◌∙◌, ◌+◌, ◌<◌, ◌≤◌, ◌++◌, ◌∷◌, [], List, ℕ, map, take, length, sym, ap, arith, slice_set}
+use Rattle.std.proofs.Common.{◌≡◌, ◌∙◌, ◌+◌, ◌<◌, ◌≤◌, ◌++◌, ◌∷◌, [], List, ℕ, take, length, sym, ap, arith, slice_set}
 use Rattle.std.proofs.lemmas.List.{length-map, length-take-le, map-append, take_more_set}
 use Rattle.std.proofs.Math.ListN.{length-set}
 use Rattle.sqlite_value.specs.declared.value.ValueRef.{ValueRef}
