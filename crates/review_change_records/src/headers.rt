@@ -120,10 +120,12 @@ impl Table for Headers {
             .text(row.branch.as_str())
             .text(row.subject.as_str());
         let stated = named.number(account_number(row.owner)).text(state);
-        Ok(stated
-            .number(flag_number(row.wip))
-            .number(small(row.place))
-            .large(row.updated)?)
+        Ok(
+            stated
+                .number(flag_number(row.wip))
+                .number(small(row.place))
+                .large(row.updated)?,
+        )
     }
 
     ghost inserts = { λ number h. insert_change (pos number) h.project h.branch h.subject (pos h.owner) (state_name h.state) (pos (flag_number h.wip)) (pos h.place) (pos h.updated) };
@@ -189,9 +191,11 @@ impl Greatest for LastJoined {
     }
 
     fn bind<'a>(key: &'a BranchKey) -> Result<Bound<'a>, Error> {
-        Ok(Bound::new()
-            .text(key.project.as_str())
-            .text(key.branch.as_str()))
+        Ok(
+            Bound::new()
+                .text(key.project.as_str())
+                .text(key.branch.as_str()),
+        )
     }
 
     fn read(_alloc: Global, row: &Row) -> Result<Option<(ChangeNo, u32)>, AllocError> {

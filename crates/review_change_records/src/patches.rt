@@ -210,12 +210,14 @@ impl Table for Patches {
         }
         *buffer = paths_text(alloc, row.paths.as_slice())?;
         let values = Patches::bind_key(key)?;
-        Ok(values
-            .text(row.commit.as_str())
-            .text(row.parent.as_str())
-            .text(row.kind.name())
-            .number(account_number(row.uploader))
-            .text(buffer.as_str()))
+        Ok(
+            values
+                .text(row.commit.as_str())
+                .text(row.parent.as_str())
+                .text(row.kind.name())
+                .number(account_number(row.uploader))
+                .text(buffer.as_str()),
+        )
     }
 
     ghost inserts = { λ p x. insert_patch (pos p.0) (pos p.1) x.commit x.parent (kind_name x.kind) (pos x.uploader) (paths_text x.paths) };

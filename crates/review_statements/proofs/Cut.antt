@@ -1,5 +1,5 @@
 -- What a query shows that is cut: the row with the greatest value of a column, or one where there are more than so many.
-use Rattle.std.proofs.Common.{◌≡◌, ◌∙◌, ◌==◌, ◌≤◌, ℕ, suc, pos, List, [], ◌∷◌, Option, Some, None, true, false, Bool, Ordering, Less, Equal, Greater, refl, sym, ap, subst, subst₂, arith, map, filter, length, take, drop, nat_le, nat_lt, is_gt, is_lt, inl, inr, IsSorted}
+use Rattle.std.proofs.Common.{◌≡◌, ◌∙◌, ◌==◌, ℕ, suc, pos, List, [], ◌∷◌, false, Ordering, Less, Equal, Greater, refl, sym, ap, subst, subst₂, arith, map, filter, length, take, drop, nat_le, nat_lt, is_gt, is_lt, inl, inr, IsSorted}
 use Rattle.std.proofs.lemmas.Bool.Decides.{leb_tells}
 use Rattle.std.proofs.lemmas.List.{length-map, length-take-le, length-drop, drop_all}
 use Rattle.std.specs.List.{AllByRecursion}

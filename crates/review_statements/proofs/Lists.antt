@@ -1,5 +1,5 @@
 -- Rows put into a tree, and taken out.
-use Rattle.std.proofs.Common.{◌≡◌, ◌∙◌, ℕ, ℤ, ◌+◌, List, [], ◌∷◌, map, filter, length, Bool, ◌||◌, true, false, not, cond, Ordering, Less, Equal, Greater, refl, sym, ap, IsTrue, arith, inl, inr}
+use Rattle.std.proofs.Common.{◌≡◌, ◌∙◌, ℤ, ◌+◌, List, [], ◌∷◌, map, filter, length, Bool, ◌||◌, true, false, not, cond, Ordering, Less, Equal, Greater, refl, sym, ap, IsTrue, arith, inl, inr}
 use Rattle.std.specs.List.{AllByRecursion, list_any}
 use Rattle.std.specs.List.Sorted.{IsPermutation}
 use Rattle.std.specs.Ordering.{is_eq, match_ordering, ordering_reverse}

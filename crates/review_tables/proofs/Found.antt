@@ -1,5 +1,5 @@
 -- What was found, as it reads.
-use Rattle.std.proofs.Common.{◌≡◌, ◌∙◌, ℕ, pos, ◌≤◌, List, [], ◌∷◌, map, length, not, Bool, true, false, Option, Some, None, Ok, Err, Result, IfOk, OnOk, refl, sym, ap, subst, arith, slice_get, is_some, IsTrue, inl, inr}
+use Rattle.std.proofs.Common.{◌≡◌, ◌∙◌, ◌≤◌, List, [], ◌∷◌, map, length, not, Bool, true, false, Option, Some, None, Ok, Err, Result, IfOk, refl, sym, ap, subst, arith, slice_get, is_some, IsTrue, inl, inr}
 use Rattle.std.specs.List.{list_any, AllByRecursion}
 use Rattle.std.proofs.lemmas.List.Elements.{recursion_from_All, All-from_recursion}
 use Rattle.sqlite_rules.specs.Lists.{Has}
