@@ -99,7 +99,6 @@ impl Table for Votes {
     }
 
     fn bind_key<'a>(key: &'a (ChangeNo, VoteKey)) -> Result<Bound<'a>, Error> {
-<<<<<<< HEAD
         let (change, patch) = (change_number(key.0), patch_number(key.1.patch));
         let account = account_number(key.1.account);
         Ok(Bound::new()
@@ -107,15 +106,6 @@ impl Table for Votes {
             .number(patch)
             .text(key.1.label.as_str())
             .number(account))
-=======
-        Ok(
-            Bound::new()
-                .number(key.0.get())
-                .number(key.1.patch.get())
-                .text(key.1.label.as_str())
-                .number(key.1.account.get()),
-        )
->>>>>>> 90afed2b94188e9ca6caeb094625d840a39e1434
     }
 
     fn bind_row<'a>(
