@@ -1,35 +1,22 @@
 -- A shelf over a connection that one which was closed has left.
-use Rattle.std.proofs.Common.{◌≡◌, ◌≢◌, ◌⊎◌, inl, inr, ℕ, Option, Some, None, Bool, IsTrue, refl, sym, ap, subst, arith}
-use Rattle.std.proofs.lemmas.Option.{same_Some}
+use Rattle.std.proofs.Common.{◌≡◌, ◌≢◌, ◌⊎◌, inl, inr, ℕ, Bool, IsTrue, refl, subst, arith}
 use Rattle.sqlite_trees.specs.declared.store.Store.{Ghosts}
 use Rattle.sqlite.specs.Effect.{Database}
 use Rattle.sqlite.specs.State.{State}
 use Rattle.sqlite.specs.Held.{Held, state}
 use Rattle.review_statements.specs.Ran.{IsReady}
-use Rattle.review_statements.specs.Search.{row_at}
-use Rattle.review_records.specs.declared.rows.DeskRow.{DeskRow}
-use Rattle.review_records.specs.Forms.{desk}
 use Rattle.review_sql.specs.declared.faults.DeskFault.{DeskFault}
 use Rattle.review_sql.specs.declared.faults.DeskFault.TheVariants.{NotADesk, WrongVersion, Store, NotEmpty, NotOurs, Memory}
-use Rattle.review_sql.specs.Opened.{AreAllApart, IsNoDesk, IsOpened, IsOtherVersion, IsRefused}
+use Rattle.review_sql.specs.Opened.{AreAllApart, IsOpened, IsRefused}
 use Rattle.review_sql.specs.Reopened.{ReopensLast, IsRefusedAgain, IsReopened}
 use Rattle.review_sql.specs.Shelf.{Holds, ShelfView, Stays}
 use Rattle.review_lookups.specs.Tables.{IsDesk}
+use Rattle.review_sql.proofs.Saying.{never_no_desk, never_other_version}
 use Rattle.review_sql.proofs.Shown.{stays}
 
 -- the rows of each table of a desk have rowids of their own
 all_apart : (db : Database) → IsReady db → AreAllApart db.trees
 all_apart db ready = (ready.apart 0 refl, (ready.apart 2 refl, (ready.apart 4 refl, (ready.apart 6 refl, (ready.apart 9 refl, (ready.apart 11 refl, (ready.apart 14 refl, (ready.apart 16 refl, (ready.apart 18 refl, (ready.apart 20 refl, (ready.apart 22 refl, (ready.apart 25 refl, tt))))))))))))
-
-has_row : (row : Option (Option DeskRow)) (d : DeskRow) → row ≡ Some (Some d) → IsNoDesk row → ⊥
-has_row row d is (inl none) = let e = sym is in cc
-has_row row d is (inr odd) = let e = same_Some (Some d) None (subst (λ o. Some (Some d) ≡ o) odd (sym is)) in cc
-
-has_version : (row : Option (Option DeskRow)) (requests : ℕ) → row ≡ Some (Some (record { version = 1; requests = requests })) → IsOtherVersion row → ⊥
-has_version row requests is other =
-    let d = other.0 in
-    let same : d ≡ record { version = 1; requests = requests } = same_Some _ _ (same_Some _ _ (subst (λ o. o ≡ Some (Some (record { version = 1; requests = requests }))) other.1 is)) in
-    other.2 (ap (λ (d : DeskRow). d.version) same)
 
 -- the faults that are left
 store_or_memory : (fault : DeskFault) → (fault ≡ NotADesk → ⊥) → (fault ≡ WrongVersion → ⊥) → fault ≢ NotEmpty → (fault ≡ NotOurs → ⊥) → (fault ≡ Memory) ⊎ (fault ≡ Store)
@@ -42,9 +29,8 @@ store_or_memory Memory a b c d = inl refl
 
 cause_left : (s : State) (requests : ℕ) (fault : DeskFault) → IsReady s.now → IsDesk requests s.now.trees → IsRefused s fault → (fault ≡ Memory) ⊎ (fault ≡ Store)
 cause_left s requests fault ready is refused =
-    store_or_memory fault (λ none. has_row (row_at desk s.now.trees tt) (record { version = 1; requests = requests }) is (refused.no_desk ready.schema none))
-    (λ other. has_version (row_at desk s.now.trees tt) requests is (refused.other_version ready.schema other)) refused.not_empty
-    (λ not. refused.not_ours not ready.schema (all_apart s.now ready))
+    store_or_memory fault (λ none. never_no_desk s.now ready.schema requests is (refused.no_desk none)) (λ other. never_other_version s.now ready.schema requests is (refused.other_version other)) refused.not_empty
+    (λ not. (refused.not_ours not).1 ready.schema (all_apart s.now ready))
 
 module _ {S : Type 0} (g : Ghosts S) (is_ours : Bool) (old : ShelfView S) (holds : Holds g old.conn is_ours old.requests) where
   reopened : (new : ShelfView S) → IsOpened g old.conn new → IsReopened g is_ours old new

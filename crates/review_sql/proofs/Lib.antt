@@ -3,6 +3,8 @@ pub mod Commit
 pub mod Begin
 pub mod Staying
 pub mod Made
+pub mod Asking
+pub mod Saying
 pub mod Peeking
 pub mod Singles
 pub mod Shown

@@ -1,5 +1,5 @@
 -- A shelf that was made.
-use Rattle.std.proofs.Common.{◌≡◌, ◌∙◌, Bool, Some, true, false, Ok, Err, IsTrue, refl, sym, ap, subst, arith}
+use Rattle.std.proofs.Common.{◌≡◌, ◌∙◌, ◌⊎◌, inl, inr, Bool, Some, true, false, Ok, Err, IsTrue, refl, sym, ap, subst, arith}
 use Rattle.sqlite_trees.specs.declared.store.Store.{Ghosts}
 use Rattle.sqlite.specs.Effect.{Database}
 use Rattle.sqlite.specs.State.{State, HasCleanDisk}
@@ -15,7 +15,9 @@ use Rattle.review_sql.specs.Created.{IsCreated}
 use Rattle.review_statements.specs.Ran.{IsReady}
 use Rattle.review_sql.specs.declared.seen.Seen.{Seen}
 use Rattle.review_sql.specs.Opened.{IsOpened, IsRefused, IsSeen}
-use Rattle.review_sql.specs.declared.faults.DeskFault.TheVariants.{NotOurs}
+use Rattle.review_sql.specs.declared.faults.DeskFault.{DeskFault}
+use Rattle.review_sql.specs.declared.faults.DeskFault.TheVariants.{NotADesk, WrongVersion, Store, NotEmpty, NotOurs, Memory}
+use Rattle.review_sql.proofs.Saying.{never_shown}
 use Rattle.sqlite_trees.specs.Tree.{Trees}
 use Rattle.review_lookups.specs.Tables.{IsDesk, tables_at}
 
@@ -70,8 +72,21 @@ module _ {S : Type 0} (g : Ghosts S) (c0 c1 : Held S) (seen : Seen) where
   -- tables that are not ours are of another form, or two rows have one rowid
   pub not_ours : seen.is_ours ≡ false → IsSeen (state g c0) seen → IsRefused (state g c0) NotOurs
   not_ours not it = record {
-    no_desk = λ has is. absurd (cc);
-    other_version = λ has is. absurd (cc);
-    not_ours = λ is has all. let e = sym not ∙ it.ours has all in cc;
+    no_desk = λ is. absurd (cc);
+    other_version = λ is. absurd (cc);
+    not_ours = λ is. ((seen.requests, it.there), λ has all. let e = sym not ∙ it.ours has all in cc);
     not_empty = λ is. cc;
   }
+
+  -- where there is no table, none is seen
+  pub none_seen : (s : State) → s.now.schema ≡ schema_0 → IsSeen s seen → ⊥
+  none_seen s has it = never_shown s.now has it.there.rows it.there.shown
+
+-- a store with no table is no desk
+pub empty_refused : (s : State) (fault : DeskFault) → s.now.schema ≡ schema_0 → IsRefused s fault → (fault ≡ NotADesk) ⊎ ((fault ≡ Memory) ⊎ (fault ≡ Store))
+empty_refused s NotADesk has it = inl refl
+empty_refused s WrongVersion has it = let other = it.other_version refl in absurd (never_shown s.now has other.0 other.1)
+empty_refused s Store has it = inr (inr refl)
+empty_refused s NotEmpty has it = absurd (it.not_empty refl)
+empty_refused s NotOurs has it = let there = (it.not_ours refl).0.1 in absurd (never_shown s.now has there.rows there.shown)
+empty_refused s Memory has it = inr (inl refl)

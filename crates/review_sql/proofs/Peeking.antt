@@ -1,5 +1,6 @@
 -- A look at tables that is taken back.
-use Rattle.std.proofs.Common.{◌≡◌, ◌∙◌, ◌⊎◌, inl, inr, ℕ, List, [], ◌∷◌, Some, eqb, eqb-true, true, Ok, Err, Result, IfOk, IsTrue, refl, sym, subst, arith}
+use Rattle.std.proofs.Common.{◌≡◌, ◌≢◌, ◌∙◌, ◌⊎◌, inl, inr, ℕ, List, [], ◌∷◌, Some, None, Bool, eqb, eqb-true, true, false, Ok, Err, Result, IfOk, IsTrue, refl, sym, subst, arith}
+use Rattle.std.specs.Bool.{Decides}
 use Rattle.std.specs.List.{AllByRecursion, list_any}
 use Rattle.std.proofs.lemmas.Bool.{or_cases}
 use Rattle.sqlite_schema.specs.declared.schema.Table.{Table}
@@ -11,11 +12,13 @@ use Rattle.review_statements.specs.Ran.{Looks}
 use Rattle.review_tables.proofs.Sequences.{begun, taken_back, survives_from}
 use Rattle.review_statements.specs.Content.{AreApart}
 use Rattle.review_statements.specs.Desk.{desk_schema}
-use Rattle.review_records.specs.declared.rows.DeskRow.{DeskRow}
-use Rattle.review_sql.specs.declared.seen.Peeked.{Peeked}
+use Rattle.review_sql.specs.declared.seen.Said.{Said}
 use Rattle.review_sql.specs.declared.faults.DeskFault.{DeskFault}
-use Rattle.review_sql.specs.declared.faults.DeskFault.TheVariants.{NotADesk, WrongVersion}
-use Rattle.review_sql.specs.Opened.{Peeks, IsPeeked, IsSeen, IsRefused, IsNoDesk, IsOtherVersion}
+use Rattle.review_sql.specs.declared.faults.DeskFault.TheVariants.{NotADesk, WrongVersion, NotEmpty, NotOurs}
+use Rattle.review_sql.specs.Shelf.{AreAllRead}
+use Rattle.review_sql.specs.Said.{IsSaid, IsDeskThere, IsNoDesk, IsOtherVersion}
+use Rattle.review_sql.specs.Opened.{AreAllApart, Peeks, IsSeen, IsRefused}
+use Rattle.review_sql.proofs.Saying.{desk_of_ours}
 
 pub peeked : {X : Type 0} (Found : Trees → X → Type 0) (s0 s2 s3 : State) (settled : IsTrue s0.is_open → s0.now ≡ s0.committed) (open_clean : IsTrue s3.is_open → HasCleanDisk s3) (r : Result X Error)
     → Looks Found (begun s0) s2 r → (HasCleanDisk s3 → IsRolledBack s2 s3) → Survives s2 s3 (λ _. ⊥) → Peeks Found s0 s3 r
@@ -37,26 +40,44 @@ at_tree : (P : ℕ → Type 0) (tables : List Table) → AllByRecursion (λ x. P
 at_tree P [] all t is = absurd (cc)
 at_tree P (x ∷ tables) all t is = elim (or_cases _ _ is) [ inl here ↦ subst P (eqb-true x.tree t here) all.0 | inr later ↦ at_tree P tables all.1 t later ]
 
-pub seen_ours : (s : State) (p : Peeked) (row : DeskRow) → s.now.schema ≡ desk_schema → IsPeeked true s.now.trees p → p.desk ≡ Some (Some row) → row.version ≡ 1 → IsSeen s (record { is_ours = p.is_apart; requests = row.requests })
-seen_ours s p row has it is version = record {
-  ready = λ yes. (
-    record { schema = has; apart = λ t listed. at_tree (λ n. AreApart (s.now.trees n)) desk_schema.tables ((it.apart refl).0 yes) t listed },
-    sym it.desk_is ∙ (is ∙ (λ i. Some (Some (record { version = version i; requests = row.requests })))),
-  );
-  ours = λ same all. (it.apart refl).1 all;
-  there = λ other. absurd (other has);
+-- what is seen of tables of our form, whose rows were looked at
+pub seen_ours : (s : State) (requests : ℕ) (is_apart : Bool) → s.now.schema ≡ desk_schema → IsDeskThere s.now requests → Decides is_apart (AreAllApart s.now.trees) → IsSeen s (record { is_ours = is_apart; requests = requests })
+seen_ours s requests is_apart has there apart = record {
+  ready = λ yes. (record { schema = has; apart = λ t listed. at_tree (λ n. AreApart (s.now.trees n)) desk_schema.tables (apart.0 yes) t listed }, desk_of_ours s.now has requests there);
+  ours = λ same all. apart.1 all;
+  there = there;
 }
 
-pub refused_ours : (s : State) (p : Peeked) (fault : DeskFault) → IsPeeked true s.now.trees p → ((fault ≡ NotADesk) × IsNoDesk p.desk) ⊎ ((fault ≡ WrongVersion) × IsOtherVersion p.desk) → IsRefused s fault
-refused_ours s p fault it (inl none) = record {
-  no_desk = λ has is. subst IsNoDesk it.desk_is none.1;
-  other_version = λ has is. absurd (let e = none.0 in cc);
-  not_ours = λ is has all. let e = none.0 in cc;
-  not_empty = λ is. let e = none.0 in cc;
+-- and of tables of another form
+pub seen_others : (s : State) (requests : ℕ) → (s.now.schema ≡ desk_schema → ⊥) → IsDeskThere s.now requests → IsSeen s (record { is_ours = false; requests = requests })
+seen_others s requests other there = record {
+  ready = λ yes. absurd (cc);
+  ours = λ same all. absurd (other same);
+  there = there;
 }
-refused_ours s p fault it (inr other) = record {
-  no_desk = λ has is. absurd (let e = other.0 in cc);
-  other_version = λ has is. subst IsOtherVersion it.desk_is other.1;
-  not_ours = λ is has all. let e = other.0 in cc;
-  not_empty = λ is. let e = other.0 in cc;
-}
+
+-- ---- why tables are refused
+
+-- want of memory or a fault of the store says nothing of them
+pub refused_plainly : (s : State) (fault : DeskFault) → (fault ≢ NotADesk) × (fault ≢ WrongVersion) × (fault ≢ NotEmpty) × (fault ≢ NotOurs) → IsRefused s fault
+refused_plainly s fault plain = record { no_desk = λ is. absurd (plain.0 is); other_version = λ is. absurd (plain.1 is); not_ours = λ is. absurd (plain.3 is); not_empty = plain.2 }
+
+pub refused_none : (s : State) → IsNoDesk s.now → IsRefused s NotADesk
+refused_none s none = record { no_desk = λ is. none; other_version = λ is. absurd (cc); not_ours = λ is. absurd (cc); not_empty = λ is. cc }
+
+pub refused_other : (s : State) → IsOtherVersion s.now → IsRefused s WrongVersion
+refused_other s other = record { no_desk = λ is. absurd (cc); other_version = λ is. other; not_ours = λ is. absurd (cc); not_empty = λ is. cc }
+
+-- what the table `desk` says is no desk, or one of another version
+pub refused_said : (s : State) (said : Said) (fault : DeskFault) → IsSaid s.now said
+    → ((fault ≡ NotADesk) × ((said.version ≡ None) ⊎ ((said.version ≡ Some 1) × (said.requests ≡ None)))) ⊎ ((fault ≡ WrongVersion) × ((version : ℕ) × (said.version ≡ Some version) × (version ≢ 1))) → IsRefused s fault
+refused_said s said fault it (inl (is, inl none)) = subst (IsRefused s) (sym is) (refused_none s (inr (it.rows, it.shown, inl (sym it.version_is ∙ none))))
+refused_said s said fault it (inl (is, inr one)) = subst (IsRefused s) (sym is) (refused_none s (inr (it.rows, it.shown, inr (sym it.version_is ∙ one.0, inl (sym it.requests_are ∙ one.1)))))
+refused_said s said fault it (inr (is, other)) = subst (IsRefused s) (sym is) (refused_other s (it.rows, it.shown, (other.0, sym it.version_is ∙ other.1, other.2)))
+
+-- a desk is there, but a table of records is missing
+pub refused_missing : (s : State) (said : Said) (requests : ℕ) → IsSaid s.now said → said.version ≡ Some 1 → (AreAllRead s.now.schema → ⊥) → IsRefused s NotADesk
+refused_missing s said requests it one missing = refused_none s (inr (it.rows, it.shown, inr (sym it.version_is ∙ one, inr missing)))
+
+pub desk_there : (s : State) (said : Said) (requests : ℕ) → IsSaid s.now said → said.version ≡ Some 1 → said.requests ≡ Some requests → AreAllRead s.now.schema → IsDeskThere s.now requests
+desk_there s said requests it one some all = record { rows = it.rows; shown = it.shown; version_is = sym it.version_is ∙ one; requests_are = sym it.requests_are ∙ some; tables = all }

@@ -1,12 +1,10 @@
 //! What is seen of a desk before it is opened.
 
-use review_records::rows::DeskRow;
-
-/// What is seen of the tables before a desk is opened: the row of the desk, and whether the rows of each table have rowids of their own.
-#[derive(Drop)]
-pub struct Peeked {
-    pub desk: Option<Option<DeskRow>>,
-    pub is_apart: bool,
+/// What the table `desk` says: a version, and how many requests there are, each where its one row has a number there.
+#[derive(Clone, Copy, Debug, PartialEq, Eq)]
+pub struct Said {
+    pub version: Option<u64>,
+    pub requests: Option<u64>,
 }
 
 /// What a desk is opened with: whether its tables are ours, and how many requests are stored.

@@ -5,7 +5,7 @@ ghost use Rattle.sqlite.specs.Held.{state};
 ghost use Rattle.sqlite.specs.State.{HasCleanDisk};
 ghost use Rattle.review_rows.specs.Rows.{kept_row};
 ghost use Rattle.review_rows.specs.Shelf.{IsCounted, greatest_count};
-ghost use Rattle.review_statements.specs.Desk.{desk_schema, schema_0};
+ghost use Rattle.review_statements.specs.Desk.{schema_0};
 ghost use Rattle.review_sql.specs.Shelf.{Stays, answer_of};
 
 use crate::creating::make_desk;
@@ -45,7 +45,7 @@ impl Origin for Ours {
     const IS_OURS: bool = true;
 }
 
-/// Tables that somebody else made, or to which somebody added others: of a shelf over them no more is claimed than that all columns of records were there when it was opened.
+/// Tables that somebody else made, or to which somebody added others: of a shelf over them no more is claimed than that a desk was there when it was opened.
 pub struct Others;
 
 impl Origin for Others {
@@ -103,7 +103,8 @@ fn may_be_made<O: Origin>(is_blank: bool) -> bool
 }
 
 impl<S: Alter + Drop, O: Origin> SqlShelf<S, O> {
-    ghost use Rattle.review_sql.specs.Shelf.{AreAllRead, IsAnyThere, IsClosed, IsUnmade};
+    ghost use Rattle.review_sql.specs.Shelf.{IsAnyThere, IsClosed, IsUnmade};
+    ghost use Rattle.review_sql.specs.Said.{IsDeskThere};
     ghost use Rattle.review_sql.specs.Created.{IsCreated};
     ghost use Rattle.review_sql.specs.Opened.{IsOpened, IsRefused};
     ghost use Rattle.review_sql.specs.Reopened.{ReopensLast, IsRefusedAgain};
@@ -150,9 +151,13 @@ impl<S: Alter + Drop, O: Origin> SqlShelf<S, O> {
         }
     }
 
-    /// Opens a desk. Nothing is written, and a refusal hands the connection back with its tables as they were: NotOurs only where the shelf is to
-    /// be ours and the tables are of another form than `create` makes, or rows of one have one rowid. Tables of another form are opened only where all
-    /// columns of the eleven tables of records are there. Over the connection of a shelf that
+    /// Opens a desk. Nothing is written, and a refusal hands the connection back with its tables as they were. Whatever the form of the tables,
+    /// it is opened only where the table `desk` has one row, which says version 1 and so many requests, and all columns of the eleven tables
+    /// of records are there. Looked at in this order, it is NotADesk only where that row is missing, or says no version; WrongVersion only
+    /// where it says another, whatever else it says; NotADesk, where it says no requests or a table of records is missing; and NotOurs only where
+    /// the shelf is to be ours and the tables are of another form than `create` makes, or rows of one have one rowid.
+    ///
+    /// Over the connection of a shelf that
     /// was closed it is that shelf: it shows the tables that it showed, unless it is shut, and a stop leaves nothing that it could not
     /// leave before, so that runs before and after are one; what a shelf of ours left is refused only for want of memory or a fault of
     /// the store. Calls that were refused are counted from 0.
@@ -162,13 +167,15 @@ impl<S: Alter + Drop, O: Origin> SqlShelf<S, O> {
     ) -> Result<SqlShelf<S, O>, (Connection<S>, DeskFault)>
         requires mode { conn.in_transaction ≡ false }
         ensures opened { IfOk result (IsOpened S.Store conn) }
-        ensures there { IfOk result (λ s. IsTrue (state S.Store s.conn).is_open → (conn.schema ≡ desk_schema → ⊥) → AreAllRead conn.schema) }
+        ensures there { IfOk result (λ s. IsTrue (state S.Store s.conn).is_open → IsDeskThere (state S.Store conn).now s.requests) }
         ensures goes_on { IfOk result (ReopensLast S.Store O.IS_OURS conn) }
         ensures mode { IfErr result (λ e. e.0.in_transaction ≡ false) }
         ensures refused { IfErr result (λ e. Stays (state S.Store conn) (state S.Store e.0)) }
         ensures cause { IfErr result (λ e. IsTrue (state S.Store e.0).is_open → IsRefused (state S.Store conn) e.1) }
         ensures ours { IfErr result (λ e. e.1 ≡ DeskFault.NotOurs → IsTrue O.IS_OURS) }
         ensures again { IfErr result (λ e. IsRefusedAgain S.Store O.IS_OURS conn e.0 e.1) }
+        ensures no_table { IfOk result (λ s. IsTrue (state S.Store s.conn).is_open → conn.schema ≡ schema_0 → ⊥) }
+        ensures empty { IfErr result (λ e. IsTrue (state S.Store e.0).is_open → conn.schema ≡ schema_0 → (e.1 ≡ DeskFault.NotADesk) ⊎ ((e.1 ≡ DeskFault.Memory) ⊎ (e.1 ≡ DeskFault.Store))) }
     {
         let mut conn = conn;
         match see(&mut conn, alloc) {

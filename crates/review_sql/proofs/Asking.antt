@@ -1,0 +1,128 @@
+-- What the text that reads the table `desk` shows over any schema.
+use Rattle.std.proofs.Common.{◌≡◌, ◌∙◌, ◌⊎◌, inl, inr, ℕ, List, [], Option, Some, None, Ok, Err, Result, IfOk, IfErr, IsTrue, false, ◌+◌, refl, sym, ap, subst, subst₂}
+use Rattle.std.proofs.lemmas.Bool.{cases_Bool}
+use Rattle.sqlite_value.specs.Order.{Row}
+use Rattle.sqlite_ast.specs.declared.Statement.{Statement}
+use Rattle.sqlite_ast.specs.declared.Statement.TheVariants as written
+use Rattle.sqlite_ast.specs.declared.Select as written_select
+use Rattle.sqlite_syntax.specs.declared.statement.Parsed.{Parsed}
+use Rattle.sqlite_schema.specs.declared.schema.Schema.{Schema}
+use Rattle.sqlite_schema.specs.declared.command.Command.{Command}
+use Rattle.sqlite_schema.specs.declared.command.Returning.{Returning}
+use Rattle.sqlite_resolve.specs.declared.compiled.Compiled.{Compiled}
+use Rattle.sqlite_resolve.specs.Lowering.{Checked, and_then}
+use Rattle.sqlite_resolve.specs.declared.error.CompileError.TheVariants.{NoSuchTable}
+use Rattle.sqlite_resolve.specs.Compile.{compiled, first, planned, meaning, command, returning, timed, small, with_command}
+use Rattle.sqlite_tied.specs.Compute.{everything}
+use Rattle.sqlite.specs.Clock.{timed as in_time}
+use Rattle.sqlite.specs.Listing.{understood, reads_listing, listing_schema, if_select, IsSourceOf}
+use Rattle.sqlite.specs.State.{State, Shown, HasCleanDisk, Survives, FailsToQuery, FailsToShow, IsNotRun, IsUnchanged, IsRolledBack, CommitsShowing}
+use Rattle.sqlite.specs.Effect.{Reads}
+use Rattle.sqlite.specs.declared.error.Error.{Error}
+use Rattle.sqlite_trees.specs.Tree.{Trees}
+use Rattle.sqlite.proofs.StateLemmas.{survives_weaker}
+use Rattle.review_statements.specs.declared.texts.TheConstants.{FIND_DESK}
+use Rattle.review_sql.specs.Said.{ShowsDesk}
+use Rattle.review_sql.specs.Shelf.{Stays}
+
+-- a text that was read as one query, which doesn't read the time
+abbrev IsQuery : Checked Parsed → Type 0
+IsQuery (Ok p) = (s : written_select.Select) × (p.statement ≡ written.Select s) × (p.formats ≡ [])
+IsQuery (Err e) = ⊥
+
+-- what a statement of these formats is compiled to
+abbrev as_compiled : Schema → Parsed → Statement → List (List ℕ) → Checked Compiled
+as_compiled schema p statement formats =
+    let waited = timed schema formats statement in
+    and_then
+    (and_then (and_then (returning schema (small p.names + small waited) statement) (λ shown. and_then (command schema formats (small p.names + small waited) statement) (λ c. Ok (c, shown)))) (λ found. Ok (waited, found)))
+    (λ plan. Ok (with_command p plan))
+
+abbrev of_ok : Compiled → Checked Compiled → Compiled
+of_ok other (Ok c) = c
+of_ok other (Err e) = other
+
+-- how a query is compiled, whatever its meaning
+of_command : (p : Parsed) (r : Checked Command) (c : Compiled)
+    → and_then (and_then (and_then r (λ k. Ok (k, None))) (λ found. Ok ([], found))) (λ plan. Ok (with_command p plan)) ≡ Ok c → (c.returning ≡ None) × (c.formats ≡ [])
+of_command p (Ok k) c is = let same = ap (of_ok c) is in (sym (ap (λ (x : Compiled). x.returning) same), sym (ap (λ (x : Compiled). x.formats) same))
+of_command p (Err e) c is = absurd (cc)
+
+query_is_plain : (schema : Schema) (r : Checked Parsed) (c : Compiled) → IsQuery r → and_then r (λ p. and_then (planned schema p) (λ plan. Ok (with_command p plan))) ≡ Ok c → (c.returning ≡ None) × (c.formats ≡ [])
+unfolding planned meaning returning timed
+query_is_plain schema (Ok p) c it is =
+    of_command p (command schema [] (small p.names + small []) (written.Select it.0)) c
+    (subst₂ (λ st fs. as_compiled schema p st fs ≡ Ok c) it.1 it.2 is)
+query_is_plain schema (Err e) c it is = absurd it
+
+is_query : IsQuery (first FIND_DESK.now)
+unfolding everything
+is_query = (_, refl, refl)
+
+-- it asks for no listing of tables
+lists_nothing : if_select (compiled listing_schema FIND_DESK.now) ≡ Err NoSuchTable
+unfolding everything listing_schema
+lists_nothing = refl
+
+listing_refused : (r : Checked Compiled) (c : Compiled) → r ≡ Err NoSuchTable → r ≡ Ok c → ⊥
+listing_refused r c refused found = let e = sym refused ∙ found in cc
+
+module _ (schema : Schema) (c : Compiled) where
+  pub not_listed : understood schema FIND_DESK.now ≡ Ok c → reads_listing schema FIND_DESK.now ≡ false
+  unfolding understood
+  not_listed is = elim (cases_Bool (reads_listing schema FIND_DESK.now)) [
+    | inl listed ↦ absurd (listing_refused _ c lists_nothing (rw listed at is))
+    | inr not ↦ not
+  ]
+
+  pub is_plain : understood schema FIND_DESK.now ≡ Ok c → (c.returning ≡ None) × (c.formats ≡ [])
+  unfolding understood compiled
+  is_plain is = query_is_plain schema (first FIND_DESK.now) c is_query (rw (not_listed is) at is)
+
+-- a call that failed left what was there, or took the transaction back
+fails_so : (sql : List ℕ) (params : Row) (old new : State) (e : Error) → FailsToQuery sql params old new e → IsUnchanged old new ⊎ IsRolledBack old new
+unfolding FailsToQuery IsNotRun
+fails_so sql params old new e (inl (inl none)) = inl none.1
+fails_so sql params old new e (inl (inr fails)) = inr fails.3
+fails_so sql params old new e (inr ran) = by_returning ran.0.returning ran.2
+  where
+    by_returning : (o : Option Returning) → FailsToShow old new sql ran.0 (in_time params ran.0.formats ran.1.now) e o → IsUnchanged old new ⊎ IsRolledBack old new
+    by_returning None h = inl h.3
+    by_returning (Some what) (inl h) = inl h.1
+    by_returning (Some what) (inr fails) = inr fails.3
+
+module _ (old new : State) where
+  -- what the query showed
+  shown_so : (rows : List Row) → Shown FIND_DESK.now [] old new rows
+      → IsUnchanged old new × ((c : Compiled) × (understood old.now.schema FIND_DESK.now ≡ Ok c) × Reads c.command old.now [] rows)
+  unfolding Shown
+  shown_so rows h =
+      let bare = is_plain old.now.schema h.0 h.1.is in
+      let it = rw (bare.0, bare.1) at h.2 in
+      let db : it.0 ≡ old.now = subst (λ b. IsSourceOf b old.now it.0) (not_listed old.now.schema h.0 h.1.is) it.1 in
+      (it.3, (h.0, h.1.is, subst (λ d. Reads h.0.command d [] rows) db it.2))
+
+  never_commits : (db : Trees) → CommitsShowing FIND_DESK.now [] old db → ⊥
+  unfolding CommitsShowing
+  never_commits db h = absurd (let some = rw (is_plain old.now.schema h.0 h.1.is).0 at h.2 in cc)
+
+  -- a query that showed rows, and left what was there
+  pub asked_rows : {X : Type 0} (view : X → List Row) (r : Result X Error) → IfOk r (λ x. Shown FIND_DESK.now [] old new (view x)) → IfOk r (λ x. ShowsDesk old.now (view x))
+  asked_rows view (Ok x) h = let it = (shown_so (view x) h).1 in record { query = it.0; is = it.1; shown = it.2 }
+  asked_rows view (Err e) h = tt
+
+  pub asked_stays : {X : Type 0} (view : X → List Row) (r : Result X Error) (settled : IsTrue old.is_open → old.now ≡ old.committed) → (IsTrue new.is_open → HasCleanDisk new)
+      → (HasCleanDisk new → IfOk r (λ x. Shown FIND_DESK.now [] old new (view x))) → (HasCleanDisk new → IfErr r (FailsToQuery FIND_DESK.now [] old new))
+      → Survives old new (CommitsShowing FIND_DESK.now [] old) → Stays old new
+  asked_stays {X} view r settled clean ok err survives = record {
+    kept = λ is_open. by_result r (ok (clean is_open)) (err (clean is_open)) is_open;
+    survives = survives_weaker old new (CommitsShowing FIND_DESK.now [] old) (λ _. ⊥) (λ _ db h. never_commits db h) survives;
+  }
+    where
+      undone_or_not : IsUnchanged old new ⊎ IsRolledBack old new → IsTrue new.is_open → IsTrue old.is_open × (new.now ≡ old.now)
+      undone_or_not (inl same) is_open = (same.0.was_open, same.0.now_is)
+      undone_or_not (inr undone) is_open = let was = undone.was_open is_open in (was, (undone.undone is_open).0 ∙ sym (settled was))
+
+      by_result : (r : Result X Error) → IfOk r (λ x. Shown FIND_DESK.now [] old new (view x)) → IfErr r (FailsToQuery FIND_DESK.now [] old new) → IsTrue new.is_open → IsTrue old.is_open × (new.now ≡ old.now)
+      by_result (Ok x) h none is_open = let same = (shown_so (view x) h).0 in (same.0.was_open, same.0.now_is)
+      by_result (Err e) none h is_open = undone_or_not (fails_so FIND_DESK.now [] old new e h) is_open

@@ -1,0 +1,146 @@
+-- What the table `desk` says where the tables are of our form, and where there is none.
+use Rattle.std.proofs.Common.{◌≡◌, ◌∙◌, inl, inr, ℕ, List, [], ◌∷◌, map, filter, Option, Some, None, Ok, Err, true, false, codes, refl, sym, ap, subst, arith}
+use Rattle.std.specs.Result.{is_ok}
+use Rattle.std.specs.List.{AllByRecursion}
+use Rattle.std.specs.List.Sorted.{IsPermutation}
+use Rattle.std.proofs.lemmas.List.Sorted.{length_permutation}
+use Rattle.std.proofs.lemmas.List.Elements.{All-from_recursion}
+use Rattle.std.proofs.lemmas.Option.{same_Some}
+use Rattle.sqlite_value.specs.Order.{Row, column}
+use Rattle.sqlite_value.specs.declared.value.Value.TheVariants.{Null}
+use Rattle.sqlite_sql.specs.Term.{col}
+use Rattle.sqlite_schema.specs.declared.command.Command.TheVariants.{Select}
+use Rattle.sqlite_resolve.specs.declared.compiled.Compiled.{Compiled}
+use Rattle.sqlite_resolve.specs.Lowering.{Checked}
+use Rattle.sqlite_tied.specs.Compute.{everything}
+use Rattle.sqlite_keyed.proofs.ListLemmas.{filter_same}
+use Rattle.sqlite.specs.Effect.{Database, Reads}
+use Rattle.sqlite.specs.Listing.{understood, listing_schema}
+use Rattle.sqlite.proofs.Callers.{command_of, one_permutation}
+use Rattle.review_statements.specs.declared.texts.TheConstants.{FIND_DESK, READ_ROWS}
+use Rattle.review_statements.specs.Content.{has_key}
+use Rattle.review_statements.specs.Desk.{desk_schema, schema_0}
+use Rattle.review_statements.specs.Search.{only, reads}
+use Rattle.review_statements.proofs.Queries.{over_table, passes, selects}
+use Rattle.review_records.specs.declared.rows.DeskRow.{DeskRow}
+use Rattle.review_records.specs.Forms.{desk, desk_row}
+use Rattle.review_lookups.specs.Tables.{IsDesk}
+use Rattle.review_sql.specs.Said.{number_of_one, version_in, requests_in, ShowsDesk, IsDeskThere, IsNoDesk, IsOtherVersion, LacksDesk}
+use Rattle.review_sql.specs.Shelf.{AreAllRead, IsUnderstood}
+
+-- ---- the texts over our form
+
+find_is : command_of (understood desk_schema FIND_DESK.now) ≡ Select (record { lets = []; body = over_table 25 [] (col 1 1 ∷ col 1 2 ∷ []) [] }) (codes "version" ∷ codes "requests" ∷ [])
+unfolding understood everything
+find_is = refl
+
+find_known : is_ok (understood desk_schema FIND_DESK.now) ≡ true
+unfolding understood everything
+find_known = refl
+
+all_known : AllByRecursion (λ sql. is_ok (understood desk_schema sql) ≡ true) (map (λ t. t.now) READ_ROWS)
+unfolding understood everything
+all_known = (refl, (refl, (refl, (refl, (refl, (refl, (refl, (refl, (refl, (refl, (refl, tt)))))))))))
+
+-- no text is understood as a look at the table `desk` where there is no table
+none_known : is_ok (understood schema_0 FIND_DESK.now) ≡ false
+unfolding understood everything listing_schema
+none_known = refl
+
+if_ok : (r : Checked Compiled) → is_ok r ≡ true → (c : Compiled) × (r ≡ Ok c)
+if_ok (Ok c) is = (c, refl)
+if_ok (Err e) is = absurd (cc)
+
+not_ok : (r : Checked Compiled) (c : Compiled) → is_ok r ≡ false → r ≡ Ok c → ⊥
+not_ok (Ok d) c fails is = cc
+not_ok (Err e) c fails is = cc
+
+pub understands : IsUnderstood desk_schema FIND_DESK.now
+understands = if_ok _ find_known
+
+pub understands_none : IsUnderstood schema_0 FIND_DESK.now → ⊥
+understands_none it = not_ok _ it.0 none_known it.1
+
+pub reads_all : AreAllRead desk_schema
+reads_all = record {
+  each = λ sql inside.
+      if_ok _ (subst (λ s. is_ok (understood desk_schema s) ≡ true) inside.2 (All-from_recursion (λ s. is_ok (understood desk_schema s) ≡ true) (map (λ t. t.now) READ_ROWS) all_known inside.0 sql inside.1));
+}
+
+-- ---- one row, in whatever order rows are shown
+
+same_number : (at : ℕ) (rows others : List Row) → IsPermutation rows others → number_of_one at rows ≡ number_of_one at others
+same_number at [] [] same = refl
+same_number at [] (r ∷ others) same = absurd (let l = length_permutation [] (r ∷ others) same in omega (arith, l))
+same_number at (r ∷ []) others same = ap (number_of_one at) (sym (one_permutation r others same))
+same_number at (r ∷ s ∷ rows) [] same = absurd (let l = length_permutation (r ∷ s ∷ rows) [] same in omega (arith, l))
+same_number at (r ∷ s ∷ rows) (q ∷ []) same = absurd (let l = length_permutation (r ∷ s ∷ rows) (q ∷ []) same in omega (arith, l))
+same_number at (r ∷ s ∷ rows) (q ∷ p ∷ others) same = refl
+
+-- what is shown of a row of the table `desk`
+abbrev two : Row → Row
+two r = column r 1 ∷ column r 2 ∷ []
+
+module _ (db : Database) (has : db.schema ≡ desk_schema) (rows : List Row) (shown : ShowsDesk db rows) where
+  abbrev stored : List Row
+  stored = filter (has_key []) (db.trees 25)
+
+  shown_are : IsPermutation (map two stored) rows
+  shown_are =
+      let known = sym shown.is ∙ ap (λ s. understood s FIND_DESK.now) has in
+      let it : Reads (Select (record { lets = []; body = over_table 25 [] (col 1 1 ∷ col 1 2 ∷ []) [] }) (codes "version" ∷ codes "requests" ∷ [])) db [] rows = subst (λ k. Reads k db [] rows) (ap command_of known ∙ find_is) shown.shown in
+      subst (λ l. IsPermutation (map two l) rows) (filter_same (passes [] []) (has_key []) (λ row. refl) (db.trees 25)) (selects 25 [] (col 1 1 ∷ col 1 2 ∷ []) [] db.trees [] rows refl (it.answer Null))
+
+  says : (at : ℕ) → number_of_one at (map two stored) ≡ number_of_one at rows
+  says at = same_number at (map two stored) rows shown_are
+
+  says_row : (raws : List Row) (version requests : ℕ) → number_of_one 0 (map two raws) ≡ Some version → number_of_one 1 (map two raws) ≡ Some requests → only (reads desk) raws ≡ Some (Some (record { version = version; requests = requests }))
+  says_row [] version requests v n = absurd (cc)
+  says_row (r ∷ []) version requests v n = rw (v, n) refl
+  says_row (r ∷ s ∷ raws) version requests v n = absurd (cc)
+
+  pub is_desk : (requests : ℕ) → version_in rows ≡ Some 1 → requests_in rows ≡ Some requests → IsDesk requests db.trees
+  is_desk requests v n = says_row stored 1 requests (says 0 ∙ v) (says 1 ∙ n)
+
+  parts_of : (a b : Option ℕ) (d : DeskRow) → Some (desk_row a b) ≡ Some (Some d) → (a ≡ Some d.version) × (b ≡ Some d.requests)
+  parts_of None b d is = let e = same_Some None (Some d) is in cc
+  parts_of (Some v) None d is = let e = same_Some None (Some d) is in cc
+  parts_of (Some v) (Some n) d is =
+      let same = same_Some _ _ (same_Some _ _ is) in
+      (ap (λ (x : DeskRow). Some x.version) same, ap (λ (x : DeskRow). Some x.requests) same)
+
+  row_says : (raws : List Row) (d : DeskRow) → only (reads desk) raws ≡ Some (Some d) → (number_of_one 0 (map two raws) ≡ Some d.version) × (number_of_one 1 (map two raws) ≡ Some d.requests)
+  row_says [] d is = absurd (cc)
+  row_says (r ∷ []) d is = parts_of _ _ d is
+  row_says (r ∷ s ∷ raws) d is = absurd (let e = same_Some None (Some d) is in cc)
+
+  pub desk_says : (requests : ℕ) → IsDesk requests db.trees → (version_in rows ≡ Some 1) × (requests_in rows ≡ Some requests)
+  desk_says requests is =
+      let it = row_says stored (record { version = 1; requests = requests }) is in
+      (sym (says 0) ∙ it.0, sym (says 1) ∙ it.1)
+
+-- ---- a desk of ours
+
+no_some : (o : Option ℕ) (n : ℕ) → o ≡ Some n → o ≡ None → ⊥
+no_some o n some none = let e = sym some ∙ none in cc
+
+pub desk_of_ours : (db : Database) → db.schema ≡ desk_schema → (requests : ℕ) → IsDeskThere db requests → IsDesk requests db.trees
+desk_of_ours db has requests there = is_desk db has there.rows there.shown requests there.version_is there.requests_are
+
+pub never_no_desk : (db : Database) → db.schema ≡ desk_schema → (requests : ℕ) → IsDesk requests db.trees → IsNoDesk db → ⊥
+never_no_desk db has requests is (inl missing) = missing (subst (λ s. IsUnderstood s FIND_DESK.now) (sym has) understands)
+never_no_desk db has requests is (inr odd) = let it = desk_says db has odd.0 odd.1 requests is in lacks odd.0 it.0 it.1 odd.2
+  where
+    lacks : (rows : List Row) → version_in rows ≡ Some 1 → requests_in rows ≡ Some requests → LacksDesk db rows → ⊥
+    lacks rows v n (inl none) = no_some _ _ v none
+    lacks rows v n (inr (_, inl none)) = no_some _ _ n none
+    lacks rows v n (inr (_, inr missing)) = missing (subst AreAllRead (sym has) reads_all)
+
+pub never_other_version : (db : Database) → db.schema ≡ desk_schema → (requests : ℕ) → IsDesk requests db.trees → IsOtherVersion db → ⊥
+never_other_version db has requests is other =
+    let it = desk_says db has other.0 other.1 requests is in
+    other.2.2 (same_Some _ _ (sym other.2.1 ∙ it.0))
+
+-- where there is no table nothing is shown of one
+pub never_shown : (db : Database) → db.schema ≡ schema_0 → (rows : List Row) → ShowsDesk db rows → ⊥
+never_shown db has rows shown = understands_none (shown.query, subst (λ s. understood s FIND_DESK.now ≡ Ok shown.query) has shown.is)

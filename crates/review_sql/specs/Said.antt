@@ -1,0 +1,59 @@
+-- What the table `desk` says, whatever the form of the tables.
+use Rattle.std.specs.Prelude.{ℕ, ◌≡◌, ◌≢◌, ◌⊎◌, List, [], ◌∷◌, Option, Some, None, Ok}
+use Rattle.sqlite_value.specs.Order.{Row, column}
+use Rattle.sqlite_resolve.specs.declared.compiled.Compiled.{Compiled}
+use Rattle.sqlite.specs.Effect.{Database, Reads}
+use Rattle.sqlite.specs.Listing.{understood}
+use Rattle.review_statements.specs.declared.texts.TheConstants.{FIND_DESK}
+use Rattle.review_tables.specs.Columns.{number_in}
+use Rattle.review_sql.specs.declared.seen.Said.{Said}
+use Rattle.review_sql.specs.Shelf.{AreAllRead, IsUnderstood}
+
+-- the query that a text is understood as shows these rows
+pub record ShowsRows (db : Database) (sql : List ℕ) (rows : List Row) : Type 0 where
+  pub query : Compiled
+  pub is : understood db.schema sql ≡ Ok query
+  pub shown : Reads query.command db [] rows
+
+-- the number that the one row has in a column; none where there are no rows or several, or where no number stands there
+abbrev pub number_of_one : ℕ → List Row → Option ℕ
+number_of_one at (r ∷ []) = number_in (column r at)
+number_of_one at _ = None
+
+-- the version that the rows of the table `desk` say, and how many requests they say that there are
+abbrev pub version_in : List Row → Option ℕ
+version_in = number_of_one 0
+
+abbrev pub requests_in : List Row → Option ℕ
+requests_in = number_of_one 1
+
+-- the rows of the table `desk`, each by its version and its requests
+abbrev pub ShowsDesk : Database → List Row → Type 0
+ShowsDesk db rows = ShowsRows db FIND_DESK.now rows
+
+-- this is what the rows of the table `desk` say
+pub record IsSaid (db : Database) (said : Said) : Type 0 where
+  pub rows : List Row
+  pub shown : ShowsDesk db rows
+  pub version_is : said.version ≡ version_in rows
+  pub requests_are : said.requests ≡ requests_in rows
+
+-- the table `desk` has one row, which says version 1 and so many requests, and all columns of the eleven tables of records are there
+pub record IsDeskThere (db : Database) (requests : ℕ) : Type 0 where
+  pub rows : List Row
+  pub shown : ShowsDesk db rows
+  pub version_is : version_in rows ≡ Some 1
+  pub requests_are : requests_in rows ≡ Some requests
+  pub tables : AreAllRead db.schema
+
+-- the rows say no version, or version 1 where they don't say how many requests there are or a table of records is missing
+abbrev pub LacksDesk : Database → List Row → Type 0
+LacksDesk db rows = (version_in rows ≡ None) ⊎ ((version_in rows ≡ Some 1) × ((requests_in rows ≡ None) ⊎ (AreAllRead db.schema → ⊥)))
+
+-- the table `desk` isn't there with its columns, or what its rows say is no desk
+abbrev pub IsNoDesk : Database → Type 0
+IsNoDesk db = (IsUnderstood db.schema FIND_DESK.now → ⊥) ⊎ ((rows : List Row) × ShowsDesk db rows × LacksDesk db rows)
+
+-- the one row of the table `desk` says another version than 1, whatever else it says
+abbrev pub IsOtherVersion : Database → Type 0
+IsOtherVersion db = (rows : List Row) × ShowsDesk db rows × ((version : ℕ) × (version_in rows ≡ Some version) × (version ≢ 1))
