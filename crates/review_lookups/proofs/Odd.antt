@@ -114,6 +114,9 @@ members_damaged db group none =
     (λ r has at is. unkeyed db 2 member_keyed (inr (inl refl)) r has (and_false (is_text (column r 1)) _ (no_number is_account_number (number_in (column r 2)) (alone_missing _ is))))
     (λ k twin. odd_damage (tables_at db) (MemberKey group k) (ap (told (λ u. MemberRow)) twin)) none
 
+positive : (n : ℕ) → where_is (nat_le 1) (Some (suc n)) ≡ None → ⊥
+positive n is = elim (cases_Bool (nat_le 1 (suc n))) [ inl low ↦ (let e = rw low at is in cc) | inr high ↦ (let e = leb-false 1 (suc n) high in omega (arith, e)) ]
+
 -- no base stands before the first place
 before_first : (db : Trees) (key : BranchKey) (r : Raw) → Has (rows_at (bases.at (record { project = key.project; branch = key.branch; place = 0 })) (db 6)) r → IsDamaged (tables_at db)
 before_first db key r has h history view =
@@ -153,9 +156,6 @@ bases_odd db key none =
         let here = and_from _ _ p.0 (and_from _ _ (and_parts _ _ p.1).0 (and_from _ _ (at_number (column r 3) 0 is) refl)) in
         before_first db key r (in_has (has_key (bases.at (record { project = key.project; branch = key.branch; place = 0 }))) (db 6) r has here)
     no_place r has at (Some (suc n)) is none = absurd (let e = sym (ap (where_is (nat_le 1)) is) ∙ none in positive n e)
-
-    positive : (n : ℕ) → where_is (nat_le 1) (Some (suc n)) ≡ None → ⊥
-    positive n is = elim (cases_Bool (nat_le 1 (suc n))) [ inl low ↦ (let e = rw low at is in cc) | inr high ↦ (let e = leb-false 1 (suc n) high in omega (arith, e)) ]
 
 module _ (db : Trees) (n : ℕ) where
   pub patches_damaged : AreParts nat_cmp change_patches patches n db None → IsDamaged (tables_at db)

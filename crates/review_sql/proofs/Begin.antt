@@ -8,7 +8,7 @@ use Rattle.sqlite.specs.Effect.{Database}
 use Rattle.review_names.specs.Names.{admin_name, administrators}
 use Rattle.review_words.specs.History.{is_listed}
 use Rattle.review_rows.specs.declared.rows.MemberKey.{MemberKey}
-use Rattle.review_rows.specs.Rows.{Key, AccountKey, MemberKey as OfMember, FileKey, BaseKey, PartKey, OddKey, AccountRow, MemberRow, FileRow, BaseRow, APart, Count, Projects, BasesOf}
+use Rattle.review_rows.specs.Rows.{Key, AccountKey, MemberKey as OfMember, FileKey, BaseKey, PartKey, OddKey, AccountRow, MemberRow, FileRow, BaseRow, APart, OddRow, Count, Projects, BasesOf}
 use Rattle.review_rows.specs.Changes.{Reading}
 use Rattle.review_rows.specs.View.{IsView, fact, counted}
 use Rattle.review_statements.specs.Desk.{schema_0, desk_schema, is_tree}
@@ -18,6 +18,7 @@ use Rattle.review_statements.specs.Search.{rows_at, row_at, only, reads, SetsRow
 use Rattle.review_tables.proofs.Sequences.{Next}
 use Rattle.review_tables.proofs.Made.{ready_blank, empty_at}
 use Rattle.review_sql.specs.First.{SetsFirst, MakesDesk}
+use Rattle.review_sql.proofs.Unkeyed.{first_keeps, none_unkeyed, unkeyed_same}
 use Rattle.review_changes.specs.Parts.{Part, TheHeader, PatchOf, VoteOf, RoleOf, CommentOf, AttentionOf, AHeader, APatch, ARole, AComment, ACall}
 use Rattle.review_change_records.specs.Forms.{headers, patches, votes, roles, comments, calls}
 use Rattle.review_records.specs.Forms.{accounts, members, projects, bases, answers}
@@ -73,7 +74,7 @@ module _ (a b : Trees) (blank : (t : ℕ) → is_tree t ≡ true → a t ≡ [])
   rows reading (FileKey project) = ap (λ l. told FileRow (only (reads projects) (rows_at (projects.at project) l))) (untouched 4 refl (λ e. omega (arith, e)) (λ e. omega (arith, e)) (λ e. omega (arith, e)))
   rows reading (BaseKey project branch place) = ap (λ l. told BaseRow (only (reads bases) (rows_at (bases.at (record { project = project; branch = branch; place = place })) l))) (untouched 6 refl (λ e. omega (arith, e)) (λ e. omega (arith, e)) (λ e. omega (arith, e)))
   rows reading (PartKey n part) = no_part n part
-  rows reading (OddKey o) = refl
+  rows reading (OddKey o) = ap (λ odd. cond odd (Some OddRow) None) (unkeyed_same a b (first_keeps a b h) ∙ none_unkeyed a blank)
 
   counts : (c : Count) → count_in b c ≡ counted [] c
   counts Projects = ap length (untouched 4 refl (λ e. omega (arith, e)) (λ e. omega (arith, e)) (λ e. omega (arith, e)))

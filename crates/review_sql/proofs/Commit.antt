@@ -17,7 +17,7 @@ use Rattle.review_rows.specs.declared.rows.Delta.{Delta}
 use Rattle.review_rows.specs.declared.rows.Kept.{Kept}
 use Rattle.review_rows.specs.declared.rows.MemberKey.{MemberKey as Member}
 use Rattle.review_rows.specs.declared.rows.Put.{Put}
-use Rattle.review_rows.specs.Rows.{Key, AccountKey, MemberKey, FileKey, BaseKey, PartKey, OddKey, Row, AccountRow, MemberRow, FileRow, BaseRow, APart, edited, Count, Projects, BasesOf, Answered, member_cmp, member_change, account_change, after_put, count_put, place_cmp, kept_row, after, count_after}
+use Rattle.review_rows.specs.Rows.{Key, AccountKey, MemberKey, FileKey, BaseKey, PartKey, OddKey, Row, AccountRow, MemberRow, FileRow, BaseRow, APart, OddRow, edited, Count, Projects, BasesOf, Answered, member_cmp, member_change, account_change, after_put, count_put, place_cmp, kept_row, after, count_after}
 use Rattle.review_rows.specs.Shelf.{IsCommitted}
 use Rattle.review_rows.proofs.Puts.{exact_place, place_total}
 use Rattle.review_rows.specs.declared.rows.PlaceKey.{PlaceKey}
@@ -32,6 +32,7 @@ use Rattle.review_sql.specs.Changes.{SetsDelta, SetsKept, SetsDesk, SetsPut}
 use Rattle.review_records.specs.Forms.{accounts, members, projects, bases, answers}
 use Rattle.review_lookups.specs.Tables.{told, row_in, count_in, answer_in, stored_as, number_of, tables_at, IsDesk}
 use Rattle.review_sql.specs.Commits.{Commits, AreSingle}
+use Rattle.review_sql.proofs.Unkeyed.{commit_keeps, unkeyed_same}
 use Rattle.review_sql.proofs.Edits.{edits_spare, is_part_tree, part_same, parts_edited}
 use Rattle.review_change_records.specs.Laws.{same_bytes}
 use Rattle.review_lookups.proofs.Telling.{own_bytes}
@@ -228,7 +229,7 @@ module _ (delta : Delta) (kept : Kept) (n : ℕ) (a b : Trees) (single : AreSing
       (last 16 refl (λ e. omega (arith, e)) (λ e. omega (arith, e))) (last 18 refl (λ e. omega (arith, e)) (λ e. omega (arith, e))) (last 20 refl (λ e. omega (arith, e)) (λ e. omega (arith, e))) n part
       ∙ (parts_edited [] delta.changes.items u t1 h.1.1.2 n part
       ∙ ap (λ r. after_change (option_map (option_map APart) (edited delta.changes.items n part)) r) (part_same a u (early 9 refl refl) (early 11 refl refl) (early 14 refl refl) (early 16 refl refl) (early 18 refl refl) (early 20 refl refl) n part))
-  rows (OddKey o) = refl
+  rows (OddKey o) = ap (λ odd. cond odd (Some OddRow) None) (unkeyed_same a b (commit_keeps delta kept n a b h))
 
   counts : (c : Count) → count_in b c ≡ count_after delta (row_in a) c (count_in a c)
   counts Projects =

@@ -10,3 +10,4 @@ pub mod Singles
 pub mod Shown
 pub mod Again
 pub mod Loaded
+pub mod Unkeyed

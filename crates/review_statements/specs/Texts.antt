@@ -1,5 +1,5 @@
 -- What texts are understood as, by the tables of a desk.
-use Rattle.std.specs.Prelude.{ℕ, ℤ, zero, suc, pos, negsuc, ◌≡◌, ◌+◌, ◌/◌, ◌++◌, false, List, [], ◌∷◌, map, drop, length, Option, None, Some, slice_get}
+use Rattle.std.specs.Prelude.{codes, ℕ, ℤ, zero, suc, pos, negsuc, ◌≡◌, ◌+◌, ◌/◌, ◌++◌, false, List, [], ◌∷◌, map, drop, length, Option, None, Some, slice_get}
 use Rattle.sqlite_value.specs.declared.value.Value.{Value}
 use Rattle.sqlite_value.specs.declared.value.Value.TheVariants.{Null, Int, Real, Text, Blob}
 use Rattle.sqlite_value.specs.declared.keys.Collation.TheVariants.{Binary}

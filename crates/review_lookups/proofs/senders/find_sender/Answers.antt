@@ -31,5 +31,5 @@ returns-then-is_odd-clause-looks g c =
     let s1 = state g.S.Store c.find.new.tx.conn.now in
     let s2 = state g.S.Store c.find-then-is_odd.new.tx.conn.now in
     let is : c.is_odd.result ≡ true = search rules in
-    let both = look_both H B s0 s1 s2 c.in_ok-header.header (Ok c.in_ok-branch-then-is_odd.branch) c.in_ok-header.ensures.looks c.in_ok-branch-then-is_odd.ensures.looks in
-    look_on _ _ s0 s2 c.in_ok-branch-then-is_odd.branch (Ok c.odd_sender.result) both (λ db h. c.odd_sender.ensures c.args.merged n p db (sym h.0 ∙ c.is_odd.ensures is))
+    let both = look_both H B s0 s1 s2 c.in_ok-header.header (Ok c.in_ok-branch.branch) c.in_ok-header.ensures.looks c.in_ok-branch.ensures.looks in
+    look_on _ _ s0 s2 c.in_ok-branch.branch (Ok c.odd_sender.result) both (λ db h. c.odd_sender.ensures c.args.merged n p db (sym h.0 ∙ c.is_odd.ensures is))

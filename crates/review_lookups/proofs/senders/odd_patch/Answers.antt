@@ -5,7 +5,7 @@ use Rattle.review_lookups.proofs.senders.odd_patch.Goals as goal
 pub returns-then-is_for : goal.returns-then-is_for
 returns-then-is_for c = λ merged n p db stands odd. odd_patch_damaged db n p odd
 
-pub returns : goal.returns
-returns c = λ merged n p db stands odd.
+pub returns-else-is_for : goal.returns-else-is_for
+returns-else-is_for c = λ merged n p db stands odd.
     let other : c.is_for.result ≡ false = search rules in
     elsewhere merged c.args.base.now n p db c.args.header.now stands (c.is_for.ensures other)
