@@ -1,5 +1,5 @@
 use Rattle.std.proofs.Common.{◌≡◌, ◌∙◌, Some, None, ap, sym, rules}
-use Rattle.review_changes.specs.Parts.{TheHeader, PatchOf, AHeader, APatch}
+use Rattle.review_changes.specs.Parts.{TheHeader, AHeader}
 use Rattle.review_rows.specs.Rows.{PartKey, APart}
 use Rattle.review_lookups.specs.Tables.{tables_at, told}
 use Rattle.review_lookups.proofs.Telling.{odd_damage}
