@@ -98,7 +98,8 @@ headed _ _ _ _ _ _ _ _ = None
 -- the header of a change
 abbrev pub headers : Search ℕ Header
 headers = record {
-  tree = table.changes.tree; keyed = header_keyed;
+  tree = table.changes.tree;
+  keyed = header_keyed;
   at = λ number. (0, Int (pos number)) ∷ [];
   columns = 2 ∷ 3 ∷ 4 ∷ 5 ∷ 6 ∷ 7 ∷ 8 ∷ 9 ∷ [];
   read = λ r. headed (where_is is_slashed_name (text_in (column r 0))) (where_is is_slashed_name (text_in (column r 1))) (where_is is_line (text_in (column r 2)))
@@ -121,7 +122,8 @@ patch_in commit parent kind uploader paths =
 -- a patch set of a change
 abbrev pub patches : Search (ℕ × ℕ) PatchRow
 patches = record {
-  tree = table.patches.tree; keyed = patch_keyed;
+  tree = table.patches.tree;
+  keyed = patch_keyed;
   at = λ p. (1, Int (pos p.0)) ∷ (2, Int (pos p.1)) ∷ [];
   columns = 3 ∷ 4 ∷ 5 ∷ 6 ∷ 7 ∷ [];
   read = λ r. patch_in (column r 0) (column r 1) (column r 2) (column r 3) (column r 4);
@@ -130,7 +132,8 @@ patches = record {
 -- the patch sets of a change
 abbrev pub change_patches : Search ℕ (ℕ × PatchRow)
 change_patches = record {
-  tree = table.patches.tree; keyed = patch_keyed;
+  tree = table.patches.tree;
+  keyed = patch_keyed;
   at = λ change. (1, Int (pos change)) ∷ [];
   columns = 2 ∷ 3 ∷ 4 ∷ 5 ∷ 6 ∷ 7 ∷ [];
   read = λ r. both (where_is (is_within most_patches) (number_in (column r 0))) (patch_in (column r 1) (column r 2) (column r 3) (column r 4) (column r 5));
@@ -148,7 +151,8 @@ vote_key _ _ _ = None
 -- a vote on a change
 abbrev pub votes : Search (ℕ × VoteKey) ℤ
 votes = record {
-  tree = table.votes.tree; keyed = vote_keyed;
+  tree = table.votes.tree;
+  keyed = vote_keyed;
   at = λ p. (1, Int (pos p.0)) ∷ (2, Int (pos p.1.patch)) ∷ (3, Text p.1.label) ∷ (4, Int (pos p.1.account)) ∷ [];
   columns = 5 ∷ [];
   read = λ r. where_is is_vote (integer_in (column r 0));
@@ -157,7 +161,8 @@ votes = record {
 -- the votes on a change
 abbrev pub change_votes : Search ℕ (VoteKey × ℤ)
 change_votes = record {
-  tree = table.votes.tree; keyed = vote_keyed;
+  tree = table.votes.tree;
+  keyed = vote_keyed;
   at = λ change. (1, Int (pos change)) ∷ [];
   columns = 2 ∷ 3 ∷ 4 ∷ 5 ∷ [];
   read = λ r. both (vote_key (where_is (is_within most_patches) (number_in (column r 0))) (where_is is_label (text_in (column r 1))) (where_is is_account_number (number_in (column r 2)))) (where_is is_vote (integer_in (column r 3)));
@@ -175,7 +180,8 @@ roles = record { tree = table.reviewers.tree; keyed = account_keyed; at = λ p. 
 -- the roles of a change
 abbrev pub change_roles : Search ℕ (ℕ × Role)
 change_roles = record {
-  tree = table.reviewers.tree; keyed = account_keyed;
+  tree = table.reviewers.tree;
+  keyed = account_keyed;
   at = λ change. (1, Int (pos change)) ∷ [];
   columns = 2 ∷ 3 ∷ [];
   read = λ r. both (where_is is_account_number (number_in (column r 0))) (named role_named (text_in (column r 1)));
@@ -199,7 +205,8 @@ comment_in patch path line author message unresolved answers request =
 -- a comment of a change
 abbrev pub comments : Search (ℕ × ℕ) CommentRow
 comments = record {
-  tree = table.comments.tree; keyed = comment_keyed;
+  tree = table.comments.tree;
+  keyed = comment_keyed;
   at = λ p. (1, Int (pos p.0)) ∷ (2, Int (pos p.1)) ∷ [];
   columns = 3 ∷ 4 ∷ 5 ∷ 6 ∷ 7 ∷ 8 ∷ 9 ∷ 10 ∷ [];
   read = λ r. comment_in (column r 0) (column r 1) (column r 2) (column r 3) (column r 4) (column r 5) (column r 6) (column r 7);
@@ -208,7 +215,8 @@ comments = record {
 -- the comments of a change
 abbrev pub change_comments : Search ℕ (ℕ × CommentRow)
 change_comments = record {
-  tree = table.comments.tree; keyed = comment_keyed;
+  tree = table.comments.tree;
+  keyed = comment_keyed;
   at = λ change. (1, Int (pos change)) ∷ [];
   columns = 2 ∷ 3 ∷ 4 ∷ 5 ∷ 6 ∷ 7 ∷ 8 ∷ 9 ∷ 10 ∷ [];
   read = λ r. both (where_is (is_within most_comments) (number_in (column r 0))) (comment_in (column r 1) (column r 2) (column r 3) (column r 4) (column r 5) (column r 6) (column r 7) (column r 8));
@@ -226,7 +234,8 @@ called _ _ = None
 -- that an account is in the attention set
 abbrev pub calls : Search (ℕ × ℕ) Called
 calls = record {
-  tree = table.attention.tree; keyed = account_keyed;
+  tree = table.attention.tree;
+  keyed = account_keyed;
   at = λ p. (1, Int (pos p.0)) ∷ (2, Int (pos p.1)) ∷ [];
   columns = 3 ∷ 4 ∷ [];
   read = λ r. called (where_is is_line (text_in (column r 0))) (number_in (column r 1));
@@ -235,7 +244,8 @@ calls = record {
 -- the attention set of a change
 abbrev pub change_calls : Search ℕ (ℕ × Called)
 change_calls = record {
-  tree = table.attention.tree; keyed = account_keyed;
+  tree = table.attention.tree;
+  keyed = account_keyed;
   at = λ change. (1, Int (pos change)) ∷ [];
   columns = 2 ∷ 3 ∷ 4 ∷ [];
   read = λ r. both (where_is is_account_number (number_in (column r 0))) (called (where_is is_line (text_in (column r 1))) (number_in (column r 2)));
@@ -254,7 +264,8 @@ branched _ _ = None
 -- the branch that a change is for
 abbrev pub change_branches : Search ℕ BranchKey
 change_branches = record {
-  tree = table.changes.tree; keyed = header_keyed;
+  tree = table.changes.tree;
+  keyed = header_keyed;
   at = λ number. (0, Int (pos number)) ∷ [];
   columns = 2 ∷ 3 ∷ [];
   read = λ r. branched (where_is is_slashed_name (text_in (column r 0))) (where_is is_slashed_name (text_in (column r 1)));
@@ -267,7 +278,8 @@ change_numbers = record { tree = table.changes.tree; keyed = header_keyed; at = 
 -- the changes for a branch, each with its place
 abbrev pub change_places : Search BranchKey (ℕ × ℕ)
 change_places = record {
-  tree = table.changes.tree; keyed = header_keyed;
+  tree = table.changes.tree;
+  keyed = header_keyed;
   at = λ b. (2, Text b.project) ∷ (3, Text b.branch) ∷ [];
   columns = 0 ∷ 8 ∷ [];
   read = λ r. both (where_is (is_within most_changes) (number_in (column r 0))) (where_is is_small (number_in (column r 1)));
@@ -276,7 +288,8 @@ change_places = record {
 -- the patch sets that have a commit
 abbrev pub sent : Search (List ℕ) (ℕ × ℕ)
 sent = record {
-  tree = table.patches.tree; keyed = patch_keyed;
+  tree = table.patches.tree;
+  keyed = patch_keyed;
   at = λ commit. (3, Text commit) ∷ [];
   columns = 1 ∷ 2 ∷ [];
   read = λ r. both (where_is (is_within most_changes) (number_in (column r 0))) (where_is (is_within most_patches) (number_in (column r 1)));
@@ -285,7 +298,8 @@ sent = record {
 -- the change at a place of a branch
 abbrev pub changes_at : Search PlaceKey ℕ
 changes_at = record {
-  tree = table.changes.tree; keyed = header_keyed;
+  tree = table.changes.tree;
+  keyed = header_keyed;
   at = λ k. (2, Text k.project) ∷ (3, Text k.branch) ∷ (8, Int (pos k.place)) ∷ [];
   columns = 0 ∷ [];
   read = λ r. where_is (is_within most_changes) (number_in (column r 0));

@@ -1,8 +1,8 @@
 //! The comments of changes.
 
 use crate::values::{
-    answers_at, answers_number, change_number, comment_at, comment_number, flag_at, flag_number, patch_at,
-    patch_number, small, small_at,
+    answers_at, answers_number, change_number, comment_at, comment_number, flag_at, flag_number,
+    patch_at, patch_number, small, small_at,
 };
 use review_changes::{Comment, CommentRow};
 use review_records::names::{account_at, account_number, name_at};

@@ -101,11 +101,13 @@ impl Table for Votes {
     fn bind_key<'a>(key: &'a (ChangeNo, VoteKey)) -> Result<Bound<'a>, Error> {
         let (change, patch) = (change_number(key.0), patch_number(key.1.patch));
         let account = account_number(key.1.account);
-        Ok(Bound::new()
-            .number(change)
-            .number(patch)
-            .text(key.1.label.as_str())
-            .number(account))
+        Ok(
+            Bound::new()
+                .number(change)
+                .number(patch)
+                .text(key.1.label.as_str())
+                .number(account),
+        )
     }
 
     fn bind_row<'a>(

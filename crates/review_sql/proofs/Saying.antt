@@ -21,7 +21,8 @@ use Rattle.review_statements.specs.declared.texts.TheConstants.{FIND_DESK, READ_
 use Rattle.review_statements.specs.Content.{has_key}
 use Rattle.review_statements.specs.Desk.{desk_schema, schema_0}
 use Rattle.review_statements.specs.Search.{only, reads}
-use Rattle.review_statements.proofs.Queries.{over_table, passes, selects}
+use Rattle.review_statements.specs.Texts.{over_table}
+use Rattle.review_statements.proofs.Queries.{passes, selects}
 use Rattle.review_records.specs.declared.rows.DeskRow.{DeskRow}
 use Rattle.review_records.specs.Forms.{desk, desk_row}
 use Rattle.review_lookups.specs.Tables.{IsDesk}

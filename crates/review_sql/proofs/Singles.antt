@@ -1,15 +1,18 @@
 -- The tables whose rows are counted have one row at each key, since their keys are UNIQUE.
-use Rattle.std.proofs.Common.{◌≤◌, ◌&&◌, ℕ, pos, List, [], ◌∷◌, length, refl, subst, inl, inr}
+use Rattle.std.proofs.Common.{◌≡◌, ◌≤◌, ◌&&◌, true, sym, ℤ, ℕ, pos, List, [], ◌∷◌, length, refl, subst, inl, inr}
 use Rattle.std.proofs.lemmas.Bool.{and_parts, and_from}
 use Rattle.sqlite_value.specs.declared.value.Value.TheVariants.{Int, Text}
 use Rattle.sqlite_value.specs.Keys.{plain, first_key}
 use Rattle.sqlite_trees.specs.Tree.{Trees, rowid}
-use Rattle.sqlite_value.specs.Order.{column}
+use Rattle.sqlite_value.specs.Order.{column, value_cmp}
+use Rattle.sqlite_value.specs.declared.value.Value.{Value}
+use Rattle.std.specs.Ordering.{is_eq}
 use Rattle.sqlite_schema.specs.Rules.{agree, differ}
 use Rattle.sqlite_catalog.specs.Listing.{IsSound}
 use Rattle.sqlite_catalog.proofs.AlterLemmas.{keys_are_unique}
 use Rattle.sqlite.specs.Effect.{Database}
-use Rattle.review_statements.specs.Content.{has_key, AreApart}
+use Rattle.review_statements.specs.Content.{has_key, is_value, AreApart}
+use Rattle.review_tables.proofs.Keys.{int_is, itself}
 use Rattle.review_statements.specs.Desk.{desk_schema, projects as project_table, bases as base_table}
 use Rattle.review_statements.specs.Ran.{IsReady}
 use Rattle.review_statements.specs.Search.{rows_at}
@@ -17,6 +20,10 @@ use Rattle.review_tables.proofs.Single.{equal_values, differ_ids, one_passes}
 use Rattle.review_rows.specs.declared.rows.PlaceKey.{PlaceKey}
 use Rattle.review_records.specs.Forms.{projects, bases}
 use Rattle.review_sql.specs.Commits.{AreSingle}
+
+-- a value that is a whole number equals it
+equal_whole : (v : Value) (n : ℤ) → is_value v (Int n) ≡ true → is_eq (value_cmp v (Int n)) ≡ true
+equal_whole v n has = subst (λ w. is_eq (value_cmp w (Int n)) ≡ true) (sym (int_is v n has)) (itself (Int n))
 
 module _ (db : Trees) (sound : IsSound desk_schema db) where
   project_single : (p : List ℕ) → AreApart (db 4) → length (rows_at (projects.at p) (db 4)) ≤ 1
@@ -39,7 +46,7 @@ module _ (db : Trees) (sound : IsSound desk_schema db) where
       let d = and_parts _ _ b.1 in
       let e = and_parts _ _ c.1 in
       let f = and_parts _ _ d.1 in
-      and_from _ _ (and_from _ _ (equal_values (Text k.project) (column s 1) (column r 1) refl b.0 a.0) (and_from _ _ (equal_values (Text k.branch) (column s 2) (column r 2) refl d.0 c.0) (and_from _ _ (equal_values (Int (pos k.place)) (column s 3) (column r 3) refl f.0 e.0) refl)))
+      and_from _ _ (and_from _ _ (equal_values (Text k.project) (column s 1) (column r 1) refl b.0 a.0) (and_from _ _ (equal_values (Text k.branch) (column s 2) (column r 2) refl d.0 c.0) (and_from _ _ (equal_values (Int (pos k.place)) (column s 3) (column r 3) refl (equal_whole (column s 3) (pos k.place) f.0) (equal_whole (column r 3) (pos k.place) e.0)) refl)))
       (differ_ids s r too keyed other))
       (db 6) (λ x h. h) apart
 

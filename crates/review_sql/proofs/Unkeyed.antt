@@ -1,5 +1,5 @@
 -- What is written leaves the rows that have no key of their table.
-use Rattle.std.proofs.Common.{◌≡◌, ◌≢◌, ◌∙◌, ◌==◌, ◌++◌, ◌||◌, ◌+◌, ℕ, List, [], ◌∷◌, Bool, cond, true, false, not, Option, Some, None, filter, refl, sym, ap, subst, inl, inr, eqb-true}
+use Rattle.std.proofs.Common.{◌≡◌, ◌∙◌, ◌==◌, ◌++◌, ◌||◌, ◌+◌, ℕ, List, [], ◌∷◌, Bool, cond, true, false, not, Option, Some, None, filter, refl, sym, ap, subst, inl, inr, eqb-true}
 use Rattle.std.specs.List.{AllByRecursion, list_any}
 use Rattle.std.proofs.lemmas.Bool.{cases_Bool, eqb-false}
 use Rattle.sqlite_value.specs.Order.{Row as Raw}

@@ -74,15 +74,19 @@ pub const ROW_IDS: [&str; 12] = [
 
 pub const INSERT_ACCOUNT: &str = "INSERT INTO accounts (number, name) VALUES (?1, ?2)";
 
-pub const DELETE_ACCOUNT: &str = "DELETE FROM accounts WHERE number = ?1 AND typeof(number) = 'integer'";
+pub const DELETE_ACCOUNT: &str =
+    "DELETE FROM accounts WHERE number = ?1 AND typeof(number) = 'integer'";
 
-pub const FIND_ACCOUNT: &str = "SELECT name FROM accounts WHERE number = ?1 AND typeof(number) = 'integer'";
+pub const FIND_ACCOUNT: &str =
+    "SELECT name FROM accounts WHERE number = ?1 AND typeof(number) = 'integer'";
 
 pub const INSERT_MEMBER: &str = "INSERT INTO members (grp, account) VALUES (?1, ?2)";
 
-pub const DELETE_MEMBER: &str = "DELETE FROM members WHERE grp = ?1 AND account = ?2 AND typeof(account) = 'integer'";
+pub const DELETE_MEMBER: &str =
+    "DELETE FROM members WHERE grp = ?1 AND account = ?2 AND typeof(account) = 'integer'";
 
-pub const FIND_MEMBER: &str = "SELECT account FROM members WHERE grp = ?1 AND account = ?2 AND typeof(account) = 'integer'";
+pub const FIND_MEMBER: &str =
+    "SELECT account FROM members WHERE grp = ?1 AND account = ?2 AND typeof(account) = 'integer'";
 
 pub const INSERT_PROJECT: &str = "INSERT INTO projects (name, file) VALUES (?1, ?2)";
 
@@ -93,7 +97,8 @@ pub const FIND_PROJECT: &str = "SELECT file FROM projects WHERE name = ?1";
 pub const INSERT_BASE: &str =
     "INSERT INTO bases (project, branch, place, commit_name) VALUES (?1, ?2, ?3, ?4)";
 
-pub const DELETE_BASE: &str = "DELETE FROM bases WHERE project = ?1 AND branch = ?2 AND place = ?3 AND typeof(place) = 'integer'";
+pub const DELETE_BASE: &str =
+    "DELETE FROM bases WHERE project = ?1 AND branch = ?2 AND place = ?3 AND typeof(place) = 'integer'";
 
 pub const FIND_BASE: &str =
     "SELECT commit_name FROM bases WHERE project = ?1 AND branch = ?2 AND place = ?3 AND typeof(place) = 'integer'";
@@ -101,7 +106,8 @@ pub const FIND_BASE: &str =
 pub const INSERT_CHANGE: &str =
     "INSERT INTO changes (number, project, branch, subject, owner, status, wip, place, updated) VALUES (?1, ?2, ?3, ?4, ?5, ?6, ?7, ?8, ?9)";
 
-pub const DELETE_CHANGE: &str = "DELETE FROM changes WHERE number = ?1 AND typeof(number) = 'integer'";
+pub const DELETE_CHANGE: &str =
+    "DELETE FROM changes WHERE number = ?1 AND typeof(number) = 'integer'";
 
 pub const FIND_CHANGE: &str =
     "SELECT project, branch, subject, owner, status, wip, place, updated FROM changes WHERE number = ?1 AND typeof(number) = 'integer'";
@@ -109,7 +115,8 @@ pub const FIND_CHANGE: &str =
 pub const INSERT_PATCH: &str =
     "INSERT INTO patches (change, patch, commit_name, parent, kind, uploader, paths) VALUES (?1, ?2, ?3, ?4, ?5, ?6, ?7)";
 
-pub const DELETE_PATCH: &str = "DELETE FROM patches WHERE change = ?1 AND typeof(change) = 'integer' AND patch = ?2 AND typeof(patch) = 'integer'";
+pub const DELETE_PATCH: &str =
+    "DELETE FROM patches WHERE change = ?1 AND typeof(change) = 'integer' AND patch = ?2 AND typeof(patch) = 'integer'";
 
 pub const FIND_PATCH: &str =
     "SELECT commit_name, parent, kind, uploader, paths FROM patches WHERE change = ?1 AND typeof(change) = 'integer' AND patch = ?2 AND typeof(patch) = 'integer'";
@@ -126,14 +133,17 @@ pub const FIND_VOTE: &str =
 pub const INSERT_REVIEWER: &str =
     "INSERT INTO reviewers (change, account, role) VALUES (?1, ?2, ?3)";
 
-pub const DELETE_REVIEWER: &str = "DELETE FROM reviewers WHERE change = ?1 AND typeof(change) = 'integer' AND account = ?2 AND typeof(account) = 'integer'";
+pub const DELETE_REVIEWER: &str =
+    "DELETE FROM reviewers WHERE change = ?1 AND typeof(change) = 'integer' AND account = ?2 AND typeof(account) = 'integer'";
 
-pub const FIND_REVIEWER: &str = "SELECT role FROM reviewers WHERE change = ?1 AND typeof(change) = 'integer' AND account = ?2 AND typeof(account) = 'integer'";
+pub const FIND_REVIEWER: &str =
+    "SELECT role FROM reviewers WHERE change = ?1 AND typeof(change) = 'integer' AND account = ?2 AND typeof(account) = 'integer'";
 
 pub const INSERT_COMMENT: &str =
     "INSERT INTO comments (change, number, patch, path, line, author, message, unresolved, answers_to, request) VALUES (?1, ?2, ?3, ?4, ?5, ?6, ?7, ?8, ?9, ?10)";
 
-pub const DELETE_COMMENT: &str = "DELETE FROM comments WHERE change = ?1 AND typeof(change) = 'integer' AND number = ?2 AND typeof(number) = 'integer'";
+pub const DELETE_COMMENT: &str =
+    "DELETE FROM comments WHERE change = ?1 AND typeof(change) = 'integer' AND number = ?2 AND typeof(number) = 'integer'";
 
 pub const FIND_COMMENT: &str =
     "SELECT patch, path, line, author, message, unresolved, answers_to, request FROM comments WHERE change = ?1 AND typeof(change) = 'integer' AND number = ?2 AND typeof(number) = 'integer'";
@@ -141,7 +151,8 @@ pub const FIND_COMMENT: &str =
 pub const INSERT_ATTENTION: &str =
     "INSERT INTO attention (change, account, reason, request) VALUES (?1, ?2, ?3, ?4)";
 
-pub const DELETE_ATTENTION: &str = "DELETE FROM attention WHERE change = ?1 AND typeof(change) = 'integer' AND account = ?2 AND typeof(account) = 'integer'";
+pub const DELETE_ATTENTION: &str =
+    "DELETE FROM attention WHERE change = ?1 AND typeof(change) = 'integer' AND account = ?2 AND typeof(account) = 'integer'";
 
 pub const FIND_ATTENTION: &str =
     "SELECT reason, request FROM attention WHERE change = ?1 AND typeof(change) = 'integer' AND account = ?2 AND typeof(account) = 'integer'";
@@ -149,7 +160,8 @@ pub const FIND_ATTENTION: &str =
 pub const INSERT_ANSWER: &str =
     "INSERT INTO answers (caller, id, request, content, reply) VALUES (?1, ?2, ?3, ?4, ?5)";
 
-pub const DELETE_ANSWER: &str = "DELETE FROM answers WHERE caller = ?1 AND typeof(caller) = 'integer' AND id = ?2";
+pub const DELETE_ANSWER: &str =
+    "DELETE FROM answers WHERE caller = ?1 AND typeof(caller) = 'integer' AND id = ?2";
 
 pub const FIND_ANSWER: &str =
     "SELECT request, content, reply FROM answers WHERE caller = ?1 AND typeof(caller) = 'integer' AND id = ?2";
@@ -179,14 +191,17 @@ pub const FIND_BRANCH: &str =
 pub const FIND_PATCHES: &str =
     "SELECT patch, commit_name, parent, kind, uploader, paths FROM patches WHERE change = ?1 AND typeof(change) = 'integer'";
 
-pub const FIND_VOTES: &str = "SELECT patch, label, account, value FROM votes WHERE change = ?1 AND typeof(change) = 'integer'";
+pub const FIND_VOTES: &str =
+    "SELECT patch, label, account, value FROM votes WHERE change = ?1 AND typeof(change) = 'integer'";
 
-pub const FIND_REVIEWERS: &str = "SELECT account, role FROM reviewers WHERE change = ?1 AND typeof(change) = 'integer'";
+pub const FIND_REVIEWERS: &str =
+    "SELECT account, role FROM reviewers WHERE change = ?1 AND typeof(change) = 'integer'";
 
 pub const FIND_COMMENTS: &str =
     "SELECT number, patch, path, line, author, message, unresolved, answers_to, request FROM comments WHERE change = ?1 AND typeof(change) = 'integer'";
 
-pub const FIND_CALLS: &str = "SELECT account, reason, request FROM attention WHERE change = ?1 AND typeof(change) = 'integer'";
+pub const FIND_CALLS: &str =
+    "SELECT account, reason, request FROM attention WHERE change = ?1 AND typeof(change) = 'integer'";
 
 pub const FIND_CHANGE_BRANCH: &str =
     "SELECT project, branch FROM changes WHERE number = ?1 AND typeof(number) = 'integer'";

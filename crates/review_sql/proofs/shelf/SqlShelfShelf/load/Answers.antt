@@ -1,5 +1,4 @@
-use Rattle.std.proofs.Common.{rules, ◌≡◌, ◌∙◌, Ok, Err, Result, IfOk, ap, not, subst, sym, IsTrue}
-use Rattle.sqlite_trees.specs.Tree.{Trees}
+use Rattle.std.proofs.Common.{rules, ◌≡◌, ◌∙◌, Ok, Result, IfOk, ap, not, subst, sym, IsTrue}
 use Rattle.sqlite.specs.Held.{Held, state}
 use Rattle.sqlite.proofs.StateLemmas.{clean_if_open}
 use Rattle.review_rows.specs.Known.{AreAsked, Agrees}
@@ -8,7 +7,7 @@ use Rattle.review_rows.specs.Shelf.{BlamesTables, KeepsTables, Shows}
 use Rattle.review_rows.specs.declared.rows.Rows.{Rows}
 use Rattle.review_rows.specs.declared.shelf.ShelfFault.{ShelfFault}
 use Rattle.review_statements.specs.Ran.{Serves}
-use Rattle.review_lookups.specs.Loads.{AreLoaded, WereAsked}
+use Rattle.review_lookups.specs.Loads.{AreLoaded}
 use Rattle.review_sql.specs.Shelf.{ShelfView, answer_of, tables_of, stops_of}
 use Rattle.review_sql.proofs.Loaded.{blames_loaded, keeps_loaded, shows_loaded, tables_kept, was_asked}
 use Rattle.review_sql.proofs.Shown.{holds_read, served, stops_read, clean_still, stops_still}
