@@ -22,6 +22,7 @@ MEMORY = 2**30
 LEAST_KIB, TIMES = 160_000, 40
 TEXTS = ("not a desk", "wrong version", "store fault", "damaged", "pattern", "no such change", "no such project", "no such branch")
 FAULTS = {f"review_desk: {text}\n".encode() for text in TEXTS}
+WARNING = re.compile(rb"review_desk: warning: this file has more [^\n]*\n")
 NUMBERED = ("CreateAccount", "CreateChange")
 # Known so far: a bad row of a change or a patch set stops what meets its commit in another project.
 MEETING = (("changes", "patches"), ("CreateChange", "Upload", "Submit"), b'{"not_taken":"STORE"}\n')
@@ -48,6 +49,7 @@ class Running:
     def __init__(self, *words):
         self.words = words
         self.process = subprocess.Popen([PROGRAM, *words], stdin=subprocess.PIPE, stdout=subprocess.PIPE, stderr=subprocess.PIPE, bufsize=0)
+        self.is_warned = None
 
     def told(self):
         """A line of its output; nothing where it has ended."""
@@ -61,12 +63,14 @@ class Running:
         return self.told()
 
     def end(self, sent=None):
-        """Its status, its output, and what it says of faults."""
+        """Its status, its output, and what it says of faults; whether it warned is kept."""
         try:
             out, err = self.process.communicate(sent, timeout=SECONDS)
         except subprocess.TimeoutExpired:
             self.stop("no end")
-        return self.process.returncode, out, err
+        warning = WARNING.match(err)
+        self.is_warned = warning is not None
+        return self.process.returncode, out, err[warning.end():] if warning else err
 
     def stop(self, what):
         self.process.kill()
@@ -134,8 +138,11 @@ class Desks:
         """`show`, `joined` and `init`, none of which changes a table."""
         was = bytes_of(copy_all(self.file, self.other))
         for words, right in self.shown.items():
-            status, out, err = Running(words[0], self.other, *words[1:]).end()
+            asked = Running(words[0], self.other, *words[1:])
+            status, out, err = asked.end()
             self.judge_end(damage, words[0], status, err)
+            if not err and damage.warns is not None and damage.warns != asked.is_warned:
+                self.wrong(damage, words[0], "warns" if asked.is_warned else "doesn't warn")
             is_right = (status, out, err) == right
             self.found[f"{words[0]} as without damage"] += is_right
             if damage.is_one and not is_right and ("lib" in words or words[-1] not in ("2", "tools", "main")):

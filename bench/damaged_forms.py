@@ -116,9 +116,18 @@ def half_written(file):
         os.replace(it, file + end)
 
 
+def as_ever(kind, act):
+    """A file that is kept otherwise, with the tables of a desk alone."""
+    kept = FileDamage(kind, act, is_strict=True, is_sound=True)
+    kept.warns = False
+    return kept
+
+
 def forms():
     for kind, sql in BESIDE.items():
-        yield Damage("beside the tables", None, kind, sql)
+        beside = Damage("beside the tables", None, kind, sql)
+        beside.warns = True
+        yield beside
     for kind, sql in SAID.items():
         said = Damage("the list of tables", None, kind, f"PRAGMA writable_schema = ON; {sql}")
         said.is_sound = False
@@ -126,7 +135,7 @@ def forms():
     for kind, text in TEXTS.items():
         yield FileDamage(f"tables {kind}", lambda file, text=text: made_anew(file, "", text), is_sound=True)
     for kind, begin in KEPT.items():
-        yield FileDamage(kind, lambda file, begin=begin: made_anew(file, begin), is_strict=True, is_sound=True)
+        yield as_ever(kind, lambda file, begin=begin: made_anew(file, begin))
     for journal in JOURNALS:
-        yield FileDamage(f"journal mode {journal}", lambda file, journal=journal: made_anew(file, "", None, journal), is_strict=True, is_sound=True)
+        yield as_ever(f"journal mode {journal}", lambda file, journal=journal: made_anew(file, "", None, journal))
     yield FileDamage("a journal of SQLite's beside it", half_written)

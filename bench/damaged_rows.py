@@ -137,6 +137,8 @@ class Damage:
         self.table, self.column, self.kind, self.sql, self.is_one, self.is_strict = table, column, kind, sql, is_one, is_strict
         self.is_sound, self.may_be_full, self.may_match = True, table == "desk", kind == "a pattern too large"
         self.is_refused = kind in REFUSED or (table, column) in COUNTED
+        # Whether the tables are those of a desk alone no more, of which the program warns; None where that isn't told here.
+        self.warns = None
 
     def name(self):
         return f"{self.table}{'.' + self.column if self.column else ''}: {self.kind}{' in one row' if self.is_one else ''}"

@@ -2,6 +2,7 @@
 ghost use Rattle.std.specs.Prelude.{◌≡◌, false, IfOk};
 
 use crate::listening::Listening;
+use crate::notices::StandardError;
 use review_machine::{DeskRules, Outcome};
 use review_work::{Ends, ProgramFault, Task, after_closing, create, work};
 use sqlite::{Connection, FileFrom, FileStore, Unknown};
@@ -39,7 +40,8 @@ pub fn init(rt: &HostRuntime, file: &str) -> Result<Outcome, ProgramFault> {
     }
 }
 
-/// Does a task on the desk in a file: from standard input, to standard output, and over connections on a port where it serves them.
+/// Does a task on the desk in a file: from standard input, to standard output, and over connections on a port where it serves them. Standard error is
+/// warned of tables that are not those of a desk alone.
 pub fn work_on(
     rt: &HostRuntime,
     file: &str,
@@ -52,6 +54,7 @@ pub fn work_on(
         input: rt.stdin(),
         output: rt.stdout(),
         connections: Listening::at(rt, port),
+        notices: StandardError::new(rt),
     };
     let (conn, ended) = work(rt.alloc(), &mut ends, conn, &mut rules, task);
     after_closing(ended, close(conn))

@@ -8,6 +8,7 @@
 
 mod files;
 mod listening;
+mod notices;
 
 use review_jobs::{Job, Place, WordsFault, job_of};
 use review_machine::Outcome;

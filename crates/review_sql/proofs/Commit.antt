@@ -33,6 +33,7 @@ use Rattle.review_records.specs.Forms.{accounts, members, projects, bases, answe
 use Rattle.review_lookups.specs.Tables.{told, row_in, count_in, answer_in, stored_as, number_of, tables_at, IsDesk}
 use Rattle.review_sql.specs.Commits.{Commits, AreSingle}
 use Rattle.review_sql.proofs.Unkeyed.{commit_keeps, unkeyed_same}
+use Rattle.review_sql.proofs.Rest.{keeps_rest}
 use Rattle.review_sql.proofs.Edits.{edits_spare, is_part_tree, part_same, parts_edited}
 use Rattle.review_change_records.specs.Laws.{same_bytes}
 use Rattle.review_lookups.proofs.Telling.{own_bytes}
@@ -251,4 +252,4 @@ module _ (delta : Delta) (kept : Kept) (n : ℕ) (a b : Trees) (single : AreSing
   }
 
 pub commits : (delta : Delta) (kept : Kept) (n : ℕ) (old new : Database) → OnDesk (Then (Then (SetsDelta delta) (SetsKept kept)) (SetsDesk (n + 1))) old new → Commits delta kept n old new
-commits delta kept n old new h = record { ready = h.ready; committed = λ ready single was. committed delta kept n old.trees new.trees single was (h.changes ready); desk = λ ready. (h.changes ready).2.here }
+commits delta kept n old new h = record { ready = h.ready; committed = λ ready single was. committed delta kept n old.trees new.trees single was (h.changes ready); desk = λ ready. (h.changes ready).2.here; rest = λ ready. keeps_rest delta kept (n + 1) old.trees new.trees (h.changes ready) }

@@ -11,14 +11,16 @@ use Rattle.review_statements.specs.Search.{rows_at}
 use Rattle.review_rows.specs.declared.rows.PlaceKey.{PlaceKey}
 use Rattle.review_records.specs.Forms.{projects, bases}
 use Rattle.review_lookups.specs.Tables.{tables_at, IsDesk}
+use Rattle.review_sql.specs.Named.{KeepsRest}
 
 -- no two rows of the tables whose rows are counted have one key
 pub record AreSingle (db : Trees) : Type 0 where
   pub projects_are : (project : List ℕ) → length (rows_at (projects.at project) (db 4)) ≤ 1
   pub bases_are : (key : PlaceKey) → length (rows_at (bases.at key) (db 6)) ≤ 1
 
--- the delta is applied and the request is stored, where the tables are a desk's and so many requests were
+-- the delta is applied and the request is stored, where the tables are a desk's and so many requests were; no row comes or goes but those of the keys that are named
 pub record Commits (delta : Delta) (kept : Kept) (requests : ℕ) (old new : Database) : Type 0 where
   pub ready : IsReady old → IsReady new
   pub committed : IsReady old → AreSingle old.trees → IsDesk requests old.trees → IsCommitted (tables_at old.trees) delta (kept_row kept) (tables_at new.trees)
   pub desk : IsReady old → IsDesk (requests + 1) new.trees
+  pub rest : IsReady old → KeepsRest delta kept old.trees new.trees

@@ -1,5 +1,6 @@
 pub mod Commits
 pub mod Changes
+pub mod Named
 pub mod First
 pub mod Shelf
 pub mod Created

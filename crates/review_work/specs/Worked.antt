@@ -1,5 +1,5 @@
 -- What a task on the tables of a connection did.
-use Rattle.std.specs.Prelude.{◌≡◌, ◌≢◌, ◌⊎◌, ℕ, Bool, true, false, List, [], Option, Result, Err, IsTrue, IfOk, IfErr}
+use Rattle.std.specs.Prelude.{◌≡◌, ◌≢◌, ◌⊎◌, ◌||◌, ℕ, Bool, true, false, not, List, [], Option, Result, Err, IsTrue, IfOk, IfErr}
 use Rattle.std.specs.Io.KnownBytes.{Appends}
 use Rattle.sqlite_trees.specs.declared.store.Store.{Ghosts}
 use Rattle.sqlite.specs.Held.{Held, state}
@@ -18,6 +18,7 @@ use Rattle.review_showing.specs.Shown.{Showed}
 use Rattle.review_showing.specs.Told.{branch_questions, change_page, change_questions, joined_page}
 use Rattle.review_sql.specs.Shelf.{ShelfView, Stays, shown, IsAnyThere, IsClosed, IsUnmade}
 use Rattle.review_sql.specs.Reopened.{ReopensLast}
+use Rattle.review_sql.specs.Said.{IsDeskThere}
 use Rattle.review_sql.specs.Opened.{IsOpened, IsRefused}
 use Rattle.review_sql.specs.Created.{IsCreated}
 use Rattle.review_sql.specs.declared.faults.DeskFault.{DeskFault}
@@ -47,16 +48,17 @@ pub record EndsServed {X : Type 0} (state : X → Shown) (count : ℕ) (before a
   pub ends : ended ≡ serve_outcome told
   pub served : ServedAll state before after count told old new
 
--- What is known of the ends of a task: the bytes that the reader still gives, those that the writer holds, and the peers of connections.
+-- What is known of the ends of a task: the bytes that the reader still gives, those that the writer holds, the peers of connections, and whether it was told that the tables are not those of a desk alone.
 pub record Known : Type 0 where
   pub input : Option (List ℕ)
   pub output : Option (List ℕ)
   pub peers : Peers
+  pub is_warned : Bool
 
--- that of these ends, where these say what is known of a reader, of a writer and of connections
-abbrev pub known : {R W C : Type 0} → (R → Option (List ℕ)) → (W → Option (List ℕ)) → (C → Option (List (List ℕ))) → (C → Option (List (List ℕ))) → Ends R W C → Known
-known remaining contents coming told ends =
-    record { input = remaining ends.input; output = contents ends.output; peers = record { coming = coming ends.connections; told = told ends.connections } }
+-- that of these ends, where these say what is known of a reader, of a writer, of connections and of notices
+abbrev pub known : {R W C N : Type 0} → (R → Option (List ℕ)) → (W → Option (List ℕ)) → (C → Option (List (List ℕ))) → (C → Option (List (List ℕ))) → (N → Bool) → Ends R W C N → Known
+known remaining contents coming told is_warned ends =
+    record { input = remaining ends.input; output = contents ends.output; peers = record { coming = coming ends.connections; told = told ends.connections }; is_warned = is_warned ends.notices }
 
 -- What a task did on a shelf that shows its tables so, with ends of which this is known before and after, and how it ended. Only to serve touches
 -- connections, and it writes nothing to the writer; where there was no memory for the table of paths, it did nothing at all.
@@ -70,13 +72,18 @@ HasDone state (Show change) before after ended old new =
 HasDone state (Joined project branch) before after ended old new =
     EndsShown (branch_questions project branch) joined_page before.output after.output ended (state old) (state new) × (after.peers ≡ before.peers)
 
--- A shelf was opened over the connection, as the one that was closed last; this was done on it, and it was closed.
-pub record OnShelf {S : Type 0} (g : Ghosts S) (is_ours : Bool) (Did : (ShelfView S → Shown) → ShelfView S → ShelfView S → Type 0) (old new : Held S) : Type 0 where
+-- What a task did on a shelf that is ours or not: where it isn't, and only there, that was told.
+abbrev pub Does : {X : Type 0} → Task → Known → Known → Result Outcome ProgramFault → Bool → (X → Shown) → X → X → Type 0
+Does task before after ended is_ours state old new = HasDone state task before after ended old new × (after.is_warned ≡ (not is_ours || before.is_warned))
+
+-- A shelf was opened over the connection, where a desk was there, as the one that was closed last; this was done on it, and it was closed.
+pub record OnShelf {S : Type 0} (g : Ghosts S) (is_ours : Bool) (Did : Bool → (ShelfView S → Shown) → ShelfView S → ShelfView S → Type 0) (old new : Held S) : Type 0 where
   pub opened : ShelfView S
   pub left : ShelfView S
   pub is_opened : IsOpened g old opened
+  pub there : IsTrue (state g opened.conn).is_open → IsDeskThere (state g old).now opened.requests
   pub goes_on : ReopensLast g is_ours old opened
-  pub did : Did (shown g is_ours) opened left
+  pub did : Did is_ours (shown g is_ours) opened left
   pub closed : IsClosed g is_ours left new
 
 -- the tables were refused as not ours, and stayed
@@ -84,24 +91,23 @@ pub record IsNotOurs {S : Type 0} (g : Ghosts S) (old new : Held S) : Type 0 whe
   pub stays : Stays (state g old) (state g new)
   pub cause : IsTrue (state g new).is_open → IsRefused (state g old) NotOurs
 
--- No desk was opened: the tables are as they were, and nothing was written.
-pub record IsRefusedDesk {S : Type 0} (g : Ghosts S) (before after : Option (List ℕ)) (old new : Held S) (ended : Result Outcome ProgramFault) : Type 0 where
+-- No desk was opened: the tables are as they were, and nothing was written or told.
+pub record IsRefusedDesk {S : Type 0} (g : Ghosts S) (before after : Known) (old new : Held S) (ended : Result Outcome ProgramFault) : Type 0 where
   pub fault : DeskFault
   pub ends : ended ≡ Err (desk_fault fault)
   pub stays : Stays (state g old) (state g new)
   pub cause : IsTrue (state g new).is_open → IsRefused (state g old) fault
-  pub written : Appends before after []
+  pub written : Appends before.output after.output []
+  pub unwarned : after.is_warned ≡ before.is_warned
 
 -- This was done on a shelf of ours, or no desk was opened; where the tables are not ours, it was done on a shelf over them, or no desk was opened.
-abbrev pub IsDoneOn : {S : Type 0} → Ghosts S → ((ShelfView S → Shown) → ShelfView S → ShelfView S → Type 0) → (Held S → Held S → Type 0) → Held S → Held S → Type 0
+abbrev pub IsDoneOn : {S : Type 0} → Ghosts S → (Bool → (ShelfView S → Shown) → ShelfView S → ShelfView S → Type 0) → (Held S → Held S → Type 0) → Held S → Held S → Type 0
 IsDoneOn {S} g Did Refuses old new =
     OnShelf g true Did old new ⊎ (Refuses old new ⊎ ((between : Held S) × IsNotOurs g old between × (OnShelf g false Did between new ⊎ Refuses between new)))
 
--- What a task did on the tables of a connection: on a desk that was opened, as `HasDone` says; or no desk was opened.
+-- What a task did on the tables of a connection: on a desk that was opened, as `Does` says; or no desk was opened.
 pub record Worked {S : Type 0} (g : Ghosts S) (task : Task) (before after : Known) (ended : Result Outcome ProgramFault) (old new : Held S) : Type 0 where
-  pub how : IsDoneOn g
-      (λ (state : ShelfView S → Shown) (s t : ShelfView S). HasDone state task before after ended s t)
-      (λ (s t : Held S). IsRefusedDesk g before.output after.output s t ended) old new
+  pub how : IsDoneOn g (Does task before after ended) (λ (s t : Held S). IsRefusedDesk g before after s t ended) old new
 
 -- Why no desk was made: not for what stands there as a desk; where it was for a table of one of the twelve names, one is there, and nothing was touched; and
 -- not as not ours but where one of ours was to be made, in a store with tables.

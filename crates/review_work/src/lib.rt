@@ -8,10 +8,12 @@
 
 mod ending;
 mod fault;
+mod notices;
 mod task;
 mod working;
 
 pub use ending::{after_closing, status_of};
 pub use fault::ProgramFault;
+pub use notices::Notices;
 pub use task::{Ends, Task};
 pub use working::{create, work};

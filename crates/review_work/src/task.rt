@@ -22,10 +22,11 @@ pub enum Task {
 }
 
 /// From where a task takes what it is given, and to where it writes: lines come from a reader, lines and pages go to a writer, and requests over HTTP come
-/// and are answered over connections.
+/// and are answered over connections. Beside these it is told where the tables are not those of a desk alone.
 #[derive(Drop)]
-pub struct Ends<R, W, C> {
+pub struct Ends<R, W, C, N> {
     pub input: R,
     pub output: W,
     pub connections: C,
+    pub notices: N,
 }

@@ -1,15 +1,15 @@
 //! Tasks on the tables of a connection, which is handed back in no transaction.
 //!
 //! Tables that `create` made are opened as ours, of which all is claimed that a shelf promises, and others as those of others, of which nothing is.
-ghost use Rattle.std.specs.Prelude.{◌≡◌, ◌⊎◌, false, Err};
+ghost use Rattle.std.specs.Prelude.{◌≡◌, ◌⊎◌, ◌||◌, false, not, Err};
 ghost use Rattle.sqlite.specs.Held.{Held};
-ghost use Rattle.review_rows.specs.Shelf.{Shown};
 ghost use Rattle.review_sql.specs.Shelf.{IsClosed, ShelfView, shown};
 ghost use Rattle.review_serving.specs.Served.{Peers};
 ghost use Rattle.review_work.specs.Faults.{lines_outcome, serve_outcome, shown_outcome};
-ghost use Rattle.review_work.specs.Worked.{EndsServed, HasDone, IsRefusedDesk, Made, OnShelf, WasMade, Worked, known};
+ghost use Rattle.review_work.specs.Worked.{Does, EndsServed, HasDone, IsRefusedDesk, Made, OnShelf, WasMade, Worked, known};
 
 use crate::fault::ProgramFault;
+use crate::notices::Notices;
 use crate::task::{Ends, Task};
 use review_deliveries::{Rules, restart_completes, runs_go_on};
 use review_lines::{Fault, Outcome, apply_lines};
@@ -54,20 +54,21 @@ fn create_as<S: Alter + Drop, O: Origin>(
 }
 
 /// Does a task on the desk in the tables of a connection. Where it takes lines: with the runs that were made over this connection before, closed and opened
-/// again between them, it is one run (`runs_go_on`); the whole input sent again after a stop completes it (`restart_completes`).
+/// again between them, it is one run (`runs_go_on`); the whole input sent again after a stop completes it (`restart_completes`). Before it does the
+/// task it tells where the tables are not ours, and only there.
 ///
 /// Errors: that no desk is there, or one of another version; what ends the task early, as [`apply_lines`], [`serve_connections`], `show_lines` and
 /// `joined_lines` say; want of memory.
-pub fn work<R: Read, W: Write, C: Connections, S: Alter + Drop, D: Rules>(
+pub fn work<R: Read, W: Write, C: Connections, N: Notices, S: Alter + Drop, D: Rules>(
     alloc: Global,
-    ends: &mut Ends<R, W, C>,
+    ends: &mut Ends<R, W, C, N>,
     conn: Connection<S>,
     rules: &mut D,
     task: &Task,
 ) -> (Connection<S>, Result<Outcome, ProgramFault>)
     requires mode { conn.in_transaction ≡ false }
     ensures mode { result.0.in_transaction ≡ false }
-    ensures done { Worked S.Store task.now (known R.remaining W.contents C.coming C.told ends.old) (known R.remaining W.contents C.coming C.told ends.new) result.1 conn result.0 }
+    ensures done { Worked S.Store task.now (known R.remaining W.contents C.coming C.told N.is_warned ends.old) (known R.remaining W.contents C.coming C.told N.is_warned ends.new) result.1 conn result.0 }
 {
     match SqlShelf::<S, Ours>::open(alloc, conn) {
         Ok(shelf) => work_on_shelf(alloc, ends, shelf, rules, task),
@@ -76,18 +77,17 @@ pub fn work<R: Read, W: Write, C: Connections, S: Alter + Drop, D: Rules>(
     }
 }
 
-fn work_on_others<R: Read, W: Write, C: Connections, S: Alter + Drop, D: Rules>(
+fn work_on_others<R: Read, W: Write, C: Connections, N: Notices, S: Alter + Drop, D: Rules>(
     alloc: Global,
-    ends: &mut Ends<R, W, C>,
+    ends: &mut Ends<R, W, C, N>,
     conn: Connection<S>,
     rules: &mut D,
     task: &Task,
 ) -> (Connection<S>, Result<Outcome, ProgramFault>)
     requires mode { conn.in_transaction ≡ false }
     ensures mode { result.0.in_transaction ≡ false }
-    ensures done { OnShelf S.Store false
-        (λ (state : ShelfView S → Shown) (old new : ShelfView S). HasDone state task.now (known R.remaining W.contents C.coming C.told ends.old) (known R.remaining W.contents C.coming C.told ends.new) result.1 old new) conn result.0
-        ⊎ IsRefusedDesk S.Store (W.contents ends.old.output) (W.contents ends.new.output) conn result.0 result.1 }
+    ensures done { OnShelf S.Store false (Does task.now (known R.remaining W.contents C.coming C.told N.is_warned ends.old) (known R.remaining W.contents C.coming C.told N.is_warned ends.new) result.1) conn result.0
+        ⊎ IsRefusedDesk S.Store (known R.remaining W.contents C.coming C.told N.is_warned ends.old) (known R.remaining W.contents C.coming C.told N.is_warned ends.new) conn result.0 result.1 }
 {
     match SqlShelf::<S, Others>::open(alloc, conn) {
         Ok(shelf) => work_on_shelf(alloc, ends, shelf, rules, task),
@@ -95,18 +95,27 @@ fn work_on_others<R: Read, W: Write, C: Connections, S: Alter + Drop, D: Rules>(
     }
 }
 
-fn work_on_shelf<R: Read, W: Write, C: Connections, S: Alter + Drop, O: Origin, D: Rules>(
+fn work_on_shelf<
+    R: Read,
+    W: Write,
+    C: Connections,
+    N: Notices,
+    S: Alter + Drop,
+    O: Origin,
+    D: Rules,
+>(
     alloc: Global,
-    ends: &mut Ends<R, W, C>,
+    ends: &mut Ends<R, W, C, N>,
     shelf: SqlShelf<S, O>,
     rules: &mut D,
     task: &Task,
 ) -> (Connection<S>, Result<Outcome, ProgramFault>)
     ensures mode { result.0.in_transaction ≡ false }
     ensures done { (left : ShelfView S)
-        × HasDone (shown S.Store O.IS_OURS) task.now (known R.remaining W.contents C.coming C.told ends.old) (known R.remaining W.contents C.coming C.told ends.new) result.1 shelf left
+        × Does task.now (known R.remaining W.contents C.coming C.told N.is_warned ends.old) (known R.remaining W.contents C.coming C.told N.is_warned ends.new) result.1 O.IS_OURS (shown S.Store O.IS_OURS) shelf left
         × IsClosed S.Store O.IS_OURS left result.0 }
 {
+    warn_of::<O, N>(&mut ends.notices);
     let mut shelf = shelf;
     let ended = do_task(alloc, ends, &mut shelf, rules, task);
     // By this law it is one run with those before it, after each of which the shelf was closed and opened again.
@@ -116,14 +125,24 @@ fn work_on_shelf<R: Read, W: Write, C: Connections, S: Alter + Drop, O: Origin, 
     (shelf.close(), ended)
 }
 
-fn do_task<R: Read, W: Write, C: Connections, S: Shelf, D: Rules>(
+// Tells of tables that are not ours.
+fn warn_of<O: Origin, N: Notices>(notices: &mut N)
+    ensures { N.is_warned notices.new ≡ (not O.IS_OURS || N.is_warned notices.old) }
+{
+    if !O::IS_OURS {
+        notices.warn();
+    }
+}
+
+fn do_task<R: Read, W: Write, C: Connections, N: Notices, S: Shelf, D: Rules>(
     alloc: Global,
-    ends: &mut Ends<R, W, C>,
+    ends: &mut Ends<R, W, C, N>,
     shelf: &mut S,
     rules: &mut D,
     task: &Task,
 ) -> Result<Outcome, ProgramFault>
-    ensures { HasDone S.state task.now (known R.remaining W.contents C.coming C.told ends.old) (known R.remaining W.contents C.coming C.told ends.new) result shelf.old shelf.new }
+    ensures done { HasDone S.state task.now (known R.remaining W.contents C.coming C.told N.is_warned ends.old) (known R.remaining W.contents C.coming C.told N.is_warned ends.new) result shelf.old shelf.new }
+    ensures quiet { N.is_warned ends.new.notices ≡ N.is_warned ends.old.notices }
 {
     match task {
         Task::Apply => {

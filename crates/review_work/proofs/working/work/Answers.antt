@@ -1,4 +1,4 @@
-use Rattle.std.proofs.Common.{Err, IsTrue, ap, inl, inr, subst}
+use Rattle.std.proofs.Common.{refl, Err, IsTrue, ap, inl, inr, subst}
 use Rattle.std.proofs.KnownBytes.{Appends-nil}
 use Rattle.sqlite.specs.Held.{state}
 use Rattle.review_sql.specs.declared.faults.DeskFault.{DeskFault}
@@ -11,6 +11,7 @@ returns-in-Ok-clause-done g c = record {
     opened = c.in-Ok.shelf;
     left = c.work_on_shelf.ensures.done.0;
     is_opened = c.in-Ok.ensures.opened;
+    there = c.in-Ok.ensures.there;
     goes_on = c.in-Ok.ensures.goes_on;
     did = c.work_on_shelf.ensures.done.1;
     closed = c.work_on_shelf.ensures.done.2;
@@ -25,6 +26,7 @@ returns-in-Err-clause-done g c = record {
     stays = c.in-Err.ensures.refused;
     cause = c.in-Err.ensures.cause;
     written = Appends-nil _;
+    unwarned = refl;
   }));
 }
 

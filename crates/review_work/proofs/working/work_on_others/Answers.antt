@@ -1,4 +1,4 @@
-use Rattle.std.proofs.Common.{Err, ap, inl, inr}
+use Rattle.std.proofs.Common.{refl, Err, ap, inl, inr}
 use Rattle.std.proofs.KnownBytes.{Appends-nil}
 use Rattle.review_work.proofs.working.work_on_others.Goals as goal
 
@@ -7,6 +7,7 @@ returns-in-Ok-clause-done g c = inl (record {
   opened = c.in-Ok.shelf;
   left = c.work_on_shelf.ensures.done.0;
   is_opened = c.in-Ok.ensures.opened;
+  there = c.in-Ok.ensures.there;
   goes_on = c.in-Ok.ensures.goes_on;
   did = c.work_on_shelf.ensures.done.1;
   closed = c.work_on_shelf.ensures.done.2;
@@ -19,4 +20,5 @@ returns-in-Err-clause-done g c = inr (record {
   stays = c.in-Err.ensures.refused;
   cause = c.in-Err.ensures.cause;
   written = Appends-nil _;
+  unwarned = refl;
 })

@@ -1,0 +1,53 @@
+-- Which rows a commit names by their keys, table by table.
+use Rattle.std.specs.Prelude.{ℕ, ◌≡◌, Bool, true, false, List, [], ◌∷◌, filter, IfSome, string_bytes}
+use Rattle.std.specs.List.{AllByRecursion}
+use Rattle.sqlite_value.specs.Order.{Row as Raw}
+use Rattle.sqlite_trees.specs.Tree.{Trees}
+use Rattle.review_table.specs.declared.table.Change.{Change}
+use Rattle.review_rows.specs.declared.rows.ChangeEdit.{ChangeEdit}
+use Rattle.review_rows.specs.declared.rows.Delta.{Delta}
+use Rattle.review_rows.specs.declared.rows.Kept.{Kept}
+use Rattle.review_statements.specs.Content.{has_key}
+use Rattle.review_statements.specs.Desk.{is_tree}
+use Rattle.review_statements.specs.Search.{Search}
+use Rattle.review_change_records.specs.Forms.{headers, patches, votes, roles, comments, calls}
+use Rattle.review_records.specs.Forms.{accounts, members, projects, bases, answers, desk}
+
+-- A test on the raw rows of a table.
+abbrev pub Test : Type 0
+Test = Raw → Bool
+
+-- the test passes no row of the key, where it is one of this table
+abbrev pub Spares : {A X : Type 0} → ℕ → Test → Search A X → A → Type 0
+Spares tree test s key = tree ≡ s.tree → (r : Raw) → has_key (s.at key) r ≡ true → test r ≡ false
+
+-- the same of the keys of all changes
+abbrev pub SparesAll : {A X : Type 0} → ℕ → Test → Search A X → List (Change A X) → Type 0
+SparesAll tree test s changes = AllByRecursion (λ c. Spares tree test s c.key) changes
+
+-- the same of an owner's
+abbrev pub SparesParts : {O K X : Type 0} → ℕ → Test → Search (O × K) X → O → List (Change K X) → Type 0
+SparesParts tree test s owner changes = AllByRecursion (λ c. Spares tree test s (owner, c.key)) changes
+
+-- the test passes no row that an edit of a change names
+pub record SparesEdit (tree : ℕ) (test : Test) (e : ChangeEdit) : Type 0 where
+  pub header : Spares tree test headers e.change
+  pub of_patches : SparesParts tree test patches e.change e.patches.items
+  pub of_votes : SparesParts tree test votes e.change e.votes.items
+  pub of_roles : SparesParts tree test roles e.change e.roles.items
+  pub of_comments : SparesParts tree test comments e.change e.comments.items
+  pub of_calls : SparesParts tree test calls e.change e.attention.items
+
+-- the test passes no row that a delta names, nor the row of the request, nor that of the desk
+pub record SparesNamed (delta : Delta) (kept : Kept) (tree : ℕ) (test : Test) : Type 0 where
+  pub of_accounts : SparesAll tree test accounts delta.accounts.items
+  pub of_members : SparesAll tree test members delta.members.items
+  pub of_file : IfSome delta.file (λ r. Spares tree test projects r.key)
+  pub of_base : IfSome delta.base (λ r. Spares tree test bases r.key)
+  pub of_changes : AllByRecursion (SparesEdit tree test) delta.changes.items
+  pub of_answer : Spares tree test answers (record { caller = kept.caller; id = kept.id })
+  pub of_desk : Spares tree test desk tt
+
+-- of each table the rows that no named key has are as they were, whatever test finds them
+pub record KeepsRest (delta : Delta) (kept : Kept) (old new : Trees) : Type 0 where
+  pub each : (tree : ℕ) (test : Test) → is_tree tree ≡ true → SparesNamed delta kept tree test → filter test (new tree) ≡ filter test (old tree)
