@@ -84,7 +84,7 @@ class Desks:
     def __init__(self, folder):
         resource.setrlimit(resource.RLIMIT_AS, (MEMORY, resource.getrlimit(resource.RLIMIT_AS)[1]))
         self.file, self.whole, self.other, self.before = (os.path.join(folder, name) for name in ("desk", "whole", "other", "before"))
-        self.found, self.kinds = collections.Counter(), collections.defaultdict(collections.Counter)
+        self.found, self.stores, self.kinds = collections.Counter(), collections.Counter(), collections.defaultdict(collections.Counter)
         self.faults, self.greatest, self.greatest_of, self.turn = [], 0, None, 0
         check(run("init", self.whole) == CREATED, "init")
         end = run("apply", self.whole, sent=b"".join(BASE))
@@ -229,9 +229,11 @@ class Desks:
 
     def judge_cause(self, damage, sent, cause):
         self.count(damage, f"not taken: {cause}")
-        is_lawful = {"STORE": damage.is_refused or not damage.is_sound, "DAMAGED": True, "MEMORY": not damage.is_sound, "FULL": damage.may_be_full, "PATTERN": damage.may_match or not damage.is_sound}
+        is_lawful = {"STORE": True, "DAMAGED": True, "MEMORY": not damage.is_sound, "FULL": damage.may_be_full, "PATTERN": damage.may_match or not damage.is_sound}
         if not is_lawful.get(cause):
             self.wrong(damage, sent, cause)
+        if cause == "STORE" and damage.is_sound and not damage.is_refused:
+            self.stores[damage.table, damage.column, damage.kind, name_of(sent)] += 1
 
     @staticmethod
     def is_numbered_anew(sent):
