@@ -24,6 +24,8 @@ TEXTS = ("not a desk", "wrong version", "store fault", "damaged", "pattern", "no
 FAULTS = {f"review_desk: {text}\n".encode() for text in TEXTS}
 WARNING = re.compile(rb"review_desk: warning: this file has more [^\n]*\n")
 NUMBERED = ("CreateAccount", "CreateChange")
+# A change whose project or branch is no name may be one of any branch, so it stops what meets its commit in another project.
+MEETING = (("changes", "patches"), ("CreateChange", "Upload", "Submit"), b'{"not_taken":"DAMAGED"}\n')
 
 
 def copy_all(file, to):
@@ -245,7 +247,8 @@ class Desks:
         is_needed = damage.column == "number" and asked.startswith(NUMBERED)
         if answer.startswith(b"review_desk: store fault") or is_needed:
             return
-        self.wrong(damage, "a neighbour is disturbed", asked, answer)
+        if damage.table not in MEETING[0] or not asked.startswith(MEETING[1]) or answer != MEETING[2]:
+            self.wrong(damage, "a neighbour is disturbed", asked, answer)
 
     def judge_end(self, damage, word, status, err, *more):
         is_right = (status in (0, 1) and not err) or (status == 1 and err in (*FAULTS, *more)) or (status == 1 and err == b"review_desk: out of memory\n" and not damage.is_sound)
