@@ -18,9 +18,9 @@ abbrev pub SetsPut : {A X : Type 0} → Search A X → Option (Put A X) → Tree
 SetsPut s None old new = new ≡ old
 SetsPut s (Some put) old new = SetsRow s put.key (Some put.row) old new
 
--- the rows of accounts, members, projects and bases of a delta are put or taken away
-abbrev pub SetsFour : Delta → Trees → Trees → Type 0
-SetsFour delta =
+-- the rows of a delta that no change owns are put or taken away
+abbrev pub SetsUnowned : Delta → Trees → Trees → Type 0
+SetsUnowned delta =
     Then (Then (Then (SetsRows accounts delta.accounts.items) (SetsRows members delta.members.items)) (SetsPut projects delta.file)) (SetsPut bases delta.base)
 
 -- the rows of a change are put or taken away
@@ -45,7 +45,7 @@ SetsEdits before (e ∷ es) old new = (mid : Trees) × SetsEdits (before ++ e �
 
 -- the rows of a delta are put or taken away
 abbrev pub SetsDelta : Delta → Trees → Trees → Type 0
-SetsDelta delta = Then (SetsFour delta) (SetsEdits [] delta.changes.items)
+SetsDelta delta = Then (SetsUnowned delta) (SetsEdits [] delta.changes.items)
 
 -- the request is stored
 abbrev pub SetsKept : Kept → Trees → Trees → Type 0

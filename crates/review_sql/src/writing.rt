@@ -2,7 +2,7 @@
 ghost use Rattle.std.specs.Prelude.{◌≡◌, [], ◌+◌, ◌<◌, ◌^◌, false};
 ghost use Rattle.sqlite.specs.Held.{state};
 ghost use Rattle.review_statements.specs.Ran.{Inside, Within, Opens, Transacts};
-ghost use Rattle.review_sql.specs.Changes.{SetsDelta, SetsEdit, SetsEdits, SetsFour, SetsPut, SetsUnless, is_named};
+ghost use Rattle.review_sql.specs.Changes.{SetsDelta, SetsEdit, SetsEdits, SetsPut, SetsUnless, SetsUnowned, is_named};
 ghost use Rattle.review_sql.specs.Commits.{Commits};
 
 use review_change_records::calls::Calls;
@@ -41,13 +41,13 @@ fn put_row<T: Table, S: Alter>(
     }
 }
 
-fn write_four<S: Alter>(
+fn write_unowned<S: Alter>(
     tx: &mut Transaction<'_, S>,
     alloc: Global,
     delta: &Delta,
 ) -> Result<(), Error>
     ensures same_reference { tx.new.conn.ghost_name ≡ tx.old.conn.ghost_name }
-    ensures ran { Inside (SetsFour delta.now) (state S.Store tx.old.conn.now) (state S.Store tx.new.conn.now) result }
+    ensures ran { Inside (SetsUnowned delta.now) (state S.Store tx.old.conn.now) (state S.Store tx.new.conn.now) result }
 {
     change_all::<Accounts, S>(tx, alloc, &delta.accounts)?;
     change_all::<Members, S>(tx, alloc, &delta.members)?;
@@ -119,7 +119,7 @@ fn write_delta<S: Alter>(
     ensures same_reference { tx.new.conn.ghost_name ≡ tx.old.conn.ghost_name }
     ensures ran { Inside (SetsDelta delta.now) (state S.Store tx.old.conn.now) (state S.Store tx.new.conn.now) result }
 {
-    write_four(tx, alloc, delta)?;
+    write_unowned(tx, alloc, delta)?;
     write_edits(tx, alloc, &delta.changes)
 }
 

@@ -118,8 +118,3 @@ pub record SetsRow {A X : Type 0} (s : Search A X) (key : A) (row : Option X) (o
 abbrev pub SetsRows : {A X : Type 0} → Search A X → List (Change A X) → Trees → Trees → Type 0
 SetsRows s [] old new = new ≡ old
 SetsRows s (c ∷ cs) old new = (mid : Trees) × SetsRows s cs old mid × SetsRow s c.key c.row mid new
-
--- a record is put, where there is one
-abbrev pub SetsAny : {A X R : Type 0} → Search A X → (R → A) → (R → X) → Option R → Trees → Trees → Type 0
-SetsAny s key item None old new = new ≡ old
-SetsAny s key item (Some r) old new = SetsRow s (key r) (Some (item r)) old new

@@ -7,7 +7,7 @@ use Rattle.review_table.specs.declared.table.Change.{Change}
 use Rattle.review_table.specs.Rows.{change_of, after_change}
 use Rattle.review_statements.specs.Content.{SparesOthers}
 use Rattle.review_tables.specs.Fronts.{IsExact, SetsParts}
-use Rattle.review_statements.specs.Search.{Search, row_at, SetsRows, SetsAny}
+use Rattle.review_statements.specs.Search.{Search, row_at, SetsRows}
 use Rattle.review_tables.proofs.Keys.{spares_then}
 
 module _ {A X : Type 0} (s : Search A X) where
@@ -22,10 +22,6 @@ module _ {A X : Type 0} (s : Search A X) where
   pub rows_spare : (cs : List (Change A X)) (old new : Trees) → SetsRows s cs old new → SparesOthers s.tree old new
   rows_spare [] old new h = λ t is other. ap (λ (d : Trees). d t) h
   rows_spare (c ∷ cs) old new h = spares_then s.tree old h.0 new (rows_spare cs old h.0 h.1) h.2.others
-
-  pub any_spares : {R : Type 0} (key : R → A) (item : R → X) (o : Option R) (old new : Trees) → SetsAny s key item o old new → SparesOthers s.tree old new
-  any_spares key item None old new h = λ t is other. ap (λ (d : Trees). d t) h
-  any_spares key item (Some r) old new h = h.others
 
 -- ---- the rows of an owner
 

@@ -4,7 +4,7 @@ use Rattle.review_statements.specs.Ran.{Inside}
 use Rattle.review_statements.specs.Search.{SetsRows}
 use Rattle.review_tables.proofs.Sequences.{next}
 use Rattle.review_records.specs.Forms.{accounts, members}
-use Rattle.review_sql.proofs.writing.write_four.Goals as goal
+use Rattle.review_sql.proofs.writing.write_unowned.Goals as goal
 
 pub returns-clause-ran : goal.returns-clause-ran
 returns-clause-ran g c =
