@@ -24,14 +24,11 @@ use Rattle.review_statements.specs.Desk as table
 use Rattle.review_statements.specs.Search.{Search, Form, with_rowid, with_number}
 use Rattle.review_rows.specs.declared.rows.PlaceKey.{PlaceKey}
 use Rattle.review_records.specs.Forms.{both, where_is}
+use Rattle.review_records.specs.Keyed.{is_small}
 use Rattle.review_change_records.specs.Paths.{paths_in, paths_text, are_read_back}
 use Rattle.review_change_records.specs.Keyed.{header_keyed, patch_keyed, vote_keyed, account_keyed, comment_keyed}
 
 -- ---- values of columns
-
--- a number below 2^32
-abbrev pub is_small : ℕ → Bool
-is_small n = nat_lt n 4294967296
 
 -- what a name stands for
 abbrev pub named : {X : Type 0} → (List ℕ → Option X) → Option (List ℕ) → Option X

@@ -36,11 +36,11 @@ use Rattle.review_tables.specs.Fronts.{IsExact, IsFront}
 use Rattle.review_statements.specs.Search.{IsLawful, reads}
 use Rattle.review_statements.specs.Content.{is_value}
 use Rattle.review_tables.proofs.Keys.{equal_is, itself, same_int, same_text, text_is as stored_text}
-use Rattle.review_records.specs.Keyed.{is_number}
+use Rattle.review_records.specs.Keyed.{is_number, is_small}
 use Rattle.review_records.specs.Forms.{where_is}
 use Rattle.review_records.specs.Laws.{at_number, both_are, keyed_number, numbers_exact, one_number, passed, reads_text}
 use Rattle.review_change_records.specs.Paths.{are_read_back, are_same, paths_in, paths_text, were_read}
-use Rattle.review_change_records.specs.Forms.{answered, answers_number, call_form, calls, change_calls, change_comments, change_patches, change_roles, change_votes, comment_form, comments, flag_number, flagged, header_form, headers, is_answer, is_small, named, patch_form, patched, patches, sent, role_form, roles, state_name, state_named, vote_form, vote_key, votes}
+use Rattle.review_change_records.specs.Forms.{answered, answers_number, call_form, calls, change_calls, change_comments, change_patches, change_roles, change_votes, comment_form, comments, flag_number, flagged, header_form, headers, is_answer, named, patch_form, patched, patches, sent, role_form, roles, state_name, state_named, vote_form, vote_key, votes}
 
 -- ---- values
 
@@ -65,9 +65,6 @@ reads_role Cc = rw (ascii (role_name Cc) refl) refl
 reads_flag : (b : Bool) → flagged (number_in (Int (pos (flag_number b)))) ≡ Some b
 reads_flag false = refl
 reads_flag true = refl
-
-reads_number : (test : ℕ → Bool) (n : ℕ) → test n ≡ true → where_is test (number_in (Int (pos n))) ≡ Some n
-reads_number test n good = rw good refl
 
 reads_answer : (o : Option ℕ) → is_answer o ≡ true → answered (number_in (Int (pos (answers_number o)))) ≡ Some o
 unfolding is_within

@@ -7,7 +7,8 @@ ghost use Rattle.review_names.specs.Kinds.{kind_named};
 ghost use Rattle.review_words.specs.Texts.{role_named};
 ghost use Rattle.review_tables.specs.Columns.{number_in, text_in};
 ghost use Rattle.review_records.specs.Forms.{where_is};
-ghost use Rattle.review_change_records.specs.Forms.{answered, answers_number, flag_number, flagged, integer_in, is_answer, is_small, is_vote, named, state_name, state_named};
+ghost use Rattle.review_records.specs.Keyed.{is_small};
+ghost use Rattle.review_change_records.specs.Forms.{answered, answers_number, flag_number, flagged, integer_in, is_answer, is_vote, named, state_name, state_named};
 
 use review_changes::Vote;
 use review_tables::columns::{number_at, text_at};

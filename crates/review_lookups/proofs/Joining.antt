@@ -19,7 +19,8 @@ use Rattle.review_statements.specs.Content.{has_key}
 use Rattle.review_statements.specs.Greatest.{HasGreatest}
 use Rattle.review_statements.specs.Search.{reads, row_at, rows_at}
 use Rattle.review_records.specs.Laws.{both_are, number_is, passed}
-use Rattle.review_change_records.specs.Forms.{change_places, headed, headers, is_small}
+use Rattle.review_records.specs.Keyed.{is_small}
+use Rattle.review_change_records.specs.Forms.{change_places, headed, headers}
 use Rattle.review_change_records.specs.Laws.{at_text}
 use Rattle.review_lookups.specs.Joins.{IsHeaderAt, NoneAbove}
 use Rattle.review_lookups.specs.Tables.{tables_at, told}

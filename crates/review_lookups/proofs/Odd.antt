@@ -27,9 +27,9 @@ use Rattle.review_tables.specs.Columns.{number_in}
 use Rattle.review_tables.specs.Fronts.{AreParts}
 use Rattle.review_tables.proofs.Keys.{same_text}
 use Rattle.review_records.specs.Forms.{where_is, alone, both, accounts, account_names, account_numbers, bases, base_commits, base_places, desk, branch_bases, base_parts, group_members, member_parts}
-use Rattle.review_records.specs.Keyed.{account_keyed, member_keyed, base_keyed, is_number, is_text}
+use Rattle.review_records.specs.Keyed.{account_keyed, member_keyed, base_keyed, is_number, is_text, is_small}
 use Rattle.review_records.specs.Laws.{at_number, passed}
-use Rattle.review_change_records.specs.Forms.{patches, votes, roles, comments, calls, change_patches, change_votes, change_roles, change_comments, change_calls, vote_key, change_numbers, is_small}
+use Rattle.review_change_records.specs.Forms.{patches, votes, roles, comments, calls, change_patches, change_votes, change_roles, change_comments, change_calls, vote_key, change_numbers}
 use Rattle.review_change_records.specs.Keyed.{header_keyed, has_change, patch_keyed, vote_keyed, comment_keyed, account_keyed as of_account}
 use Rattle.review_change_records.specs.Laws.{at_text}
 use Rattle.review_lookups.specs.Loads.{last_of}
@@ -150,7 +150,7 @@ bases_odd db key none =
     (λ k twin. odd_damage (tables_at db) (BaseKey key.project key.branch k) (ap (told BaseRow) twin)) none
   where
     no_place : (r : Raw) → Has (db 6) r → has_key (branch_bases.at key) r ≡ true → (o : Option ℕ) → number_in (column r 3) ≡ o → where_is (nat_le 1) (number_in (column r 3)) ≡ None → IsDamaged (tables_at db)
-    no_place r has at None is none = unkeyed db 6 base_keyed (inr (inr (inr (inl refl)))) r has (and_false (is_text (column r 1)) _ (and_false (is_text (column r 2)) _ (ap is_some is)))
+    no_place r has at None is none = unkeyed db 6 base_keyed (inr (inr (inr (inl refl)))) r has (and_false (is_text (column r 1)) _ (and_false (is_text (column r 2)) _ (unread is_small (number_in (column r 3)) is)))
     no_place r has at (Some zero) is none =
         let p = and_parts _ _ at in
         let here = and_from _ _ p.0 (and_from _ _ (and_parts _ _ p.1).0 (and_from _ _ (at_number (column r 3) 0 is) refl)) in
@@ -255,11 +255,22 @@ last_account_damaged db found great is = last_damaged is_account_number account_
 pub last_change_damaged : (db : Trees) (found : Option (Option ℕ)) → HasGreatest change_numbers 0 tt db found → where_is is_small (last_of found) ≡ None → IsDamaged (tables_at db)
 last_change_damaged db found great is = last_damaged (is_within most_changes) header_keyed 9 db found (inr (inr (inr (inr (inr (inl refl)))))) (λ r. refl) change_small great is
 
-pub last_place_damaged : (db : Trees) (key : BranchKey) → HasGreatest base_places 3 key db (Some None) → IsDamaged (tables_at db)
-last_place_damaged db key great =
-    let r = great.0 in
-    unkeyed db 6 base_keyed (inr (inr (inr (inl refl)))) r (has_in (has_key (base_places.at key)) (db 6) r great.1.among).0
-    (and_false (is_text (column r 1)) _ (and_false (is_text (column r 2)) _ (ap is_some (sym great.2))))
+pub last_place_damaged : (db : Trees) (key : BranchKey) (found : Option (Option ℕ)) → HasGreatest base_places 3 key db found → where_is is_small (last_of found) ≡ None → IsDamaged (tables_at db)
+last_place_damaged db key None great is = absurd (cc)
+last_place_damaged db key (Some found) great is = by found great.2 is
+  where
+    r : Raw
+    r = great.0
+
+    unplaced : is_number is_small (column r 3) ≡ false → IsDamaged (tables_at db)
+    unplaced none = unkeyed db 6 base_keyed (inr (inr (inr (inl refl)))) r (has_in (has_key (base_places.at key)) (db 6) r great.1.among).0 (and_false (is_text (column r 1)) _ (and_false (is_text (column r 2)) _ none))
+
+    by : (found : Option ℕ) → found ≡ number_in (column r 3) → where_is is_small (last_of (Some found)) ≡ None → IsDamaged (tables_at db)
+    by None at is = unplaced (unread is_small (number_in (column r 3)) (sym at))
+    by (Some n) at is = elim (cases_Bool (is_small n)) [
+      | inl fits ↦ absurd (let e = rw fits at is in cc)
+      | inr other ↦ unplaced (no_such is_small (number_in (column r 3)) n (sym at) other)
+    ]
 
 -- ---- look-ups by a name and by a commit
 
@@ -317,7 +328,7 @@ pub commit_damaged : (db : Trees) (base : Base) → HasOne base_commits base db 
 commit_damaged db base one =
     let r = one.0 in
     unkeyed db 6 base_keyed (inr (inr (inr (inl refl)))) r (has_in (has_key (base_commits.at base)) (db 6) r one.1).0
-    (and_false (is_text (column r 1)) _ (and_false (is_text (column r 2)) _ (ap is_some (sym one.2))))
+    (and_false (is_text (column r 1)) _ (and_false (is_text (column r 2)) _ (unread is_small (number_in (column r 3)) (sym one.2))))
 
 -- ---- the row of the desk
 

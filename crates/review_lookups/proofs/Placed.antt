@@ -35,7 +35,8 @@ use Rattle.review_tables.specs.Columns.{number_in}
 use Rattle.review_rows.specs.declared.rows.PlaceKey.{PlaceKey}
 use Rattle.review_records.specs.Forms.{both, where_is}
 use Rattle.review_records.specs.Laws.{at_number, both_are, one_number, passed}
-use Rattle.review_change_records.specs.Forms.{change_places, changes_at, headed, headers, is_small, patch_numbers, patches, sent}
+use Rattle.review_records.specs.Keyed.{is_small}
+use Rattle.review_change_records.specs.Forms.{change_places, changes_at, headed, headers, patch_numbers, patches, sent}
 use Rattle.review_change_records.specs.Keyed.{has_change, header_keyed, patch_keyed}
 use Rattle.review_change_records.specs.Laws.{at_text}
 use Rattle.review_lookups.specs.Joins.{branch_of, IsHeaderAt, IsLastPlace, IsOnlyAt, TellsAt, TellsCurrent}

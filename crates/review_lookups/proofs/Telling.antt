@@ -270,11 +270,11 @@ bases_in : (db : Trees) (key : BranchKey) (n : ℕ) → (tables_at db).row (Base
     ≡ told BaseRow (only (reads bases) (filter (has_key ((3, Int (pos n)) ∷ [])) (rows_at ((1, Text key.project) ∷ (2, Text key.branch) ∷ []) (db 6))))
 bases_in db key n = ap (λ l. told BaseRow (only (reads bases) l)) (sym (filter_both (has_key ((1, Text key.project) ∷ (2, Text key.branch) ∷ [])) (has_key ((3, Int (pos n)) ∷ [])) _ (λ r. three _ _ _) (db 6)))
 
-pub last_place : (db : Trees) (key : BranchKey) (m : ℕ) → HasGreatest base_places 3 key db (Some (Some m)) → IsLast (BaseKey key.project key.branch) (tables_at db).row m
-last_place db key m great = last_some BaseRow (reads bases) (BaseKey key.project key.branch) db 3 (rows_at (base_places.at key) (db 6)) (bases_in db key) great.0 m great.1 (sym great.2)
-
-pub no_place : (db : Trees) (key : BranchKey) → HasGreatest base_places 3 key db None → IsLast (BaseKey key.project key.branch) (tables_at db).row 0
-no_place db key none = last_none BaseRow (reads bases) (BaseKey key.project key.branch) db 3 (rows_at (base_places.at key) (db 6)) (bases_in db key) none
+pub last_place : (db : Trees) (key : BranchKey) (found : Option (Option ℕ)) (n : ℕ) → HasGreatest base_places 3 key db found → last_of found ≡ Some n → IsLast (BaseKey key.project key.branch) (tables_at db).row n
+last_place db key None n none is = subst (IsLast (BaseKey key.project key.branch) (tables_at db).row) (same_Some _ _ is) (last_none BaseRow (reads bases) (BaseKey key.project key.branch) db 3 (rows_at (base_places.at key) (db 6)) (bases_in db key) none)
+last_place db key (Some None) n great is = absurd (cc)
+last_place db key (Some (Some m)) n great is =
+    subst (IsLast (BaseKey key.project key.branch) (tables_at db).row) (same_Some _ _ is) (last_some BaseRow (reads bases) (BaseKey key.project key.branch) db 3 (rows_at (base_places.at key) (db 6)) (bases_in db key) great.0 m great.1 (sym great.2))
 
 -- ---- places in order
 

@@ -18,7 +18,7 @@ ghost use Rattle.review_lookups.specs.Tables.{tables_at};
 
 use crate::learning::{
     learn_base, learn_bases, learn_file, learn_last_place, learn_project, learn_room_for_bases,
-    learnt, whole,
+    last, learnt, whole,
 };
 use crate::loading::Sight;
 use review_records::bases::{self, BaseCommits, Bases, BranchBases, LastPlace};
@@ -176,10 +176,9 @@ fn tell_last_place(
     ensures told { (db : Trees) → HasGreatest base_places 3 branch.now db found → Sees (want.LastPlace branch.now) rows.old rows.new db result }
     ensures learnt { result ≡ Sight.Learnt → HasLearnt (want.LastPlace branch.now) rows.old rows.new }
 {
-    match found {
-        Some(Some(place)) => learnt(learn_last_place(alloc, branch, place, rows)),
-        Some(None) => Sight::Damaged,
-        None => learnt(learn_last_place(alloc, branch, 0, rows)),
+    match last(found) {
+        Some(place) => learnt(learn_last_place(alloc, branch, u64::from(place), rows)),
+        None => Sight::Damaged,
     }
 }
 

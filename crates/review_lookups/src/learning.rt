@@ -1,6 +1,6 @@
 //! What rows learn of what was found.
 ghost use Rattle.std.specs.Prelude.{◌≡◌, Some, None, IfOk, IfErr, OnOk, option_map};
-ghost use Rattle.review_change_records.specs.Forms.{is_small};
+ghost use Rattle.review_records.specs.Keyed.{is_small};
 ghost use Rattle.review_records.specs.Forms.{where_is};
 ghost use Rattle.review_table.specs.Rows.{rows_of};
 ghost use Rattle.review_rows.specs.declared.rows.Want.TheVariants as want;

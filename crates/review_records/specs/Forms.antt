@@ -17,7 +17,7 @@ use Rattle.review_tables.specs.Columns.{number_in, text_in}
 use Rattle.review_statements.specs.Desk as table
 use Rattle.review_statements.specs.Search.{Search, Form, with_rowid, with_number}
 pub use Rattle.review_records.specs.Keyed.{where_is}
-use Rattle.review_records.specs.Keyed.{account_keyed, member_keyed, project_keyed, base_keyed, answer_keyed}
+use Rattle.review_records.specs.Keyed.{is_small, account_keyed, member_keyed, project_keyed, base_keyed, answer_keyed}
 
 -- ---- accounts
 
@@ -84,7 +84,7 @@ bases = record {
 }
 
 abbrev pub base_form : Form PlaceKey (List ℕ)
-base_form = with_rowid (λ b commit. Text b.project ∷ Text b.branch ∷ Int (pos b.place) ∷ Text commit ∷ []) (λ b. Rattle.std.specs.Prelude.true) (λ commit. is_utf8 commit && is_commit commit)
+base_form = with_rowid (λ b commit. Text b.project ∷ Text b.branch ∷ Int (pos b.place) ∷ Text commit ∷ []) (λ b. is_small b.place) (λ commit. is_utf8 commit && is_commit commit)
 
 -- the places of a commit in a branch
 abbrev pub base_commits : Search Base ℕ

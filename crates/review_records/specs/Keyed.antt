@@ -1,10 +1,14 @@
 -- Which stored rows have a key of their table: those whose columns of the key read as values of its kinds.
-use Rattle.std.specs.Prelude.{ℕ, ◌&&◌, Bool, true, false, Option, Some, None, is_some, if◌then◌else◌}
+use Rattle.std.specs.Prelude.{ℕ, ◌&&◌, Bool, true, false, Option, Some, None, is_some, nat_lt, if◌then◌else◌}
 use Rattle.sqlite_value.specs.declared.value.Value.{Value}
 use Rattle.sqlite_value.specs.declared.value.Value.TheVariants.{Null, Int, Real, Text, Blob}
 use Rattle.sqlite_value.specs.Order.{Row, column}
 use Rattle.review_names.specs.Names.{is_account_number}
 use Rattle.review_tables.specs.Columns.{number_in}
+
+-- a number below 2^32
+abbrev pub is_small : ℕ → Bool
+is_small n = nat_lt n 4294967296
 
 -- a value that passes a test
 abbrev pub where_is : {X : Type 0} → (X → Bool) → Option X → Option X
@@ -33,7 +37,7 @@ abbrev pub project_keyed : Row → Bool
 project_keyed r = is_text (column r 1)
 
 abbrev pub base_keyed : Row → Bool
-base_keyed r = is_text (column r 1) && (is_text (column r 2) && is_some (number_in (column r 3)))
+base_keyed r = is_text (column r 1) && (is_text (column r 2) && is_number is_small (column r 3))
 
 abbrev pub answer_keyed : Row → Bool
 answer_keyed r = is_number is_account_number (column r 1) && is_text (column r 2)

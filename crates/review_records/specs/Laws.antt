@@ -15,7 +15,7 @@ use Rattle.review_tables.specs.Fronts.{IsExact, IsFront}
 use Rattle.review_statements.specs.Search.{IsLawful}
 use Rattle.review_statements.specs.Content.{is_value}
 use Rattle.review_tables.proofs.Keys.{equal_is, int_is, itself, same_int, same_text, text_is}
-use Rattle.review_records.specs.Keyed.{is_number, is_text}
+use Rattle.review_records.specs.Keyed.{is_number, is_small, is_text}
 use Rattle.review_records.specs.Forms.{where_is, alone, both, member_parts, group_members, base_parts, branch_bases, accounts, account_form, members, member_form, projects, project_form, bases, base_form, answers, answer_form, desk, desk_form}
 use Rattle.review_names.specs.Forms.{is_commit}
 
@@ -81,8 +81,7 @@ base_lawful = record {
   known = λ a r formed has.
       let one = and_parts _ _ has in
       let two = and_parts _ _ one.1 in
-      let place = int_is (column r 3) (pos a.place) (and_parts _ _ two.1).0 in
-      and_from _ _ (keyed_text (column r 1) a.project one.0) (and_from _ _ (keyed_text (column r 2) a.branch two.0) (ap (λ v. is_some (number_in v)) place));
+      and_from _ _ (keyed_text (column r 1) a.project one.0) (and_from _ _ (keyed_text (column r 2) a.branch two.0) (keyed_number is_small (column r 3) a.place formed (and_parts _ _ two.1).0));
 }
 
 pub answer_lawful : IsLawful answers answer_form

@@ -83,6 +83,9 @@ impl Table for Bases {
     }
 
     fn bind_key<'a>(key: &'a PlaceKey) -> Result<Bound<'a>, Error> {
+        if key.place > u64::from(u32::MAX) {
+            return Err(Error::InvalidQuery);
+        }
         Bases::bind(key)
     }
 

@@ -27,7 +27,7 @@ is_value v (Blob b) = false
 abbrev pub has_key : List (ℕ × Value) → Row → Bool
 has_key key row = list_all (λ c. is_value (column row c.0) c.1) key
 
--- the rows have rowids, which are integers, and no two have one
+-- the rows have rowids, which are integers, and no two have the same
 abbrev pub AreApart : List Row → Type 0
 AreApart [] = Unit {0}
 AreApart (r ∷ rows) = IsTrue (is_int (rowid r)) × (is_taken rows r ≡ false) × AreApart rows
@@ -51,10 +51,6 @@ pub record Adds (tree : ℕ) (row : Row) (old new : Trees) : Type 0 where
 pub record Removes (tree : ℕ) (key : List (ℕ × Value)) (old new : Trees) : Type 0 where
   pub rows : new tree ≡ filter (λ r. not (has_key key r)) (old tree)
   pub others : SparesOthers tree old new
-
--- a row whose rowid SQLite chose
-abbrev pub AddsValues : ℕ → Row → Trees → Trees → Type 0
-AddsValues tree values old new = (id : ℤ) × Adds tree (Int id ∷ values) old new
 
 -- one after the other
 abbrev pub Then : (Trees → Trees → Type 0) → (Trees → Trees → Type 0) → Trees → Trees → Type 0

@@ -12,10 +12,6 @@ pub record IsReady (db : Database) : Type 0 where
   pub schema : db.schema ≡ desk_schema
   pub apart : (t : ℕ) → is_tree t ≡ true → AreApart (db.trees t)
 
--- nothing is known of a connection that a fault has shut
-abbrev pub IsReadyIfOpen : State → Type 0
-IsReadyIfOpen s = IsTrue s.is_open → IsReady s.now
-
 -- the tables have the form of those that `create` makes, where the connection is open
 abbrev pub IsDeskIfOpen : State → Type 0
 IsDeskIfOpen s = IsTrue s.is_open → s.now.schema ≡ desk_schema

@@ -56,11 +56,6 @@ abbrev pub AreParts : {O K X : Type 0} → (K → K → Ordering) → Search O (
 AreParts {K = K} cmp front whole o db None = HasOdd (reads front) (rows_at (front.at o) (db front.tree)) ⊎ ((k : K) × (row_at whole db (o, k) ≡ Some None))
 AreParts cmp front whole o db (Some entries) = HaveRows cmp whole o db entries
 
--- something holds, where it is known
-abbrev pub Knows : {X : Type 0} → Option X → (X → Type 0) → Type 0
-Knows None IsSo = Unit {0}
-Knows (Some x) IsSo = IsSo x
-
 -- changes of an owner's rows are made, the last first
 abbrev pub SetsParts : {O K X : Type 0} → Search (O × K) X → O → List (Change K X) → Trees → Trees → Type 0
 SetsParts s o [] old new = new ≡ old

@@ -91,10 +91,11 @@ pub record IsNotOurs {S : Type 0} (g : Ghosts S) (old new : Held S) : Type 0 whe
   pub stays : Stays (state g old) (state g new)
   pub cause : IsTrue (state g new).is_open → IsRefused (state g old) NotOurs
 
--- No desk was opened: the tables are as they were, and nothing was written or told.
+-- No desk was opened, for no other reason than that the tables aren't ours: they are as they were, and nothing was written or told.
 pub record IsRefusedDesk {S : Type 0} (g : Ghosts S) (before after : Known) (old new : Held S) (ended : Result Outcome ProgramFault) : Type 0 where
   pub fault : DeskFault
   pub ends : ended ≡ Err (desk_fault fault)
+  pub lacking : fault ≢ NotOurs
   pub stays : Stays (state g old) (state g new)
   pub cause : IsTrue (state g new).is_open → IsRefused (state g old) fault
   pub written : Appends before.output after.output []
@@ -109,7 +110,7 @@ IsDoneOn {S} g Did Refuses old new =
 pub record Worked {S : Type 0} (g : Ghosts S) (task : Task) (before after : Known) (ended : Result Outcome ProgramFault) (old new : Held S) : Type 0 where
   pub how : IsDoneOn g (Does task before after ended) (λ (s t : Held S). IsRefusedDesk g before after s t ended) old new
 
--- Why no desk was made: not for what stands there as a desk; where it was for a table of one of the twelve names, one is there, and nothing was touched; and
+-- Why no desk was made: never as no desk or another version; where it was for a table of one of the twelve names, one is there, and nothing was touched; and
 -- not as not ours but where one of ours was to be made, in a store with tables.
 abbrev pub IsCauseOf : {S : Type 0} → Ghosts S → Bool → Held S → Held S → DeskFault → Type 0
 IsCauseOf g is_ours old new cause =

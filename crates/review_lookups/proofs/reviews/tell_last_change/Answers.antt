@@ -1,7 +1,7 @@
 use Rattle.std.proofs.Common.{refl, rules, Some, None, ◌≡◌}
 use Rattle.review_records.specs.Forms.{where_is}
 use Rattle.review_records.specs.Laws.{passed}
-use Rattle.review_change_records.specs.Forms.{is_small}
+use Rattle.review_records.specs.Keyed.{is_small}
 use Rattle.review_rows.specs.Known.{Number}
 use Rattle.review_lookups.specs.Loads.{last_of}
 use Rattle.review_lookups.proofs.Odd.{last_change_damaged}
