@@ -24,8 +24,10 @@ TEXTS = ("not a desk", "wrong version", "store fault", "damaged", "pattern", "no
 FAULTS = {f"review_desk: {text}\n".encode() for text in TEXTS}
 WARNING = re.compile(rb"review_desk: warning: this file has more [^\n]*\n")
 NUMBERED = ("CreateAccount", "CreateChange")
-# A change whose project or branch is no name may be one of any branch, so it stops what meets its commit in another project.
-MEETING = (("changes", "patches"), ("CreateChange", "Upload", "Submit"), b'{"not_taken":"DAMAGED"}\n')
+# A change whose project or branch is no name may be one of any branch, and a patch set whose change or number is none may be one of any change: these stop
+# what meets their commit in another project.
+MEETING = {("changes", "project"), ("changes", "branch"), ("patches", "change"), ("patches", "patch")}
+STOPPED = ("CreateChange", "Upload", "Submit"), b'{"not_taken":"DAMAGED"}\n'
 
 
 def copy_all(file, to):
@@ -86,7 +88,7 @@ class Desks:
     def __init__(self, folder):
         resource.setrlimit(resource.RLIMIT_AS, (MEMORY, resource.getrlimit(resource.RLIMIT_AS)[1]))
         self.file, self.whole, self.other, self.before = (os.path.join(folder, name) for name in ("desk", "whole", "other", "before"))
-        self.found, self.stores, self.kinds = collections.Counter(), collections.Counter(), collections.defaultdict(collections.Counter)
+        self.found, self.kinds = collections.Counter(), collections.defaultdict(collections.Counter)
         self.faults, self.greatest, self.greatest_of, self.turn = [], 0, None, 0
         check(run("init", self.whole) == CREATED, "init")
         end = run("apply", self.whole, sent=b"".join(BASE))
@@ -231,11 +233,9 @@ class Desks:
 
     def judge_cause(self, damage, sent, cause):
         self.count(damage, f"not taken: {cause}")
-        is_lawful = {"STORE": True, "DAMAGED": True, "MEMORY": not damage.is_sound, "FULL": damage.may_be_full, "PATTERN": damage.may_match or not damage.is_sound}
+        is_lawful = {"STORE": damage.is_refused or not damage.is_sound, "DAMAGED": True, "MEMORY": not damage.is_sound, "FULL": damage.may_be_full, "PATTERN": damage.may_match or not damage.is_sound}
         if not is_lawful.get(cause):
             self.wrong(damage, sent, cause)
-        if cause == "STORE" and damage.is_sound and not damage.is_refused:
-            self.stores[damage.table, damage.column, damage.kind, name_of(sent)] += 1
 
     @staticmethod
     def is_numbered_anew(sent):
@@ -247,7 +247,8 @@ class Desks:
         is_needed = damage.column == "number" and asked.startswith(NUMBERED)
         if answer.startswith(b"review_desk: store fault") or is_needed:
             return
-        if damage.table not in MEETING[0] or not asked.startswith(MEETING[1]) or answer != MEETING[2]:
+        commands, stopped = STOPPED
+        if (damage.table, damage.column) not in MEETING or not asked.startswith(commands) or answer != stopped:
             self.wrong(damage, "a neighbour is disturbed", asked, answer)
 
     def judge_end(self, damage, word, status, err, *more):

@@ -17,7 +17,7 @@ grant.{group} = [0, 1]
 [submit-requirement.Branch]
 submittableIf = "branch:^ma.n"
 [submit-requirement.Code-Review]
-submittableIf = "label:Code-Review=1,user=non_uploader"
+submittableIf = "label:Code-Review=1,user=non_uploader AND label:Code-Review=1,group={group}"
 """ + "# so that it is long\n" * 450
 TOO_LARGE = '[submit-requirement.Large]\nsubmittableIf = "path:\\"^(a{1000}){1000}\\""\n'
 CHANGES = 14
@@ -91,6 +91,7 @@ class Side:
             self.of_change("AddAttention", 9, "new14", body={"user": self.other, "reason": "look"}),
             self.of_change("RemoveAttention", 10, "new15", account=self.other, body={"reason": "done"}),
             self.of_change("Submit", 13, "new16", self.other),
+            self.of_project("RecordBase", "new17", {"commit": commit(78)}, project=self.project, branch="main"),
         ]
 
 

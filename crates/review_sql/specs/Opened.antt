@@ -25,7 +25,7 @@ pub record Peeks {X : Type 0} (Found : Trees → X → Type 0) (old new : State)
   pub found : HasCleanDisk new → IsDeskIfOpen old → IfOk result (λ x. IsTrue new.is_open → Found old.now.trees x)
   pub stays : Stays old new
 
--- nothing is written
+-- nothing is written, and no call was refused
 pub record IsOpened {S : Type 0} (g : Ghosts S) (conn : Held S) (shelf : ShelfView S) : Type 0 where
   pub faults : shelf.faults ≡ 0
   pub stays : Stays (state g conn) (state g shelf.conn)

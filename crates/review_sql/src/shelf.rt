@@ -1,5 +1,5 @@
 //! A shelf in SQLite.
-ghost use Rattle.std.specs.Prelude.{◌≡◌, ◌≢◌, ◌≤◌, ◌⊎◌, true, false, IfOk, IfErr, IsTrue, Some, None, min};
+ghost use Rattle.std.specs.Prelude.{◌≡◌, ◌≢◌, ◌≤◌, ◌⊎◌, true, false, IfOk, IfErr, IsTrue, min};
 ghost use Rattle.std.specs.Bool.{Decides};
 ghost use Rattle.sqlite.specs.Held.{state};
 ghost use Rattle.sqlite.specs.State.{HasCleanDisk};
@@ -123,7 +123,8 @@ impl<S: Alter + Drop, O: Origin> SqlShelf<S, O> {
         ensures not_empty { IfErr result (λ e. e.1 ≡ DeskFault.NotEmpty → IsTrue (state S.Store e.0).is_open → IsAnyThere conn.schema) }
         ensures untouched { IfErr result (λ e. (e.1 ≡ DeskFault.NotEmpty) ⊎ (e.1 ≡ DeskFault.NotOurs) → Stays (state S.Store conn) (state S.Store e.0)) }
         ensures spared { IfErr result (λ e. IsAnyThere conn.schema → HasCleanDisk (state S.Store e.0) → Stays (state S.Store conn) (state S.Store e.0)) }
-        ensures not_ours { IfErr result (λ e. e.1 ≡ DeskFault.NotOurs → IsTrue (state S.Store e.0).is_open → (conn.schema ≡ schema_0) ⊎ IsAnyThere conn.schema → ⊥) }
+        ensures not_ours { IfErr result (λ e. e.1 ≡ DeskFault.NotOurs → IsTrue (state S.Store e.0).is_open → conn.schema ≡ schema_0 → ⊥) }
+        ensures beside { IfErr result (λ e. e.1 ≡ DeskFault.NotOurs → IsTrue (state S.Store e.0).is_open → IsAnyThere conn.schema → ⊥) }
         ensures ours { IfErr result (λ e. e.1 ≡ DeskFault.NotOurs → IsTrue O.IS_OURS) }
         ensures kinds { IfErr result (λ e. (e.1 ≢ DeskFault.NotADesk) × (e.1 ≢ DeskFault.WrongVersion)) }
     {
@@ -155,7 +156,7 @@ impl<S: Alter + Drop, O: Origin> SqlShelf<S, O> {
     /// it is opened only where the table `desk` has one row, which says version 1 and so many requests, and all columns of the eleven tables
     /// of records are there. Looked at in this order, it is NotADesk only where that row is missing, or says no version; WrongVersion only
     /// where it says another, whatever else it says; NotADesk, where it says no requests or a table of records is missing; and NotOurs only where
-    /// the shelf is to be ours and the tables are of another form than `create` makes, or rows of one have one rowid.
+    /// the shelf is to be ours and the tables are of another form than `create` makes, or two rows of one have the same rowid.
     ///
     /// Over the connection of a shelf that
     /// was closed it is that shelf: it shows the tables that it showed, unless it is shut, and a stop leaves nothing that it could not
@@ -246,14 +247,6 @@ fn answered(found: Loaded) -> Result<Rows, ShelfFault>
     }
 }
 
-// A stored request as it reads. One that doesn't is damage, and no error of the store.
-fn sound(row: Option<Answered>) -> Result<Answered, ShelfFault>
-    ensures ok { IfOk result (λ answered. row ≡ Some answered) }
-    ensures err { IfErr result (λ e. (e ≡ ShelfFault.Damaged) × (row ≡ None)) }
-{
-    row.ok_or(ShelfFault::Damaged)
-}
-
 impl<S: Alter, O: Origin> Shelf for SqlShelf<S, O> {
     ghost use Rattle.review_sql.specs.Shelf.{shown, count_fits};
 
@@ -275,7 +268,8 @@ impl<S: Alter, O: Origin> Shelf for SqlShelf<S, O> {
             Err(error) => return Err(told(&mut self.conn, &mut self.faults, error)),
         };
         match found {
-            Some(row) => Ok(Some(kept_of(key, sound(row)?))),
+            Some(Some(row)) => Ok(Some(kept_of(key, row))),
+            Some(None) => Err(ShelfFault::Damaged),
             None => Ok(None),
         }
     }

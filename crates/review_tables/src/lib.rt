@@ -1,4 +1,4 @@
-//! The tables of a desk in SQLite.
+//! How a table of a desk in SQLite is asked and changed, whatever its rows are, and how its tables are made and known again.
 #![tactic(auto)]
 
 pub mod bound;

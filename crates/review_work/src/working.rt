@@ -1,6 +1,7 @@
 //! Tasks on the tables of a connection, which is handed back in no transaction.
 //!
-//! Tables that `create` made are opened as ours, of which all is claimed that a shelf promises, and others as those of others, of which nothing is.
+//! Tables of the form that `create` makes are opened as ours, of which all is claimed that a shelf promises, and others as those of others, of which no more is
+//! than that a desk was there, and how refused calls are counted.
 ghost use Rattle.std.specs.Prelude.{◌≡◌, ◌⊎◌, ◌||◌, false, not, Err};
 ghost use Rattle.sqlite.specs.Held.{Held};
 ghost use Rattle.review_sql.specs.Shelf.{IsClosed, ShelfView, shown};

@@ -16,7 +16,7 @@ returns-in-Some-clause-told c = λ db great.
     let place = c.in-Some.place in
     let is : where_is is_small (last_of c.args.found) ≡ Some place = search rules in
     tells_as (tables_at db) (want.LastPlace key) (Number place) c.args.rows.now c.learn_last_place.new.rows c.learn_last_place.result c.learnt.result c.learnt.ensures
-    (place, refl, last_place db key c.args.found place great (passed is_small _ place is)) c.learn_last_place.ensures
+    (place, refl, last_place db key c.args.found place great (passed is_small _ place is)) (rw (c.from.ensures) at c.learn_last_place.ensures)
 
 pub returns-in-None-clause-told : goal.returns-in-None-clause-told
 returns-in-None-clause-told c = λ db great.

@@ -28,3 +28,8 @@ returns-in-Ok-clause-created g c =
 pub returns-in-Err-make_desk-clause-refused : goal.returns-in-Err-make_desk-clause-refused
 returns-in-Err-make_desk-clause-refused g c =
     unmade (state g.S.Store c.args.conn) (state g.S.Store c.is_any_there.new.conn) (state g.S.Store c.make_desk.new.conn) c.in-Err-make_desk.error c.in-Ok-false.ensures.stays c.in-Err-make_desk.ensures.acts
+
+pub returns-then-not-may_be_made-clause-beside : goal.returns-then-not-may_be_made-clause-beside
+returns-then-not-may_be_made-clause-beside g c same is_open any =
+    let last = c.is_any_there.new.conn in
+    c.in-Ok-false.ensures.none (clean_if_open (g.S.Store.view last.store) (g.met.S.Store.shut_if_dirty last.store) is_open) c.in-Ok-false.field-0-test any
