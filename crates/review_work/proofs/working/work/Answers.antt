@@ -1,4 +1,4 @@
-use Rattle.std.proofs.Common.{refl, Err, IsTrue, ap, inl, inr, subst}
+use Rattle.std.proofs.Common.{rules, refl, Err, IsTrue, ap, inl, inr, subst}
 use Rattle.std.proofs.KnownBytes.{Appends-nil}
 use Rattle.sqlite.specs.Held.{state}
 use Rattle.review_sql.specs.declared.faults.DeskFault.{DeskFault}
@@ -23,6 +23,7 @@ returns-in-Err-clause-done g c = record {
   how = inr (inl (record {
     fault = c.in-Err.fault;
     ends = ap Err c.from.ensures;
+    lacking = λ same. search rules;
     stays = c.in-Err.ensures.refused;
     cause = c.in-Err.ensures.cause;
     written = Appends-nil _;

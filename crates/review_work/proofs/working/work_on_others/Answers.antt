@@ -17,6 +17,7 @@ pub returns-in-Err-clause-done : goal.returns-in-Err-clause-done
 returns-in-Err-clause-done g c = inr (record {
   fault = c.in-Err.fault;
   ends = ap Err c.from.ensures;
+  lacking = λ same. let none = c.in-Err.ensures.ours same in cc;
   stays = c.in-Err.ensures.refused;
   cause = c.in-Err.ensures.cause;
   written = Appends-nil _;
