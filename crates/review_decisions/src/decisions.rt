@@ -1,98 +1,30 @@
-//! The answer to a command and what it changes, and the answer to a question, from the rows that decide them.
+//! The answer to a command and what it changes, from the rows that decide it.
 ghost use Rattle.std.specs.Prelude.{◌≡◌, ◌<◌, List, IfOk, IfErr, length, option_copied, true};
-ghost use Rattle.review_file.specs.Texts.{file_read};
 ghost use Rattle.review_words.specs.Texts.{IsStored};
 ghost use Rattle.review_words.specs.History.{Entry, is_account};
 ghost use Rattle.review_rows.specs.Answer.{most_requests};
 ghost use Rattle.review_rows.specs.Changes.{Reading};
-ghost use Rattle.review_rows.specs.Decisions.{IsDoneOrRefused, IsUndecided, IsUnshown, NamesEachOnce, RestsOn};
-ghost use Rattle.review_rows.specs.Questions.{IsQueryAnswerBy};
+ghost use Rattle.review_rows.specs.Decisions.{IsUndecided, NamesEachOnce, RestsOn};
 ghost use Rattle.review_rows.specs.Rows.{HasNoEffect};
-ghost use Rattle.review_rows.specs.Steps.{OfCommand, OfQuery};
+ghost use Rattle.review_rows.specs.Steps.{OfCommand};
 ghost use Rattle.review_rows.specs.View.{AreEnough, IsDecided};
 
 use review_account_decisions::{create_account, put_group, refused};
 use review_branch_decisions::record_base;
 use review_change_decisions::create_change;
-use review_file::{FileMemo, ProjectFile, ReadText};
-use review_file_decisions::{project_of, put_project};
+use review_file::{FileMemo, ProjectFile};
+use review_file_decisions::put_project;
 use review_request_decisions::on_change;
-use review_rows::{Delta, Matter, Rows};
+use review_rows::{Delta, Rows};
 use review_submit_decisions::submit;
-use review_words::{AccountNo, Command, NotTaken, Query, Refusal, Reply};
+use review_words::{AccountNo, Command, NotTaken, Refusal, Reply};
 use std::alloc::Global;
 
-/// The reply to a command and what it changes, where this file of its project was read: the first check that fails refuses, in the order of
+/// The reply to a command and what it changes, by this file of its project: the first check that fails refuses, in the order of
 /// the command's checks; a refusal changes nothing, and each key is named once. An error is want of memory; Pattern, where the engine refuses a
-/// pattern in the file that is put; or Damaged, where the rows are those of no history. The file that was read is remembered again, unless
-/// another one took its place; no answer depends on which are remembered.
+/// pattern in the file that is put; or Damaged, where the rows are those of no history. A file that is put is remembered; no answer depends on which
+/// files are.
 pub fn decide(
-    alloc: Global,
-    memo: &mut FileMemo,
-    read: Option<ReadText>,
-    rows: &Rows,
-    caller: AccountNo,
-    command: &Command,
-) -> Result<(Delta, Reply), NotTaken>
-    ensures decided { IfOk result (λ r. (reading : Reading) (h : List Entry) → length h < most_requests → RestsOn (OfCommand command.now) h → AreEnough reading h caller (OfCommand command.now) (file_read read) rows.now → IsDecided reading h caller command.now r.0 r.1) }
-    ensures cause { IfErr result (IsUndecided caller command.now (file_read read) rows.now) }
-    ensures stored { IfOk result (λ r. IsStored r.1) }
-    ensures refused { IfOk result (λ r. HasNoEffect r.1 r.0) }
-    ensures once { IfOk result (λ r. NamesEachOnce r.0) }
-{
-    let decided = decide_by(alloc, memo, file_of(&read), rows, caller, command);
-    remember(alloc, memo, read, rows, Matter::Command(command));
-    decided
-}
-
-/// The answer to a question, where this file of its project was read: the first check that fails refuses, in the order of the question's checks.
-/// It changes nothing. An error is want of memory, or Damaged, where the rows are those of no history. The file that was read is remembered again.
-pub fn show(
-    alloc: Global,
-    memo: &mut FileMemo,
-    read: Option<ReadText>,
-    rows: &Rows,
-    caller: AccountNo,
-    query: &Query,
-) -> Result<Reply, NotTaken>
-    ensures shown { IfOk result (λ r. (reading : Reading) (h : List Entry) → RestsOn (OfQuery query.now) h → AreEnough reading h caller (OfQuery query.now) (file_read read) rows.now → IsQueryAnswerBy reading h caller query.now r) }
-    ensures answered { IfOk result IsDoneOrRefused }
-    ensures cause { IfErr result (IsUnshown caller query.now (file_read read) rows.now) }
-{
-    let shown = review_questions::show(alloc, file_of(&read), rows, caller, query);
-    remember(alloc, memo, read, rows, Matter::Query(query));
-    shown
-}
-
-/// The file that was read.
-fn file_of(read: &Option<ReadText>) -> Option<&ProjectFile>
-    ensures { option_copied result ≡ file_read read.now }
-{
-    match read {
-        Some(read) => Some(read.file()),
-        None => None,
-    }
-}
-
-/// Remembers the file of the project that was asked for again, where there is memory for it.
-fn remember(
-    alloc: Global,
-    memo: &mut FileMemo,
-    read: Option<ReadText>,
-    rows: &Rows,
-    matter: Matter<'_>,
-) {
-    let Some(read) = read else {
-        return;
-    };
-    let Some(project) = project_of(rows, matter) else {
-        return;
-    };
-    let _ = memo.give_back(alloc, project, read);
-}
-
-/// The reply to a command of any caller, by this file of its project.
-fn decide_by(
     alloc: Global,
     memo: &mut FileMemo,
     had: Option<&ProjectFile>,

@@ -1,9 +1,8 @@
 //! One delivery.
-ghost use Rattle.std.specs.Prelude.{◌≡◌, ◌≤◌, ◌<◌, ◌+◌, ◌⊎◌, ℕ, List, [], ◌∷◌, None, IfErr, IfOk, OnOk, length, string_bytes};
+ghost use Rattle.std.specs.Prelude.{◌≡◌, ◌≤◌, ◌<◌, ◌+◌, ◌⊎◌, ℕ, List, [], ◌∷◌, None, IfErr, IfOk, OnOk, length, string_bytes, option_copied};
 ghost use Rattle.review_words.specs.Texts.{IsStored, content_text};
 ghost use Rattle.review_words.specs.History.{Entry, stored};
 ghost use Rattle.review_words.specs.declared.command.Delivery.TheVariants.{Write, Read};
-ghost use Rattle.review_file.specs.Texts.{file_read};
 ghost use Rattle.review_rows.specs.Answer.{IsHistory, most_requests};
 ghost use Rattle.review_rows.specs.Changes.{Reading};
 ghost use Rattle.review_rows.specs.Decisions.{RestsOn};
@@ -21,7 +20,7 @@ ghost use Rattle.review_deliveries.specs.Replies.{IsServed, IsToldAgain, KeepsUn
 
 use crate::gathering::gathered;
 use crate::rules::Rules;
-use review_file::ReadText;
+use review_file::ProjectFile;
 use review_rows::{Delta, Kept, Matter, Rows, Shelf, ShelfFault};
 use review_texts::{BadReply, content_text, read_reply, reply_text};
 use review_words::{AccountNo, Command, Delivery, NotTaken, Query, Reply, RequestId};
@@ -131,7 +130,7 @@ fn read<S: Shelf, R: Rules>(
 {
     let mut rows = Rows::new(alloc);
     let read = gathered(alloc, shelf, rules, &mut rows, caller, Matter::Query(query))?;
-    rules.show(alloc, read, &rows, caller, query)
+    rules.show(alloc, read.as_ref(), &rows, caller, query)
 }
 
 // What a request is told whose identity is stored.
@@ -173,7 +172,7 @@ fn first_arrival<S: Shelf, R: Rules>(
 {
     let matter = Matter::Command(command);
     let read = gathered(alloc, shelf, rules, rows, caller, matter)?;
-    let decided = decide(alloc, rules, read, rows, caller, command)?;
+    let decided = decide(alloc, rules, read.as_ref(), rows, caller, command)?;
     store(alloc, shelf, caller, id, &decided, content)?;
     Ok(decided.reply)
 }
@@ -191,16 +190,16 @@ struct Decided {
 fn decide<R: Rules>(
     alloc: Global,
     rules: &mut R,
-    read: Option<ReadText>,
+    read: Option<&ProjectFile>,
     rows: &Rows,
     caller: AccountNo,
     command: &Command,
 ) -> Result<Decided, NotTaken>
     ensures request { IfOk result (λ d. (d.request ≡ number_of (known rows.now want.Requests) + 1) × (d.request ≤ most_requests)) }
-    ensures decided { IfOk result (λ d. (reading : Reading) (h : List Entry) → length h < most_requests → RestsOn (OfCommand command.now) h → AreEnough reading h caller (OfCommand command.now) (file_read read) rows.now → IsDecided reading h caller command.now d.delta d.reply) }
+    ensures decided { IfOk result (λ d. (reading : Reading) (h : List Entry) → length h < most_requests → RestsOn (OfCommand command.now) h → AreEnough reading h caller (OfCommand command.now) (option_copied read.entry) rows.now → IsDecided reading h caller command.now d.delta d.reply) }
     ensures stored { IfOk result (λ d. IsStored d.reply) }
     ensures refused { IfOk result (λ d. HasNoEffect d.reply d.delta) }
-    ensures cause { IfErr result (IsUnstored caller command.now (file_read read) rows.now) }
+    ensures cause { IfErr result (IsUnstored caller command.now (option_copied read.entry) rows.now) }
 {
     let requests = rows.requests();
     if requests >= MOST_REQUESTS {

@@ -1,6 +1,6 @@
 //! What decides deliveries.
 use review_chain::Walked;
-use review_file::ReadText;
+use review_file::ProjectFile;
 use review_rows::{Delta, Matter, Need, Rows};
 use review_words::{AccountNo, Command, NotTaken, Query, Reply};
 use std::alloc::{AllocError, Global};
@@ -9,7 +9,6 @@ use std::alloc::{AllocError, Global};
 /// keep what it worked out before, of which no answer may depend.
 pub trait Rules {
     ghost use Rattle.std.specs.Prelude.{◌≡◌, ◌<◌, List, length, IfOk, IfErr, option_copied};
-    ghost use Rattle.review_file.specs.Texts.{file_read};
     ghost use Rattle.review_words.specs.Texts.{IsStored};
     ghost use Rattle.review_words.specs.History.{Entry};
     ghost use Rattle.review_rows.specs.Answer.{most_requests};
@@ -25,16 +24,16 @@ pub trait Rules {
     fn next_need(
         &mut self,
         alloc: Global,
-        read: Option<&ReadText>,
+        read: Option<&ProjectFile>,
         rows: &Rows,
         caller: AccountNo,
         matter: Matter<'_>,
         walked: &mut Option<Walked>,
     ) -> Result<Option<Need>, AllocError>
-        ensures need { HasComeTo (file_read (option_copied read.entry)) rows.now caller (topic_of matter.entry) walked.old →
-            IfOk result (λ need. wants_in need ≡ unless_none (next (file_read (option_copied read.entry)) rows.now caller (topic_of matter.entry))) }
-        ensures walked { HasComeTo (file_read (option_copied read.entry)) rows.now caller (topic_of matter.entry) walked.old →
-            HasComeTo (file_read (option_copied read.entry)) rows.now caller (topic_of matter.entry) walked.new };
+        ensures need { HasComeTo (option_copied read.entry) rows.now caller (topic_of matter.entry) walked.old →
+            IfOk result (λ need. wants_in need ≡ unless_none (next (option_copied read.entry) rows.now caller (topic_of matter.entry))) }
+        ensures walked { HasComeTo (option_copied read.entry) rows.now caller (topic_of matter.entry) walked.old →
+            HasComeTo (option_copied read.entry) rows.now caller (topic_of matter.entry) walked.new };
 
     /// Reads the file of the project by which a command or a question is judged, as rows know its text; none where there is none.
     fn read(
@@ -42,21 +41,21 @@ pub trait Rules {
         alloc: Global,
         rows: &Rows,
         matter: Matter<'_>,
-    ) -> Result<Option<ReadText>, NotTaken>
-        ensures read { IfOk result (λ r. HasFile (text_for rows.now (topic_of matter.entry)) (file_read r)) }
+    ) -> Result<Option<ProjectFile>, NotTaken>
+        ensures read { IfOk result (λ r. HasFile (text_for rows.now (topic_of matter.entry)) r) }
         ensures cause { IfErr result (IsUnread (text_for rows.now (topic_of matter.entry))) };
 
     /// The reply to a command and what it changes, where this file was read and a number is left for the request.
     fn decide(
         &mut self,
         alloc: Global,
-        read: Option<ReadText>,
+        read: Option<&ProjectFile>,
         rows: &Rows,
         caller: AccountNo,
         command: &Command,
     ) -> Result<(Delta, Reply), NotTaken>
-        ensures decided { IfOk result (λ r. (reading : Reading) (h : List Entry) → length h < most_requests → RestsOn (OfCommand command.now) h → AreEnough reading h caller (OfCommand command.now) (file_read read) rows.now → IsDecided reading h caller command.now r.0 r.1) }
-        ensures cause { IfErr result (IsUndecided caller command.now (file_read read) rows.now) }
+        ensures decided { IfOk result (λ r. (reading : Reading) (h : List Entry) → length h < most_requests → RestsOn (OfCommand command.now) h → AreEnough reading h caller (OfCommand command.now) (option_copied read.entry) rows.now → IsDecided reading h caller command.now r.0 r.1) }
+        ensures cause { IfErr result (IsUndecided caller command.now (option_copied read.entry) rows.now) }
         ensures stored { IfOk result (λ r. IsStored r.1) }
         ensures refused { IfOk result (λ r. HasNoEffect r.1 r.0) }
         ensures once { IfOk result (λ r. NamesEachOnce r.0) };
@@ -65,12 +64,12 @@ pub trait Rules {
     fn show(
         &mut self,
         alloc: Global,
-        read: Option<ReadText>,
+        read: Option<&ProjectFile>,
         rows: &Rows,
         caller: AccountNo,
         query: &Query,
     ) -> Result<Reply, NotTaken>
-        ensures shown { IfOk result (λ r. (reading : Reading) (h : List Entry) → RestsOn (OfQuery query.now) h → AreEnough reading h caller (OfQuery query.now) (file_read read) rows.now → IsQueryAnswerBy reading h caller query.now r) }
+        ensures shown { IfOk result (λ r. (reading : Reading) (h : List Entry) → RestsOn (OfQuery query.now) h → AreEnough reading h caller (OfQuery query.now) (option_copied read.entry) rows.now → IsQueryAnswerBy reading h caller query.now r) }
         ensures answered { IfOk result IsDoneOrRefused }
-        ensures cause { IfErr result (IsUnshown caller query.now (file_read read) rows.now) };
+        ensures cause { IfErr result (IsUnshown caller query.now (option_copied read.entry) rows.now) };
 }

@@ -11,7 +11,9 @@ use Rattle.review_project.specs.declared.parts.Grant.{Grant}
 use Rattle.review_project.specs.View.{LabelView, RequirementView, FileView}
 use Rattle.review_project.specs.Expressions.{EachTo, IsLabel, IsRequirement}
 use Rattle.review_project.specs.Spelled.{grant_in, label_in, requirement_in, named}
-use Rattle.review_project.specs.Reading.{IsProjectFile}
+use Rattle.review_project.specs.Reading.{IsRead}
+use Rattle.review_project.specs.Sound.{IsSoundFile}
+use Rattle.review_file.proofs.SoundLabels.{sound_labels}
 use Rattle.review_file.proofs.KeysInOrder.{InOrder}
 use Rattle.review_file.proofs.TablesInOrder.{EachInOrder, Sorted, keys, inner_sorted, kept_sorted, kept_within, table_sorted, table_within}
 
@@ -46,17 +48,21 @@ all_groups (m ∷ ms) (l ∷ ls) h each = (label_groups m l h.0 each.0, all_grou
 all_groups [] (l ∷ ls) h each = absurd each
 all_groups (m ∷ ms) [] h each = absurd each
 
-pub labels_in_order : (f : FileView Expr) → IsProjectFile f → Sorted (map (λ l. l.name) f.labels)
-labels_in_order f (text, (short, (ms, parsed, good))) =
+pub labels_in_order : (text : List ℕ) (f : FileView Expr) → IsRead text f → Sorted (map (λ l. l.name) f.labels)
+labels_in_order text f (short, (ms, parsed, good)) =
     let ls = members_at (codes "label") (table ms) in
     subst Sorted (label_names (named ls) f.labels good.0.1.2) (kept_sorted is_label ls (table_sorted text (codes "label") ms parsed))
 
-pub requirements_in_order : (f : FileView Expr) → IsProjectFile f → Sorted (map (λ r. r.name) f.requirements)
-requirements_in_order f (text, (short, (ms, parsed, good))) =
+pub requirements_in_order : (text : List ℕ) (f : FileView Expr) → IsRead text f → Sorted (map (λ r. r.name) f.requirements)
+requirements_in_order text f (short, (ms, parsed, good)) =
     let rs = members_at (codes "submit-requirement") (table ms) in
     subst Sorted (requirement_names (named rs) f.requirements good.0.1.3) (kept_sorted is_label rs (table_sorted text (codes "submit-requirement") ms parsed))
 
-pub groups_in_order : (f : FileView Expr) → IsProjectFile f → All (λ l. Sorted (map (λ g. g.group) l.grants)) f.labels
-groups_in_order f (text, (short, (ms, parsed, good))) =
+pub groups_in_order : (text : List ℕ) (f : FileView Expr) → IsRead text f → All (λ l. Sorted (map (λ g. g.group) l.grants)) f.labels
+groups_in_order text f (short, (ms, parsed, good)) =
     let ls = members_at (codes "label") (table ms) in
     All-from_recursion (λ l. Sorted (groups l.grants)) f.labels (all_groups (named ls) f.labels (kept_within is_label ls (table_within text (codes "label") ms parsed)) good.0.1.2)
+
+-- a file that a text spells is sound
+pub sound_file : (text : List ℕ) (f : FileView Expr) → IsRead text f → IsSoundFile f
+sound_file text f is = (sound_labels text f is, (labels_in_order text f is, requirements_in_order text f is), groups_in_order text f is)

@@ -1,16 +1,16 @@
 //! A project file.
-ghost use Rattle.std.specs.Prelude.{◌≡◌, ◌≤ℤ◌, true, false, find, option_copied, option_map, string_bytes};
+ghost use Rattle.std.specs.Prelude.{◌≡◌, ◌≤ℤ◌, true, IfOk, find, option_copied, option_map, string_bytes};
 ghost use Rattle.std.specs.List.{All};
 ghost use Rattle.std.specs.Str.{bytes_eq};
-ghost use Rattle.review_project.specs.Expressions.{has_unknown_label};
-ghost use Rattle.review_project.specs.Reading.{IsProjectFile};
-ghost use Rattle.review_project.specs.Sound.{HasGroupsInOrder, HasNamesInOrder, has_sound_labels, is_sound_label, is_value};
+ghost use Rattle.review_project.specs.Sound.{HasGroupsInOrder, HasNamesInOrder, IsSoundFile, has_sound_labels, is_sound_label, is_value};
 ghost use Rattle.review_project.specs.Rights.{greatest_value, least_value};
 
 use review_expr::Expr;
 use review_project::Grant;
 use review_words::{GroupName, LabelName};
+use std::alloc::{AllocError, Global};
 use std::marker::Model;
+use std::rc::Rc;
 
 /// The groups that have a right.
 #[derive(Debug, Drop)]
@@ -60,16 +60,16 @@ impl LabelValue {
     }
 }
 
-/// A label.
+/// What a label has.
 #[derive(Drop)]
-pub struct Label {
+pub(crate) struct LabelParts {
     pub(crate) name: LabelName,
     pub(crate) values: Vec<LabelValue>,
     pub(crate) grants: Vec<Grant>,
     pub(crate) copy_condition: Option<Expr>,
 }
 
-impl Model for Label {
+impl Model for LabelParts {
     ghost use Rattle.std.specs.Coded.{codes};
     ghost use Rattle.review_expr.specs.contracts.expr.Expr as expr;
     ghost use Rattle.review_expr.specs.declared.expr.Expr.{Expr};
@@ -82,19 +82,61 @@ impl Model for Label {
     ghost view = { λ l. record { name = l.name; values = l.values.items; grants = l.grants.items; copy_condition = l.copy_condition } };
 }
 
+/// A label, which is shared: its copies have one set of parts together.
+#[derive(Drop)]
+pub struct Label {
+    parts: Rc<LabelParts>,
+}
+
+impl Model for Label {
+    ghost use Rattle.std.specs.Coded.{codes};
+    ghost use Rattle.review_expr.specs.contracts.expr.Expr as expr;
+    ghost use Rattle.review_expr.specs.declared.expr.Expr.{Expr};
+    ghost use Rattle.review_project.specs.View.{LabelView};
+
+    ghost Value = { LabelView Expr };
+
+    ghost coded = { Prim.hlevel (codes, expr.the_row.coded) };
+
+    ghost view = { λ l. l.parts.value };
+}
+
 impl Label {
+    /// The label of these parts. An error where there was no memory for it.
+    pub(crate) fn new(alloc: Global, parts: LabelParts) -> Result<Label, AllocError>
+        ensures { IfOk result (λ l. l ≡ parts) }
+    {
+        let parts = Rc::new(alloc, parts)?;
+        Ok(Label { parts })
+    }
+
+    /// The parts.
+    fn parts(&self) -> &LabelParts
+        ensures { result.now ≡ self.now }
+    {
+        self.parts.as_ref()
+    }
+
+    /// The same label once more, which takes no memory. An error where there are as many copies as can be counted.
+    pub fn copy(&self, _alloc: Global) -> Result<Label, AllocError>
+        ensures { IfOk result (λ l. l ≡ self.now) }
+    {
+        let parts = self.parts.clone()?;
+        Ok(Label { parts })
+    }
+
     /// The name.
     pub fn name(&self) -> &LabelName
         ensures { result.now ≡ self.now.name }
     {
-        &self.name
+        &self.parts().name
     }
 
     /// The values, in the order of the bytes of their keys.
     pub fn values(&self) -> &[LabelValue]
         ensures { result.now ≡ self.now.values }
     {
-        &self.values
+        &self.parts().values
     }
 
     /// The least value, which `MIN` means. This is Gerrit's. It is a value of the label, as 0 is of
@@ -105,7 +147,7 @@ impl Label {
         ensures below { All (λ v. result ≤ℤ v.0) self.now.values }
     {
         let mut least = 0;
-        for value in &self.values {
+        for value in self.values() {
             least = least.min(value.value);
         }
         least
@@ -119,7 +161,7 @@ impl Label {
         ensures above { All (λ v. v.0 ≤ℤ result) self.now.values }
     {
         let mut greatest = 0;
-        for value in &self.values {
+        for value in self.values() {
             greatest = greatest.max(value.value);
         }
         greatest
@@ -129,14 +171,14 @@ impl Label {
     pub fn grants(&self) -> &[Grant]
         ensures { result.now ≡ self.now.grants }
     {
-        &self.grants
+        &self.parts().grants
     }
 
     /// When a vote is copied to a new patch set; none: never.
     pub fn copy_condition(&self) -> Option<&Expr>
         ensures { option_copied result ≡ self.now.copy_condition }
     {
-        self.copy_condition.as_ref()
+        self.parts().copy_condition.as_ref()
     }
 }
 
@@ -149,9 +191,9 @@ fn shown(text: &Option<String>) -> Option<&str>
     }
 }
 
-/// A submit requirement.
+/// What a submit requirement has.
 #[derive(Drop)]
-pub struct Requirement {
+pub(crate) struct RequirementParts {
     pub(crate) name: LabelName,
     pub(crate) description: Option<String>,
     pub(crate) applicable_if: Option<Expr>,
@@ -160,7 +202,7 @@ pub struct Requirement {
     pub(crate) can_override_in_child_projects: bool,
 }
 
-impl Model for Requirement {
+impl Model for RequirementParts {
     ghost use Rattle.std.specs.Prelude.{option_map, string_bytes};
     ghost use Rattle.std.specs.Coded.{codes};
     ghost use Rattle.review_expr.specs.contracts.expr.Expr as expr;
@@ -181,47 +223,89 @@ impl Model for Requirement {
     } };
 }
 
+/// A submit requirement, which is shared: its copies have one set of parts together.
+#[derive(Drop)]
+pub struct Requirement {
+    parts: Rc<RequirementParts>,
+}
+
+impl Model for Requirement {
+    ghost use Rattle.std.specs.Coded.{codes};
+    ghost use Rattle.review_expr.specs.contracts.expr.Expr as expr;
+    ghost use Rattle.review_expr.specs.declared.expr.Expr.{Expr};
+    ghost use Rattle.review_project.specs.View.{RequirementView};
+
+    ghost Value = { RequirementView Expr };
+
+    ghost coded = { Prim.hlevel (codes, expr.the_row.coded) };
+
+    ghost view = { λ r. r.parts.value };
+}
+
 impl Requirement {
+    /// The requirement of these parts. An error where there was no memory for it.
+    pub(crate) fn new(alloc: Global, parts: RequirementParts) -> Result<Requirement, AllocError>
+        ensures { IfOk result (λ r. r ≡ parts) }
+    {
+        let parts = Rc::new(alloc, parts)?;
+        Ok(Requirement { parts })
+    }
+
+    /// The parts.
+    fn parts(&self) -> &RequirementParts
+        ensures { result.now ≡ self.now }
+    {
+        self.parts.as_ref()
+    }
+
+    /// The same requirement once more, which takes no memory. An error where there are as many copies as can be counted.
+    pub fn copy(&self, _alloc: Global) -> Result<Requirement, AllocError>
+        ensures { IfOk result (λ r. r ≡ self.now) }
+    {
+        let parts = self.parts.clone()?;
+        Ok(Requirement { parts })
+    }
+
     /// The name.
     pub fn name(&self) -> &LabelName
         ensures { result.now ≡ self.now.name }
     {
-        &self.name
+        &self.parts().name
     }
 
     /// The description, at most 1,024 bytes.
     pub fn description(&self) -> Option<&str>
         ensures { option_copied result ≡ self.now.description }
     {
-        shown(&self.description)
+        shown(&self.parts().description)
     }
 
     /// To which changes it applies; none: to every change.
     pub fn applicable_if(&self) -> Option<&Expr>
         ensures { option_copied result ≡ self.now.applicable_if }
     {
-        self.applicable_if.as_ref()
+        self.parts().applicable_if.as_ref()
     }
 
     /// When a change satisfies it.
     pub fn submittable_if(&self) -> &Expr
         ensures { result.now ≡ self.now.submittable_if }
     {
-        &self.submittable_if
+        &self.parts().submittable_if
     }
 
     /// When it is overridden; none: never.
     pub fn override_if(&self) -> Option<&Expr>
         ensures { option_copied result ≡ self.now.override_if }
     {
-        self.override_if.as_ref()
+        self.parts().override_if.as_ref()
     }
 
     /// Whether child projects may have another requirement of this name.
     pub fn can_override_in_child_projects(&self) -> bool
         ensures { result ≡ self.now.can_override_in_child_projects }
     {
-        self.can_override_in_child_projects
+        self.parts().can_override_in_child_projects
     }
 }
 
@@ -253,10 +337,11 @@ impl Model for Content {
     } };
 }
 
-/// A project file: one that some text spells.
+/// A project file, which is shared: its copies have one content together. Its labels are sound, and its names and groups in order, as
+/// `facts` says.
 #[derive(Drop)]
 pub struct ProjectFile {
-    content: Content,
+    content: Rc<Content>,
 }
 
 impl Model for ProjectFile {
@@ -264,36 +349,47 @@ impl Model for ProjectFile {
     ghost use Rattle.review_expr.specs.contracts.expr.Expr as expr;
     ghost use Rattle.review_expr.specs.declared.expr.Expr.{Expr};
     ghost use Rattle.review_project.specs.View.{FileView};
-    ghost use Rattle.review_project.specs.Reading.{IsProjectFile};
+    ghost use Rattle.review_project.specs.Sound.{IsSoundFile};
 
     ghost Value = { FileView Expr };
 
     ghost coded = { Prim.hlevel (codes, expr.the_row.coded) };
 
-    ghost view = { λ f. f.content };
+    ghost view = { λ f. f.content.value };
 
-    ghost invariant = { λ f. IsProjectFile f.content };
+    ghost invariant = { λ f. IsSoundFile f.content.value };
 }
 
 impl ProjectFile {
-    /// The file that some text spells.
-    pub(crate) fn new(content: Content) -> ProjectFile
-        requires { IsProjectFile content }
-        ensures { result ≡ content }
+    /// The file of a content that is sound. An error where there was no memory for it.
+    pub(crate) fn new(alloc: Global, content: Content) -> Result<ProjectFile, AllocError>
+        requires { IsSoundFile content }
+        ensures { IfOk result (λ f. f ≡ content) }
     {
-        ProjectFile { content }
+        let content = Rc::new(alloc, content)?;
+        Ok(ProjectFile { content })
     }
 
-    /// What is true of every file. Some text spells it. The values of each label are two or more,
-    /// an unbroken run within -20 to 20 with 0 among them and no number twice, and the ends of its
-    /// grants are such values in order. Its requirements name its labels alone. The names of the
-    /// labels ascend in the order of their bytes, and so do those of the requirements and the groups
-    /// of each label's grants.
-    #[tactic(auto, using(crate::proofs::NamesInOrder::groups_in_order, crate::proofs::NamesInOrder::labels_in_order, crate::proofs::NamesInOrder::requirements_in_order, crate::proofs::SoundLabels::known_labels, crate::proofs::SoundLabels::sound_labels))]
+    /// The content.
+    fn content(&self) -> &Content
+        ensures { result.now ≡ self.now }
+    {
+        self.content.as_ref()
+    }
+
+    /// The same file once more, which takes no memory. An error where there are as many copies as can be counted.
+    pub fn copy(&self, _alloc: Global) -> Result<ProjectFile, AllocError>
+        ensures { IfOk result (λ f. f ≡ self.now) }
+    {
+        let content = self.content.clone()?;
+        Ok(ProjectFile { content })
+    }
+
+    /// What is true of every file. The values of each label are two or more, an unbroken run within -20 to 20 with 0 among them and no
+    /// number twice, and the ends of its grants are such values in order. The names of the labels ascend in the order of their bytes, and
+    /// so do those of the requirements and the groups of each label's grants.
     pub fn facts(&self)
-        ensures spelled { IsProjectFile self.now }
         ensures labels { has_sound_labels self.now ≡ true }
-        ensures requirements { has_unknown_label self.now ≡ false }
         ensures names { HasNamesInOrder self.now }
         ensures groups { HasGroupsInOrder self.now }
     {
@@ -304,21 +400,21 @@ impl ProjectFile {
     pub fn description(&self) -> Option<&str>
         ensures { option_copied result ≡ self.now.description }
     {
-        shown(&self.content.description)
+        shown(&self.content().description)
     }
 
     /// The groups that have rights.
     pub(crate) fn access(&self) -> &Access
         ensures { result.now ≡ self.now.access }
     {
-        &self.content.access
+        &self.content().access
     }
 
     /// The labels, by name.
     pub fn labels(&self) -> &[Label]
         ensures { result.now ≡ self.now.labels }
     {
-        &self.content.labels
+        &self.content().labels
     }
 
     /// The label of a name, if the file has it.
@@ -327,7 +423,7 @@ impl ProjectFile {
     {
         let labels = self.labels();
         for label in labels {
-            if label.name == *name {
+            if *label.name() == *name {
                 return Some(label);
             }
         }
@@ -338,6 +434,6 @@ impl ProjectFile {
     pub fn requirements(&self) -> &[Requirement]
         ensures { result.now ≡ self.now.requirements }
     {
-        &self.content.requirements
+        &self.content().requirements
     }
 }

@@ -12,8 +12,9 @@
 //! ```
 //!
 //! [`read_file`] gives the file that a text spells, or the first of its faults in the order of
-//! [`FileFault`]; its contract says which. [`covers`] holds one file against another and takes no
-//! memory. A [`FileMemo`] remembers the files that were read, by project, each held to its text. What a file gives an account `review_ranges` says; what an expression is, and when it holds, `review_expr`.
+//! [`FileFault`]; its contract says which. A file, a [`Label`] and a [`Requirement`] are shared: a copy has the same parts and takes no memory.
+//! What is true of every file [`ProjectFile::facts`] tells. [`covers`] holds one file against another and takes no
+//! memory. A [`FileMemo`] remembers the files that were read, by project, each held to its text, and hands out copies. What a file gives an account `review_ranges` says; what an expression is, and when it holds, `review_expr`.
 #![tactic(auto)]
 
 mod access;

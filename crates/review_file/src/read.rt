@@ -1,8 +1,8 @@
 //! Reading a project file.
-ghost use Rattle.std.specs.Prelude.{◌≡◌, ◌≢◌, IfOk, IfErr};
+ghost use Rattle.std.specs.Prelude.{◌≡◌, ◌≢◌, false, IfOk, IfErr};
 ghost use Rattle.toml.specs.View.{table_view, view};
 ghost use Rattle.toml.specs.Data.{table};
-ghost use Rattle.review_project.specs.Expressions.{IsFile, IsStoppedBy};
+ghost use Rattle.review_project.specs.Expressions.{IsFile, IsStoppedBy, has_unknown_label};
 ghost use Rattle.review_project.specs.Patterns.{HasPattern};
 ghost use Rattle.review_project.specs.Reading.{IsFaultless, IsRead, IsReadFault, IsDocumentFault, first_fault};
 ghost use Rattle.review_project.specs.Spelled.{spelled};
@@ -101,17 +101,20 @@ fn read_content(alloc: Global, text: &str) -> Result<Content, ReadFault>
 
 /// Reads a project file. A text that is none is refused for the first fault that applies, in the
 /// order of [`FileFault`], but for one of more than 65,536 bytes, which isn't looked at and is
-/// refused for its length. The empty text is a file without rights, labels and requirements.
+/// refused for its length. The empty text is a file without rights, labels and requirements. The
+/// requirements of a file name its labels alone.
 ///
 /// Pattern: an expression has a pattern that the engine refuses for another cause than its syntax,
 /// and all expressions before it are good. Memory: there was none for the file.
+#[tactic(auto, using(crate::proofs::SoundLabels::known_labels))]
 pub fn read_file(alloc: Global, text: &str) -> Result<ProjectFile, ReadFault>
     ensures read { IfOk result (IsRead text.now) }
+    ensures known { IfOk result (λ f. has_unknown_label f ≡ false) }
     ensures fault { IfErr result (IsReadFault text.now) }
     ensures pattern { IfErr result (λ f. f ≡ ReadFault.Pattern → HasPattern text.now) }
 {
     match read_content(alloc, text) {
-        Ok(content) => Ok(ProjectFile::new(content)),
+        Ok(content) => Ok(ProjectFile::new(alloc, content)?),
         Err(fault) => Err(fault),
     }
 }

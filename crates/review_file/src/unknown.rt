@@ -1,5 +1,5 @@
 //! Labels that a file's requirements name and the file hasn't.
-ghost use Rattle.std.specs.Prelude.{◌≡◌, IfOk, Bool, false, not};
+ghost use Rattle.std.specs.Prelude.{◌≡◌, IfOk, Bool, false, not, option_copied};
 ghost use Rattle.std.specs.List.{list_any};
 ghost use Rattle.std.specs.Option.{option_map_or};
 ghost use Rattle.std.specs.Str.{bytes_eq};
@@ -13,7 +13,7 @@ use std::alloc::{AllocError, Global};
 fn has_label(labels: &[Label], name: &LabelName) -> bool
     ensures { result ≡ list_any (λ l. bytes_eq l.name name.now) labels.now }
 {
-    labels.iter().any(|label| label.name == *name)
+    labels.iter().any(|label| *label.name() == *name)
 }
 
 /// Whether an expression names another label than these.
@@ -32,9 +32,9 @@ fn names_other(alloc: Global, labels: &[Label], expression: &Expr) -> Result<boo
 fn may_name_other(
     alloc: Global,
     labels: &[Label],
-    expression: &Option<Expr>,
+    expression: Option<&Expr>,
 ) -> Result<bool, AllocError>
-    ensures { IfOk result (λ b. b ≡ option_map_or (names_other labels.now) expression.now false) }
+    ensures { IfOk result (λ b. b ≡ option_map_or (names_other labels.now) (option_copied expression.entry) false) }
 {
     match expression {
         Some(expression) => names_other(alloc, labels, expression),
@@ -49,10 +49,27 @@ fn requires_other(
 ) -> Result<bool, AllocError>
     ensures { IfOk result (λ b. b ≡ requires_other labels.now requirement.now) }
 {
-    let applicable = may_name_other(alloc, labels, &requirement.applicable_if)?;
-    let submittable = names_other(alloc, labels, &requirement.submittable_if)?;
-    let overriding = may_name_other(alloc, labels, &requirement.override_if)?;
+    let applicable = may_name_other(alloc, labels, requirement.applicable_if())?;
+    let submittable = names_other(alloc, labels, requirement.submittable_if())?;
+    let overriding = may_name_other(alloc, labels, requirement.override_if())?;
     Ok(applicable || submittable || overriding)
+}
+
+/// Whether one of these requirements names another label than these. An error where there was no
+/// memory to find out.
+pub(crate) fn some_requires_other(
+    alloc: Global,
+    labels: &[Label],
+    requirements: &[Requirement],
+) -> Result<bool, AllocError>
+    ensures { IfOk result (λ b. b ≡ list_any (requires_other labels.now) requirements.now) }
+{
+    for requirement in requirements {
+        if requires_other(alloc, labels, requirement)? {
+            return Ok(true);
+        }
+    }
+    Ok(false)
 }
 
 /// Whether a requirement names a label that the file hasn't. An error where there was no memory to
@@ -60,10 +77,5 @@ fn requires_other(
 pub(crate) fn has_unknown_label(alloc: Global, file: &Content) -> Result<bool, AllocError>
     ensures { IfOk result (λ b. b ≡ has_unknown_label file.now) }
 {
-    for requirement in &file.requirements {
-        if requires_other(alloc, &file.labels, requirement)? {
-            return Ok(true);
-        }
-    }
-    Ok(false)
+    some_requires_other(alloc, &file.labels, &file.requirements)
 }

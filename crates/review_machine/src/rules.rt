@@ -2,7 +2,7 @@
 use review_chain::Walked;
 use review_decisions::{decide, show};
 use review_deliveries::Rules;
-use review_file::{FileMemo, ReadText};
+use review_file::{FileMemo, ProjectFile};
 use review_file_decisions::read_file_for;
 use review_needs::next_need;
 use review_rows::{Delta, Matter, Need, Rows};
@@ -28,13 +28,13 @@ impl Rules for DeskRules {
     fn next_need(
         &mut self,
         alloc: Global,
-        read: Option<&ReadText>,
+        read: Option<&ProjectFile>,
         rows: &Rows,
         caller: AccountNo,
         matter: Matter<'_>,
         walked: &mut Option<Walked>,
     ) -> Result<Option<Need>, AllocError> {
-        next_need(alloc, read.map(|r| r.file()), rows, caller, matter, walked)
+        next_need(alloc, read, rows, caller, matter, walked)
     }
 
     fn read(
@@ -42,14 +42,14 @@ impl Rules for DeskRules {
         alloc: Global,
         rows: &Rows,
         matter: Matter<'_>,
-    ) -> Result<Option<ReadText>, NotTaken> {
+    ) -> Result<Option<ProjectFile>, NotTaken> {
         read_file_for(alloc, &mut self.memo, rows, matter)
     }
 
     fn decide(
         &mut self,
         alloc: Global,
-        read: Option<ReadText>,
+        read: Option<&ProjectFile>,
         rows: &Rows,
         caller: AccountNo,
         command: &Command,
@@ -60,11 +60,11 @@ impl Rules for DeskRules {
     fn show(
         &mut self,
         alloc: Global,
-        read: Option<ReadText>,
+        read: Option<&ProjectFile>,
         rows: &Rows,
         caller: AccountNo,
         query: &Query,
     ) -> Result<Reply, NotTaken> {
-        show(alloc, &mut self.memo, read, rows, caller, query)
+        show(alloc, read, rows, caller, query)
     }
 }

@@ -71,7 +71,3 @@ IsFileFault text f = IsReadFault text (File f)
 -- A text is a project file: it spells one, names no unknown label and is past no limit.
 abbrev pub IsRead : List ℕ → FileView Expr → Type 0
 IsRead text f = (nat_lt most_bytes (length text) ≡ false) × ((ms : Members) × (parse_document text ≡ Some ms) × IsFaultless (table ms) f)
-
--- A file is one that some text spells.
-abbrev pub IsProjectFile : FileView Expr → Type 0
-IsProjectFile f = (text : List ℕ) × IsRead text f

@@ -1,5 +1,5 @@
 -- What is true of every project file.
-use Rattle.std.specs.Prelude.{ℕ, ℤ, pos, neg_ℤ, List, [], ◌∷◌, Bool, false, not, ◌&&◌, ◌||◌, length, map, nat_lt, int_lt, int_le}
+use Rattle.std.specs.Prelude.{◌≡◌, ℕ, ℤ, pos, neg_ℤ, List, [], ◌∷◌, Bool, true, false, not, ◌&&◌, ◌||◌, length, map, nat_lt, int_lt, int_le}
 use Rattle.std.specs.Cmp.Lexicographic.{slice_cmp}
 use Rattle.std.specs.List.{All, list_all, list_any}
 use Rattle.std.specs.List.Sorted.{IsStrictlySortedBy}
@@ -47,3 +47,7 @@ HasNamesInOrder f = IsStrictlySortedBy (slice_cmp nat_cmp) (map (λ l. l.name) f
 -- and so do the groups that each label grants a range
 abbrev pub HasGroupsInOrder : FileView Expr → Type 0
 HasGroupsInOrder f = All (λ l. IsStrictlySortedBy (slice_cmp nat_cmp) (map (λ g. g.group) l.grants)) f.labels
+
+-- A file is sound: its labels are, and the names of its labels, requirements and granted groups ascend.
+abbrev pub IsSoundFile : FileView Expr → Type 0
+IsSoundFile f = (has_sound_labels f ≡ true) × HasNamesInOrder f × HasGroupsInOrder f

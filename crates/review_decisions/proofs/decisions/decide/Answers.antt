@@ -14,7 +14,7 @@ use Rattle.review_rows.specs.View.{AreEnough, IsDecided}
 use Rattle.review_rows.specs.declared.rows.Delta.{Delta}
 use Rattle.review_rows.specs.declared.rows.Rows.{Rows}
 use Rattle.review_account_decisions.proofs.Decided.{caller_is, refused_pair, unknown_refused}
-use Rattle.review_decisions.proofs.decisions.decide_by.Goals as goal
+use Rattle.review_decisions.proofs.decisions.decide.Goals as goal
 
 -- what is decided for an account is decided, where rows know that the caller is one
 for_account : (result : Result (Delta × Reply) NotTaken) (caller : ℕ) (command : Command) (had : Option File) (rows : Rows) →
