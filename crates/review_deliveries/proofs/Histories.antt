@@ -7,6 +7,7 @@ use Rattle.std.proofs.lemmas.Slice.Eq.{bytes_eq-Decides}
 use Rattle.review_words.specs.Texts.{content_text, reply_text, IsStored}
 use Rattle.review_words.specs.declared.command.Command.{Command}
 use Rattle.review_words.specs.declared.command.Command.TheVariants.{CreateAccount, PutGroup, PutProject, RecordBase, CreateChange, OnChange, Submit}
+use Rattle.review_words.specs.declared.command.Delivery.TheVariants.{Write}
 use Rattle.review_words.specs.declared.command.ChangeCommand.{ChangeCommand}
 use Rattle.review_words.specs.declared.command.ChangeCommand.TheVariants as on
 use Rattle.review_words.specs.declared.changes.NewPatch.{NewPatch}
@@ -14,7 +15,7 @@ use Rattle.review_words.specs.declared.reply.Reply.{Reply}
 use Rattle.review_words.specs.declared.reply.Reply.TheVariants.{Done, Refused, IdentityReused, NotTaken}
 use Rattle.review_words.specs.declared.reply.Answer.TheVariants.{Nothing}
 use Rattle.review_words.specs.declared.reply.Refusal.{Refusal}
-use Rattle.review_words.specs.History.{Entry, Identity, stored, is_same, file_text}
+use Rattle.review_words.specs.History.{Entry, Identity, IsFirst, stored, is_same, file_text}
 use Rattle.review_changes.specs.Change.{Change}
 use Rattle.review_rows.specs.declared.rows.Delta.{Delta}
 use Rattle.review_rows.specs.declared.rows.Rows.{Rows}
@@ -33,6 +34,7 @@ use Rattle.review_rows.proofs.Asked.{requests_are}
 use Rattle.review_rows.proofs.Readings.{reading_of}
 use Rattle.review_rows.proofs.Requested.{IsToldDone, sent_or_done}
 use Rattle.review_deliveries.specs.Gathered.{IsAllAsked}
+use Rattle.review_deliveries.specs.Replies.{IsTold, IsToldWhere}
 use Rattle.review_deliveries.proofs.Stored.{answer_stored}
 
 pub same_from : (a b : Identity) → is_same a b ≡ true → a ≡ b
@@ -99,6 +101,15 @@ pub answer_given : (h : List Entry) (caller : ℕ) (command : Command) (reply : 
 answer_given h caller command reply history is =
     let r = reading_of h history in answer_given_by r.0 h caller command reply (is r.0 r.1)
 
+-- what a write is told, by the entry of its identity or by none, and back
+pub told_where : (h : List Entry) (caller : ℕ) (id : List ℕ) (command : Command) (reply : Reply) (o : Option Entry) → stored h (record { caller = caller; id = id }) ≡ o →
+    IsTold h (Write caller id command) reply → IsToldWhere o h caller command reply
+told_where h caller id command reply o is told = subst (λ o. IsToldWhere o h caller command reply) is told
+
+pub where_told : (h : List Entry) (caller : ℕ) (id : List ℕ) (command : Command) (reply : Reply) (o : Option Entry) → stored h (record { caller = caller; id = id }) ≡ o →
+    IsToldWhere o h caller command reply → IsTold h (Write caller id command) reply
+where_told h caller id command reply o is told = subst (λ o. IsToldWhere o h caller command reply) (sym is) told
+
 -- a reply that is stored is done or refused
 pub stored_given : (reply : Reply) → IsStored reply → IsDoneOrRefused reply
 stored_given (Done a) stored = tt
@@ -131,7 +142,7 @@ recalled (e ∷ h) a i hist there =
     (cases_Bool (is_same e.identity i))
 
 -- an identity with no stored answer is new
-pub not_recalled : (h : List Entry) (i : Identity) → stored_answer h i ≡ None → stored h i ≡ None
+pub not_recalled : (h : List Entry) (i : Identity) → stored_answer h i ≡ None → IsFirst h i
 not_recalled [] i none = refl
 not_recalled (e ∷ h) i none =
     ⊎_elim
@@ -161,7 +172,7 @@ stored_stays (m ∷ more) h i e hist some =
     let there = stored_stays more h i e hist.3 some in
     ⊎_elim
     (λ (t : is_same m.identity i ≡ true).
-    let none : stored (more ++ h) i ≡ None = subst (λ (j : Identity). stored (more ++ h) j ≡ None) (same_from m.identity i t) hist.0 in
+    let none : IsFirst (more ++ h) i = subst (IsFirst (more ++ h)) (same_from m.identity i t) hist.0 in
     absurd (cc))
     (λ (f : is_same m.identity i ≡ false). stored_there m (more ++ h) i f ∙ there)
     (cases_Bool (is_same m.identity i))

@@ -1,7 +1,7 @@
 //! One delivery.
 ghost use Rattle.std.specs.Prelude.{◌≡◌, ◌≤◌, ◌<◌, ◌+◌, ◌⊎◌, ℕ, List, [], ◌∷◌, None, IfErr, IfOk, OnOk, length, string_bytes};
 ghost use Rattle.review_words.specs.Texts.{IsStored, content_text};
-ghost use Rattle.review_words.specs.History.{Entry, stored};
+ghost use Rattle.review_words.specs.History.{Entry, IsFirst};
 ghost use Rattle.review_words.specs.declared.command.Delivery.TheVariants.{Write, Read};
 ghost use Rattle.review_file.specs.Texts.{file_read};
 ghost use Rattle.review_rows.specs.Answer.{IsHistory, most_requests};
@@ -11,7 +11,7 @@ ghost use Rattle.review_rows.specs.declared.rows.Want.{Want};
 ghost use Rattle.review_rows.specs.declared.rows.Want.TheVariants as want;
 ghost use Rattle.review_rows.specs.Known.{known, number_of};
 ghost use Rattle.review_rows.specs.Rows.{HasNoEffect, Tables, kept_row};
-ghost use Rattle.review_rows.specs.Shelf.{BlamesTables, CountsFaults, IsCommitted, LeavesUndone, Shows, StopLeavesOwnTables, Views};
+ghost use Rattle.review_rows.specs.Shelf.{Answers, BlamesTables, CountsFaults, IsCommitted, LeavesUndone, Shows, StopLeavesOwnTables, Views};
 ghost use Rattle.review_rows.specs.Steps.{OfCommand};
 ghost use Rattle.review_rows.specs.View.{AreEnough, IsDecided};
 ghost use Rattle.review_deliveries.specs.Delivered.{IsDelivered};
@@ -163,11 +163,11 @@ fn first_arrival<S: Shelf, R: Rules>(
     requires content { string_bytes content ≡ content_text command.now }
     ensures honest { (S.state shelf.new).is_honest → (S.state shelf.old).is_honest }
     ensures served { (S.state shelf.new).is_honest → (h : List Entry) → IsHistory h → Views h (S.state shelf.old).tables →
-        stored h (record { caller = caller; id = id.now }) ≡ None →
+        IsFirst h (record { caller = caller; id = id.now }) →
         IsServed h (Write caller id.now command.now) (reply_of result) (S.state shelf.old) (S.state shelf.new) }
-    ensures unchanged { (S.state shelf.new).is_honest → Shows (S.state shelf.old).tables (λ t. t.answer (record { caller = caller; id = id.now }) ≡ None) →
+    ensures unchanged { (S.state shelf.new).is_honest → Shows (S.state shelf.old).tables (λ t. Answers t (record { caller = caller; id = id.now }) None) →
         KeepsUntaken (Write caller id.now command.now) (reply_of result) (S.state shelf.old).tables (S.state shelf.new).tables }
-    ensures once { (S.state shelf.new).is_honest → Shows (S.state shelf.old).tables (λ t. t.answer (record { caller = caller; id = id.now }) ≡ None) →
+    ensures once { (S.state shelf.new).is_honest → Shows (S.state shelf.old).tables (λ t. Answers t (record { caller = caller; id = id.now }) None) →
         StoresOnce (Write caller id.now command.now) (reply_of result) (S.state shelf.old).tables (S.state shelf.new).tables }
     ensures counted { CountsReply (reply_of result) (S.state shelf.old).faults (S.state shelf.new).faults }
 {

@@ -20,7 +20,7 @@ use Rattle.review_words.specs.declared.reply.Answer.TheVariants.{Account, Nothin
 use Rattle.review_words.specs.declared.reply.Refusal.{Refusal}
 use Rattle.review_words.specs.declared.reply.Refusal.TheVariants.{UnknownCaller, NotAdmin, NoProject, NoBranch, NoChange, NoPatchSet, NoAccount, NoComment, NotAllowed, Closed, SameState, WorkInProgress, StalePatchSet, NoLabel, ValueOut, VoteRestricted, CommitKnown, UnknownParent, NotEligible, NameTaken, BadFile, LabelNarrowed, Limit}
 use Rattle.review_words.specs.declared.faults.FileFault.{FileFault}
-use Rattle.review_words.specs.History.{Entry, stored, account_count, name_taken, is_account, is_admin, file_text, is_project, project_count, base_count, is_branch}
+use Rattle.review_words.specs.History.{Entry, IsFirst, account_count, name_taken, is_account, is_admin, file_text, is_project, project_count, base_count, is_branch}
 use Rattle.review_names.specs.Forms.{is_within, most_changes, most_patches, most_comments}
 use Rattle.review_names.specs.Names.{registered_users}
 use Rattle.review_project.specs.Rights.{may, granted, least_of, greatest_of}
@@ -209,4 +209,4 @@ IsAnswer h caller command reply = (reading : Reading) → Reads reading h → Is
 -- asked of the forms of names and numbers in it, so where a history is assumed, more lists are spoken of than the desk can make.
 abbrev pub IsHistory : List Entry → Type 0
 IsHistory [] = Unit {0}
-IsHistory (e ∷ h) = (stored h e.identity ≡ None) × IsAnswer h e.identity.caller e.command e.reply × (length h < most_requests) × IsHistory h
+IsHistory (e ∷ h) = IsFirst h e.identity × IsAnswer h e.identity.caller e.command e.reply × (length h < most_requests) × IsHistory h

@@ -1,5 +1,5 @@
 -- Histories of taken requests, the newest first, and the settings that they leave.
-use Rattle.std.specs.Prelude.{ℕ, ◌+◌, List, [], ◌∷◌, ◌++◌, length, Option, Some, None, Bool, ◌&&◌, ◌||◌, ◌==◌, nat_le, if◌then◌else◌, is_some}
+use Rattle.std.specs.Prelude.{ℕ, ◌+◌, ◌≡◌, List, [], ◌∷◌, ◌++◌, length, Option, Some, None, Bool, ◌&&◌, ◌||◌, ◌==◌, nat_le, if◌then◌else◌, is_some}
 use Rattle.std.specs.Str.{bytes_eq}
 use Rattle.std.specs.List.{list_any}
 use Rattle.review_names.specs.Names.{administrators, admin_name}
@@ -36,6 +36,10 @@ accepted e = if_done e.reply e.command
 abbrev pub stored : List Entry → Identity → Option Entry
 stored [] i = None
 stored (e ∷ h) i = if is_same e.identity i then Some e else stored h i
+
+-- no entry of the history has this identity
+abbrev pub IsFirst : List Entry → Identity → Type 0
+IsFirst h i = stored h i ≡ None
 
 -- one account more, where the command makes one
 abbrev pub counted : Option Command → ℕ → ℕ

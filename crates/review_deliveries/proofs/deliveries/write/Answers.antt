@@ -1,8 +1,8 @@
-use Rattle.std.proofs.Common.{◌≡◌, ◌∙◌, None, sym, subst}
+use Rattle.std.proofs.Common.{◌∙◌, None, sym, subst}
 use Rattle.review_words.specs.declared.command.Delivery.TheVariants.{Write}
 use Rattle.review_words.specs.History.{Identity}
 use Rattle.review_rows.specs.Rows.{kept_row}
-use Rattle.review_rows.specs.Shelf.{IsRecalled, Shows}
+use Rattle.review_rows.specs.Shelf.{Answers, IsRecalled, Shows}
 use Rattle.review_deliveries.specs.Replies.{IsToldAgain, StoresOnce, KeepsUntaken, reply_of}
 use Rattle.review_deliveries.proofs.Served.{repeat_served, after_read, views_stay, unrecalled}
 use Rattle.review_deliveries.proofs.Effects.{repeated, repeat_keeps}
@@ -51,7 +51,7 @@ returns-in-None-clause-unchanged g c = λ honest.
     let between = c.first_arrival.ensures.honest honest in
     let stays = x.tables between in
     let found = subst (λ k. Shows old.tables (λ t. IsRecalled t i k)) c.in-None.is (x.found between) in
-    let none = subst (λ t. Shows t (λ u. u.answer i ≡ None)) (sym stays) found in
+    let none = subst (λ t. Shows t (λ u. Answers u i None)) (sym stays) found in
     subst (λ t. KeepsUntaken (Write c.args.caller c.args.id.now c.args.command.now) (reply_of c.first_arrival.result) t (g.S.Shelf.state c.first_arrival.new.shelf).tables) stays
     (c.first_arrival.ensures.unchanged honest none)
 
@@ -63,6 +63,6 @@ returns-in-None-clause-once g c = λ honest.
     let between = c.first_arrival.ensures.honest honest in
     let stays = x.tables between in
     let found = subst (λ k. Shows old.tables (λ t. IsRecalled t i k)) c.in-None.is (x.found between) in
-    let none = subst (λ t. Shows t (λ u. u.answer i ≡ None)) (sym stays) found in
+    let none = subst (λ t. Shows t (λ u. Answers u i None)) (sym stays) found in
     subst (λ t. StoresOnce (Write c.args.caller c.args.id.now c.args.command.now) (reply_of c.first_arrival.result) t (g.S.Shelf.state c.first_arrival.new.shelf).tables) stays
     (c.first_arrival.ensures.once honest none)
