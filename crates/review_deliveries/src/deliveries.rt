@@ -22,7 +22,7 @@ ghost use Rattle.review_deliveries.specs.Replies.{IsServed, IsToldAgain, KeepsUn
 use crate::gathering::gathered;
 use crate::rules::Rules;
 use review_file::ReadText;
-use review_rows::{Delta, Kept, Matter, Rows, Shelf, ShelfFault};
+use review_rows::{Delta, Kept, Matter, Recalled, Rows, Shelf, ShelfFault};
 use review_texts::{BadReply, content_text, read_reply, reply_text};
 use review_words::{AccountNo, Command, Delivery, NotTaken, Query, Reply, RequestId};
 use std::alloc::{AllocError, Global};
@@ -107,8 +107,8 @@ fn write<S: Shelf, R: Rules>(
 {
     let content = content_text(alloc, command)?;
     match shelf.recall(alloc, caller, id)? {
-        Some(kept) => repeated(alloc, &kept, content.as_str()),
-        None => {
+        Recalled::Kept(kept) => repeated(alloc, &kept, content.as_str()),
+        Recalled::Fresh => {
             let mut rows = Rows::new(alloc);
             first_arrival(alloc, shelf, rules, &mut rows, caller, id, command, content)
         }
