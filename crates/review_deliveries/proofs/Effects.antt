@@ -4,7 +4,7 @@ use Rattle.review_words.specs.declared.command.Command.{Command}
 use Rattle.review_words.specs.declared.command.Delivery.TheVariants.{Write}
 use Rattle.review_words.specs.declared.reply.Reply.{Reply}
 use Rattle.review_words.specs.declared.reply.Reply.TheVariants.{Done, Refused, IdentityReused, NotTaken}
-use Rattle.review_words.specs.History.{Identity, is_same}
+use Rattle.review_words.specs.History.{Identity, is_same, latest}
 use Rattle.review_rows.specs.declared.rows.Delta.{Delta}
 use Rattle.review_rows.specs.declared.rows.Rows.{Rows}
 use Rattle.review_rows.specs.Rows.{Key, Count, AnswerRow, Answered, Tables, HasNoEffect, after, count_after}
@@ -32,9 +32,9 @@ kept (NotTaken cause) delta t u none rows counts = tt
 -- a first arrival whose request was stored
 stored_request : (i : Identity) (command : Command) (reply : Reply) (delta : Delta) (file : Option File) (rows : Rows) (row : AnswerRow) (t u : Tables) →
     Answers t i None → Agrees t rows → next file rows i.caller (OfCommand command) ≡ [] → HasNoEffect reply delta → IsCommitted t delta row u →
-    ((n : ℕ) → number_of (known rows Requests) ≡ n → row ≡ answer_row (record { identity = i; command = command; reply = reply }) (n + 1)) → StoresRequest i command reply t u
+    ((n : ℕ) → number_of (known rows Requests) ≡ n → row ≡ answer_row (record { identity = i; version = latest; command = command; reply = reply }) (n + 1)) → StoresRequest i command reply t u
 stored_request i command reply delta file rows row t u none agree left quiet c is =
-    let same : row ≡ answer_row (record { identity = i; command = command; reply = reply }) (t.requests + 1) = is t.requests (requests_are t file rows i.caller command agree left) in
+    let same : row ≡ answer_row (record { identity = i; version = latest; command = command; reply = reply }) (t.requests + 1) = is t.requests (requests_are t file rows i.caller command agree left) in
     record {
       new = none;
       answer_is = λ j. c.answer_is j ∙ (λ k. cond (is_same (same k).identity j) (Some (Answered (same k))) (t.answer j));
@@ -45,7 +45,7 @@ stored_request i command reply delta file rows row t u none agree left quiet c i
 
 pub stored_shown : (i : Identity) (command : Command) (reply : Reply) (delta : Delta) (file : Option File) (rows : Rows) (row : AnswerRow) (old mid new : Option Tables) →
     mid ≡ old → Shows old (λ t. Answers t i None) → Shows old (λ t. Agrees t rows) → next file rows i.caller (OfCommand command) ≡ [] → HasNoEffect reply delta → Shows mid (λ t. Shows new (IsCommitted t delta row)) →
-    ((n : ℕ) → number_of (known rows Requests) ≡ n → row ≡ answer_row (record { identity = i; command = command; reply = reply }) (n + 1)) →
+    ((n : ℕ) → number_of (known rows Requests) ≡ n → row ≡ answer_row (record { identity = i; version = latest; command = command; reply = reply }) (n + 1)) →
     IsFoundOrStored i command reply old new
 stored_shown i command reply delta file rows row old mid new stays none agree left quiet c is =
     inr (both old new none agree (subst (λ (m : Option Tables). Shows m (λ t. Shows new (IsCommitted t delta row))) stays c))

@@ -3,7 +3,7 @@ use Rattle.std.proofs.Common.{◌≡◌, ℕ, List, [], ◌∷◌, Option, Some,
 use Rattle.std.specs.Str.{bytes_eq}
 use Rattle.std.proofs.lemmas.Bool.{cases_Bool}
 use Rattle.std.proofs.lemmas.Slice.Eq.{bytes_eq-Decides}
-use Rattle.review_words.specs.History.{Entry, accepted, stored}
+use Rattle.review_words.specs.History.{Entry, accepted, stored, entry_of}
 use Rattle.review_words.specs.declared.command.Command.{Command}
 use Rattle.review_words.specs.declared.command.Command.TheVariants.{CreateAccount, PutGroup, PutProject, RecordBase, CreateChange, OnChange, Submit}
 use Rattle.review_words.specs.declared.command.Delivery.{Delivery}
@@ -15,7 +15,7 @@ use Rattle.review_words.specs.declared.reply.Reply.TheVariants.{Done, Refused, I
 use Rattle.review_rows.specs.Answer.{IsAnswer, IsAnswerBy, IsFaultAnswer, IsFileAnswer, refused_by}
 use Rattle.review_rows.specs.Changes.{Reading, Reads, IsReadRight}
 use Rattle.review_rows.specs.Files.{File, IsRead}
-use Rattle.review_deliveries.specs.Replies.{IsTold, entry_of, history_after}
+use Rattle.review_deliveries.specs.Replies.{IsTold, history_after}
 use Rattle.review_deliveries.proofs.Histories.{answer_given_by, told_where}
 use Rattle.review_deliveries.proofs.Served.{new_history, same_history}
 use Rattle.review_deliveries.proofs.Voted.{not_fault}

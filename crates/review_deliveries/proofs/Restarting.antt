@@ -10,7 +10,7 @@ use Rattle.review_words.specs.declared.command.Delivery.{Delivery}
 use Rattle.review_words.specs.declared.command.Delivery.TheVariants.{Write, Read}
 use Rattle.review_words.specs.declared.reply.Reply.{Reply}
 use Rattle.review_words.specs.declared.reply.Reply.TheVariants.{Done, Refused, IdentityReused, NotTaken}
-use Rattle.review_words.specs.History.{Entry, Identity, IsFirst, stored, is_same}
+use Rattle.review_words.specs.History.{Entry, Identity, IsFirst, stored, is_same, entry_of}
 use Rattle.review_rows.specs.Answer.{IsHistory, IsAnswer}
 use Rattle.review_rows.specs.Rows.{Tables}
 use Rattle.review_rows.specs.View.{IsView}
@@ -18,7 +18,7 @@ use Rattle.review_rows.proofs.Readings.{reading_of}
 use Rattle.review_deliveries.proofs.Submits.{OneStanding}
 use Rattle.review_deliveries.proofs.Outcomes.{one_answer_by}
 use Rattle.review_deliveries.proofs.Readable.{HasReading, read_on}
-use Rattle.review_deliveries.specs.Replies.{IsTold, IsRight, AreRight, IsToldOfStored, history_after, with_entries as hist, has_identity, first_arrivals as first, arrivals_after as first_after, taken, with_taken, entry_of, HasEffect}
+use Rattle.review_deliveries.specs.Replies.{IsTold, IsRight, AreRight, IsToldOfStored, history_after, with_entries as hist, has_identity, first_arrivals as first, arrivals_after as first_after, taken, with_taken, HasEffect}
 use Rattle.review_deliveries.specs.Restart.{IsFree, RefusesBadValue, IsSettled, AreSettled, WasTaken, WereTaken, AgreeFor, AgreeOnWrites, RunsAsFrom, RestartIsRun, RestartAfterStop, RestartCompletes, RestartKeepsHistory, RepliesFollowHistory}
 use Rattle.review_deliveries.proofs.Histories.{answer_given, earlier, told_where, where_told, stored_stays, stored_here, stored_there, same_to}
 use Rattle.review_deliveries.proofs.Served.{new_history, same_history, same_command}

@@ -15,7 +15,7 @@ use Rattle.review_words.specs.declared.reply.Reply.{Reply}
 use Rattle.review_words.specs.declared.reply.Reply.TheVariants.{Done, Refused, IdentityReused, NotTaken}
 use Rattle.review_words.specs.declared.reply.NotTaken.{NotTaken as Cause}
 use Rattle.review_words.specs.declared.reply.NotTaken.TheVariants.{Memory, Store, Damaged, Pattern, Full}
-use Rattle.review_words.specs.History.{Entry, Identity, IsFirst, stored}
+use Rattle.review_words.specs.History.{Entry, Identity, IsFirst, stored, entry_of}
 use Rattle.review_rows.specs.declared.shelf.ShelfFault.{ShelfFault}
 use Rattle.review_rows.specs.declared.shelf.ShelfFault.TheVariants as fault
 use Rattle.review_rows.specs.declared.rows.Delta.{Delta}
@@ -32,9 +32,9 @@ use Rattle.review_rows.specs.Files.{File}
 use Rattle.review_rows.specs.Known.{Agrees}
 use Rattle.review_rows.proofs.Readings.{reading_of}
 use Rattle.review_deliveries.specs.Gathered.{IsAllAsked, IsUngathered}
-use Rattle.review_deliveries.specs.Replies.{history_after, with_entries as hist, entry_of, IsRight, IsTold, IsToldOfStored, IsServed, IsToldAgain, IsLawful, reply_of, IsNew, HasEffect, StopGoesOnFrom, StopHasEntry, IsEntered, GoesOn, KeepsUntaken, CountsReply}
+use Rattle.review_deliveries.specs.Replies.{history_after, with_entries as hist, IsRight, IsTold, IsToldOfStored, IsServed, IsToldAgain, IsLawful, reply_of, IsNew, HasEffect, StopGoesOnFrom, StopHasEntry, IsEntered, GoesOn, KeepsUntaken, CountsReply}
 use Rattle.review_deliveries.proofs.Resting.{rests_on}
-use Rattle.review_deliveries.proofs.Histories.{told_where, where_told, recalled, not_recalled, view_grows, answer_given, stored_given, enough_shown, stored_stays, stored_here, same_to, stored_identity}
+use Rattle.review_deliveries.proofs.Histories.{told_where, where_told, latest_follows, recalled, not_recalled, view_grows, answer_given, stored_given, enough_shown, stored_stays, stored_here, same_to}
 
 -- a new identity adds its entry, and an old one nothing
 pub new_history : (h : List Entry) (caller : ℕ) (id : List ℕ) (command : Command) (reply : Reply) → IsDoneOrRefused reply → IsFirst h (record { caller = caller; id = id }) →
@@ -127,7 +127,7 @@ pub effect : (h : List Entry) (tables : Option Tables) (new : Tables) (delta : D
     row ≡ answer_row (entry_of caller id command reply) (length h + 1) → Shows tables (λ was. IsCommitted was delta row new) → HasEffect h (Write caller id command) new
 effect h None new delta row caller id command reply hist v none room d is c = absurd c
 effect h (Some t) new delta row caller id command reply hist v none room d is c =
-    (reply, (none, (λ reading reads. (d reading reads).reply_is), room, hist), view_grows h t new delta row caller id command reply v d c is)
+    (reply, (none, (λ reading reads. (d reading reads).reply_is), room, hist, latest_follows h hist), view_grows h t new delta row caller id command reply v d c is)
 
 -- a first arrival that was committed
 pub first_served : (h : List Entry) (delta : Delta) (row : AnswerRow) (caller : ℕ) (id : List ℕ) (command : Command) (reply : Reply) (old new : Shown) →
@@ -142,7 +142,7 @@ first_served h delta row caller id command reply old new hist v none room d is c
     record {
       right = right_from_told h (Write caller id command) reply old.faults new.faults (inl s)
           (where_told h caller id command reply None none answer) same;
-      history = subst IsHistory (sym grown) (none, answer, room, hist);
+      history = subst IsHistory (sym grown) (none, answer, room, hist, latest_follows h hist);
       view = subst (λ x. Views x new.tables) (sym grown) (shown old.tables new.tables v c);
       stops = stops;
       alone = λ n r. alone;
@@ -249,10 +249,10 @@ told_of h d IdentityReused before after s right = absurd s
 told_of h d (NotTaken c) before after s right = absurd s
 
 -- what is stored under the identity of a command that was told a stored reply is that command, with that reply
-repeat_is : (i : Identity) (e : Entry) (command : Command) (reply : Reply) → IsDoneOrRefused reply → e.identity ≡ i → IsToldOfStored e command reply → e ≡ record { identity = i; command = command; reply = reply }
-repeat_is i e command reply s same told =
+repeat_is : (e : Entry) (command : Command) (reply : Reply) → IsDoneOrRefused reply → IsToldOfStored e command reply → (e.command ≡ command) × (e.reply ≡ reply)
+repeat_is e command reply s told =
     ⊎_elim
-    (λ (c : command ≡ e.command). let r = told.equal c in λ k. record { identity = same k; command = sym c k; reply = sym r k })
+    (λ (c : command ≡ e.command). (sym c, sym (told.equal c)))
     (λ (n : command ≡ e.command → ⊥). absurd (subst IsDoneOrRefused (told.other n) s))
     (same_command command e.command)
 
@@ -264,15 +264,15 @@ entered h (Write caller id command) reply old new s r = at (stored h (record { c
     at : (o : Option Entry) → stored h (record { caller = caller; id = id }) ≡ o → IsEntered (Write caller id command) reply (history_after h (Write caller id command ∷ []) (reply ∷ []))
     at None none =
         subst (IsEntered (Write caller id command) reply) (sym (new_history h caller id command reply r none))
-        (stored_here (entry_of caller id command reply) h (record { caller = caller; id = id }) (same_to (record { caller = caller; id = id }) (record { caller = caller; id = id }) refl))
+        (entry_of caller id command reply, stored_here (entry_of caller id command reply) h (record { caller = caller; id = id }) (same_to (record { caller = caller; id = id }) (record { caller = caller; id = id }) refl), refl, refl)
     at (Some e) some =
         let told = told_where h caller id command reply (Some e) some (told_of h (Write caller id command) reply old.faults new.faults r s.right) in
         subst (IsEntered (Write caller id command) reply) (sym (same_history h caller id command reply e some))
-        (some ∙ ap Some (repeat_is (record { caller = caller; id = id }) e command reply r (stored_identity h (record { caller = caller; id = id }) e some) told))
+        (let same = repeat_is e command reply r told in (e, some, same.0, same.1))
 
 entered_stays : (more h : List Entry) (d : Delivery) (reply : Reply) → IsHistory (more ++ h) → IsEntered d reply h → IsEntered d reply (more ++ h)
 entered_stays more h (Read caller query) reply hist e = tt
-entered_stays more h (Write caller id command) reply hist e = stored_stays more h (record { caller = caller; id = id }) (entry_of caller id command reply) hist e
+entered_stays more h (Write caller id command) reply hist is = (is.0, stored_stays more h (record { caller = caller; id = id }) is.0 hist is.1, is.2, is.3)
 
 pub leaves_entered : (h : List Entry) (d : Delivery) (reply : Reply) (old new : Shown) → IsHistory h → IsServed h d reply old new → StopGoesOnFrom h old → StopHasEntry d reply new
 leaves_entered h d reply old new history s since r t x =

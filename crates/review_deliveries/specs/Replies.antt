@@ -7,7 +7,7 @@ use Rattle.review_words.specs.declared.reply.Reply.{Reply}
 use Rattle.review_words.specs.declared.reply.Reply.TheVariants.{Done, Refused, IdentityReused, NotTaken}
 use Rattle.review_words.specs.declared.reply.NotTaken.{NotTaken as Cause}
 use Rattle.review_words.specs.declared.reply.NotTaken.TheVariants.{Memory, Store, Damaged, Pattern, Full}
-use Rattle.review_words.specs.History.{Entry, Identity, IsFirst, stored, is_same}
+use Rattle.review_words.specs.History.{Entry, Identity, IsFirst, entry_of, stored, is_same, latest}
 use Rattle.review_words.specs.Texts.{content_text, reply_text, IsStored}
 use Rattle.review_rows.specs.Answer.{IsHistory, IsAnswer, most_requests}
 use Rattle.review_rows.specs.Questions.{IsQueryAnswer}
@@ -16,10 +16,6 @@ use Rattle.review_rows.specs.View.{IsView, answer_row}
 use Rattle.review_rows.specs.Changes.{Reading, Reads}
 use Rattle.review_rows.specs.Decisions.{HasPatternIn, ReadsPattern, IsDoneOrRefused, asking_project}
 use Rattle.review_rows.specs.Shelf.{greatest_count, Shown, Shows, Views, LeavesBy, Answers, StopLeavesOwnTables}
-
--- a delivery that was taken, as an entry
-abbrev pub entry_of : ℕ → List ℕ → Command → Reply → Entry
-entry_of caller id command reply = record { identity = record { caller = caller; id = id }; command = command; reply = reply }
 
 -- these entries with that of a write in front, where it was taken
 abbrev pub with_write : Reply → Entry → List Entry → List Entry
@@ -133,9 +129,9 @@ GoesOn h t = (more : List Entry) × IsHistory (more ++ h) × IsView (more ++ h) 
 abbrev pub StopGoesOnFrom : List Entry → Shown → Type 0
 StopGoesOnFrom h s = (t : Tables) → s.stops t → GoesOn h t
 
--- the write is an entry, with this reply
+-- the write is an entry, with this reply, whatever version's rules gave it
 abbrev pub IsEntered : Delivery → Reply → List Entry → Type 0
-IsEntered (Write caller id command) reply h = stored h (record { caller = caller; id = id }) ≡ Some (entry_of caller id command reply)
+IsEntered (Write caller id command) reply h = (e : Entry) × (stored h (record { caller = caller; id = id }) ≡ Some e) × (e.command ≡ command) × (e.reply ≡ reply)
 IsEntered (Read caller query) reply h = Unit {0}
 
 -- once it was answered, a stop leaves only tables of histories that have the write
@@ -207,7 +203,7 @@ KeepsRows _ t u = Unit {0}
 -- the request is stored beside the others under the next number, and a refusal does nothing else
 pub record StoresRequest (i : Identity) (command : Command) (reply : Reply) (t u : Tables) : Type 0 where
   pub new : Answers t i None
-  pub answer_is : (j : Identity) → u.answer j ≡ (if is_same i j then Some (Answered (answer_row (record { identity = i; command = command; reply = reply }) (t.requests + 1))) else t.answer j)
+  pub answer_is : (j : Identity) → u.answer j ≡ (if is_same i j then Some (Answered (answer_row (record { identity = i; version = latest; command = command; reply = reply }) (t.requests + 1))) else t.answer j)
   pub version : u.version ≡ t.version
   pub requests : u.requests ≡ t.requests + 1
   pub rows : KeepsRows reply t u
