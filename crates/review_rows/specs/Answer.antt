@@ -205,12 +205,13 @@ IsAnswerBy reading h caller command reply = MatchOption (refused_by reading h ca
 abbrev pub IsAnswer : List Entry → ℕ → Command → Reply → Type 0
 IsAnswer h caller command reply = (reading : Reading) → Reads reading h → IsAnswerBy reading h caller command reply
 
--- The reply is an answer to a command that was asked so. There is one version so far, and its rules are those above.
+-- The reply is an answer to the command, asked so: by the rules of that version. There is one version so far, and its rules are those above.
 abbrev pub IsAnswerIn : List Entry → Asking → Command → Reply → Type 0
 IsAnswerIn h asking command reply = IsAnswer h asking.caller command reply
 
--- A history: each identity stands once, each reply is an answer after what stood before, there are at most so many requests, and versions
--- never fall. Nothing is asked of the forms of names and numbers in it, so where a history is assumed, more lists are spoken of than the desk can make.
+-- A history: each identity stands once, each reply is an answer after what stood before by the rules of its version, there are at most so many
+-- requests, and versions never fall. Nothing is asked of the forms of names and numbers in it, so where a history is assumed, more lists are spoken of
+-- than the desk can make.
 abbrev pub IsHistory : List Entry → Type 0
 IsHistory [] = Unit {0}
 IsHistory (e ∷ h) =
