@@ -6,7 +6,7 @@ use review_counted::Counted;
 use review_http::{ServeFault, Served};
 use review_machine::{FaultyShelf, MemoryShelf, serve_one};
 use review_names::{AccountNo, RequestId};
-use review_rows::Shelf;
+use review_rows::{Recalled, Shelf};
 use std::alloc::{AllocError, Global};
 
 /// How a request is to be served.
@@ -140,8 +140,8 @@ fn told<S: Shelf>(
 fn kept_word<S: Shelf>(alloc: Global, shelf: &mut S) -> Result<&'static str, Fault> {
     let id = RequestId::read(alloc, "a1")?;
     match shelf.recall(alloc, AccountNo::first(), &id) {
-        Ok(Some(_)) => Ok("kept"),
-        Ok(None) => Ok("not kept"),
+        Ok(Recalled::Kept(_)) => Ok("kept"),
+        Ok(Recalled::Fresh) => Ok("not kept"),
         Err(_) => Ok("a fault"),
     }
 }

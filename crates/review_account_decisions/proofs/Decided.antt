@@ -20,7 +20,7 @@ use Rattle.review_words.specs.declared.reply.Reply.TheVariants.{Done, Refused}
 use Rattle.review_words.specs.declared.reply.Answer.TheVariants as made
 use Rattle.review_words.specs.declared.reply.Refusal.{Refusal}
 use Rattle.review_words.specs.declared.reply.Refusal.TheVariants.{UnknownCaller, NotAdmin, NoProject, NoAccount, CommitKnown, NameTaken, Limit}
-use Rattle.review_words.specs.History.{Entry, account_count, name_of, name_taken, is_account, is_admin, is_listed, listed_members, file_text, is_project, project_count, bases, base_count}
+use Rattle.review_words.specs.History.{Entry, entry_of, account_count, name_of, name_taken, is_account, is_admin, is_listed, listed_members, file_text, is_project, project_count, bases, base_count}
 use Rattle.review_rows.specs.declared.rows.Rows.{Rows}
 use Rattle.review_rows.specs.declared.rows.Delta.{Delta}
 use Rattle.review_rows.specs.declared.rows.PlaceKey.{PlaceKey}
@@ -130,7 +130,7 @@ empty_changes delta e = record { rows = rows; counts = counts }
     counts row (BasesOf project) n = no_base_more delta e.base row project n
 
 refused_same : (reading : Reading) (h : List Entry) (caller : ℕ) (id : List ℕ) (command : Command) (refusal : Refusal) (k : Key) →
-    fact reading (record { identity = record { caller = caller; id = id }; command = command; reply = Refused refusal } ∷ h) k ≡ fact reading h k
+    fact reading (entry_of caller id command (Refused refusal) ∷ h) k ≡ fact reading h k
 refused_same reading h caller id command refusal (AccountKey number) = refl
 refused_same reading h caller id command refusal (MemberKey group account) = refl
 refused_same reading h caller id command refusal (FileKey project) = refl
@@ -139,7 +139,7 @@ refused_same reading h caller id command refusal (PartKey n part) = refl
 refused_same reading h caller id command refusal (OddKey o) = refl
 
 refused_count : (h : List Entry) (caller : ℕ) (id : List ℕ) (command : Command) (refusal : Refusal) (c : Count) →
-    counted (record { identity = record { caller = caller; id = id }; command = command; reply = Refused refusal } ∷ h) c ≡ counted h c
+    counted (entry_of caller id command (Refused refusal) ∷ h) c ≡ counted h c
 refused_count h caller id command refusal Projects = refl
 refused_count h caller id command refusal (BasesOf project) = refl
 
@@ -178,14 +178,14 @@ create_decided {reading = reading} h caller name delta number a b c d n da dm df
   count_is = λ id k. counts k;
 }
   where
-    counts : (k : Count) → counted (record { identity = record { caller = caller; id = [] }; command = CreateAccount name; reply = Done (made.Account number) } ∷ h) k ≡ count_after delta (fact reading h) k (counted h k)
+    counts : (k : Count) → counted (entry_of caller [] (CreateAccount name) (Done (made.Account number)) ∷ h) k ≡ count_after delta (fact reading h) k (counted h k)
     counts Projects = sym (no_project delta df (fact reading h) (project_count h))
     counts (BasesOf project) = sym (no_base_more delta db (fact reading h) project (base_count h project))
 
     here : (m : ℕ) → is_at (nat_cmp number) m ≡ (m == account_count h + 1)
     here m = unsigned_tied number m ∙ (eq_sym number m ∙ ap (λ x. m == x) n)
 
-    rows : (k : Key) → fact reading (record { identity = record { caller = caller; id = [] }; command = CreateAccount name; reply = Done (made.Account number) } ∷ h) k ≡ after delta k (fact reading h k)
+    rows : (k : Key) → fact reading (entry_of caller [] (CreateAccount name) (Done (made.Account number)) ∷ h) k ≡ after delta k (fact reading h k)
     rows (AccountKey m) =
         account_row_after (m == account_count h + 1) name (name_of h m)
         ∙ sym (ap (λ l. after_change (account_change (change_of nat_cmp l m)) (fact reading h (AccountKey m))) da
@@ -207,11 +207,11 @@ put_decided {reading = reading} h caller group members rows delta l a b c d da d
   count_is = λ id k. counts k;
 }
   where
-    counts : (k : Count) → counted (record { identity = record { caller = caller; id = [] }; command = PutGroup group members; reply = Done made.Nothing } ∷ h) k ≡ count_after delta (fact reading h) k (counted h k)
+    counts : (k : Count) → counted (entry_of caller [] (PutGroup group members) (Done made.Nothing) ∷ h) k ≡ count_after delta (fact reading h) k (counted h k)
     counts Projects = sym (no_project delta df (fact reading h) (project_count h))
     counts (BasesOf project) = sym (no_base_more delta db (fact reading h) project (base_count h project))
 
-    each : (k : Key) → fact reading (record { identity = record { caller = caller; id = [] }; command = PutGroup group members; reply = Done made.Nothing } ∷ h) k ≡ after delta k (fact reading h k)
+    each : (k : Key) → fact reading (entry_of caller [] (PutGroup group members) (Done made.Nothing) ∷ h) k ≡ after delta k (fact reading h k)
     each (AccountKey m) = sym (ap (λ l. after_change (account_change (change_of nat_cmp l m)) (fact reading h (AccountKey m))) da)
     each (MemberKey g m) =
         members_after group members (listed_members h g) (members_of (known rows (want.Group group))) g m (held_before h caller group members rows l g m)
@@ -271,13 +271,13 @@ base_decided {reading = reading} h caller project branch commit place delta is a
     free : is_some (fact reading h (BaseKey project branch place)) ≡ false
     free = ap (λ n. is_some (option_map BaseRow (at_place (bases h project branch) n))) is ∙ ap (λ o. is_some (option_map BaseRow o)) (place_is_free (bases h project branch))
 
-    counts : (k : Count) → counted (record { identity = record { caller = caller; id = [] }; command = RecordBase project branch commit; reply = Done made.Nothing } ∷ h) k ≡ count_after delta (fact reading h) k (counted h k)
+    counts : (k : Count) → counted (entry_of caller [] (RecordBase project branch commit) (Done made.Nothing) ∷ h) k ≡ count_after delta (fact reading h) k (counted h k)
     counts Projects = sym (no_project delta df (fact reading h) (project_count h))
     counts (BasesOf p) =
         sym (ap (λ t. cond (bytes_eq project p) (cond t (base_count h p) (base_count h p + 1)) (base_count h p)) free)
         ∙ sym (ap (λ o. count_put (λ (k : PlaceKey). bytes_eq k.project p) o (λ (k : PlaceKey). fact reading h (BaseKey k.project k.branch k.place)) (base_count h p)) db)
 
-    rows : (k : Key) → fact reading (record { identity = record { caller = caller; id = [] }; command = RecordBase project branch commit; reply = Done made.Nothing } ∷ h) k ≡ after delta k (fact reading h k)
+    rows : (k : Key) → fact reading (entry_of caller [] (RecordBase project branch commit) (Done made.Nothing) ∷ h) k ≡ after delta k (fact reading h k)
     rows (AccountKey m) = sym (ap (λ l. after_change (account_change (change_of nat_cmp l m)) (fact reading h (AccountKey m))) da)
     rows (MemberKey g m) = sym (ap (λ l. after_change (member_change (change_of member_cmp l (member_of g m))) (fact reading h (MemberKey g m))) dm)
     rows (FileKey p) = sym (no_file delta df p (fact reading h (FileKey p)))
@@ -299,7 +299,7 @@ file_decided {reading = reading} h caller project text delta is da dm df db dc =
   count_is = λ id k. counts k;
 }
   where
-    counts : (k : Count) → counted (record { identity = record { caller = caller; id = [] }; command = PutProject project text; reply = Done made.Nothing } ∷ h) k ≡ count_after delta (fact reading h) k (counted h k)
+    counts : (k : Count) → counted (entry_of caller [] (PutProject project text) (Done made.Nothing) ∷ h) k ≡ count_after delta (fact reading h) k (counted h k)
     counts Projects = ap (λ b. cond b (project_count h) (project_count h + 1)) (sym (project_is reading h project)) ∙ sym (ap (λ o. count_put (λ p. true) o (λ p. fact reading h (FileKey p)) (project_count h)) df)
     counts (BasesOf p) = sym (no_base_more delta db (fact reading h) p (base_count h p))
 
@@ -307,7 +307,7 @@ file_decided {reading = reading} h caller project text delta is da dm df db dc =
     file_where true o = refl
     file_where false o = refl
 
-    rows : (k : Key) → fact reading (record { identity = record { caller = caller; id = [] }; command = PutProject project text; reply = Done made.Nothing } ∷ h) k ≡ after delta k (fact reading h k)
+    rows : (k : Key) → fact reading (entry_of caller [] (PutProject project text) (Done made.Nothing) ∷ h) k ≡ after delta k (fact reading h k)
     rows (AccountKey m) = sym (ap (λ l. after_change (account_change (change_of nat_cmp l m)) (fact reading h (AccountKey m))) da)
     rows (MemberKey g m) = sym (ap (λ l. after_change (member_change (change_of member_cmp l (member_of g m))) (fact reading h (MemberKey g m))) dm)
     rows (FileKey p) =

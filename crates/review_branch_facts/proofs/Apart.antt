@@ -12,6 +12,7 @@ use Rattle.review_words.specs.declared.reply.Refusal.TheVariants.{UnknownCaller}
 use Rattle.review_words.specs.declared.reply.Reply.{Reply}
 use Rattle.review_words.specs.declared.reply.Reply.TheVariants.{Done, Refused, IdentityReused, NotTaken}
 use Rattle.review_changes.specs.declared.rows.PatchRow.{PatchRow}
+use Rattle.review_rows.proofs.Readings.{IsDoneBy, done_of}
 use Rattle.review_rows.specs.Answer.{IsAnswerBy, IsHistory, checks}
 use Rattle.review_rows.specs.Changes.{Reading, Reads, change, is_known, is_sent}
 use Rattle.review_change_laws.proofs.Sound.{all_pass, done_passes}
@@ -83,7 +84,7 @@ base_done reading h caller project branch x (RecordBase named in_branch commit) 
         inr (refl, (λ i. is_known reading h (sym one i) (sym two i) (sym three i)) ∙ from_not (is_known reading h named in_branch commit) pass.1.1.1.0)
 
 -- of a command with its reply
-base_step : (reading : Reading) (h : List Entry) (caller : ℕ) (project branch x : List ℕ) (command : Command) (reply : Reply) → IsAnswerBy reading h caller command reply →
+base_step : (reading : Reading) (h : List Entry) (caller : ℕ) (project branch x : List ℕ) (command : Command) (reply : Reply) → IsDoneBy reading h caller command reply →
     list_any (λ base. bytes_eq base x) (with_base (if_done reply command) project branch (bases h project branch)) ≡ true → BaseCame reading h (if_done reply command) project branch x
 base_step reading h caller project branch x command (Done a) answer is = base_done reading h caller project branch x command a answer is
 base_step reading h caller project branch x command (Refused r) answer is = inl is
@@ -104,7 +105,7 @@ pub base_not_sent : (reading : Reading) (h : List Entry) (project branch : List 
 base_not_sent reading [] project branch n k p history reads has is = let bad : None ≡ Some has.of = has.is in absurd (cc)
 base_not_sent reading (e ∷ h) project branch n k p history reads has is =
     by (λ was based. base_not_sent reading h project branch n k p history.3 reads.1 was based) (came reading e h project branch n k p history reads has)
-    (base_step reading h e.identity.caller project branch p.commit e.command e.reply (history.1 reading reads.1) is)
+    (base_step reading h e.identity.caller project branch p.commit e.command e.reply (done_of e h history reading reads.1) is)
   where
     by : (HasPatch project branch k p (change reading h n) → is_base h project branch p.commit ≡ true → ⊥) → Came reading h (accepted e) project branch n k p →
         BaseCame reading h (accepted e) project branch p.commit → ⊥

@@ -17,6 +17,7 @@ use Rattle.review_words.specs.declared.reply.Reply.TheVariants.{Done, Refused, I
 use Rattle.review_names.specs.declared.kinds.ChangeKind.TheVariants.{Rework}
 use Rattle.review_changes.specs.Change.{Change, after, begun, current, of_number, patches_by}
 use Rattle.review_changes.specs.declared.rows.PatchRow.{PatchRow}
+use Rattle.review_rows.proofs.Readings.{IsDoneBy, done_of}
 use Rattle.review_rows.specs.Answer.{IsAnswerBy, IsHistory, checks, request_checks}
 use Rattle.review_rows.specs.Changes.{Reading, Reads, change, change_by, change_count, is_for, is_known, setting_of, submitted}
 use Rattle.review_change_laws.proofs.Joining.{joining_keeps}
@@ -122,7 +123,7 @@ done_came reading h caller project branch n k p c (OnChange m command) a answer 
         (ap (λ (y : Change). is_for project branch y) left ∙ for) (ap (λ (y : Change). of_number y.patches k) left ∙ sent)
 
 -- of a command with its reply
-step_came : (reading : Reading) (h : List Entry) (caller : ℕ) (project branch : List ℕ) (n k : ℕ) (p : PatchRow) (c : Change) (command : Command) (reply : Reply) → IsAnswerBy reading h caller command reply →
+step_came : (reading : Reading) (h : List Entry) (caller : ℕ) (project branch : List ℕ) (n k : ℕ) (p : PatchRow) (c : Change) (command : Command) (reply : Reply) → IsDoneBy reading h caller command reply →
     change_by reading h caller (if_done reply command) n (change reading h n) ≡ Some c → is_for project branch c ≡ true → of_number c.patches k ≡ Some p → Came reading h (if_done reply command) project branch n k p
 step_came reading h caller project branch n k p c command (Done a) answer is for sent = done_came reading h caller project branch n k p c command a answer is for sent
 step_came reading h caller project branch n k p c command (Refused r) answer is for sent = inl (record { of = c; is = is; is_for_it = for; sent = sent })
@@ -135,4 +136,4 @@ pub came : (reading : Reading) (e : Entry) (h : List Entry) (project branch : Li
 came reading e h project branch n k p history reads has =
     joining_keeps (λ c. is_for project branch c ≡ true → of_number c.patches k ≡ Some p → Came reading h (accepted e) project branch n k p) (λ place request x holds. holds)
     h (submitted (accepted e) e.reply) n (change_by reading h e.identity.caller (accepted e) n (change reading h n)) has.of
-    (λ x there. step_came reading h e.identity.caller project branch n k p x e.command e.reply (history.1 reading reads.1) there) has.is has.is_for_it has.sent
+    (λ x there. step_came reading h e.identity.caller project branch n k p x e.command e.reply (done_of e h history reading reads.1) there) has.is has.is_for_it has.sent

@@ -11,6 +11,7 @@ use Rattle.review_words.specs.declared.reply.Reply.{Reply}
 use Rattle.review_words.specs.declared.reply.Reply.TheVariants.{Done, Refused, IdentityReused, NotTaken}
 use Rattle.review_words.specs.History.{Entry, if_done, is_account}
 use Rattle.review_changes.specs.Change.{Change}
+use Rattle.review_rows.proofs.Readings.{IsDoneBy, done_of}
 use Rattle.review_rows.specs.Answer.{IsAnswerBy, IsHistory, checks}
 use Rattle.review_rows.specs.Changes.{Reading, Reads, change, change_count, change_counted}
 use Rattle.review_change_laws.proofs.Sound.{all_pass, done_passes}
@@ -29,7 +30,7 @@ made reading h caller (CreateChange new) a answer before =
 made reading h caller (OnChange n command) a answer before = before
 made reading h caller (Submit n) a answer before = before
 
-made_by : (reading : Reading) (h : List Entry) (caller : ℕ) (command : Command) (reply : Reply) → IsAnswerBy reading h caller command reply → change_count h ≤ most_changes →
+made_by : (reading : Reading) (h : List Entry) (caller : ℕ) (command : Command) (reply : Reply) → IsDoneBy reading h caller command reply → change_count h ≤ most_changes →
     change_counted (if_done reply command) (change_count h) ≤ most_changes
 made_by reading h caller command (Done a) answer before = made reading h caller command a answer before
 made_by reading h caller command (Refused r) answer before = before
@@ -39,7 +40,7 @@ made_by reading h caller command (NotTaken cause) answer before = before
 -- a history has at most so many changes
 pub changes_bound : (reading : Reading) (h : List Entry) → Reads reading h → IsHistory h → change_count h ≤ most_changes
 changes_bound reading [] reads history = omega arith
-changes_bound reading (e ∷ h) reads history = made_by reading h e.identity.caller e.command e.reply (history.1 reading reads.1) (changes_bound reading h reads.1 history.3)
+changes_bound reading (e ∷ h) reads history = made_by reading h e.identity.caller e.command e.reply (done_of e h history reading reads.1) (changes_bound reading h reads.1 history.3)
 
 -- the number of a change that is there
 pub change_bound : (reading : Reading) (h : List Entry) (n : ℕ) (c : Change) → Reads reading h → IsHistory h → change reading h n ≡ Some c → (1 ≤ n) × (n ≤ most_changes)

@@ -11,6 +11,7 @@ use Rattle.review_words.specs.declared.reply.Answer.{Answer}
 use Rattle.review_words.specs.declared.reply.Reply.{Reply}
 use Rattle.review_words.specs.declared.reply.Reply.TheVariants.{Done, Refused, IdentityReused, NotTaken}
 use Rattle.review_changes.specs.Change.{Change, after, begun, joined_at}
+use Rattle.review_rows.proofs.Readings.{IsDoneBy, done_of}
 use Rattle.review_rows.specs.Answer.{IsAnswerBy, IsHistory, request_checks}
 use Rattle.review_rows.specs.Changes.{Reading, Reads, change, change_by, change_count, setting_of, submitted}
 use Rattle.review_rows.specs.Submits.{is_merged}
@@ -51,7 +52,7 @@ done_holds P reading s h caller n c (OnChange m command) a answer before is =
     is
 done_holds P reading s h caller n c (Submit m) a answer before is = before c is
 
-step_holds : (P : Change → Type 0) (reading : Reading) → Stays P reading → (h : List Entry) (caller n : ℕ) (c : Change) (command : Command) (reply : Reply) → IsAnswerBy reading h caller command reply →
+step_holds : (P : Change → Type 0) (reading : Reading) → Stays P reading → (h : List Entry) (caller n : ℕ) (c : Change) (command : Command) (reply : Reply) → IsDoneBy reading h caller command reply →
     ((x : Change) → change reading h n ≡ Some x → P x) → change_by reading h caller (if_done reply command) n (change reading h n) ≡ Some c → P c
 step_holds P reading s h caller n c command (Done a) answer before is = done_holds P reading s h caller n c command a answer before is
 step_holds P reading s h caller n c command (Refused r) answer before is = before c is
@@ -63,7 +64,7 @@ pub of_each : (P : Change → Type 0) (reading : Reading) → Stays P reading �
 of_each P reading s [] n c history reads is = absurd (cc)
 of_each P reading s (e ∷ h) n c history reads is =
     joining_keeps P s.joins h (submitted (accepted e) e.reply) n (change_by reading h e.identity.caller (accepted e) n (change reading h n)) c
-    (λ x there. step_holds P reading s h e.identity.caller n x e.command e.reply (history.1 reading reads.1) (λ y was. of_each P reading s h n y history.3 reads.1 was) there) is
+    (λ x there. step_holds P reading s h e.identity.caller n x e.command e.reply (done_of e h history reading reads.1) (λ y was. of_each P reading s h n y history.3 reads.1 was) there) is
 
 -- a change that is not merged is at place 0
 abbrev IsUnplaced : Change → Type 0

@@ -18,7 +18,8 @@ use Rattle.review_words.specs.declared.shown.State.{State}
 use Rattle.review_words.specs.declared.shown.State.TheVariants.{New, Merged, Abandoned}
 use Rattle.review_chain.proofs.Fronts.{chain_distinct}
 use Rattle.review_changes.specs.Change.{Change}
-use Rattle.review_rows.specs.Answer.{IsAnswerBy, IsHistory}
+use Rattle.review_rows.proofs.Readings.{IsDoneBy, done_of}
+use Rattle.review_rows.specs.Answer.{IsHistory}
 use Rattle.review_rows.specs.Changes.{Reading, Reads, change, change_count, is_for, is_made_for, joined, joined_by, joined_in, place_in}
 use Rattle.review_rows.specs.Submits.{branch_after, is_merged}
 use Rattle.review_change_laws.proofs.There.{change_there, is_up_to}
@@ -49,7 +50,7 @@ pub record Gains (reading : Reading) (h : List Entry) (o : Option Command) (proj
   pub for_branch : accepted.of.branch ≡ branch
 
 -- a command joins no changes to a branch, or the chain of an accepted submit
-pub gains : (reading : Reading) (h : List Entry) (caller : ℕ) (command : Command) (reply : Reply) (project branch : List ℕ) → IsAnswerBy reading h caller command reply →
+pub gains : (reading : Reading) (h : List Entry) (caller : ℕ) (command : Command) (reply : Reply) (project branch : List ℕ) → IsDoneBy reading h caller command reply →
     (joined_by h (if_done reply command) reply project branch ≡ []) ⊎ Gains reading h (if_done reply command) project branch (joined_by h (if_done reply command) reply project branch)
 gains reading h caller command (Refused r) project branch answer = inl refl
 gains reading h caller command IdentityReused project branch answer = inl refl
@@ -99,7 +100,7 @@ pub joined_distinct : (reading : Reading) (h : List Entry) (project branch : Lis
 joined_distinct reading [] project branch history reads = none_distinct
 joined_distinct reading (e ∷ h) project branch history reads =
     more_distinct reading h (accepted e) project branch (joined_by h (accepted e) e.reply project branch) history.3 reads.1 (joined_distinct reading h project branch history.3 reads.1)
-    (gains reading h e.identity.caller e.command e.reply project branch (history.1 reading reads.1))
+    (gains reading h e.identity.caller e.command e.reply project branch (done_of e h history reading reads.1))
 
 -- ---- those that are merged
 

@@ -17,6 +17,7 @@ use Rattle.review_words.specs.declared.shown.State.{State}
 use Rattle.review_words.specs.declared.shown.State.TheVariants.{New, Merged, Abandoned}
 use Rattle.review_changes.specs.Change.{Change, after, begun, commit, is_open, of_number, parent, patches_by}
 use Rattle.review_changes.specs.declared.rows.PatchRow.{PatchRow}
+use Rattle.review_rows.proofs.Readings.{IsDoneBy, done_of}
 use Rattle.review_rows.specs.Answer.{IsAnswerBy, IsHistory, request_checks}
 use Rattle.review_rows.specs.Changes.{Reading, Reads, change, change_by, change_count, joining_at, place_in, setting_of, submitted}
 use Rattle.review_change_laws.proofs.Sound.{Passes, checks_pass, done_passes}
@@ -101,7 +102,7 @@ done_patches reading h caller n c (OnChange m command) a answer there merged =
     none_sent reading h caller command c pass merged)
 done_patches reading h caller n c (Submit m) a answer there merged = record { of = c; there = there; patches = refl }
 
-step_patches : (reading : Reading) (h : List Entry) (caller n : ℕ) (c : Change) (command : Command) (reply : Reply) → IsAnswerBy reading h caller command reply → change reading h n ≡ Some c → c.state ≡ Merged →
+step_patches : (reading : Reading) (h : List Entry) (caller n : ℕ) (c : Change) (command : Command) (reply : Reply) → IsDoneBy reading h caller command reply → change reading h n ≡ Some c → c.state ≡ Merged →
     KeepsPatches c (change_by reading h caller (if_done reply command) n (change reading h n))
 step_patches reading h caller n c command (Done a) answer there merged = done_patches reading h caller n c command a answer there merged
 step_patches reading h caller n c command (Refused r) answer there merged = record { of = c; there = there; patches = refl }
@@ -112,7 +113,7 @@ step_patches reading h caller n c command (NotTaken cause) answer there merged =
 pub merged_keeps : (reading : Reading) (e : Entry) (h : List Entry) (n : ℕ) (c : Change) → IsHistory (e ∷ h) → Reads reading h → change reading h n ≡ Some c → c.state ≡ Merged → KeepsPatches c (change reading (e ∷ h) n)
 merged_keeps reading e h n c history reads there merged =
     joining_patches h (place_in (submitted (accepted e) e.reply) n) (change_by reading h e.identity.caller (accepted e) n (change reading h n)) c
-    (step_patches reading h e.identity.caller n c e.command e.reply (history.1 reading reads) there merged)
+    (step_patches reading h e.identity.caller n c e.command e.reply (done_of e h history reading reads) there merged)
 
 -- a submit keeps those of every change
 pub submit_keeps : (reading : Reading) (e : Entry) (h : List Entry) (m n : ℕ) (c : Change) → accepted e ≡ Some (Submit m) → change reading h n ≡ Some c → KeepsPatches c (change reading (e ∷ h) n)

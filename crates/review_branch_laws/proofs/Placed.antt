@@ -21,6 +21,7 @@ use Rattle.review_chain.specs.declared.links.Link.{Link}
 use Rattle.review_chain.specs.Walks.{IsReady}
 use Rattle.review_chain.proofs.Fronts.{chain_ready}
 use Rattle.review_changes.specs.Change.{Change, after, begun, is_open, state_by}
+use Rattle.review_rows.proofs.Readings.{IsDoneBy, done_of}
 use Rattle.review_rows.specs.Answer.{IsAnswerBy, IsHistory, request_checks}
 use Rattle.review_rows.specs.Changes.{Reading, Reads, change, change_by, change_count, is_for, is_made_for, joined, joined_by, joined_in, joining, joining_at, place_in, setting_of, submitted}
 use Rattle.review_rows.specs.Submits.{branch_after, is_merged}
@@ -170,7 +171,7 @@ submit_places reading h m a s project branch n before = by (place_in s.chain n) 
 
 -- ---- one entry more
 
-step : (reading : Reading) (h : List Entry) (caller : ℕ) (command : Command) (reply : Reply) (project branch : List ℕ) (n : ℕ) → IsAnswerBy reading h caller command reply →
+step : (reading : Reading) (h : List Entry) (caller : ℕ) (command : Command) (reply : Reply) (project branch : List ℕ) (n : ℕ) → IsDoneBy reading h caller command reply →
     place_in (joined h project branch) n ≡ place_of project branch (change reading h n) →
     place_in (joined h project branch ++ joined_by h (if_done reply command) reply project branch) n
     ≡ place_of project branch (joining h (submitted (if_done reply command) reply) n (change_by reading h caller (if_done reply command) n (change reading h n)))
@@ -195,4 +196,4 @@ step reading h caller (OnChange m command) (Done a) project branch n answer befo
 pub placed : (reading : Reading) (h : List Entry) (project branch : List ℕ) (n : ℕ) → IsHistory h → Reads reading h → place_in (joined h project branch) n ≡ place_of project branch (change reading h n)
 placed reading [] project branch n history reads = refl
 placed reading (e ∷ h) project branch n history reads =
-    step reading h e.identity.caller e.command e.reply project branch n (history.1 reading reads.1) (placed reading h project branch n history.3 reads.1)
+    step reading h e.identity.caller e.command e.reply project branch n (done_of e h history reading reads.1) (placed reading h project branch n history.3 reads.1)

@@ -6,7 +6,7 @@ use Rattle.std.specs.Ordering.{nat_cmp}
 use Rattle.std.proofs.lemmas.Bool.Decides.{nat_tests}
 use Rattle.review_names.specs.Forms.{most_changes}
 use Rattle.review_table.specs.Rows.{after_change, change_of}
-use Rattle.review_words.specs.History.{Entry, base_count, file_text, is_account, is_branch, is_project, project_count}
+use Rattle.review_words.specs.History.{Entry, entry_of, base_count, file_text, is_account, is_branch, is_project, project_count}
 use Rattle.review_words.specs.declared.changes.NewChange.{NewChange}
 use Rattle.review_words.specs.declared.command.Command.TheVariants.{CreateChange}
 use Rattle.review_words.specs.declared.reply.Answer.TheVariants as made
@@ -108,14 +108,14 @@ create_decided reading h caller new number patch c e delta passes n p made_is of
   count_is = λ id k. counts k;
 }
   where
-    counts : (k : Count) → counted (record { identity = record { caller = caller; id = [] }; command = CreateChange new; reply = Done (made.Change number patch) } ∷ h) k ≡ count_after delta (fact reading h) k (counted h k)
+    counts : (k : Count) → counted (entry_of caller [] (CreateChange new) (Done (made.Change number patch)) ∷ h) k ≡ count_after delta (fact reading h) k (counted h k)
     counts Projects = sym (no_project delta df (fact reading h) (project_count h))
     counts (BasesOf q) = sym (no_base_more delta db (fact reading h) q (base_count h q))
 
     here : (m : ℕ) → (e.change == m) ≡ (change_count h + 1 == m)
     here m = ap (λ x. x == m) (of ∙ n)
 
-    rows : (k : Key) → fact reading (record { identity = record { caller = caller; id = [] }; command = CreateChange new; reply = Done (made.Change number patch) } ∷ h) k ≡ after delta k (fact reading h k)
+    rows : (k : Key) → fact reading (entry_of caller [] (CreateChange new) (Done (made.Change number patch)) ∷ h) k ≡ after delta k (fact reading h k)
     rows (AccountKey m) = sym (ap (λ l. after_change (account_change (change_of nat_cmp l m)) (fact reading h (AccountKey m))) da)
     rows (MemberKey g m) = sym (ap (λ l. after_change (member_change (change_of member_cmp l (record { group = g; account = m }))) (fact reading h (MemberKey g m))) dm)
     rows (FileKey q) = sym (no_file delta df q (fact reading h (FileKey q)))

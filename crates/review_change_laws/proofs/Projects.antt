@@ -10,6 +10,7 @@ use Rattle.review_words.specs.declared.reply.Refusal.TheVariants.{UnknownCaller}
 use Rattle.review_words.specs.declared.reply.Reply.{Reply}
 use Rattle.review_words.specs.declared.reply.Reply.TheVariants.{Done, Refused, IdentityReused, NotTaken}
 use Rattle.review_changes.specs.Change.{Change, after, begun}
+use Rattle.review_rows.proofs.Readings.{IsDoneBy, done_of}
 use Rattle.review_rows.specs.Answer.{IsAnswerBy, IsHistory, checks}
 use Rattle.review_rows.specs.Changes.{Reading, Reads, change, change_by, change_count, setting_of, submitted}
 use Rattle.review_change_laws.proofs.Joining.{joining_keeps}
@@ -52,7 +53,7 @@ project_by reading h caller n c (OnChange m command) a answer before is =
     named (λ p. is_project h p ≡ true) (m == n) (change reading h n) (λ x. after (setting_of reading h x.project) command caller (length h + 1) x) c before (λ x. refl) is
 project_by reading h caller n c (Submit m) a answer before is = before c is
 
-step : (reading : Reading) (h : List Entry) (caller n : ℕ) (c : Change) (command : Command) (reply : Reply) → IsAnswerBy reading h caller command reply →
+step : (reading : Reading) (h : List Entry) (caller n : ℕ) (c : Change) (command : Command) (reply : Reply) → IsDoneBy reading h caller command reply →
     ((x : Change) → change reading h n ≡ Some x → is_project h x.project ≡ true) → change_by reading h caller (if_done reply command) n (change reading h n) ≡ Some c → is_project h c.project ≡ true
 step reading h caller n c command (Done a) answer before is = project_by reading h caller n c command a answer before is
 step reading h caller n c command (Refused r) answer before is = before c is
@@ -65,4 +66,4 @@ has_project reading (e ∷ h) n c history reads is =
     text_stays (accepted e) c.project (file_text h c.project)
     (joining_keeps (λ x. is_project h x.project ≡ true) (λ place request x holds. holds) h (submitted (accepted e) e.reply) n
     (change_by reading h e.identity.caller (accepted e) n (change reading h n)) c
-    (λ x there. step reading h e.identity.caller n x e.command e.reply (history.1 reading reads.1) (λ y was. has_project reading h n y history.3 reads.1 was) there) is)
+    (λ x there. step reading h e.identity.caller n x e.command e.reply (done_of e h history reading reads.1) (λ y was. has_project reading h n y history.3 reads.1 was) there) is)

@@ -18,6 +18,7 @@ use Rattle.review_changes.specs.Change.{Change, Copying, Setting, after, after_c
 use Rattle.review_changes.specs.Sound.{IsSound, answer_stored, fits}
 use Rattle.review_words.specs.declared.command.ChangeCommand.{ChangeCommand}
 use Rattle.review_words.specs.declared.command.ChangeCommand.TheVariants as on
+use Rattle.review_rows.proofs.Readings.{IsDoneBy, done_of}
 use Rattle.review_rows.specs.Answer.{IsAnswerBy, IsHistory, IsOutcome, first_refusal, given_checks, of_change, refused_by, request_checks}
 use Rattle.review_rows.specs.Changes.{Reading, Reads, change, change_by, change_count, setting_of, submitted}
 use Rattle.review_change_laws.proofs.Joining.{joining_keeps}
@@ -120,7 +121,7 @@ joined_sound place request c s = record {
   attending = λ u called. absurd (cc);
 }
 
-step_sound : BeginsSound → StaysSound → (reading : Reading) (h : List Entry) (caller n : ℕ) (c : Change) (command : Command) (reply : Reply) → IsAnswerBy reading h caller command reply →
+step_sound : BeginsSound → StaysSound → (reading : Reading) (h : List Entry) (caller n : ℕ) (c : Change) (command : Command) (reply : Reply) → IsDoneBy reading h caller command reply →
     ((x : Change) → change reading h n ≡ Some x → IsSound x) → change_by reading h caller (if_done reply command) n (change reading h n) ≡ Some c → IsSound c
 step_sound begins stays reading h caller n c command (Done a) answer before is = done_sound begins stays reading h caller n c command a answer before is
 step_sound begins stays reading h caller n c command (Refused r) answer before is = before c is
@@ -131,4 +132,4 @@ pub are_sound : BeginsSound → StaysSound → (reading : Reading) (h : List Ent
 are_sound begins stays reading [] n c history reads is = absurd (cc)
 are_sound begins stays reading (e ∷ h) n c history reads is =
     joining_keeps IsSound joined_sound h (submitted (accepted e) e.reply) n (change_by reading h e.identity.caller (accepted e) n (change reading h n)) c
-    (λ x there. step_sound begins stays reading h e.identity.caller n x e.command e.reply (history.1 reading reads.1) (λ y was. are_sound begins stays reading h n y history.3 reads.1 was) there) is
+    (λ x there. step_sound begins stays reading h e.identity.caller n x e.command e.reply (done_of e h history reading reads.1) (λ y was. are_sound begins stays reading h n y history.3 reads.1 was) there) is

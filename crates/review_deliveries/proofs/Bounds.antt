@@ -29,7 +29,7 @@ use Rattle.review_change_laws.proofs.Sound.{all_pass, done_passes}
 use Rattle.review_rows.specs.Answer.{IsAnswerBy, IsHistory, IsUploadAnswer, checks}
 use Rattle.review_rows.specs.Changes.{Reading, Reads, change, file_of, setting_of}
 use Rattle.review_rows.specs.Files.{IsRead}
-use Rattle.review_rows.proofs.Readings.{read_of}
+use Rattle.review_rows.proofs.Readings.{IsDoneBy, done_of, read_of}
 use Rattle.review_deliveries.proofs.Voted.{have_voters}
 use Rattle.review_deliveries.proofs.Votes.{no_more}
 
@@ -153,7 +153,7 @@ account_made reading h caller (CreateChange new) a answer before = before
 account_made reading h caller (OnChange n command) a answer before = before
 account_made reading h caller (Submit n) a answer before = before
 
-account_by : (reading : Reading) (h : List Entry) (caller : ℕ) (command : Command) (reply : Reply) → IsAnswerBy reading h caller command reply → account_count h ≤ 1000000 →
+account_by : (reading : Reading) (h : List Entry) (caller : ℕ) (command : Command) (reply : Reply) → IsDoneBy reading h caller command reply → account_count h ≤ 1000000 →
     counted (if_done reply command) (account_count h) ≤ 1000000
 account_by reading h caller command (Done a) answer before = account_made reading h caller command a answer before
 account_by reading h caller command (Refused r) answer before = before
@@ -163,7 +163,7 @@ account_by reading h caller command (NotTaken cause) answer before = before
 -- a history has at most so many accounts
 accounts_bound : (reading : Reading) (h : List Entry) → Reads reading h → IsHistory h → account_count h ≤ 1000000
 accounts_bound reading [] reads history = omega arith
-accounts_bound reading (e ∷ h) reads history = account_by reading h e.identity.caller e.command e.reply (history.1 reading reads.1) (accounts_bound reading h reads.1 history.3)
+accounts_bound reading (e ∷ h) reads history = account_by reading h e.identity.caller e.command e.reply (done_of e h history reading reads.1) (accounts_bound reading h reads.1 history.3)
 
 -- the file of a project that has one is read
 project_read : (reading : Reading) (h : List Entry) (project : List ℕ) → Reads reading h → is_project h project ≡ true → (text : List ℕ) × IsRead text (file_of reading h project)

@@ -8,9 +8,9 @@ use Rattle.review_words.specs.declared.command.Delivery.{Delivery}
 use Rattle.review_words.specs.declared.command.Delivery.TheVariants.{Write, Read}
 use Rattle.review_words.specs.declared.reply.Reply.{Reply}
 use Rattle.review_words.specs.declared.reply.Reply.TheVariants.{Done, Refused, IdentityReused, NotTaken}
-use Rattle.review_words.specs.History.{Entry, Identity, stored, is_same}
+use Rattle.review_words.specs.History.{Entry, Identity, stored, is_same, entry_of}
 use Rattle.review_rows.specs.Answer.{IsHistory}
-use Rattle.review_deliveries.specs.Replies.{taken, with_taken, with_write, StopGoesOnFrom, first_arrivals as first, arrivals_after as first_after, has_identity, history_after, with_entries as hist, entry_of, IsRight, AreRight, CountsFollow, IsServed, IsRun, StopsWithin, HasEffect}
+use Rattle.review_deliveries.specs.Replies.{taken, with_taken, with_write, StopGoesOnFrom, first_arrivals as first, arrivals_after as first_after, has_identity, history_after, with_entries as hist, IsRight, AreRight, CountsFollow, IsServed, IsRun, StopsWithin, HasEffect}
 use Rattle.review_rows.specs.Shelf.{Shown, Views}
 use Rattle.review_rows.specs.Rows.{Tables}
 use Rattle.review_deliveries.proofs.Histories.{same_from, stored_here, stored_there}

@@ -1,12 +1,13 @@
 -- Identities in histories, and the tables of a history with one more entry.
 use Rattle.std.proofs.Common.{◌≡◌, ℕ, ◌+◌, ◌≤◌, List, [], ◌∷◌, ◌++◌, length, Option, Some, None, true, false, cond, refl, sym, ap, ◌∙◌, subst, ⊎_elim, inl, inr, arith, eqb-true, eq-eqb, ◌==◌}
-use Rattle.std.specs.Prelude.{MatchOption, option_map}
+use Rattle.std.specs.Prelude.{MatchOption, nat_le, option_map}
 use Rattle.std.specs.Str.{bytes_eq}
 use Rattle.std.proofs.lemmas.Bool.{and_parts, and_from, cases_Bool}
 use Rattle.std.proofs.lemmas.Slice.Eq.{bytes_eq-Decides}
 use Rattle.review_words.specs.Texts.{content_text, reply_text, IsStored}
 use Rattle.review_words.specs.declared.command.Command.{Command}
 use Rattle.review_words.specs.declared.command.Command.TheVariants.{CreateAccount, PutGroup, PutProject, RecordBase, CreateChange, OnChange, Submit}
+use Rattle.review_words.specs.declared.command.Delivery.TheVariants.{Write}
 use Rattle.review_words.specs.declared.command.ChangeCommand.{ChangeCommand}
 use Rattle.review_words.specs.declared.command.ChangeCommand.TheVariants as on
 use Rattle.review_words.specs.declared.changes.NewPatch.{NewPatch}
@@ -14,7 +15,7 @@ use Rattle.review_words.specs.declared.reply.Reply.{Reply}
 use Rattle.review_words.specs.declared.reply.Reply.TheVariants.{Done, Refused, IdentityReused, NotTaken}
 use Rattle.review_words.specs.declared.reply.Answer.TheVariants.{Nothing}
 use Rattle.review_words.specs.declared.reply.Refusal.{Refusal}
-use Rattle.review_words.specs.History.{Entry, Identity, stored, is_same, file_text}
+use Rattle.review_words.specs.History.{Entry, Identity, IsFirst, stored, is_same, file_text, entry_of, latest, may_follow, version_of}
 use Rattle.review_changes.specs.Change.{Change}
 use Rattle.review_rows.specs.declared.rows.Delta.{Delta}
 use Rattle.review_rows.specs.declared.rows.Rows.{Rows}
@@ -33,7 +34,8 @@ use Rattle.review_rows.proofs.Asked.{requests_are}
 use Rattle.review_rows.proofs.Readings.{reading_of}
 use Rattle.review_rows.proofs.Requested.{IsToldDone, sent_or_done}
 use Rattle.review_deliveries.specs.Gathered.{IsAllAsked}
-use Rattle.review_deliveries.proofs.Stored.{answer_stored}
+use Rattle.review_deliveries.specs.Replies.{IsTold, IsToldWhere}
+use Rattle.review_deliveries.proofs.Stored.{entry_stored}
 
 pub same_from : (a b : Identity) → is_same a b ≡ true → a ≡ b
 same_from a b t =
@@ -99,12 +101,27 @@ pub answer_given : (h : List Entry) (caller : ℕ) (command : Command) (reply : 
 answer_given h caller command reply history is =
     let r = reading_of h history in answer_given_by r.0 h caller command reply (is r.0 r.1)
 
+-- what a write is told, by the entry of its identity or by none, and back
+pub told_where : (h : List Entry) (caller : ℕ) (id : List ℕ) (command : Command) (reply : Reply) (o : Option Entry) → stored h (record { caller = caller; id = id }) ≡ o →
+    IsTold h (Write caller id command) reply → IsToldWhere o h caller command reply
+told_where h caller id command reply o is told = subst (λ o. IsToldWhere o h caller command reply) is told
+
+pub where_told : (h : List Entry) (caller : ℕ) (id : List ℕ) (command : Command) (reply : Reply) (o : Option Entry) → stored h (record { caller = caller; id = id }) ≡ o →
+    IsToldWhere o h caller command reply → IsTold h (Write caller id command) reply
+where_told h caller id command reply o is told = subst (λ o. IsToldWhere o h caller command reply) (sym is) told
+
 -- a reply that is stored is done or refused
 pub stored_given : (reply : Reply) → IsStored reply → IsDoneOrRefused reply
 stored_given (Done a) stored = tt
 stored_given (Refused r) stored = tt
 stored_given IdentityReused stored = absurd stored
 stored_given (NotTaken cause) stored = absurd stored
+
+-- the latest version may follow each history
+pub latest_follows : (h : List Entry) → IsHistory h → may_follow h latest ≡ true
+latest_follows [] history = refl
+latest_follows (e ∷ h) history =
+    and_from (nat_le e.version latest) (nat_le latest latest) (and_parts (nat_le (version_of h) e.version) (nat_le e.version latest) history.4).1 refl
 
 pub history_length : (h : List Entry) → IsHistory h → length h ≤ most_requests
 history_length [] hist = omega arith
@@ -123,7 +140,7 @@ recalled (e ∷ h) a i hist there =
       stored_here e h i t,
       sym (ap (λ (r : AnswerRow). r.content) row),
       sym (ap (λ (r : AnswerRow). r.reply) row),
-      answer_stored h e.identity.caller e.command e.reply hist.3 hist.1,
+      entry_stored e h hist,
     ))
     (λ (f : is_same e.identity i ≡ false).
     let r = recalled h a i hist.3 (sym (ap (λ b. cond b (Some (Answered (answer_row e (length h + 1)))) (stored_answer h i)) f) ∙ there) in
@@ -131,7 +148,7 @@ recalled (e ∷ h) a i hist there =
     (cases_Bool (is_same e.identity i))
 
 -- an identity with no stored answer is new
-pub not_recalled : (h : List Entry) (i : Identity) → stored_answer h i ≡ None → stored h i ≡ None
+pub not_recalled : (h : List Entry) (i : Identity) → stored_answer h i ≡ None → IsFirst h i
 not_recalled [] i none = refl
 not_recalled (e ∷ h) i none =
     ⊎_elim
@@ -141,19 +158,6 @@ not_recalled (e ∷ h) i none =
     stored_there e h i f ∙ not_recalled h i (sym (ap (λ b. cond b (Some (Answered (answer_row e (length h + 1)))) (stored_answer h i)) f) ∙ none))
     (cases_Bool (is_same e.identity i))
 
--- what is stored under an identity has it
-pub stored_identity : (h : List Entry) (i : Identity) (e : Entry) → stored h i ≡ Some e → e.identity ≡ i
-stored_identity [] i e some = absurd (cc)
-stored_identity (f ∷ h) i e some =
-    ⊎_elim
-    (λ (t : is_same f.identity i ≡ true).
-    let here = stored_here f h i t in
-    let is : Some f ≡ Some e = sym here ∙ some in
-    let same : f ≡ e = cc in
-    ap (λ (x : Entry). x.identity) (sym same) ∙ same_from f.identity i t)
-    (λ (n : is_same f.identity i ≡ false). stored_identity h i e (sym (stored_there f h i n) ∙ some))
-    (cases_Bool (is_same f.identity i))
-
 -- an entry stays what is stored under its identity
 pub stored_stays : (more h : List Entry) (i : Identity) (e : Entry) → IsHistory (more ++ h) → stored h i ≡ Some e → stored (more ++ h) i ≡ Some e
 stored_stays [] h i e hist some = some
@@ -161,7 +165,7 @@ stored_stays (m ∷ more) h i e hist some =
     let there = stored_stays more h i e hist.3 some in
     ⊎_elim
     (λ (t : is_same m.identity i ≡ true).
-    let none : stored (more ++ h) i ≡ None = subst (λ (j : Identity). stored (more ++ h) j ≡ None) (same_from m.identity i t) hist.0 in
+    let none : IsFirst (more ++ h) i = subst (IsFirst (more ++ h)) (same_from m.identity i t) hist.0 in
     absurd (cc))
     (λ (f : is_same m.identity i ≡ false). stored_there m (more ++ h) i f ∙ there)
     (cases_Bool (is_same m.identity i))
@@ -174,8 +178,8 @@ earlier (e ∷ more) h history = earlier more h history.3
 -- a commit of what was decided gives the tables of the history with the entry
 pub view_grows : (h : List Entry) (t new : Tables) (delta : Delta) (row : AnswerRow) (caller : ℕ) (id : List ℕ) (command : Command) (reply : Reply) →
     IsView h t → ((reading : Reading) → Reads reading h → IsDecided reading h caller command delta reply) → IsCommitted t delta row new →
-    row ≡ answer_row (record { identity = record { caller = caller; id = id }; command = command; reply = reply }) (length h + 1) →
-    IsView (record { identity = record { caller = caller; id = id }; command = command; reply = reply } ∷ h) new
+    row ≡ answer_row (entry_of caller id command reply) (length h + 1) →
+    IsView (entry_of caller id command reply ∷ h) new
 view_grows h t new delta row caller id command reply view decided c is reading reads =
     let v : IsViewBy reading h t = view reading reads.1 in
     let d : IsDecided reading h caller command delta reply = decided reading reads.1 in

@@ -1,10 +1,9 @@
 -- A list of answered entries, however long, has a reading.
 use Rattle.std.proofs.Common.{◌≡◌, ℕ, List, [], ◌∷◌, Option, Some, None, true, false, cond, refl, sym, ap, subst, ⊎_elim}
-use Rattle.std.specs.Prelude.{MatchOption}
 use Rattle.std.specs.Str.{bytes_eq}
 use Rattle.std.proofs.lemmas.Bool.{cases_Bool}
 use Rattle.std.proofs.lemmas.Slice.Eq.{bytes_eq-Decides}
-use Rattle.review_words.specs.History.{Entry, accepted, stored}
+use Rattle.review_words.specs.History.{Entry, accepted, stored, entry_of}
 use Rattle.review_words.specs.declared.command.Command.{Command}
 use Rattle.review_words.specs.declared.command.Command.TheVariants.{CreateAccount, PutGroup, PutProject, RecordBase, CreateChange, OnChange, Submit}
 use Rattle.review_words.specs.declared.command.Delivery.{Delivery}
@@ -16,8 +15,8 @@ use Rattle.review_words.specs.declared.reply.Reply.TheVariants.{Done, Refused, I
 use Rattle.review_rows.specs.Answer.{IsAnswer, IsAnswerBy, IsFaultAnswer, IsFileAnswer, refused_by}
 use Rattle.review_rows.specs.Changes.{Reading, Reads, IsReadRight}
 use Rattle.review_rows.specs.Files.{File, IsRead}
-use Rattle.review_deliveries.specs.Replies.{IsTold, IsToldOfStored, entry_of, history_after}
-use Rattle.review_deliveries.proofs.Histories.{answer_given_by}
+use Rattle.review_deliveries.specs.Replies.{IsTold, history_after}
+use Rattle.review_deliveries.proofs.Histories.{answer_given_by, told_where}
 use Rattle.review_deliveries.proofs.Served.{new_history, same_history}
 use Rattle.review_deliveries.proofs.Voted.{not_fault}
 
@@ -82,7 +81,6 @@ read_on h (Write caller id command) reply reading told = at (stored h (record { 
     at : (o : Option Entry) → stored h (record { caller = caller; id = id }) ≡ o → HasReading (history_after h (Write caller id command ∷ []) (reply ∷ []))
     at (Some e) some = subst HasReading (sym (same_history h caller id command reply e some)) reading
     at None none =
-        let answer : IsAnswer h caller command reply =
-        subst (λ o. MatchOption o (IsAnswer h caller command reply) (λ e. IsToldOfStored e command reply)) none told in
+        let answer : IsAnswer h caller command reply = told_where h caller id command reply None none told in
         let by = answer reading.0 reading.1 in
         subst HasReading (sym (new_history h caller id command reply (answer_given_by reading.0 h caller command reply by) none)) (read_more h caller id command reply reading.0 reading.1 by)

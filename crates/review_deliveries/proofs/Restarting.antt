@@ -10,7 +10,7 @@ use Rattle.review_words.specs.declared.command.Delivery.{Delivery}
 use Rattle.review_words.specs.declared.command.Delivery.TheVariants.{Write, Read}
 use Rattle.review_words.specs.declared.reply.Reply.{Reply}
 use Rattle.review_words.specs.declared.reply.Reply.TheVariants.{Done, Refused, IdentityReused, NotTaken}
-use Rattle.review_words.specs.History.{Entry, Identity, stored, is_same}
+use Rattle.review_words.specs.History.{Entry, Identity, IsFirst, stored, is_same, entry_of}
 use Rattle.review_rows.specs.Answer.{IsHistory, IsAnswer}
 use Rattle.review_rows.specs.Rows.{Tables}
 use Rattle.review_rows.specs.View.{IsView}
@@ -18,9 +18,9 @@ use Rattle.review_rows.proofs.Readings.{reading_of}
 use Rattle.review_deliveries.proofs.Submits.{OneStanding}
 use Rattle.review_deliveries.proofs.Outcomes.{one_answer_by}
 use Rattle.review_deliveries.proofs.Readable.{HasReading, read_on}
-use Rattle.review_deliveries.specs.Replies.{IsTold, IsRight, AreRight, IsToldOfStored, history_after, with_entries as hist, has_identity, first_arrivals as first, arrivals_after as first_after, taken, with_taken, entry_of, HasEffect}
+use Rattle.review_deliveries.specs.Replies.{IsTold, IsRight, AreRight, IsToldOfStored, history_after, with_entries as hist, has_identity, first_arrivals as first, arrivals_after as first_after, taken, with_taken, HasEffect}
 use Rattle.review_deliveries.specs.Restart.{IsFree, RefusesBadValue, IsSettled, AreSettled, WasTaken, WereTaken, AgreeFor, AgreeOnWrites, RunsAsFrom, RestartIsRun, RestartAfterStop, RestartCompletes, RestartKeepsHistory, RepliesFollowHistory}
-use Rattle.review_deliveries.proofs.Histories.{answer_given, earlier, stored_stays, stored_here, stored_there, same_to}
+use Rattle.review_deliveries.proofs.Histories.{answer_given, earlier, told_where, where_told, stored_stays, stored_here, stored_there, same_to}
 use Rattle.review_deliveries.proofs.Served.{new_history, same_history, same_command}
 use Rattle.review_deliveries.proofs.Going.{HasSince, since_old, since_new, or_false, with_taken-append, first-append, history_after-append}
 
@@ -49,10 +49,6 @@ began h ds rs history =
     let more = grown h (first h (taken ds rs)) in
     earlier more.0 h (subst IsHistory more.1 history)
 
-told_at : (h : List Entry) (caller : ℕ) (id : List ℕ) (command : Command) (reply : Reply) (o : Option Entry) → stored h (record { caller = caller; id = id }) ≡ o →
-    IsTold h (Write caller id command) reply → MatchOption o (IsAnswer h caller command reply) (λ e. IsToldOfStored e command reply)
-told_at h caller id command reply o is told = subst (λ o. MatchOption o (IsAnswer h caller command reply) (λ e. IsToldOfStored e command reply)) is told
-
 one_repeat : (e : Entry) (command : Command) (r s : Reply) → IsToldOfStored e command r → IsToldOfStored e command s → r ≡ s
 one_repeat e command r s a b =
     ⊎_elim (λ (c : command ≡ e.command). a.equal c ∙ sym (b.equal c)) (λ (n : command ≡ e.command → ⊥). a.other n ∙ sym (b.other n)) (same_command command e.command)
@@ -71,8 +67,8 @@ one_told standing h (Write caller id command) r s settled reading a b =
     (same, ap (λ x. history_after h (Write caller id command ∷ []) (x ∷ [])) (sym same))
   where
     at : (o : Option Entry) → stored h (record { caller = caller; id = id }) ≡ o → r ≡ s
-    at None is = settled_answer standing h caller command r s settled reading (told_at h caller id command r None is a) (told_at h caller id command s None is b)
-    at (Some e) is = one_repeat e command r s (told_at h caller id command r (Some e) is a) (told_at h caller id command s (Some e) is b)
+    at None is = settled_answer standing h caller command r s settled reading (told_where h caller id command r None is a) (told_where h caller id command s None is b)
+    at (Some e) is = one_repeat e command r s (told_where h caller id command r (Some e) is a) (told_where h caller id command s (Some e) is b)
 
 agrees : (d : Delivery) (r s : Reply) → r ≡ s → AgreeFor d r s
 agrees (Read caller query) r s e = tt
@@ -109,15 +105,15 @@ again g h more (Write caller id command) r s hist is a b = at (stored g i) refl
     at : (o : Option Entry) → stored g (record { caller = caller; id = id }) ≡ o → (r ≡ s) × (history_after h (Write caller id command ∷ []) (s ∷ []) ≡ h)
     at None none =
         let e : Entry = entry_of caller id command r in
-        let answered = told_at g caller id command r None none a in
+        let answered = told_where g caller id command r None none a in
         let past : IsHistory (history_after g (Write caller id command ∷ []) (r ∷ [])) = earlier more (history_after g (Write caller id command ∷ []) (r ∷ [])) (subst IsHistory is hist) in
         let kept : IsDoneOrRefused r = answer_given g caller command r (began g (Write caller id command ∷ []) (r ∷ []) past) answered in
         let some = there e (ap (λ x. stored x (record { caller = caller; id = id })) (new_history g caller id command r kept none)
         ∙ stored_here e g (record { caller = caller; id = id }) (same_to (record { caller = caller; id = id }) (record { caller = caller; id = id }) refl)) in
-        (sym ((told_at h caller id command s (Some e) some b).equal refl), same_history h caller id command s e some)
+        (sym ((told_where h caller id command s (Some e) some b).equal refl), same_history h caller id command s e some)
     at (Some e) old =
         let some = there e (ap (λ x. stored x (record { caller = caller; id = id })) (same_history g caller id command r e old) ∙ old) in
-        (one_repeat e command r s (told_at g caller id command r (Some e) old a) (told_at h caller id command s (Some e) some b), same_history h caller id command s e some)
+        (one_repeat e command r s (told_where g caller id command r (Some e) old a) (told_where h caller id command s (Some e) some b), same_history h caller id command s e some)
 
 restart_told : OneStanding → (h0 h : List Entry) (ds1 ds2 : List Delivery) (rs1 rs2 ss : List Reply) →
     IsHistory h → h ≡ history_after h0 ds1 rs1 → length rs1 ≡ length ds1 → AreSettled ds2 → AreTold h0 (ds1 ++ ds2) (rs1 ++ rs2) → AreTold h (ds1 ++ ds2) ss →
@@ -207,11 +203,11 @@ told_by g h more (Write caller id command) r hist is a = at (stored g (record { 
     at None none =
         let e : Entry = entry_of caller id command r in
         let past : IsHistory (history_after g (Write caller id command ∷ []) (r ∷ [])) = earlier more (history_after g (Write caller id command ∷ []) (r ∷ [])) (subst IsHistory is hist) in
-        let kept : IsDoneOrRefused r = answer_given g caller command r (began g (Write caller id command ∷ []) (r ∷ []) past) (told_at g caller id command r None none a) in
+        let kept : IsDoneOrRefused r = answer_given g caller command r (began g (Write caller id command ∷ []) (r ∷ []) past) (told_where g caller id command r None none a) in
         stays e (ap (λ x. stored x (record { caller = caller; id = id })) (new_history g caller id command r kept none)
         ∙ stored_here e g (record { caller = caller; id = id }) (same_to (record { caller = caller; id = id }) (record { caller = caller; id = id }) refl))
         (record { equal = λ _. refl; other = λ n. absurd (n refl) })
-    at (Some e) old = stays e (ap (λ x. stored x (record { caller = caller; id = id })) (same_history g caller id command r e old) ∙ old) (told_at g caller id command r (Some e) old a)
+    at (Some e) old = stays e (ap (λ x. stored x (record { caller = caller; id = id })) (same_history g caller id command r e old) ∙ old) (told_where g caller id command r (Some e) old a)
 
 all_told_by : (g h : List Entry) (ds : List Delivery) (rs : List Reply) → IsHistory h → h ≡ history_after g ds rs → AreTold g ds rs → AreToldBy h ds rs
 all_told_by g h [] rs hist is a = tt
@@ -384,12 +380,11 @@ effect_told : (g : List Entry) (d : Delivery) (t : Tables) → HasEffect g d t �
 effect_told g (Read caller query) t effect = absurd effect
 effect_told g (Write caller id command) t effect =
     let r = effect.0 in
-    let none : stored g (record { caller = caller; id = id }) ≡ None = effect.1.0 in
+    let none : IsFirst g (record { caller = caller; id = id }) = effect.1.0 in
     let answer : IsAnswer g caller command r = effect.1.1 in
     let kept : IsDoneOrRefused r = answer_given g caller command r effect.1.3 answer in
     let now : history_after g (Write caller id command ∷ []) (r ∷ []) ≡ entry_of caller id command r ∷ g = new_history g caller id command r kept none in
-    let told : IsTold g (Write caller id command) r =
-    subst (λ (o : Option Entry). MatchOption o (IsAnswer g caller command r) (λ e. IsToldOfStored e command r)) (sym none) answer in
+    let told : IsTold g (Write caller id command) r = where_told g caller id command r None none answer in
     let P : List Entry → Type 0 = λ h. IsHistory h × IsView h t in
     let made : P (history_after g (Write caller id command ∷ []) (r ∷ [])) = subst P (sym now) (effect.1, effect.2) in
     (r, answer_taken r kept, told, made.0, made.1)

@@ -1,6 +1,6 @@
 -- What one delivery does.
 use Rattle.std.proofs.Common.{◌≡◌, ℕ, ◌+◌, ◌<◌, List, [], ◌∷◌, ◌++◌, length, Option, Some, None, true, false, cond, ◌||◌, refl, sym, ap, ◌∙◌, subst, inl, inr, ⊎_elim, ◌⊎◌, Result, Ok, Err}
-use Rattle.std.specs.Prelude.{is_some, MatchOption, IfOk, IfErr}
+use Rattle.std.specs.Prelude.{is_some, IfOk, IfErr}
 use Rattle.std.specs.Result.{IsErr, IsErrAnd}
 use Rattle.std.specs.Str.{bytes_eq}
 use Rattle.std.proofs.lemmas.Bool.{cases_Bool}
@@ -15,7 +15,7 @@ use Rattle.review_words.specs.declared.reply.Reply.{Reply}
 use Rattle.review_words.specs.declared.reply.Reply.TheVariants.{Done, Refused, IdentityReused, NotTaken}
 use Rattle.review_words.specs.declared.reply.NotTaken.{NotTaken as Cause}
 use Rattle.review_words.specs.declared.reply.NotTaken.TheVariants.{Memory, Store, Damaged, Pattern, Full}
-use Rattle.review_words.specs.History.{Entry, Identity, stored}
+use Rattle.review_words.specs.History.{Entry, Identity, IsFirst, stored, entry_of}
 use Rattle.review_rows.specs.declared.shelf.ShelfFault.{ShelfFault}
 use Rattle.review_rows.specs.declared.shelf.ShelfFault.TheVariants as fault
 use Rattle.review_rows.specs.declared.rows.Delta.{Delta}
@@ -25,19 +25,19 @@ use Rattle.review_rows.specs.Steps.{OfCommand, OfQuery}
 use Rattle.review_rows.specs.Answer.{IsHistory, IsAnswer, most_requests}
 use Rattle.review_rows.specs.Questions.{IsQueryAnswer, IsQueryAnswerBy}
 use Rattle.review_rows.specs.View.{AreEnough, IsView, IsDecided, answer_row}
-use Rattle.review_rows.specs.Shelf.{IsCommitted, Shown, Shows, Views, LeavesBy, StopLeavesOwnTables, AddsNoStop, IsCounted, Blames, cause_of}
+use Rattle.review_rows.specs.Shelf.{Answers, IsCommitted, Shown, Shows, Views, LeavesBy, StopLeavesOwnTables, AddsNoStop, IsCounted, Blames, cause_of}
 use Rattle.review_rows.specs.Decisions.{IsUndecided, IsUnshown, IsDoneOrRefused, RestsOn}
 use Rattle.review_rows.specs.Changes.{Reading, Reads}
 use Rattle.review_rows.specs.Files.{File}
 use Rattle.review_rows.specs.Known.{Agrees}
 use Rattle.review_rows.proofs.Readings.{reading_of}
 use Rattle.review_deliveries.specs.Gathered.{IsAllAsked, IsUngathered}
-use Rattle.review_deliveries.specs.Replies.{history_after, with_entries as hist, entry_of, IsRight, IsTold, IsToldOfStored, IsServed, IsToldAgain, IsLawful, reply_of, IsNew, HasEffect, StopGoesOnFrom, StopHasEntry, IsEntered, GoesOn, KeepsUntaken, CountsReply}
+use Rattle.review_deliveries.specs.Replies.{history_after, with_entries as hist, IsRight, IsTold, IsToldOfStored, IsServed, IsToldAgain, IsLawful, reply_of, IsNew, HasEffect, StopGoesOnFrom, StopHasEntry, IsEntered, GoesOn, KeepsUntaken, CountsReply}
 use Rattle.review_deliveries.proofs.Resting.{rests_on}
-use Rattle.review_deliveries.proofs.Histories.{recalled, not_recalled, view_grows, answer_given, stored_given, enough_shown, stored_stays, stored_here, same_to, stored_identity}
+use Rattle.review_deliveries.proofs.Histories.{told_where, where_told, latest_follows, recalled, not_recalled, view_grows, answer_given, stored_given, enough_shown, stored_stays, stored_here, same_to}
 
 -- a new identity adds its entry, and an old one nothing
-pub new_history : (h : List Entry) (caller : ℕ) (id : List ℕ) (command : Command) (reply : Reply) → IsDoneOrRefused reply → stored h (record { caller = caller; id = id }) ≡ None →
+pub new_history : (h : List Entry) (caller : ℕ) (id : List ℕ) (command : Command) (reply : Reply) → IsDoneOrRefused reply → IsFirst h (record { caller = caller; id = id }) →
     history_after h (Write caller id command ∷ []) (reply ∷ []) ≡ entry_of caller id command reply ∷ h
 new_history h caller id command (Done a) s none =
     let e : Entry = entry_of caller id command (Done a) in
@@ -123,15 +123,15 @@ fault_served h d f old new hist v stays blame counted stops =
 
 -- what a commit of what was decided leaves has the whole effect
 pub effect : (h : List Entry) (tables : Option Tables) (new : Tables) (delta : Delta) (row : AnswerRow) (caller : ℕ) (id : List ℕ) (command : Command) (reply : Reply) →
-    IsHistory h → Views h tables → stored h (record { caller = caller; id = id }) ≡ None → length h < most_requests → ((reading : Reading) → Reads reading h → IsDecided reading h caller command delta reply) →
+    IsHistory h → Views h tables → IsFirst h (record { caller = caller; id = id }) → length h < most_requests → ((reading : Reading) → Reads reading h → IsDecided reading h caller command delta reply) →
     row ≡ answer_row (entry_of caller id command reply) (length h + 1) → Shows tables (λ was. IsCommitted was delta row new) → HasEffect h (Write caller id command) new
 effect h None new delta row caller id command reply hist v none room d is c = absurd c
 effect h (Some t) new delta row caller id command reply hist v none room d is c =
-    (reply, (none, (λ reading reads. (d reading reads).reply_is), room, hist), view_grows h t new delta row caller id command reply v d c is)
+    (reply, (none, (λ reading reads. (d reading reads).reply_is), room, hist, latest_follows h hist), view_grows h t new delta row caller id command reply v d c is)
 
 -- a first arrival that was committed
 pub first_served : (h : List Entry) (delta : Delta) (row : AnswerRow) (caller : ℕ) (id : List ℕ) (command : Command) (reply : Reply) (old new : Shown) →
-    IsHistory h → Views h old.tables → stored h (record { caller = caller; id = id }) ≡ None → length h < most_requests → ((reading : Reading) → Reads reading h → IsDecided reading h caller command delta reply) →
+    IsHistory h → Views h old.tables → IsFirst h (record { caller = caller; id = id }) → length h < most_requests → ((reading : Reading) → Reads reading h → IsDecided reading h caller command delta reply) →
     row ≡ answer_row (entry_of caller id command reply) (length h + 1) → Shows old.tables (λ t. Shows new.tables (IsCommitted t delta row)) →
     StopLeavesOwnTables new → new.faults ≡ old.faults → ((t : Tables) → new.stops t → old.stops t ⊎ HasEffect h (Write caller id command) t) →
     IsServed h (Write caller id command) reply old new
@@ -141,8 +141,8 @@ first_served h delta row caller id command reply old new hist v none room d is c
     let grown = new_history h caller id command reply s none in
     record {
       right = right_from_told h (Write caller id command) reply old.faults new.faults (inl s)
-          (subst (λ o. MatchOption o (IsAnswer h caller command reply) (λ e. IsToldOfStored e command reply)) (sym none) answer) same;
-      history = subst IsHistory (sym grown) (none, answer, room, hist);
+          (where_told h caller id command reply None none answer) same;
+      history = subst IsHistory (sym grown) (none, answer, room, hist, latest_follows h hist);
       view = subst (λ x. Views x new.tables) (sym grown) (shown old.tables new.tables v c);
       stops = stops;
       alone = λ n r. alone;
@@ -159,17 +159,16 @@ old_served : (h : List Entry) (caller : ℕ) (id : List ℕ) (command : Command)
 old_served h caller id command reply e old new hist v some kind told same adds =
     let stays = same_history h caller id command reply e some in
     record {
-      right = right_from_told h (Write caller id command) reply old.faults new.faults kind
-          (subst (λ o. MatchOption o (IsAnswer h caller command reply) (λ e. IsToldOfStored e command reply)) (sym some) told) same;
+      right = right_from_told h (Write caller id command) reply old.faults new.faults kind (where_told h caller id command reply (Some e) some told) same;
       history = subst IsHistory (sym stays) hist;
       view = subst (λ x. Views x new.tables) (sym stays) v;
       stops = λ t x. inl (adds t x);
-      alone = λ (n : stored h (record { caller = caller; id = id }) ≡ None) s. absurd (cc);
+      alone = λ (n : IsFirst h (record { caller = caller; id = id })) s. absurd (cc);
     }
 
 -- a request whose identity is stored
 pub repeat_served : (h : List Entry) (row : AnswerRow) (caller : ℕ) (id : List ℕ) (command : Command) (result : Result Reply Cause) (old new : Shown) →
-    IsHistory h → Views h old.tables → Shows old.tables (λ t. t.answer (record { caller = caller; id = id }) ≡ Some (Answered row)) → IsToldAgain row (content_text command) result →
+    IsHistory h → Views h old.tables → Shows old.tables (λ t. Answers t (record { caller = caller; id = id }) (Some (Answered row))) → IsToldAgain row (content_text command) result →
     new.tables ≡ old.tables → new.faults ≡ old.faults → AddsNoStop old new → IsServed h (Write caller id command) (reply_of result) old new
 repeat_served h row caller id command result old new hist v there told stays quiet adds =
     let r = found old.tables v there in
@@ -178,7 +177,7 @@ repeat_served h row caller id command result old new hist v there told stays qui
     i : Identity
     i = record { caller = caller; id = id }
 
-    found : (tables : Option Tables) → Views h tables → Shows tables (λ t. t.answer (record { caller = caller; id = id }) ≡ Some (Answered row)) →
+    found : (tables : Option Tables) → Views h tables → Shows tables (λ t. Answers t (record { caller = caller; id = id }) (Some (Answered row))) →
         (e : Entry) × (stored h (record { caller = caller; id = id }) ≡ Some e) × (row.content ≡ content_text e.command) × (row.reply ≡ reply_text e.reply) × IsStored e.reply
     found None v there = absurd there
     found (Some t) v there =
@@ -205,12 +204,12 @@ grows_or_stays : (h : List Entry) (d : Delivery) (reply : Reply) (before after :
 grows_or_stays h (Read caller query) reply before after history right = inr refl
 grows_or_stays h (Write caller id command) reply before after history right = at (stored h (record { caller = caller; id = id })) refl reply right
   where
-    kept : stored h (record { caller = caller; id = id }) ≡ None → (reply : Reply) → IsTold h (Write caller id command) reply → IsDoneOrRefused reply
+    kept : IsFirst h (record { caller = caller; id = id }) → (reply : Reply) → IsTold h (Write caller id command) reply → IsDoneOrRefused reply
     kept none reply told =
-        answer_given h caller command reply history (subst (λ o. MatchOption o (IsAnswer h caller command reply) (λ e. IsToldOfStored e command reply)) none told)
+        answer_given h caller command reply history (told_where h caller id command reply None none told)
 
     at : (o : Option Entry) → stored h (record { caller = caller; id = id }) ≡ o → (reply : Reply) → IsRight h (Write caller id command) reply before after →
-        ((stored h (record { caller = caller; id = id }) ≡ None) × IsDoneOrRefused reply) ⊎ (history_after h (Write caller id command ∷ []) (reply ∷ []) ≡ h)
+        (IsFirst h (record { caller = caller; id = id }) × IsDoneOrRefused reply) ⊎ (history_after h (Write caller id command ∷ []) (reply ∷ []) ≡ h)
     at (Some e) some reply right = inr (same_history h caller id command reply e some)
     at None none (Done a) right = inl (none, kept none (Done a) right.0)
     at None none (Refused r) right = inl (none, kept none (Refused r) right.0)
@@ -250,10 +249,10 @@ told_of h d IdentityReused before after s right = absurd s
 told_of h d (NotTaken c) before after s right = absurd s
 
 -- what is stored under the identity of a command that was told a stored reply is that command, with that reply
-repeat_is : (i : Identity) (e : Entry) (command : Command) (reply : Reply) → IsDoneOrRefused reply → e.identity ≡ i → IsToldOfStored e command reply → e ≡ record { identity = i; command = command; reply = reply }
-repeat_is i e command reply s same told =
+repeat_is : (e : Entry) (command : Command) (reply : Reply) → IsDoneOrRefused reply → IsToldOfStored e command reply → (e.command ≡ command) × (e.reply ≡ reply)
+repeat_is e command reply s told =
     ⊎_elim
-    (λ (c : command ≡ e.command). let r = told.equal c in λ k. record { identity = same k; command = sym c k; reply = sym r k })
+    (λ (c : command ≡ e.command). (sym c, sym (told.equal c)))
     (λ (n : command ≡ e.command → ⊥). absurd (subst IsDoneOrRefused (told.other n) s))
     (same_command command e.command)
 
@@ -265,15 +264,15 @@ entered h (Write caller id command) reply old new s r = at (stored h (record { c
     at : (o : Option Entry) → stored h (record { caller = caller; id = id }) ≡ o → IsEntered (Write caller id command) reply (history_after h (Write caller id command ∷ []) (reply ∷ []))
     at None none =
         subst (IsEntered (Write caller id command) reply) (sym (new_history h caller id command reply r none))
-        (stored_here (entry_of caller id command reply) h (record { caller = caller; id = id }) (same_to (record { caller = caller; id = id }) (record { caller = caller; id = id }) refl))
+        (entry_of caller id command reply, stored_here (entry_of caller id command reply) h (record { caller = caller; id = id }) (same_to (record { caller = caller; id = id }) (record { caller = caller; id = id }) refl), refl, refl)
     at (Some e) some =
-        let told = subst (λ o. MatchOption o (IsAnswer h caller command reply) (λ e. IsToldOfStored e command reply)) some (told_of h (Write caller id command) reply old.faults new.faults r s.right) in
+        let told = told_where h caller id command reply (Some e) some (told_of h (Write caller id command) reply old.faults new.faults r s.right) in
         subst (IsEntered (Write caller id command) reply) (sym (same_history h caller id command reply e some))
-        (some ∙ ap Some (repeat_is (record { caller = caller; id = id }) e command reply r (stored_identity h (record { caller = caller; id = id }) e some) told))
+        (let same = repeat_is e command reply r told in (e, some, same.0, same.1))
 
 entered_stays : (more h : List Entry) (d : Delivery) (reply : Reply) → IsHistory (more ++ h) → IsEntered d reply h → IsEntered d reply (more ++ h)
 entered_stays more h (Read caller query) reply hist e = tt
-entered_stays more h (Write caller id command) reply hist e = stored_stays more h (record { caller = caller; id = id }) (entry_of caller id command reply) hist e
+entered_stays more h (Write caller id command) reply hist is = (is.0, stored_stays more h (record { caller = caller; id = id }) is.0 hist is.1, is.2, is.3)
 
 pub leaves_entered : (h : List Entry) (d : Delivery) (reply : Reply) (old new : Shown) → IsHistory h → IsServed h d reply old new → StopGoesOnFrom h old → StopHasEntry d reply new
 leaves_entered h d reply old new history s since r t x =
@@ -282,7 +281,7 @@ leaves_entered h d reply old new history s since r t x =
 
 -- an identity with no stored row is new
 pub unrecalled : (h : List Entry) (tables : Option Tables) (i : Identity) → IsHistory h → Views h tables →
-    Shows tables (λ t. t.answer i ≡ None) → stored h i ≡ None
+    Shows tables (λ t. Answers t i None) → IsFirst h i
 unrecalled h None i hist v none = absurd none
 unrecalled h (Some t) i hist v none = let r = reading_of h hist in not_recalled h i (sym ((v r.0 r.1).answer_is i) ∙ none)
 
@@ -303,7 +302,7 @@ alone_since h s hist v alone t x = ([], hist, subst (Views h) (alone t x) v)
 -- a command that was not decided
 pub undecided_lawful : (h : List Entry) (caller : ℕ) (id : List ℕ) (command : Command) (file : Option File) (rows : Rows) (cause : Cause) (before after : ℕ) → IsHistory h →
     ((reading : Reading) → Reads reading h → AreEnough reading h caller (OfCommand command) file rows) →
-    stored h (record { caller = caller; id = id }) ≡ None → IsUndecided caller command file rows cause → after ≡ before → IsLawful h (Write caller id command) cause before after
+    IsFirst h (record { caller = caller; id = id }) → IsUndecided caller command file rows cause → after ≡ before → IsLawful h (Write caller id command) cause before after
 undecided_lawful h caller id command file rows Memory before after hist l none u same = same
 undecided_lawful h caller id command file rows Pattern before after hist l none u same = (none, (λ reading reads. inl u), same)
 undecided_lawful h caller id command file rows Damaged before after hist l none u same = let r = reading_of h hist in absurd (u r.0 h hist (l r.0 r.1))
@@ -327,7 +326,7 @@ undecided_counts caller command file rows Full before after u same = absurd u
 
 -- why not all was gathered
 ungathered_lawful : (h : List Entry) (caller : ℕ) (id : List ℕ) (command : Command) (tables : Option Tables) (cause : Cause) (before after : ℕ) → IsHistory h → Views h tables →
-    stored h (record { caller = caller; id = id }) ≡ None → IsUngathered (OfCommand command) tables cause → CountsReply (NotTaken cause) before after → IsLawful h (Write caller id command) cause before after
+    IsFirst h (record { caller = caller; id = id }) → IsUngathered (OfCommand command) tables cause → CountsReply (NotTaken cause) before after → IsLawful h (Write caller id command) cause before after
 ungathered_lawful h caller id command tables Memory before after hist v none u counted = counted
 ungathered_lawful h caller id command tables Store before after hist v none u counted = counted
 ungathered_lawful h caller id command None Damaged before after hist v none u counted = absurd u
@@ -357,7 +356,7 @@ views_left_by h Store old new (inr e) v = subst (Views h) (sym e) tt
 
 -- a command for which not all was gathered
 pub ungathered_served : (h : List Entry) (caller : ℕ) (id : List ℕ) (command : Command) (cause : Cause) (old new : Shown) → IsHistory h → Views h old.tables →
-    stored h (record { caller = caller; id = id }) ≡ None → IsUngathered (OfCommand command) old.tables cause → LeavesBy cause old.tables new.tables →
+    IsFirst h (record { caller = caller; id = id }) → IsUngathered (OfCommand command) old.tables cause → LeavesBy cause old.tables new.tables →
     CountsReply (NotTaken cause) old.faults new.faults → AddsNoStop old new → IsServed h (Write caller id command) (NotTaken cause) old new
 ungathered_served h caller id command cause old new hist v none u left counted adds =
     not_taken_served h (Write caller id command) cause old new hist (views_left_by h cause old.tables new.tables left v)

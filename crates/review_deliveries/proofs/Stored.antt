@@ -247,3 +247,7 @@ answer_stored_by reading h caller command reply history reads is = at (refused_b
 pub answer_stored : (h : List Entry) (caller : ℕ) (command : Command) (reply : Reply) → IsHistory h → IsAnswer h caller command reply → IsStored reply
 answer_stored h caller command reply history is =
     let r = reading_of h history in answer_stored_by r.0 h caller command reply history r.1 (is r.0 r.1)
+
+-- and so is that of an entry, whatever version's rules gave it
+pub entry_stored : (e : Entry) (h : List Entry) → IsHistory (e ∷ h) → IsStored e.reply
+entry_stored e h history = answer_stored h e.identity.caller e.command e.reply history.3 history.1

@@ -5,7 +5,7 @@ use Rattle.review_words.specs.declared.command.Delivery.TheVariants.{Write}
 use Rattle.review_words.specs.declared.reply.Reply.TheVariants.{NotTaken}
 use Rattle.review_words.specs.declared.reply.NotTaken.{NotTaken as Cause}
 use Rattle.review_words.specs.declared.reply.NotTaken.TheVariants.{Memory, Store, Damaged, Pattern, Full}
-use Rattle.review_words.specs.History.{Entry, stored}
+use Rattle.review_words.specs.History.{Entry, IsFirst}
 use Rattle.review_rows.specs.declared.rows.Rows.{Rows}
 use Rattle.review_rows.specs.declared.rows.Want.TheVariants.{Requests}
 use Rattle.review_rows.specs.Answer.{IsHistory, most_requests}
@@ -13,7 +13,7 @@ use Rattle.review_rows.specs.Changes.{Reading, Reads}
 use Rattle.review_rows.specs.Files.{File}
 use Rattle.review_rows.specs.Known.{Agrees, known, number_of}
 use Rattle.review_rows.specs.Rows.{Tables}
-use Rattle.review_rows.specs.Shelf.{Shows}
+use Rattle.review_rows.specs.Shelf.{Answers, Shows}
 use Rattle.review_rows.specs.Steps.{OfCommand, next}
 use Rattle.review_rows.specs.View.{AreEnough}
 use Rattle.review_deliveries.specs.Gathered.{IsUnstored}
@@ -25,7 +25,7 @@ use Rattle.review_deliveries.proofs.Served.{undecided_lawful, undecided_keeps}
 -- it is not taken for a lawful cause
 pub unstored_lawful : (h : List Entry) (caller : ℕ) (id : List ℕ) (command : Command) (file : Option File) (rows : Rows) (cause : Cause) (before after : ℕ) → IsHistory h →
     ((reading : Reading) → Reads reading h → AreEnough reading h caller (OfCommand command) file rows) → number_of (known rows Requests) ≡ length h →
-    stored h (record { caller = caller; id = id }) ≡ None → IsUnstored caller command file rows cause → after ≡ before → IsLawful h (Write caller id command) cause before after
+    IsFirst h (record { caller = caller; id = id }) → IsUnstored caller command file rows cause → after ≡ before → IsLawful h (Write caller id command) cause before after
 unstored_lawful h caller id command file rows Memory before after hist enough many none u same = undecided_lawful h caller id command file rows Memory before after hist enough none u same
 unstored_lawful h caller id command file rows Pattern before after hist enough many none u same = undecided_lawful h caller id command file rows Pattern before after hist enough none u same
 unstored_lawful h caller id command file rows Damaged before after hist enough many none u same = undecided_lawful h caller id command file rows Damaged before after hist enough none u same
@@ -37,7 +37,7 @@ unstored_lawful h caller id command file rows Full before after hist enough many
 
 -- it leaves the tables
 pub unstored_keeps : (caller : ℕ) (id : List ℕ) (command : Command) (file : Option File) (rows : Rows) (cause : Cause) (old new : Option Tables) →
-    Shows old (λ t. t.answer (record { caller = caller; id = id }) ≡ None) → Shows old (λ t. Agrees t rows) → next file rows caller (OfCommand command) ≡ [] →
+    Shows old (λ t. Answers t (record { caller = caller; id = id }) None) → Shows old (λ t. Agrees t rows) → next file rows caller (OfCommand command) ≡ [] →
     IsUnstored caller command file rows cause → new ≡ old → KeepsUntaken (Write caller id command) (NotTaken cause) old new
 unstored_keeps caller id command file rows Memory old new none agree left u same = undecided_keeps caller id command file rows Memory old new u same
 unstored_keeps caller id command file rows Pattern old new none agree left u same = undecided_keeps caller id command file rows Pattern old new u same

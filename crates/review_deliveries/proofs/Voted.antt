@@ -28,6 +28,7 @@ use Rattle.review_changes.specs.Votes.{voted}
 use Rattle.review_words.specs.declared.command.ChangeCommand.TheVariants as on
 use Rattle.review_change_laws.proofs.Joining.{joining_keeps}
 use Rattle.review_change_laws.proofs.Sound.{Passes, all_pass, checks_pass, done_passes}
+use Rattle.review_rows.proofs.Readings.{IsDoneBy, done_of}
 use Rattle.review_rows.specs.Answer.{IsAnswerBy, IsFaultAnswer, IsFileAnswer, IsHistory, checks, first_refusal, given_checks, refused_by, refused_or, request_checks}
 use Rattle.review_rows.specs.Changes.{Reading, Reads, IsReadRight, change, change_by, change_count, file_of, setting_of, submitted}
 use Rattle.review_rows.specs.Files.{File, IsRead, covers}
@@ -260,7 +261,7 @@ voters_done reading h caller n c (OnChange m command) a answer before is =
 voters_done reading h caller n c (Submit m) a answer before is = before c is
 
 -- one entry more
-voters_step : (reading : Reading) (h : List Entry) (e : Entry) (n : ℕ) (c : Change) (reply : Reply) → e.reply ≡ reply → IsReadRight reading (if_done reply e.command) → IsAnswerBy reading h e.identity.caller e.command reply →
+voters_step : (reading : Reading) (h : List Entry) (e : Entry) (n : ℕ) (c : Change) (reply : Reply) → e.reply ≡ reply → IsReadRight reading (if_done reply e.command) → IsDoneBy reading h e.identity.caller e.command reply →
     ((x : Change) → change reading h n ≡ Some x → HasVoters reading h x) → change_by reading h e.identity.caller (if_done reply e.command) n (change reading h n) ≡ Some c → HasVoters reading (e ∷ h) c
 voters_step reading h e n c (Done a) of right answer before is =
     voters_stay reading h (e ∷ h) c (stay_done reading h e e.command a (ap (λ r. if_done r e.command) of) right answer) (voters_done reading h e.identity.caller n c e.command a answer before is)
@@ -274,4 +275,4 @@ have_voters reading [] n c reads history is = absurd (cc)
 have_voters reading (e ∷ h) n c reads history is =
     joining_keeps (HasVoters reading (e ∷ h)) (λ place request x has. record { project = has.project; voters = has.voters; labels = has.labels }) h (submitted (accepted e) e.reply) n
     (change_by reading h e.identity.caller (accepted e) n (change reading h n)) c
-    (λ x there. voters_step reading h e n x e.reply refl reads.0 (history.1 reading reads.1) (λ y was. have_voters reading h n y reads.1 history.3 was) there) is
+    (λ x there. voters_step reading h e n x e.reply refl reads.0 (done_of e h history reading reads.1) (λ y was. have_voters reading h n y reads.1 history.3 was) there) is

@@ -1,5 +1,5 @@
 -- Deliveries that each act once: which are first arrivals, what history they leave, and which replies are right.
-use Rattle.std.specs.Prelude.{ℕ, ◌<◌, ◌≤◌, ◌≡◌, List, [], ◌∷◌, ◌++◌, Option, Some, None, Bool, ◌||◌, is_some, length, take, slice_index_or, Result, Ok, Err, ◌+◌, if◌then◌else◌, ◌⊎◌, MatchOption}
+use Rattle.std.specs.Prelude.{ℕ, ◌<◌, ◌≤◌, ◌≡◌, List, [], ◌∷◌, ◌++◌, Option, Some, None, Bool, ◌||◌, is_some, length, take, slice_index_or, Result, Ok, Err, ◌+◌, if◌then◌else◌, ◌⊎◌}
 use Rattle.review_words.specs.declared.command.Command.{Command}
 use Rattle.review_words.specs.declared.command.Delivery.{Delivery}
 use Rattle.review_words.specs.declared.command.Delivery.TheVariants.{Write, Read}
@@ -7,7 +7,7 @@ use Rattle.review_words.specs.declared.reply.Reply.{Reply}
 use Rattle.review_words.specs.declared.reply.Reply.TheVariants.{Done, Refused, IdentityReused, NotTaken}
 use Rattle.review_words.specs.declared.reply.NotTaken.{NotTaken as Cause}
 use Rattle.review_words.specs.declared.reply.NotTaken.TheVariants.{Memory, Store, Damaged, Pattern, Full}
-use Rattle.review_words.specs.History.{Entry, Identity, stored, is_same}
+use Rattle.review_words.specs.History.{Entry, Identity, IsFirst, entry_of, stored, is_same, latest}
 use Rattle.review_words.specs.Texts.{content_text, reply_text, IsStored}
 use Rattle.review_rows.specs.Answer.{IsHistory, IsAnswer, most_requests}
 use Rattle.review_rows.specs.Questions.{IsQueryAnswer}
@@ -15,11 +15,7 @@ use Rattle.review_rows.specs.Rows.{Key, Count, Tables, AnswerRow, Answered}
 use Rattle.review_rows.specs.View.{IsView, answer_row}
 use Rattle.review_rows.specs.Changes.{Reading, Reads}
 use Rattle.review_rows.specs.Decisions.{HasPatternIn, ReadsPattern, IsDoneOrRefused, asking_project}
-use Rattle.review_rows.specs.Shelf.{greatest_count, Shown, Shows, Views, LeavesBy, StopLeavesOwnTables}
-
--- a delivery that was taken, as an entry
-abbrev pub entry_of : ℕ → List ℕ → Command → Reply → Entry
-entry_of caller id command reply = record { identity = record { caller = caller; id = id }; command = command; reply = reply }
+use Rattle.review_rows.specs.Shelf.{greatest_count, Shown, Shows, Views, LeavesBy, Answers, StopLeavesOwnTables}
 
 -- these entries with that of a write in front, where it was taken
 abbrev pub with_write : Reply → Entry → List Entry → List Entry
@@ -67,8 +63,8 @@ abbrev pub IsLawful : List Entry → Delivery → Cause → ℕ → ℕ → Type
 IsLawful h d Memory before after = after ≡ before
 IsLawful h d Store before after = (before < after) ⊎ ((before ≡ greatest_count) × (after ≡ before))
 IsLawful h d Damaged before after = ⊥
-IsLawful h (Write caller id command) Pattern before after = (stored h (record { caller = caller; id = id }) ≡ None) × ((reading : Reading) → Reads reading h → ReadsPattern reading h command) × (after ≡ before)
-IsLawful h (Write caller id command) Full before after = (stored h (record { caller = caller; id = id }) ≡ None) × (length h ≡ most_requests) × (after ≡ before)
+IsLawful h (Write caller id command) Pattern before after = IsFirst h (record { caller = caller; id = id }) × ((reading : Reading) → Reads reading h → ReadsPattern reading h command) × (after ≡ before)
+IsLawful h (Write caller id command) Full before after = IsFirst h (record { caller = caller; id = id }) × (length h ≡ most_requests) × (after ≡ before)
 IsLawful h (Read caller query) Pattern before after = ((reading : Reading) → Reads reading h → HasPatternIn h (asking_project reading h query)) × (after ≡ before)
 IsLawful h (Read caller query) Full before after = ⊥
 
@@ -77,9 +73,14 @@ pub record IsToldOfStored (e : Entry) (command : Command) (reply : Reply) : Type
   pub equal : command ≡ e.command → reply ≡ e.reply
   pub other : (command ≡ e.command → ⊥) → reply ≡ IdentityReused
 
+-- what a write is told, by the entry that has its identity: where there is none, the answer to its command
+abbrev pub IsToldWhere : Option Entry → List Entry → ℕ → Command → Reply → Type 0
+IsToldWhere None h caller command reply = IsAnswer h caller command reply
+IsToldWhere (Some e) h caller command reply = IsToldOfStored e command reply
+
 -- what a delivery is told after the history
 abbrev pub IsTold : List Entry → Delivery → Reply → Type 0
-IsTold h (Write caller id command) reply = MatchOption (stored h (record { caller = caller; id = id })) (IsAnswer h caller command reply) (λ e. IsToldOfStored e command reply)
+IsTold h (Write caller id command) reply = IsToldWhere (stored h (record { caller = caller; id = id })) h caller command reply
 IsTold h (Read caller query) reply = IsQueryAnswer h caller query reply
 
 -- the right reply after the history
@@ -104,7 +105,7 @@ CountsFollow from (c ∷ cs) to = (c.0 ≡ from) × CountsFollow c.1 cs to
 
 -- a first arrival
 abbrev pub IsNew : List Entry → Delivery → Type 0
-IsNew h (Write caller id command) = stored h (record { caller = caller; id = id }) ≡ None
+IsNew h (Write caller id command) = IsFirst h (record { caller = caller; id = id })
 IsNew h (Read caller query) = ⊥
 
 -- the tables have the whole effect of a first arrival, and its answer
@@ -128,9 +129,9 @@ GoesOn h t = (more : List Entry) × IsHistory (more ++ h) × IsView (more ++ h) 
 abbrev pub StopGoesOnFrom : List Entry → Shown → Type 0
 StopGoesOnFrom h s = (t : Tables) → s.stops t → GoesOn h t
 
--- the write is an entry, with this reply
+-- the write is an entry, with this reply, whatever version's rules gave it
 abbrev pub IsEntered : Delivery → Reply → List Entry → Type 0
-IsEntered (Write caller id command) reply h = stored h (record { caller = caller; id = id }) ≡ Some (entry_of caller id command reply)
+IsEntered (Write caller id command) reply h = (e : Entry) × (stored h (record { caller = caller; id = id }) ≡ Some e) × (e.command ≡ command) × (e.reply ≡ reply)
 IsEntered (Read caller query) reply h = Unit {0}
 
 -- once it was answered, a stop leaves only tables of histories that have the write
@@ -167,7 +168,7 @@ IsToldAgain row content (Err _) = ⊥
 
 -- the identity is stored, with a request of which this is true
 abbrev pub HasStored : Identity → Option Tables → (AnswerRow → Type 0) → Type 0
-HasStored i tables IsSo = Shows tables (λ t. (row : AnswerRow) × (t.answer i ≡ Some (Answered row)) × IsSo row)
+HasStored i tables IsSo = Shows tables (λ t. (row : AnswerRow) × Answers t i (Some (Answered row)) × IsSo row)
 
 -- the stored request has this command and this reply
 abbrev pub HasTexts : Command → Reply → AnswerRow → Type 0
@@ -179,7 +180,7 @@ HasOtherContent command row = row.content ≡ content_text command → ⊥
 
 -- On any tables whatever: a delivery is not taken for a full history only where its identity is new and the last number is given.
 abbrev pub IsFullWhereSaid : Identity → Cause → Option Tables → Type 0
-IsFullWhereSaid i Full tables = Shows tables (λ t. (t.answer i ≡ None) × (most_requests ≤ t.requests))
+IsFullWhereSaid i Full tables = Shows tables (λ t. Answers t i None × (most_requests ≤ t.requests))
 IsFullWhereSaid i _ tables = Unit {0}
 
 -- On any tables whatever: what is not taken leaves them, though a store fault may shut the store; so does a clash, where the identity is stored with another command, and each question.
@@ -201,8 +202,8 @@ KeepsRows _ t u = Unit {0}
 
 -- the request is stored beside the others under the next number, and a refusal does nothing else
 pub record StoresRequest (i : Identity) (command : Command) (reply : Reply) (t u : Tables) : Type 0 where
-  pub new : t.answer i ≡ None
-  pub answer_is : (j : Identity) → u.answer j ≡ (if is_same i j then Some (Answered (answer_row (record { identity = i; command = command; reply = reply }) (t.requests + 1))) else t.answer j)
+  pub new : Answers t i None
+  pub answer_is : (j : Identity) → u.answer j ≡ (if is_same i j then Some (Answered (answer_row (record { identity = i; version = latest; command = command; reply = reply }) (t.requests + 1))) else t.answer j)
   pub version : u.version ≡ t.version
   pub requests : u.requests ≡ t.requests + 1
   pub rows : KeepsRows reply t u

@@ -1,7 +1,7 @@
 //! One delivery.
 ghost use Rattle.std.specs.Prelude.{◌≡◌, ◌≤◌, ◌<◌, ◌+◌, ◌⊎◌, ℕ, List, [], ◌∷◌, None, IfErr, IfOk, OnOk, length, string_bytes, option_copied};
 ghost use Rattle.review_words.specs.Texts.{IsStored, content_text};
-ghost use Rattle.review_words.specs.History.{Entry, stored};
+ghost use Rattle.review_words.specs.History.{Entry, IsFirst};
 ghost use Rattle.review_words.specs.declared.command.Delivery.TheVariants.{Write, Read};
 ghost use Rattle.review_rows.specs.Answer.{IsHistory, most_requests};
 ghost use Rattle.review_rows.specs.Changes.{Reading};
@@ -10,7 +10,7 @@ ghost use Rattle.review_rows.specs.declared.rows.Want.{Want};
 ghost use Rattle.review_rows.specs.declared.rows.Want.TheVariants as want;
 ghost use Rattle.review_rows.specs.Known.{known, number_of};
 ghost use Rattle.review_rows.specs.Rows.{HasNoEffect, Tables, kept_row};
-ghost use Rattle.review_rows.specs.Shelf.{BlamesTables, CountsFaults, IsCommitted, LeavesUndone, Shows, StopLeavesOwnTables, Views};
+ghost use Rattle.review_rows.specs.Shelf.{Answers, BlamesTables, CountsFaults, IsCommitted, LeavesUndone, Shows, StopLeavesOwnTables, Views};
 ghost use Rattle.review_rows.specs.Steps.{OfCommand};
 ghost use Rattle.review_rows.specs.View.{AreEnough, IsDecided};
 ghost use Rattle.review_deliveries.specs.Delivered.{IsDelivered};
@@ -21,7 +21,7 @@ ghost use Rattle.review_deliveries.specs.Replies.{IsServed, IsToldAgain, KeepsUn
 use crate::gathering::gathered;
 use crate::rules::Rules;
 use review_file::ProjectFile;
-use review_rows::{Delta, Kept, Matter, Rows, Shelf, ShelfFault};
+use review_rows::{Delta, Kept, Matter, Recalled, Rows, Shelf, ShelfFault};
 use review_texts::{BadReply, content_text, read_reply, reply_text};
 use review_words::{AccountNo, Command, Delivery, NotTaken, Query, Reply, RequestId};
 use std::alloc::{AllocError, Global};
@@ -106,8 +106,8 @@ fn write<S: Shelf, R: Rules>(
 {
     let content = content_text(alloc, command)?;
     match shelf.recall(alloc, caller, id)? {
-        Some(kept) => repeated(alloc, &kept, content.as_str()),
-        None => {
+        Recalled::Kept(kept) => repeated(alloc, &kept, content.as_str()),
+        Recalled::Fresh => {
             let mut rows = Rows::new(alloc);
             first_arrival(alloc, shelf, rules, &mut rows, caller, id, command, content)
         }
@@ -162,11 +162,11 @@ fn first_arrival<S: Shelf, R: Rules>(
     requires content { string_bytes content ≡ content_text command.now }
     ensures honest { (S.state shelf.new).is_honest → (S.state shelf.old).is_honest }
     ensures served { (S.state shelf.new).is_honest → (h : List Entry) → IsHistory h → Views h (S.state shelf.old).tables →
-        stored h (record { caller = caller; id = id.now }) ≡ None →
+        IsFirst h (record { caller = caller; id = id.now }) →
         IsServed h (Write caller id.now command.now) (reply_of result) (S.state shelf.old) (S.state shelf.new) }
-    ensures unchanged { (S.state shelf.new).is_honest → Shows (S.state shelf.old).tables (λ t. t.answer (record { caller = caller; id = id.now }) ≡ None) →
+    ensures unchanged { (S.state shelf.new).is_honest → Shows (S.state shelf.old).tables (λ t. Answers t (record { caller = caller; id = id.now }) None) →
         KeepsUntaken (Write caller id.now command.now) (reply_of result) (S.state shelf.old).tables (S.state shelf.new).tables }
-    ensures once { (S.state shelf.new).is_honest → Shows (S.state shelf.old).tables (λ t. t.answer (record { caller = caller; id = id.now }) ≡ None) →
+    ensures once { (S.state shelf.new).is_honest → Shows (S.state shelf.old).tables (λ t. Answers t (record { caller = caller; id = id.now }) None) →
         StoresOnce (Write caller id.now command.now) (reply_of result) (S.state shelf.old).tables (S.state shelf.new).tables }
     ensures counted { CountsReply (reply_of result) (S.state shelf.old).faults (S.state shelf.new).faults }
 {

@@ -4,7 +4,7 @@ use Rattle.std.specs.Prelude.{MatchOption}
 use Rattle.std.specs.Str.{bytes_eq}
 use Rattle.std.proofs.lemmas.Bool.{cases_Bool}
 use Rattle.std.proofs.lemmas.Slice.Eq.{bytes_eq-Decides}
-use Rattle.review_words.specs.History.{Entry, accepted, if_done, file_text, text_put}
+use Rattle.review_words.specs.History.{Asking, Entry, asking_of, accepted, if_done, file_text, text_put}
 use Rattle.review_words.specs.declared.command.Command.{Command}
 use Rattle.review_words.specs.declared.command.Command.TheVariants.{CreateAccount, PutGroup, PutProject, RecordBase, CreateChange, OnChange, Submit}
 use Rattle.review_words.specs.declared.reply.Answer.{Answer}
@@ -12,7 +12,7 @@ use Rattle.review_words.specs.declared.reply.Refusal.{Refusal}
 use Rattle.review_words.specs.declared.reply.Refusal.TheVariants.{BadFile}
 use Rattle.review_words.specs.declared.reply.Reply.{Reply}
 use Rattle.review_words.specs.declared.reply.Reply.TheVariants.{Done, Refused, IdentityReused, NotTaken}
-use Rattle.review_rows.specs.Answer.{IsAnswerBy, IsHistory, IsFaultAnswer, IsFileAnswer, refused_by}
+use Rattle.review_rows.specs.Answer.{IsAnswerBy, IsAnswerIn, IsHistory, IsFaultAnswer, IsFileAnswer, refused_by}
 use Rattle.review_rows.specs.Changes.{Reading, Reads, IsReadRight}
 use Rattle.review_rows.specs.Files.{File, IsRead}
 
@@ -56,8 +56,22 @@ put_file reading h caller project text a answer =
     ⊎_elim (λ (fault : IsFaultAnswer text (Done a)). let e : Done a ≡ Refused (BadFile fault.0) = fault.2 in absurd (cc)) (λ (file : IsFileAnswer reading h project text (Done a)). (file.0, file.1))
     (not_refused (refused_by reading h caller (PutProject project text)) a answer)
 
+-- What was done was an answer by the rules of today, whatever version's rules answered it. Nothing is said of a refusal.
+abbrev pub IsDoneBy : Reading → List Entry → ℕ → Command → Reply → Type 0
+IsDoneBy reading h caller command (Done a) = IsAnswerBy reading h caller command (Done a)
+IsDoneBy reading h caller command reply = Unit {0}
+
+done_in : (h : List Entry) (asking : Asking) (command : Command) (reply : Reply) → IsAnswerIn h asking command reply → (reading : Reading) → Reads reading h → IsDoneBy reading h asking.caller command reply
+done_in h asking command (Done a) answer reading reads = answer reading reads
+done_in h asking command (Refused r) answer reading reads = tt
+done_in h asking command IdentityReused answer reading reads = tt
+done_in h asking command (NotTaken cause) answer reading reads = tt
+
+pub done_of : (e : Entry) (h : List Entry) → IsHistory (e ∷ h) → (reading : Reading) → Reads reading h → IsDoneBy reading h e.identity.caller e.command e.reply
+done_of e h history reading reads = done_in h (asking_of e) e.command e.reply history.1 reading reads
+
 -- the reading of one entry more
-reading_of_one : (h : List Entry) (reading : Reading) → Reads reading h → (caller : ℕ) (command : Command) (reply : Reply) → IsAnswerBy reading h caller command reply →
+reading_of_one : (h : List Entry) (reading : Reading) → Reads reading h → (caller : ℕ) (command : Command) (reply : Reply) → IsDoneBy reading h caller command reply →
     (more : Reading) × IsReadRight more (if_done reply command) × Reads more h
 reading_of_one h reading reads caller command (Refused r) answer = (reading, tt, reads)
 reading_of_one h reading reads caller command IdentityReused answer = (reading, tt, reads)
@@ -77,7 +91,7 @@ pub reading_of : (h : List Entry) → IsHistory h → (reading : Reading) × Rea
 reading_of [] history = (λ text. no_file, tt)
 reading_of (e ∷ h) history =
     let before = reading_of h history.3 in
-    let now = reading_of_one h before.0 before.1 e.identity.caller e.command e.reply (history.1 before.0 before.1) in
+    let now = reading_of_one h before.0 before.1 e.identity.caller e.command e.reply (done_of e h history before.0 before.1) in
     (now.0, (now.1, now.2))
 
 -- a text that a command puts, or one from before

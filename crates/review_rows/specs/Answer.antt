@@ -20,7 +20,7 @@ use Rattle.review_words.specs.declared.reply.Answer.TheVariants.{Account, Nothin
 use Rattle.review_words.specs.declared.reply.Refusal.{Refusal}
 use Rattle.review_words.specs.declared.reply.Refusal.TheVariants.{UnknownCaller, NotAdmin, NoProject, NoBranch, NoChange, NoPatchSet, NoAccount, NoComment, NotAllowed, Closed, SameState, WorkInProgress, StalePatchSet, NoLabel, ValueOut, VoteRestricted, CommitKnown, UnknownParent, NotEligible, NameTaken, BadFile, LabelNarrowed, Limit}
 use Rattle.review_words.specs.declared.faults.FileFault.{FileFault}
-use Rattle.review_words.specs.History.{Entry, stored, account_count, name_taken, is_account, is_admin, file_text, is_project, project_count, base_count, is_branch}
+use Rattle.review_words.specs.History.{Asking, Entry, IsFirst, asking_of, may_follow, account_count, name_taken, is_account, is_admin, file_text, is_project, project_count, base_count, is_branch}
 use Rattle.review_names.specs.Forms.{is_within, most_changes, most_patches, most_comments}
 use Rattle.review_names.specs.Names.{registered_users}
 use Rattle.review_project.specs.Rights.{may, granted, least_of, greatest_of}
@@ -205,8 +205,14 @@ IsAnswerBy reading h caller command reply = MatchOption (refused_by reading h ca
 abbrev pub IsAnswer : List Entry → ℕ → Command → Reply → Type 0
 IsAnswer h caller command reply = (reading : Reading) → Reads reading h → IsAnswerBy reading h caller command reply
 
--- A history: each identity stands once, each reply is an answer after what stood before, and there are at most so many requests. Nothing is
--- asked of the forms of names and numbers in it, so where a history is assumed, more lists are spoken of than the desk can make.
+-- The reply is an answer to the command, asked so: by the rules of that version. There is one version so far, and its rules are those above.
+abbrev pub IsAnswerIn : List Entry → Asking → Command → Reply → Type 0
+IsAnswerIn h asking command reply = IsAnswer h asking.caller command reply
+
+-- A history: each identity stands once, each reply is an answer after what stood before by the rules of its version, there are at most so many
+-- requests, and versions never fall. Nothing is asked of the forms of names and numbers in it, so where a history is assumed, more lists are spoken of
+-- than the desk can make.
 abbrev pub IsHistory : List Entry → Type 0
 IsHistory [] = Unit {0}
-IsHistory (e ∷ h) = (stored h e.identity ≡ None) × IsAnswer h e.identity.caller e.command e.reply × (length h < most_requests) × IsHistory h
+IsHistory (e ∷ h) =
+    IsFirst h e.identity × IsAnswerIn h (asking_of e) e.command e.reply × (length h < most_requests) × IsHistory h × (may_follow h e.version ≡ true)

@@ -1,7 +1,7 @@
 -- The tables of a history, and what was decided.
 use Rattle.std.specs.Prelude.{ℕ, ◌+◌, ◌≡◌, List, [], ◌∷◌, Option, Some, None, length, option_map, if◌then◌else◌}
 use Rattle.review_words.specs.Texts.{content_text, reply_text}
-use Rattle.review_words.specs.History.{Entry, Identity, is_same, name_of, is_listed, file_text, project_count, bases, base_count}
+use Rattle.review_words.specs.History.{Entry, Identity, entry_of, is_same, latest, name_of, is_listed, file_text, project_count, bases, base_count}
 use Rattle.review_words.specs.declared.command.Command.{Command}
 use Rattle.review_words.specs.declared.reply.Reply.{Reply}
 use Rattle.review_rows.specs.declared.rows.Delta.{Delta}
@@ -36,9 +36,9 @@ abbrev pub stored_answer : List Entry → Identity → Option Stored
 stored_answer [] i = None
 stored_answer (e ∷ h) i = if is_same e.identity i then Some (Answered (answer_row e (length h + 1))) else stored_answer h i
 
--- the version of the tables
+-- the version of the tables: that of the desk that keeps them
 abbrev pub tables_version : ℕ
-tables_version = 1
+tables_version = latest
 
 -- the tables of a history, by what is read of the texts that were put
 abbrev pub view : Reading → List Entry → Tables
@@ -66,5 +66,5 @@ pub record AreEnough (reading : Reading) (h : List Entry) (caller : ℕ) (topic 
 -- The reply is an answer after the history, and the delta turns its rows and counts into those of the history with the entry.
 pub record IsDecided (reading : Reading) (h : List Entry) (caller : ℕ) (command : Command) (delta : Delta) (reply : Reply) : Type 0 where
   pub reply_is : IsAnswerBy reading h caller command reply
-  pub row_is : (id : List ℕ) (k : Key) → fact reading (record { identity = record { caller = caller; id = id }; command = command; reply = reply } ∷ h) k ≡ after delta k (fact reading h k)
-  pub count_is : (id : List ℕ) (c : Count) → counted (record { identity = record { caller = caller; id = id }; command = command; reply = reply } ∷ h) c ≡ count_after delta (fact reading h) c (counted h c)
+  pub row_is : (id : List ℕ) (k : Key) → fact reading (entry_of caller id command reply ∷ h) k ≡ after delta k (fact reading h k)
+  pub count_is : (id : List ℕ) (c : Count) → counted (entry_of caller id command reply ∷ h) c ≡ count_after delta (fact reading h) c (counted h c)

@@ -14,6 +14,7 @@ pub mod shelf;
 pub use links::RowLinks;
 pub use matter::Matter;
 pub use rows::{
-    Base, BranchKey, ChangeEdit, Counted, Delta, Kept, MemberKey, Need, PlaceKey, Put, Rows, Want,
+    Base, BranchKey, ChangeEdit, Counted, Delta, Kept, MemberKey, Need, PlaceKey, Put, Recalled,
+    Rows, Want,
 };
 pub use shelf::{Shelf, ShelfFault};

@@ -209,3 +209,12 @@ pub struct Kept {
     pub content: String,
     pub reply: String,
 }
+
+/// What is known of the identity of a request.
+#[derive(Debug, Drop)]
+pub enum Recalled {
+    /// The request is stored.
+    Kept(Kept),
+    /// No request is stored under it.
+    Fresh,
+}

@@ -17,7 +17,7 @@ use crate::changes::{Changes, names_given, names_held};
 use crate::keys::{AnswerKey, NameKey, StoredAnswer};
 use review_kept_branches::Branches;
 use review_kept_changes::{KeptChanges, Prepared};
-use review_rows::{Delta, Kept, MemberKey, PlaceKey, Put};
+use review_rows::{Delta, Kept, MemberKey, PlaceKey, Put, Recalled};
 use review_table::{Key, Table};
 use review_words::{
     AccountName, AccountNo, CommitName, FileText, ProjectName, RequestId, admin_name,
@@ -63,24 +63,24 @@ impl MemoryTables {
         })
     }
 
-    /// The stored request of an identity.
+    /// The stored request of an identity, or that none is stored under it.
     pub fn recall(
         &self,
         alloc: Global,
         caller: AccountNo,
         id: &RequestId,
-    ) -> Result<Option<Kept>, AllocError>
-        ensures { IfOk result (λ kept. IsRecalled (tables_of (desk_of self.now)) (record { caller = caller; id = id.now }) kept) }
+    ) -> Result<Recalled, AllocError>
+        ensures { IfOk result (λ recalled. IsRecalled (tables_of (desk_of self.now)) (record { caller = caller; id = id.now }) recalled) }
     {
         let key = AnswerKey {
             caller,
             id: id.copy(alloc)?,
         };
         let Some(stored) = self.answers.get(&key) else {
-            return Ok(None);
+            return Ok(Recalled::Fresh);
         };
         let AnswerKey { caller, id } = key;
-        Ok(Some(Kept {
+        Ok(Recalled::Kept(Kept {
             caller,
             id,
             request: stored.request,

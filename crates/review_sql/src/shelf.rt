@@ -16,7 +16,7 @@ use crate::there::{is_any_there, seen};
 use crate::writing::transact;
 use review_lookups::loading::{Loaded, load};
 use review_records::rows::{Answered, RequestKey};
-use review_rows::{Delta, Kept, Need, Rows, Shelf, ShelfFault};
+use review_rows::{Delta, Kept, Need, Recalled, Rows, Shelf, ShelfFault};
 use review_words::{AccountNo, RequestId};
 use sqlite::{Alter, Connection, Error, ErrorCode};
 use sqlite_schema::schema::Schema;
@@ -257,7 +257,7 @@ impl<S: Alter, O: Origin> Shelf for SqlShelf<S, O> {
         alloc: Global,
         caller: AccountNo,
         id: &RequestId,
-    ) -> Result<Option<Kept>, ShelfFault> {
+    ) -> Result<Recalled, ShelfFault> {
         let key = RequestKey {
             caller,
             id: id.copy(alloc)?,
@@ -268,9 +268,9 @@ impl<S: Alter, O: Origin> Shelf for SqlShelf<S, O> {
             Err(error) => return Err(told(&mut self.conn, &mut self.faults, error)),
         };
         match found {
-            Some(Some(row)) => Ok(Some(kept_of(key, row))),
+            Some(Some(row)) => Ok(Recalled::Kept(kept_of(key, row))),
             Some(None) => Err(ShelfFault::Damaged),
-            None => Ok(None),
+            None => Ok(Recalled::Fresh),
         }
     }
 

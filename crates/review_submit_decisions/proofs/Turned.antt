@@ -4,7 +4,7 @@ use Rattle.std.specs.Prelude.{option_map}
 use Rattle.std.specs.List.{AllByRecursion}
 use Rattle.std.specs.Ordering.{nat_cmp}
 use Rattle.review_table.specs.Rows.{after_change, change_of}
-use Rattle.review_words.specs.History.{Entry, base_count, project_count}
+use Rattle.review_words.specs.History.{Entry, entry_of, base_count, project_count}
 use Rattle.review_words.specs.declared.command.Command.TheVariants.{Submit}
 use Rattle.review_words.specs.declared.reply.Answer.TheVariants.{Submitted}
 use Rattle.review_words.specs.declared.reply.Reply.TheVariants.{Done}
@@ -96,13 +96,9 @@ joining_is reading h rows project branch chain last k all many known = by (place
         ∙ (ap (λ n. Some (joined_at (n + j) (length h + 1) m.of)) count
         ∙ (sym (ap (λ c. joining_at h (Some j) c) there) ∙ sym (ap (λ o. joining_at h o (change reading h k)) some))))
 
--- the entry of a submit of a chain that joins
-abbrev entry_of : ℕ → List ℕ → ℕ → List ℕ → Entry
-entry_of caller id n chain = record { identity = record { caller = caller; id = id }; command = Submit n; reply = Done (Submitted chain) }
-
 rows_turn : (reading : Reading) (h : List Entry) (caller n : ℕ) (rows : Rows) (project branch : List ℕ) (chain : List ℕ) (last : ℕ) (edits : List ChangeEdit) (delta : Delta) →
     AllByRecursion (IsMember rows project branch) chain → last ≡ length (joined h project branch) → AreJoinEdits rows (length h + 1) (places_from (last + 1) chain) edits → EditsChanges edits delta →
-    ((k : ℕ) (x : Change) → change_at rows k ≡ Some x → change reading h k ≡ Some x) → (id : List ℕ) (k : Key) → fact reading (entry_of caller id n chain ∷ h) k ≡ after delta k (fact reading h k)
+    ((k : ℕ) (x : Change) → change_at rows k ≡ Some x → change reading h k ≡ Some x) → (id : List ℕ) (k : Key) → fact reading (entry_of caller id (Submit n) (Done (Submitted chain)) ∷ h) k ≡ after delta k (fact reading h k)
 rows_turn reading h caller n rows project branch chain last edits delta all many are only known id (AccountKey a) =
     sym (ap (λ l. after_change (account_change (change_of nat_cmp l a)) (fact reading h (AccountKey a))) only.accounts)
 rows_turn reading h caller n rows project branch chain last edits delta all many are only known id (MemberKey g a) =
@@ -116,7 +112,7 @@ rows_turn reading h caller n rows project branch chain last edits delta all many
 rows_turn reading h caller n rows project branch chain last edits delta all many are only known id (OddKey o) = refl
 
 counts_turn : (reading : Reading) (h : List Entry) (caller n : ℕ) (chain : List ℕ) (edits : List ChangeEdit) (delta : Delta) → EditsChanges edits delta →
-    (id : List ℕ) (k : Count) → counted (entry_of caller id n chain ∷ h) k ≡ count_after delta (fact reading h) k (counted h k)
+    (id : List ℕ) (k : Count) → counted (entry_of caller id (Submit n) (Done (Submitted chain)) ∷ h) k ≡ count_after delta (fact reading h) k (counted h k)
 counts_turn reading h caller n chain edits delta only id Projects = sym (no_project delta only.file (fact reading h) (project_count h))
 counts_turn reading h caller n chain edits delta only id (BasesOf q) = sym (no_base_more delta only.base (fact reading h) q (base_count h q))
 

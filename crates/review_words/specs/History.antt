@@ -1,5 +1,5 @@
 -- Histories of taken requests, the newest first, and the settings that they leave.
-use Rattle.std.specs.Prelude.{ℕ, ◌+◌, List, [], ◌∷◌, ◌++◌, length, Option, Some, None, Bool, ◌&&◌, ◌||◌, ◌==◌, nat_le, if◌then◌else◌, is_some}
+use Rattle.std.specs.Prelude.{ℕ, ◌+◌, ◌≡◌, List, [], ◌∷◌, ◌++◌, length, Option, Some, None, Bool, ◌&&◌, ◌||◌, ◌==◌, nat_le, if◌then◌else◌, is_some}
 use Rattle.std.specs.Str.{bytes_eq}
 use Rattle.std.specs.List.{list_any}
 use Rattle.review_names.specs.Names.{administrators, admin_name}
@@ -17,11 +17,38 @@ pub record Identity : Type 0 where
 abbrev pub is_same : Identity → Identity → Bool
 is_same a b = (a.caller == b.caller) && bytes_eq a.id b.id
 
--- a request that was taken, with its reply
+-- a request that was taken, with its reply, and the version of the desk whose rules answered it
 pub record Entry : Type 0 where
   pub identity : Identity
+  pub version : ℕ
   pub command : Command
   pub reply : Reply
+
+-- what an answer may depend on, beside the command and what went before: who asked, and the version of the desk whose rules answered
+pub record Asking : Type 0 where
+  pub caller : ℕ
+  pub version : ℕ
+
+-- the asking of an entry
+abbrev pub asking_of : Entry → Asking
+asking_of e = record { caller = e.identity.caller; version = e.version }
+
+-- the latest version of the desk, whose rules answer requests from now on
+abbrev pub latest : ℕ
+latest = 1
+
+-- a request that is taken from now on, as an entry
+abbrev pub entry_of : ℕ → List ℕ → Command → Reply → Entry
+entry_of caller id command reply = record { identity = record { caller = caller; id = id }; version = latest; command = command; reply = reply }
+
+-- the version of the newest entry; the first version where there is none
+abbrev pub version_of : List Entry → ℕ
+version_of [] = 1
+version_of (e ∷ h) = e.version
+
+-- the version of an entry may follow a history: it is not below that of the newest entry, nor beyond the latest
+abbrev pub may_follow : List Entry → ℕ → Bool
+may_follow h version = nat_le (version_of h) version && nat_le version latest
 
 -- the command, where its reply says that it was done
 abbrev pub if_done : Reply → Command → Option Command
@@ -36,6 +63,10 @@ accepted e = if_done e.reply e.command
 abbrev pub stored : List Entry → Identity → Option Entry
 stored [] i = None
 stored (e ∷ h) i = if is_same e.identity i then Some e else stored h i
+
+-- no entry of the history has this identity
+abbrev pub IsFirst : List Entry → Identity → Type 0
+IsFirst h i = stored h i ≡ None
 
 -- one account more, where the command makes one
 abbrev pub counted : Option Command → ℕ → ℕ

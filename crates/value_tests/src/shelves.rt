@@ -1,7 +1,7 @@
 //! Shelves that fail, beside one that doesn't: account 2 becomes ann, then bob, and so gives up the name, which no command does; which account
 //! has which name, and whether the first request is stored.
 
-use review_rows::{Delta, Kept, Need, Shelf, ShelfFault, Want};
+use review_rows::{Delta, Kept, Need, Recalled, Shelf, ShelfFault, Want};
 use review_shelves::{FaultyShelf, MemoryShelf, ShuttingShelf};
 use review_table::Change;
 use review_words::{AccountName, AccountNo, Name, RequestId};
@@ -109,8 +109,8 @@ fn account_of<S: Shelf>(alloc: Global, shelf: &mut S, name: &str) -> Result<&'st
 fn recall<S: Shelf>(alloc: Global, shelf: &mut S, id: &str) -> Result<&'static str, Fail> {
     let id = request_id(alloc, id)?;
     match shelf.recall(alloc, AccountNo::first(), &id) {
-        Ok(Some(_)) => Ok("recalled"),
-        Ok(None) => Ok("unknown"),
+        Ok(Recalled::Kept(_)) => Ok("recalled"),
+        Ok(Recalled::Fresh) => Ok("unknown"),
         Err(fault) => Ok(fault_word(fault)),
     }
 }

@@ -11,12 +11,12 @@ use Rattle.review_rows.specs.Changes.{Reading, Reads}
 use Rattle.review_rows.specs.Steps.{OfCommand}
 use Rattle.review_rows.specs.Shelf.{IsCommitted, IsCounted, Shows, cause_of}
 use Rattle.review_words.specs.declared.reply.Reply.TheVariants.{NotTaken}
-use Rattle.review_deliveries.specs.Replies.{entry_of, IsServed, KeepsUntaken, CountsReply}
+use Rattle.review_deliveries.specs.Replies.{IsServed, KeepsUntaken, CountsReply}
 use Rattle.review_deliveries.proofs.Histories.{enough_shown, requests_told}
 use Rattle.review_deliveries.proofs.Resting.{rests_on}
 use Rattle.review_deliveries.proofs.Unstored.{unstored_lawful, unstored_keeps, unstored_counts}
 use Rattle.review_deliveries.proofs.Served.{first_served, not_taken_served, fault_served, ungathered_served, ungathered_keeps, after_read, views_stay, effect, err_reply}
-use Rattle.review_words.specs.History.{Identity}
+use Rattle.review_words.specs.History.{Identity, entry_of}
 use Rattle.review_deliveries.proofs.Effects.{stores_once, stored_shown, decided_keeps, fault_keeps, fault_counts, stored_counts}
 use Rattle.review_deliveries.proofs.Asking.{left_before}
 use Rattle.review_deliveries.proofs.deliveries.first_arrival.Goals as goal
