@@ -7,7 +7,7 @@ ghost use Rattle.review_project.specs.Rights.{greatest_value, least_value};
 
 use review_expr::Expr;
 use review_project::Grant;
-use review_words::{GroupName, LabelName};
+use review_words::{GroupName, LabelName, ProjectName};
 use std::alloc::{AllocError, Global};
 use std::marker::Model;
 use std::rc::Rc;
@@ -312,6 +312,7 @@ impl Requirement {
 /// What a project file has, labels and requirements by name.
 #[derive(Drop)]
 pub(crate) struct Content {
+    pub(crate) parent: Option<ProjectName>,
     pub(crate) description: Option<String>,
     pub(crate) access: Access,
     pub(crate) labels: Vec<Label>,
@@ -330,6 +331,7 @@ impl Model for Content {
     ghost coded = { Prim.hlevel (codes, expr.the_row.coded) };
 
     ghost view = { λ f. record {
+      parent = f.parent;
       description = option_map string_bytes f.description;
       access = f.access;
       labels = f.labels.items;
@@ -394,6 +396,33 @@ impl ProjectFile {
         ensures groups { HasGroupsInOrder self.now }
     {
         let _ = &self.content;
+    }
+
+    /// A copy of the description. An error where there was no memory for it.
+    pub(crate) fn copied_description(&self, alloc: Global) -> Result<Option<String>, AllocError>
+        ensures { IfOk result (λ d. option_map string_bytes d ≡ self.now.description) }
+    {
+        match self.description() {
+            Some(text) => Ok(Some(String::from_str(alloc, text)?)),
+            None => Ok(None),
+        }
+    }
+
+    /// A copy of the parent. An error where there was no memory for it.
+    pub(crate) fn copied_parent(&self, alloc: Global) -> Result<Option<ProjectName>, AllocError>
+        ensures { IfOk result (λ p. p ≡ self.now.parent) }
+    {
+        match self.parent() {
+            Some(name) => Ok(Some(name.copy(alloc)?)),
+            None => Ok(None),
+        }
+    }
+
+    /// The parent that the file names: a project whose file it goes on from.
+    pub fn parent(&self) -> Option<&ProjectName>
+        ensures { option_copied result ≡ self.now.parent }
+    {
+        self.content().parent.as_ref()
     }
 
     /// The description, at most 1,024 bytes.

@@ -5,21 +5,21 @@ ghost use Rattle.toml.specs.Data.{table};
 ghost use Rattle.review_project.specs.Expressions.{IsFile, IsStoppedBy, has_unknown_label};
 ghost use Rattle.review_project.specs.Patterns.{HasPattern};
 ghost use Rattle.review_project.specs.Reading.{IsFaultless, IsRead, IsReadFault, IsDocumentFault, first_fault};
-ghost use Rattle.review_project.specs.Spelled.{spelled};
+ghost use Rattle.review_project.specs.Spelled.{parent_in, spelled};
 
 use crate::access::read_access;
 use crate::file::{Content, ProjectFile};
 use crate::labels::labels_in;
 use crate::requirements::requirements_in;
 use crate::unknown::has_unknown_label;
-use review_document::document::copied_text;
+use review_document::document::{copied_text, text_at};
 use review_document::keys::{has_unknown_key, lacks_key};
 use review_document::limits::{MOST_BYTES, is_past_limits};
-use review_document::names::has_bad_name;
+use review_document::names::{has_bad_name, project_name};
 use review_document::values::{has_bad_values, has_value_twice};
 use review_expr::ParseFault;
 use review_project::ReadFault;
-use review_words::FileFault;
+use review_words::{FileFault, ProjectName};
 use std::alloc::{AllocError, Global};
 use toml::Value;
 
@@ -45,16 +45,28 @@ fn first_fault(alloc: Global, file: &Value) -> Result<Option<FileFault>, AllocEr
     Ok(None)
 }
 
+/// The parent that a document names.
+fn parent_in(alloc: Global, file: &Value) -> Result<Option<ProjectName>, AllocError>
+    ensures { IfOk result (λ parent. parent ≡ parent_in (view file.now)) }
+{
+    match text_at(file, "parent") {
+        Some(text) => project_name(alloc, text),
+        None => Ok(None),
+    }
+}
+
 /// What a document without first faults spells.
 fn content_in(alloc: Global, file: &Value) -> Result<Content, ParseFault>
     ensures read { IfOk result (IsFile (spelled (view file.now))) }
     ensures fault { IfErr result (λ f. f ≢ ParseFault.Memory → IsStoppedBy (spelled (view file.now)) f) }
 {
+    let parent = parent_in(alloc, file)?;
     let description = copied_text(alloc, file, "description")?;
     let access = read_access(alloc, file)?;
     let labels = labels_in(alloc, file)?;
     let requirements = requirements_in(alloc, file)?;
     Ok(Content {
+        parent,
         description,
         access,
         labels,

@@ -72,10 +72,13 @@ pub(crate) fn some_requires_other(
     Ok(false)
 }
 
-/// Whether a requirement names a label that the file hasn't. An error where there was no memory to
+/// Whether a file without a parent has a requirement that names a label which the file hasn't. An error where there was no memory to
 /// find out.
 pub(crate) fn has_unknown_label(alloc: Global, file: &Content) -> Result<bool, AllocError>
     ensures { IfOk result (λ b. b ≡ has_unknown_label file.now) }
 {
+    if file.parent.is_some() {
+        return Ok(false);
+    }
     some_requires_other(alloc, &file.labels, &file.requirements)
 }

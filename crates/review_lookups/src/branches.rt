@@ -17,8 +17,8 @@ ghost use Rattle.review_lookups.specs.Loads.{HasLearnt, IfTold, Sees, IsOrdered}
 ghost use Rattle.review_lookups.specs.Tables.{tables_at};
 
 use crate::learning::{
-    learn_base, learn_bases, learn_file, learn_last_place, learn_project, learn_room_for_bases,
-    last, learnt, whole,
+    last, learn_base, learn_bases, learn_file, learn_last_place, learn_project,
+    learn_room_for_bases, learnt, whole,
 };
 use crate::loading::Sight;
 use review_records::bases::{self, BaseCommits, Bases, BranchBases, LastPlace};

@@ -17,7 +17,7 @@ use Rattle.review_rows.specs.Changes.{Reading, Reads, IsReadRight}
 use Rattle.review_rows.specs.Files.{File, IsRead}
 
 no_file : File
-no_file = record { description = None; access = record { create = []; upload = []; submit = []; abandon = [] }; labels = []; requirements = [] }
+no_file = record { parent = None; description = None; access = record { create = []; upload = []; submit = []; abandon = [] }; labels = []; requirements = [] }
 
 -- what is read, with the file of one text more
 abbrev reading_with : Reading → List ℕ → File → Reading
