@@ -67,6 +67,15 @@ projects = record { tree = table.projects.tree; keyed = project_keyed; at = λ p
 abbrev pub project_form : Form (List ℕ) (List ℕ)
 project_form = with_rowid (λ project file. Text project ∷ Text file ∷ []) (λ project. Rattle.std.specs.Prelude.true) (λ file. is_utf8 file)
 
+-- the file of a project that has no parent
+abbrev pub orphan : Option (List ℕ) → Option (List ℕ) → Option (List ℕ)
+orphan (Some file) (Some []) = Some file
+orphan _ _ = None
+
+-- the file of a project of version 2 that has no parent
+abbrev pub projects_2 : Search (List ℕ) (List ℕ)
+projects_2 = record { tree = table.projects_2.tree; keyed = project_keyed; at = λ project. (1, Text project) ∷ []; columns = 2 ∷ 3 ∷ []; read = λ r. orphan (text_in (column r 0)) (text_in (column r 1)) }
+
 -- whether a project is there, without its file
 abbrev pub project_names : Search (List ℕ) (Unit {0})
 project_names = record { tree = table.projects.tree; keyed = project_keyed; at = λ project. (1, Text project) ∷ []; columns = 1 ∷ []; read = λ r. Some tt }

@@ -1,9 +1,11 @@
 -- The laws of the tables.
-use Rattle.std.proofs.Common.{◌≡◌, ◌&&◌, is_some, nat_le, ℕ, pos, negsuc, List, Option, Some, None, Bool, true, refl, ap, sym, subst, inl, inr}
+use Rattle.std.proofs.Common.{◌≡◌, ◌&&◌, nat_le, ℕ, pos, negsuc, List, [], Option, Some, None, Bool, true, refl, ap, sym, subst, inl, inr}
 use Rattle.std.specs.Ordering.{nat_cmp, is_eq}
 use Rattle.std.proofs.lemmas.Cmp.{nat_cmp_total, tied_itself}
 use Rattle.std.proofs.lemmas.Map.Lookups.{exact_unsigned}
 use Rattle.std.specs.Str.{is_utf8}
+use Rattle.std.proofs.lemmas.Str.{IsUtf8-from_ascii, is_utf8-from_IsUtf8}
+use Rattle.std.proofs.lemmas.Str.Ascii.{IsAscii-nil}
 use Rattle.std.proofs.lemmas.Option.{same_Some}
 use Rattle.std.proofs.lemmas.Bool.{and_parts, and_from, cases_Bool}
 use Rattle.sqlite_value.specs.declared.value.Value.TheVariants.{Null, Int, Real, Text, Blob}
@@ -53,6 +55,10 @@ member_lawful = record {
       let one = and_parts _ _ has in
       and_from _ _ (keyed_text (column r 1) a.group one.0) (keyed_number is_account_number (column r 2) a.account formed (and_parts _ _ one.1).0);
 }
+
+-- the empty text reads as itself
+pub no_text : text_in (Text []) ≡ Some []
+no_text = rw (is_utf8-from_IsUtf8 [] (IsUtf8-from_ascii [] IsAscii-nil)) refl
 
 reads_plain : (t : List ℕ) → is_utf8 t ≡ true → text_in (Text t) ≡ Some t
 reads_plain t good = rw good refl

@@ -6,6 +6,7 @@ pub mod answers;
 pub mod bases;
 pub mod desk;
 pub mod members;
+pub mod moved;
 pub mod names;
 pub mod projects;
 pub mod rows;

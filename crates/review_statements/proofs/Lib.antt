@@ -7,3 +7,5 @@ pub mod Changes
 pub mod TextsOfTables
 pub mod TextsOfChanges
 pub mod TextsOfLookups
+pub mod TextsOfMoves
+pub mod Moves

@@ -7,8 +7,9 @@ use Rattle.sqlite_schema.specs.declared.command.Source.{Source}
 use Rattle.sqlite_schema.specs.declared.schema.Table.{Table}
 use Rattle.sqlite_schema.specs.declared.schema.Schema.{Schema}
 use Rattle.sqlite_schema.specs.declared.schema.Keys.TheVariants.{Enforced}
-use Rattle.sqlite_schema.specs.declared.command.Source.TheVariants.{Values}
-use Rattle.sqlite_schema.specs.declared.command.Command.TheVariants.{Insert, Delete}
+use Rattle.sqlite_schema.specs.declared.command.Source.TheVariants.{Values, Query}
+use Rattle.sqlite_schema.specs.declared.command.Command.TheVariants.{Insert, Delete, DropTable}
+use Rattle.sqlite_catalog.specs.Change.{without_table, KeepsRows}
 use Rattle.sqlite_rules.specs.declared.error.Rowids.TheVariants.{Chosen, Given}
 use Rattle.sqlite_rules.specs.Calls.{ids_of}
 use Rattle.sqlite_schema.specs.declared.program.Program.{Program}
@@ -16,14 +17,15 @@ use Rattle.sqlite_rules.specs.Action.{works}
 use Rattle.sqlite_rules.specs.Edit.{Edit, edit_of, edited, taken_by, without_all}
 use Rattle.sqlite.specs.Effect.{Database, value_rows, IsSource, Answers}
 use Rattle.sqlite.specs.Rows.{Part, Written, Task, stamped, Inserts, Deletes}
-use Rattle.sqlite.specs.Does.{Tally, Does, AtPlace, OnRows, Concludes}
+use Rattle.sqlite.specs.Does.{Tally, Does, AtPlace, OnRows, Concludes, Drops, is_acted_on}
 use Rattle.sqlite.specs.declared.run.Mode.{Mode}
+use Rattle.std.specs.Bool.{MatchBool}
 use Rattle.std.specs.List.{AllByRecursion}
 use Rattle.sqlite.specs.Listing.{understood}
 use Rattle.sqlite.specs.State.{State, Executes}
 use Rattle.sqlite.proofs.Callers.{IsPlain, command_of, statement_of, runs_as, one_step}
 use Rattle.review_statements.specs.Desk.{simple}
-use Rattle.std.proofs.Common.{not, map, filter, eqb, eqb-true}
+use Rattle.std.proofs.Common.{Bool, not, map, filter, eqb, eqb-true}
 use Rattle.std.specs.List.{list_any}
 use Rattle.std.specs.List.Sorted.{IsPermutation}
 use Rattle.std.proofs.lemmas.Bool.{or_cases, cases_Bool, eqb-false, and_parts, not-true}
@@ -35,12 +37,15 @@ use Rattle.sqlite_trees.specs.Tree.{rowid, put_row}
 use Rattle.sqlite_trees.specs.View.{is_int}
 use Rattle.sqlite_sql.specs.Term.{col}
 use Rattle.sqlite_sql.specs.Program.{overlay}
-use Rattle.sqlite_rules.specs.Edit.{id_in, have_rowids, are_fresh, left_by, put_all, is_taken}
+use Rattle.sqlite_rules.specs.Cast.{cast_row}
+use Rattle.sqlite_rules.specs.Edit.{id_in, have_rowids, are_fresh, left_by, numbered, put_all, is_taken}
 use Rattle.sqlite_keyed.proofs.ListLemmas.{map-map, filter_same}
 use Rattle.review_statements.specs.Desk.{desk_schema, is_tree}
 use Rattle.review_statements.specs.Content.{AreApart, IsAdded, Adds, Removes, SparesOthers, has_key}
 use Rattle.review_statements.specs.Ran.{IsReady}
+use Rattle.review_statements.specs.Moved.{columns_of}
 use Rattle.review_statements.proofs.Lists.{id_of, added, removed, apart_put, apart_filter}
+use Rattle.review_statements.proofs.Moves.{apart_all, put_in_empty}
 use Rattle.review_statements.specs.Texts.{over_table}
 use Rattle.review_statements.proofs.Queries.{passes, shows, selects}
 use Rattle.sqlite_schema.specs.declared.schema.Column.{Column}
@@ -53,6 +58,10 @@ went (inr on) = on
 
 pub same_value : {B E : Type 0} {a b : B} → ◌≡◌ {A = Result B E} (Ok a) (Ok b) → a ≡ b
 same_value e = cc
+
+otherwise : (b : Bool) (P Q : Type 0) → b ≡ false → MatchBool b P Q → Q
+otherwise true P Q e h = absurd (cc)
+otherwise false P Q e h = h
 
 -- no foreign key of the schema acts
 abbrev pub HasNoKeys : Schema → Type 0
@@ -161,6 +170,44 @@ module _ (name : List ℕ) (tree : ℕ) (columns : List Column) (key : Option �
         let it = takes limit db.schema params db.trees q all.0 none all.1 in
         let now = concludes (task limit db.schema the params) all.0 tally after all.2 in
         (ap (λ (d : Database). d.schema) now, it.0, it.1, subst (λ (d : Database). Sets db.schema the db.trees d.trees (without_all (db.trees tree) (ids_of it.0))) (sym now) it.2)
+
+  -- the rows of a query are put into an empty table
+  module _ (limit : Option ℕ) (db : Database) (text : List ℕ) (at : ℕ) (place : slice_get db.schema.tables at ≡ Some the) (none : HasNoKeys db.schema) (tally : Tally) (after : Database) where
+    pub copies_in : (q : Program) → Does limit mode [] db text None (Insert at (Query q)) (Ok (tally, after)) → db.trees tree ≡ []
+        → (after.schema ≡ db.schema) × (rows : List Row) × Answers db q [] rows
+        × AllByRecursion (λ t. t.tree ≢ tree → after.trees t.tree ≡ db.trees t.tree) db.schema.tables
+        × IsPermutation (map (λ (s : Row). columns_of (cast_row the s)) rows) (map columns_of (after.trees tree)) × AreApart (after.trees tree)
+    copies_in q changed empty =
+        let all = went (on_table limit [] db the (slice_get db.schema.tables at) (λ t. OnRows t mode None (Insert at (Query q)) db.trees) (tally, after) place changed) in
+        let it = puts limit db.schema [] db.trees (Query q) all.0 none all.1 in
+        let now = concludes (task limit db.schema the []) all.0 tally after all.2 in
+        let sources = map (λ (s : Row). cast_row the s) it.0 in
+        let news = numbered Chosen (db.trees tree) sources in
+        let same : numbered Chosen [] sources ≡ news = ap (λ rows. numbered Chosen rows sources) (sym empty) in
+        let fresh : are_fresh [] news ≡ true = subst (λ rows. are_fresh rows news ≡ true) empty it.3.fresh in
+        let sets = subst (λ (d : Database). Sets db.schema the db.trees d.trees (edited db.trees (edit_of db.trees the [] Chosen 0 it.0))) (sym now) it.2 in
+        let rows : after.trees tree ≡ put_all [] news = sets.is ∙ ap (λ rows. put_all rows news) empty in (
+          ap (λ (d : Database). d.schema) now,
+          it.0,
+          it.1,
+          sets.others,
+          subst₂ IsPermutation (map-map columns_of (cast_row the) it.0) (ap (map columns_of) (sym rows)) (put_in_empty sources news (sym same) fresh),
+          subst AreApart (sym rows) (apart_all news [] it.3.keyed fresh tt),
+        )
+
+    -- the table goes, and the others keep their rows
+    pub drops_in : is_acted_on db.schema Enforced the ≡ false → Does limit mode [] db text None (DropTable at) (Ok (tally, after))
+        → (after.schema ≡ without_table db.schema tree) × KeepsRows (without_table db.schema tree).tables db.trees after.trees
+    drops_in alone changed =
+        let all = went (on_table limit [] db the (slice_get db.schema.tables at) (λ t. Drops t mode db.trees) (tally, after) place changed) in
+        let emptied : all.0 ≡ db.trees = same_value (otherwise (is_acted_on db.schema Enforced the) _ _ alone all.1) in
+        let counted = went all.2 in
+        let now : counted.0 ≡ db.trees = same_value counted.1 ∙ emptied in
+        let left = went (went counted.2).2 in
+        let last : after ≡ left.0 = ap (λ (p : Tally × Database). p.1) (same_value left.2) in (
+          ap (λ (d : Database). d.schema) last ∙ left.1.0,
+          subst₂ (λ (old : Trees) (d : Database). KeepsRows (without_table db.schema tree).tables old d.trees) now (sym last) left.1.1,
+        )
 
   -- what the whole statement does
   module _ (sql : List ℕ) (params : Row) (old new : State) (has : IsReady old.now) (plain : IsPlain (understood desk_schema sql))

@@ -4,3 +4,4 @@ pub mod Ran
 pub mod Search
 pub mod Greatest
 pub mod Texts
+pub mod Moved

@@ -54,6 +54,18 @@ pub const CREATE: [&str; 12] = [
     CREATE_DESK,
 ];
 
+// ---- from version 1 to version 2, where each project has a parent or none
+
+pub const CREATE_PROJECTS_2: &str =
+    "CREATE TABLE projects_2 (name TEXT NOT NULL, file TEXT NOT NULL, parent TEXT NOT NULL, PRIMARY KEY (name))";
+
+pub const MOVE_PROJECTS: &str =
+    "INSERT INTO projects_2 (name, file, parent) SELECT name, file, '' FROM projects";
+
+pub const DROP_PROJECTS: &str = "DROP TABLE projects";
+
+// ---- rowids
+
 /// Texts that read the rowids of the tables.
 pub const ROW_IDS: [&str; 12] = [
     "SELECT rowid FROM accounts",

@@ -1,5 +1,5 @@
 -- What changes leave at each key.
-use Rattle.std.proofs.Common.{◌≡◌, ◌≢◌, ◌∙◌, List, [], ◌∷◌, true, Ordering, Option, Some, None, option_map, sym, ap, subst, inl, inr}
+use Rattle.std.proofs.Common.{◌≡◌, ◌≢◌, ◌∙◌, List, [], ◌∷◌, true, Ordering, Some, option_map, sym, ap, subst, inl, inr}
 use Rattle.std.specs.BTreeMap.{is_at}
 use Rattle.std.proofs.lemmas.Bool.{cases_Bool, both_ways}
 use Rattle.sqlite_trees.specs.Tree.{Trees}

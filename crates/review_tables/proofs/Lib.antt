@@ -6,3 +6,4 @@ pub mod Owned
 pub mod Made
 pub mod Ids
 pub mod Single
+pub mod Migrated

@@ -20,7 +20,7 @@ use Rattle.sqlite.specs.Listing.{understood}
 use Rattle.sqlite.specs.State.{State, Executes, Writes}
 use Rattle.sqlite.proofs.Callers.{IsPlain, command_of, statement_of, runs_as}
 use Rattle.sqlite_tied.specs.Compute.{everything}
-use Rattle.review_tables.specs.Made.{MakesText, IsBlank, MakesBy, Grows}
+use Rattle.review_tables.specs.Made.{MakesText, IsBlank, IsMade, MakesBy, Grows}
 use Rattle.std.proofs.Common.{Bool}
 use Rattle.std.specs.Bool.{Decides}
 use Rattle.sqlite_trees.specs.declared.memory.MemStore.{MemStore}
@@ -72,11 +72,15 @@ still_empty [] old new same none = tt
 still_empty (x ∷ tables) old new same none = (same.0 ∙ none.0, still_empty tables old new same.1 none.1)
 
 pub makes_by : (sql : List ℕ) (old new : State) (count : ℕ) → Executes sql [] old new (Ok count) → MakesBy sql old.now new.now
-makes_by sql old new count h schema table after it was =
-    let bare : Table = record table { tree = 0 } in
-    let made = creates sql old new schema bare was.schema_is it.command it.text it.plain it.defines it.uncounted count h in
-    let all = all_more (λ t. new.now.trees t.tree ≡ []) schema.tables (record table { tree = next_tree schema }) (still_empty schema.tables old.now.trees new.now.trees made.others was.empty) made.empty in
-    record { schema_is = made.schema_is ∙ it.leaves; empty = subst (λ (s : Schema). AllByRecursion (λ t. new.now.trees t.tree ≡ []) s.tables) it.leaves all }
+makes_by sql old new count h schema table after it has =
+    let made = creates sql old new schema (record table { tree = 0 }) has it.command it.text it.plain it.defines it.uncounted count h in
+    record { schema_is = made.schema_is ∙ it.leaves; empty = made.empty; others = made.others }
+
+-- of empty tables all are empty with one more
+blank_after : (sql : List ℕ) (schema : Schema) (table : Table) (after : Schema) (old new : Database) → MakesText sql schema table after → IsBlank schema old → IsMade schema after old new → IsBlank after new
+blank_after sql schema table after old new it was made =
+    let all = all_more (λ t. new.trees t.tree ≡ []) schema.tables (record table { tree = next_tree schema }) (still_empty schema.tables old.trees new.trees made.others was.empty) made.empty in
+    record { schema_is = made.schema_is; empty = subst (λ (s : Schema). AllByRecursion (λ t. new.trees t.tree ≡ []) s.tables) it.leaves all }
 
 pub empty_at : (db : Trees) (tables : List Table) → AllByRecursion (λ t. db t.tree ≡ []) tables → (t : ℕ) → list_any (λ x. eqb x.tree t) tables ≡ true → db t ≡ []
 empty_at db [] all t is = absurd (cc)
@@ -126,7 +130,11 @@ pub makes_next : (at : ℕ) (sql : List ℕ) → at < 12 → ((d : List ℕ) →
     → Next (Grows schema_0 (schema_of (take at desk_tables))) (MakesBy sql) old new → Grows schema_0 (schema_of (take (suc at) desk_tables)) old new
 makes_next at sql low is old new h was =
     let it = made_at (map (λ t. t.now) CREATE) [] desk_tables are_made at [] low in
-    h.2 (schema_of (take at desk_tables)) it.0 (schema_of (take (suc at) desk_tables)) (subst (λ s. MakesText s (schema_of (take at desk_tables)) it.0 (schema_of (take (suc at) desk_tables))) (sym (is [])) it.1) (h.1 was)
+    let before = schema_of (take at desk_tables) in
+    let after = schema_of (take (suc at) desk_tables) in
+    let text = subst (λ s. MakesText s before it.0 after) (sym (is [])) it.1 in
+    let mid = h.1 was in
+    blank_after sql before it.0 after h.0 new text mid (h.2 before it.0 after text mid.schema_is)
 
 -- the first table of the list is made
 pub makes_first : (sql : List ℕ) → ((d : List ℕ) → sql ≡ slice_index_or (map (λ t. t.now) CREATE) 0 d) → (old new : Database) → MakesBy sql old new → Grows schema_0 (schema_of (take 1 desk_tables)) old new

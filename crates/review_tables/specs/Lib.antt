@@ -1,5 +1,6 @@
 pub mod Fronts
 pub mod Made
+pub mod Migrated
 pub mod Plain
 pub mod Rowids
 pub mod Columns

@@ -5,7 +5,7 @@ use Rattle.sqlite_schema.specs.declared.schema.Table.{Table}
 use Rattle.sqlite_schema.specs.declared.schema.Schema.{Schema}
 use Rattle.sqlite_schema.specs.declared.command.Command.TheVariants.{CreateTable}
 use Rattle.sqlite_resolve.specs.Compile.{table_defined_by}
-use Rattle.sqlite_catalog.specs.Change.{created}
+use Rattle.sqlite_catalog.specs.Change.{created, next_tree, KeepsRows}
 use Rattle.sqlite.specs.Effect.{Database}
 use Rattle.sqlite.specs.Does.{lacks_sequence}
 use Rattle.sqlite.specs.Given.{IsPlain}
@@ -26,9 +26,15 @@ pub record IsBlank (schema : Schema) (db : Database) : Type 0 where
   pub schema_is : db.schema ≡ schema
   pub empty : AllByRecursion (λ t. db.trees t.tree ≡ []) schema.tables
 
+-- of this schema that is made: the new table is empty, and the others keep their rows
+pub record IsMade (schema after : Schema) (old new : Database) : Type 0 where
+  pub schema_is : new.schema ≡ after
+  pub empty : new.trees (next_tree schema) ≡ []
+  pub others : KeepsRows schema.tables old.trees new.trees
+
 -- one empty table comes to others
 abbrev pub MakesBy : List ℕ → Database → Database → Type 0
-MakesBy sql old new = (schema : Schema) (table : Table) (after : Schema) → MakesText sql schema table after → IsBlank schema old → IsBlank after new
+MakesBy sql old new = (schema : Schema) (table : Table) (after : Schema) → MakesText sql schema table after → old.schema ≡ schema → IsMade schema after old new
 
 -- of these empty tables those are made
 abbrev pub Grows : Schema → Schema → Database → Database → Type 0

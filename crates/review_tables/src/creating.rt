@@ -13,7 +13,8 @@ use sqlite::{Alter, Connection, Error, Transaction};
 use sqlite_schema::schema::Schema;
 use std::alloc::Global;
 
-fn make<S: Alter>(tx: &mut Transaction<'_, S>, sql: &str) -> Result<usize, Error>
+/// Makes the table of a text.
+pub fn make<S: Alter>(tx: &mut Transaction<'_, S>, sql: &str) -> Result<usize, Error>
     ensures same_reference { tx.new.conn.ghost_name ≡ tx.old.conn.ghost_name }
     ensures ran { Within (MakesBy sql.now) (state S.Store tx.old.conn.now) (state S.Store tx.new.conn.now) result }
     ensures open { Opens (state S.Store tx.old.conn.now) (state S.Store tx.new.conn.now) result }
