@@ -238,7 +238,13 @@ fn tell_last_change(found: Option<Option<u64>>, rows: &mut Rows) -> Sight
     }
 }
 
-/// The greatest number of a change.
+// The number of the next change, where one may come.
+fn next_change(found: Option<Option<u64>>) -> Option<ChangeNo> {
+    let number = last(found)?;
+    ChangeNo::from_number(u64::from(number) + 1)
+}
+
+/// The greatest number of a change. Rows that stayed of a change after it, whose header is gone, are damage: else the next change would get them.
 pub fn find_last_change<S: Alter>(
     tx: &mut Transaction<'_, S>,
     alloc: Global,
@@ -249,5 +255,14 @@ pub fn find_last_change<S: Alter>(
     ensures learnt { IfOk result (λ s. s ≡ Sight.Learnt → HasLearnt want.LastChange rows.old rows.new) }
 {
     let found = find_greatest::<LastChange, S>(tx, alloc, &())?;
-    Ok(tell_last_change(found, rows))
+    let Some(next) = next_change(found) else {
+        return Ok(tell_last_change(found, rows));
+    };
+    let mut stayed = Rows::new(alloc);
+    let looked = find_change(tx, alloc, next, &mut stayed)?;
+    match looked {
+        Sight::Learnt => Ok(tell_last_change(found, rows)),
+        Sight::NoMemory => Ok(Sight::NoMemory),
+        Sight::Damaged => Ok(Sight::Damaged),
+    }
 }
