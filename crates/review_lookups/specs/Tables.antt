@@ -54,8 +54,8 @@ row_in db (PartKey n part) = part_in db n part
 row_in db (OddKey o) = if has_unkeyed keyed_tables db then Some OddRow else None
 
 abbrev pub count_in : Trees → Count → ℕ
-count_in db Projects = length (db 4)
-count_in db (BasesOf project) = length (rows_at ((1, Text project) ∷ []) (db 6))
+count_in db Projects = length (db projects.tree)
+count_in db (BasesOf project) = length (rows_at ((1, Text project) ∷ []) (db bases.tree))
 
 -- a stored request as tables tell it
 abbrev pub stored_as : Identity → Option (Option Rest) → Option Stored

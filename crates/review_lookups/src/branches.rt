@@ -123,7 +123,7 @@ pub fn find_project<S: Alter>(
 
 #[tactic(auto, using(crate::proofs::Telling::has_learnt))]
 fn tell_room_for_projects(found: bool, rows: &mut Rows) -> Sight
-    ensures told { (db : Trees) → nat_lt (length (db 4)) 1000 ≡ found → Sees (want.Room counted.Projects) rows.old rows.new db result }
+    ensures told { (db : Trees) → nat_lt (length (db projects.tree)) 1000 ≡ found → Sees (want.Room counted.Projects) rows.old rows.new db result }
     ensures learnt { result ≡ Sight.Learnt → HasLearnt (want.Room counted.Projects) rows.old rows.new }
 {
     rows.learn_room_for_projects(found);
@@ -145,7 +145,7 @@ pub fn find_room_for_projects<S: Alter>(
 
 #[tactic(auto, using(crate::proofs::Telling::has_learnt))]
 fn tell_room_for_bases(alloc: Global, project: &ProjectName, found: bool, rows: &mut Rows) -> Sight
-    ensures told { (db : Trees) → nat_lt (length (rows_at ((1, Text project.now) ∷ []) (db 6))) 100000 ≡ found → Sees (want.Room (counted.BasesOf project.now)) rows.old rows.new db result }
+    ensures told { (db : Trees) → nat_lt (length (rows_at ((1, Text project.now) ∷ []) (db bases.tree))) 100000 ≡ found → Sees (want.Room (counted.BasesOf project.now)) rows.old rows.new db result }
     ensures learnt { result ≡ Sight.Learnt → HasLearnt (want.Room (counted.BasesOf project.now)) rows.old rows.new }
 {
     learnt(learn_room_for_bases(alloc, project, found, rows))

@@ -15,8 +15,8 @@ use Rattle.review_sql.specs.Named.{KeepsRest}
 
 -- no two rows of the tables whose rows are counted have one key
 pub record AreSingle (db : Trees) : Type 0 where
-  pub projects_are : (project : List ℕ) → length (rows_at (projects.at project) (db 4)) ≤ 1
-  pub bases_are : (key : PlaceKey) → length (rows_at (bases.at key) (db 6)) ≤ 1
+  pub projects_are : (project : List ℕ) → length (rows_at (projects.at project) (db projects.tree)) ≤ 1
+  pub bases_are : (key : PlaceKey) → length (rows_at (bases.at key) (db bases.tree)) ≤ 1
 
 -- the delta is applied and the request is stored, where the tables are a desk's and so many requests were; no row comes or goes but those of the keys that are named
 pub record Commits (delta : Delta) (kept : Kept) (requests : ℕ) (old new : Database) : Type 0 where
