@@ -1,4 +1,4 @@
-//! Tables of version 1 become those of version 2. No desk has version 2 yet: nothing calls this but the step that brings it.
+//! Tables of version 1 become those of version 2. No desk has version 2 yet, and the program calls nothing of this yet.
 ghost use Rattle.std.specs.Prelude.{◌≡◌, []};
 ghost use Rattle.sqlite.specs.Effect.{Database};
 ghost use Rattle.sqlite.specs.Held.{state};
