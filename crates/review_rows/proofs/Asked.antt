@@ -1,6 +1,6 @@
 -- What was asked is known, and asking ends.
 use Rattle.std.proofs.Common.{◌≡◌, ℕ, ◌+◌, ◌<◌, ◌≤◌, List, [], ◌∷◌, length, zero, suc, Option, Some, None, Bool, true, false, cond, not, IsSome, refl, sym, ap, ◌∙◌, subst, ⊎_elim, arith}
-use Rattle.std.specs.Prelude.{is_some, ◌&&◌, option_map, option_to_list}
+use Rattle.std.specs.Prelude.{is_some, ◌&&◌, ◌++◌, nat_lt, option_and_then, option_map, option_to_list}
 use Rattle.std.specs.Option.{option_or}
 use Rattle.std.specs.List.{All, AllByRecursion}
 use Rattle.std.proofs.lemmas.Bool.{cases_Bool}
@@ -12,11 +12,18 @@ use Rattle.review_rows.specs.declared.rows.Want.{Want}
 use Rattle.review_rows.specs.declared.rows.Want.TheVariants as want
 use Rattle.review_rows.specs.declared.rows.Rows.{Rows}
 use Rattle.review_rows.specs.Rows.{Tables}
-use Rattle.review_rows.specs.Known.{Found, Stands, IsFound, known, number_of, change_in, standing_of, Agrees, IsKnown, AreAdded}
+use Rattle.review_rows.specs.Known.{Found, Stands, IsFound, known, number_of, change_in, standing_of, file_in, Agrees, IsKnown, AreAdded}
 use Rattle.review_rows.specs.Files.{File}
 use Rattle.review_rows.specs.Rows.{base_cmp}
 use Rattle.review_table.specs.Rows.{row_in, rows_of}
 use Rattle.review_changes.specs.Change.{Change, is_open}
+use Rattle.review_words.specs.declared.changes.Given.{Given}
+use Rattle.review_words.specs.declared.command.ChangeCommand.{ChangeCommand}
+use Rattle.review_words.specs.declared.command.ChangeCommand.TheVariants as on
+use Rattle.review_words.specs.declared.command.ChangeQuery.{ChangeQuery}
+use Rattle.review_words.specs.declared.command.ChangeQuery.TheVariants as shown
+use Rattle.review_project.specs.Reading.{named_parent}
+use Rattle.review_rows.specs.Lines.{most_depth}
 use Rattle.review_chain.specs.declared.links.Link.{Link}
 use Rattle.review_chain.specs.declared.links.Standing.{Standing}
 use Rattle.review_chain.specs.declared.walks.Walked.{Walked}
@@ -26,7 +33,7 @@ use Rattle.review_chain.specs.Steps.{wanted, left as left_in_chain}
 use Rattle.review_chain.proofs.LookingUp.{fewer_left, most_left}
 use Rattle.review_chain.proofs.Wanting.{Says, still_wanted, walked_kept, wanted_says}
 use Rattle.review_rows.specs.Links.{link_for, links_in}
-use Rattle.review_rows.specs.Steps.{Topic, OfCommand, OfQuery, first_wants, change_wants, file_wants, question_wants, request_wants, submit_wants, wants_by, wanted_for, chain_wants, chain_left, last_of, last_wants, look_up, steps, unknown, or_next, next, next_of, left, left_before, left_if, left_of, left_where, AskingLowers, HasComeTo, IsWalkTo}
+use Rattle.review_rows.specs.Steps.{Topic, OfCommand, OfQuery, first_wants, change_wants, file_wants, given_wants, has_some, question_wants, request_wants, submit_wants, wants_by, own_in, parent_in, parent_or, needs_file, project_for, asks_file, parent_of, line_wants, line_steps, wanted_for, chain_wants, chain_left, last_of, last_wants, look_up, steps, unknown, or_next, next, next_of, left, left_before, left_if, left_of, left_where, AskingLowers, HasComeTo, IsWalkTo}
 
 -- what a look-up that was made found in tables that agree
 pub found_of : (t : Tables) (rows : Rows) (w : Want) → Agrees t rows → IsKnown rows w → (f : Found) × (known rows w ≡ Some f) × IsFound t w f
@@ -95,9 +102,26 @@ all_asked file rows caller topic none = each_known rows (first_wants caller topi
 pub change_asked : (file : Option File) (rows : Rows) (caller : ℕ) (topic : Topic) → next file rows caller topic ≡ [] → AllByRecursion (IsKnown rows) (change_wants rows topic)
 change_asked file rows caller topic none = each_known rows (change_wants rows topic) (none_of_steps rows (steps file rows caller topic) (all_made file rows caller topic none).0).1.0
 
+-- what is true of each step is true of the last
+of_last : (P : List Want → Type 0) (xs : List (List Want)) (x : List Want) → AllByRecursion P (xs ++ x ∷ []) → P x
+of_last P [] x all = all.0
+of_last P (y ∷ ys) x all = of_last P ys x all.1
+
+-- and of each before the last
+of_others : (P : List Want → Type 0) (xs : List (List Want)) (x : List Want) → AllByRecursion P (xs ++ x ∷ []) → AllByRecursion P xs
+of_others P [] x all = tt
+of_others P (y ∷ ys) x all = (all.0, of_others P ys x all.1)
+
 -- and all that is asked by the file
 pub file_asked : (file : Option File) (rows : Rows) (caller : ℕ) (topic : Topic) → next file rows caller topic ≡ [] → AllByRecursion (IsKnown rows) (file_wants file caller topic)
-file_asked file rows caller topic none = each_known rows (file_wants file caller topic) (none_of_steps rows (steps file rows caller topic) (all_made file rows caller topic none).0).1.1.0
+file_asked file rows caller topic none =
+    each_known rows (file_wants file caller topic)
+    (of_last (λ s. unknown rows s ≡ []) (line_steps rows most_depth (parent_of rows topic)) (file_wants file caller topic) (none_of_steps rows (steps file rows caller topic) (all_made file rows caller topic none).0).1.1)
+
+-- and the files of the ancestors
+pub line_asked : (file : Option File) (rows : Rows) (caller : ℕ) (topic : Topic) → next file rows caller topic ≡ [] → AllByRecursion (λ s. unknown rows s ≡ []) (line_steps rows most_depth (parent_of rows topic))
+line_asked file rows caller topic none =
+    of_others (λ s. unknown rows s ≡ []) (line_steps rows most_depth (parent_of rows topic)) (file_wants file caller topic) (none_of_steps rows (steps file rows caller topic) (all_made file rows caller topic none).0).1.1
 
 stays : (a b : Option Found) → is_some a ≡ true → option_or a b ≡ a
 stays None b e = absurd (cc)
@@ -321,9 +345,107 @@ before_less a zero last later less below = absurd (omega arith)
 before_less zero (suc b) last later less below = omega arith
 before_less (suc a) (suc b) last later less below = omega arith
 
+-- the file of a project that is known stays, and its parent
+own_stays : (rows more both : Rows) (project : List ℕ) → AreAdded rows more both → IsKnown rows (want.File project) → own_in both project ≡ own_in rows project
+own_stays rows more both project added there = ap file_in (known_stays rows more both (want.File project) added there)
+
+parent_stays : (rows more both : Rows) (project : List ℕ) → AreAdded rows more both → IsKnown rows (want.File project) → parent_in both project ≡ parent_in rows project
+parent_stays rows more both project added there = ap (option_and_then (λ f. f.parent)) (own_stays rows more both project added there)
+
+-- the next one of a line stays, once its file is known
+above_stays : (rows more both : Rows) (p : Option (List ℕ)) → AreAdded rows more both → unknown rows (line_wants p) ≡ [] → option_and_then (parent_in both) p ≡ option_and_then (parent_in rows) p
+above_stays rows more both None added none = refl
+above_stays rows more both (Some project) added none = parent_stays rows more both project added (each_known rows (want.File project ∷ []) none).0
+
+-- as many steps ask for a line, whatever is known of it
+line_length : (rows both : Rows) (n : ℕ) (p q : Option (List ℕ)) (x : List Want) → length (line_steps rows n p ++ x ∷ []) ≡ length (line_steps both n q ++ x ∷ [])
+line_length rows both zero p q x = refl
+line_length rows both (suc n) p q x = let same = line_length rows both n (option_and_then (parent_in rows) p) (option_and_then (parent_in both) q) x in omega arith
+
+line_stays : (rows more both : Rows) (n : ℕ) (p : Option (List ℕ)) (x : List Want) → AreAdded rows more both → AreSteps rows (line_steps rows n p ++ x ∷ []) (line_steps both n p ++ x ∷ [])
+line_stays rows more both zero p x added = (refl, refl, λ none. tt)
+line_stays rows more both (suc n) p x added = (
+  refl,
+  line_length rows both n (option_and_then (parent_in rows) p) (option_and_then (parent_in both) p) x,
+  λ none.
+  subst (λ q. AreSteps rows (line_steps rows n (option_and_then (parent_in rows) p) ++ x ∷ []) (line_steps both n q ++ x ∷ [])) (sym (above_stays rows more both p added none))
+  (line_stays rows more both n (option_and_then (parent_in rows) p) x added),
+)
+
+-- the parent of a project that is judged by stays, where the project's file is known
+judged_stays : (rows more both : Rows) (is : Bool) (o : Option Change) → AreAdded rows more both → ((c : Change) → o ≡ Some c → is ≡ true → IsKnown rows (want.File c.project)) →
+    option_and_then (parent_in both) (project_for is o) ≡ option_and_then (parent_in rows) (project_for is o)
+judged_stays rows more both false o added there = refl
+judged_stays rows more both true None added there = refl
+judged_stays rows more both true (Some c) added there = parent_stays rows more both c.project added (there c refl refl)
+
+given_asked : (rows : Rows) (labels : List Given) (project : List ℕ) → AllByRecursion (IsKnown rows) (given_wants labels project) → has_some labels ≡ true → IsKnown rows (want.File project)
+given_asked rows [] project all some = absurd (let none : false ≡ true = some in cc)
+given_asked rows (g ∷ gs) project all some = all.0
+
+-- a request that is judged by the project's file asks for it
+judged_asked : (rows : Rows) (command : ChangeCommand) (c : Change) → AllByRecursion (IsKnown rows) (request_wants command c) → needs_file command ≡ true → IsKnown rows (want.File c.project)
+judged_asked rows (on.Upload patch) c all is = all.0
+judged_asked rows (on.Review review) c all is = given_asked rows review.labels c.project all is
+judged_asked rows on.Abandon c all is = all.0
+judged_asked rows on.Restore c all is = all.0
+judged_asked rows (on.AddReviewer account role) c all is = absurd (let none : false ≡ true = is in cc)
+judged_asked rows (on.RemoveReviewer account) c all is = absurd (let none : false ≡ true = is in cc)
+judged_asked rows on.SetWip c all is = absurd (let none : false ≡ true = is in cc)
+judged_asked rows on.SetReady c all is = absurd (let none : false ≡ true = is in cc)
+judged_asked rows (on.AddAttention account reason) c all is = absurd (let none : false ≡ true = is in cc)
+judged_asked rows (on.RemoveAttention account reason) c all is = absurd (let none : false ≡ true = is in cc)
+
+answered_asked : (rows : Rows) (query : ChangeQuery) (c : Change) → AllByRecursion (IsKnown rows) (question_wants query c) → asks_file query ≡ true → IsKnown rows (want.File c.project)
+answered_asked rows shown.Requirements c all is = all.0
+answered_asked rows shown.Change c all is = absurd (let none : false ≡ true = is in cc)
+answered_asked rows shown.Threads c all is = absurd (let none : false ≡ true = is in cc)
+answered_asked rows shown.Attention c all is = absurd (let none : false ≡ true = is in cc)
+
+-- what is asked by a change that is found
+by_found : (rows : Rows) (each : Change → List Want) (o : Option Change) (c : Change) → o ≡ Some c → AllByRecursion (IsKnown rows) (wants_by each o) → AllByRecursion (IsKnown rows) (each c)
+by_found rows each o c is all = subst (λ x. AllByRecursion (IsKnown rows) (wants_by each x)) is all
+
+-- the first parent that is asked for stays, once all is known that is asked before
+parents_stay : (rows more both : Rows) (caller : ℕ) (topic : Topic) → AreAdded rows more both → unknown rows (first_wants caller topic) ≡ [] → unknown rows (change_wants rows topic) ≡ [] →
+    parent_of both topic ≡ parent_of rows topic
+parents_stay rows more both caller (OfQuery (asked.Branch project branch)) added first then = refl
+parents_stay rows more both caller (OfQuery (asked.OnChange n query)) added first then =
+    let found = change_in (known rows (want.Change n)) in
+    ap (λ k. option_and_then (parent_in both) (project_for (asks_file query) (change_in k))) (known_stays rows more both (want.Change n) added (each_known rows (first_wants caller (OfQuery (asked.OnChange n query))) first).1.0)
+    ∙ judged_stays rows more both (asks_file query) found added
+    (λ c is judged. answered_asked rows query c (by_found rows (question_wants query) found c is (each_known rows (change_wants rows (OfQuery (asked.OnChange n query))) then)) judged)
+parents_stay rows more both caller (OfCommand (CreateAccount name)) added first then = refl
+parents_stay rows more both caller (OfCommand (PutGroup group members)) added first then = refl
+parents_stay rows more both caller (OfCommand (PutProject project text)) added first then =
+    ap (parent_or (named_parent text)) (own_stays rows more both project added (each_known rows (first_wants caller (OfCommand (PutProject project text))) first).1.1.1.0)
+parents_stay rows more both caller (OfCommand (RecordBase project branch commit)) added first then = refl
+parents_stay rows more both caller (OfCommand (CreateChange new)) added first then =
+    parent_stays rows more both new.project added (each_known rows (first_wants caller (OfCommand (CreateChange new))) first).1.1.1.1.1.0
+parents_stay rows more both caller (OfCommand (OnChange n command)) added first then =
+    let found = change_in (known rows (want.Change n)) in
+    ap (λ k. option_and_then (parent_in both) (project_for (needs_file command) (change_in k))) (known_stays rows more both (want.Change n) added (each_known rows (first_wants caller (OfCommand (OnChange n command))) first).1.1.1.0)
+    ∙ judged_stays rows more both (needs_file command) found added
+    (λ c is judged. judged_asked rows command c (by_found rows (request_wants command) found c is (each_known rows (change_wants rows (OfCommand (OnChange n command))) then)) judged)
+parents_stay rows more both caller (OfCommand (Submit n)) added first then =
+    let found = change_in (known rows (want.Change n)) in
+    ap (λ k. option_and_then (parent_in both) (project_for true (change_in k))) (known_stays rows more both (want.Change n) added (submit_known rows caller n first))
+    ∙ judged_stays rows more both true found added
+    (λ c is judged. (by_found rows submit_wants found c is (each_known rows (change_wants rows (OfCommand (Submit n))) then)).0)
+
 -- a step asks the same where more is known, once those before it were made
 steps_stay : (file : Option File) (rows more both : Rows) (caller : ℕ) (topic : Topic) → AreAdded rows more both → AreSteps rows (steps file rows caller topic) (steps file both caller topic)
-steps_stay file rows more both caller topic added = (refl, refl, λ none. (sym (same_wants rows more both caller topic added none), refl, λ made. (refl, refl, λ asked. tt)))
+steps_stay file rows more both caller topic added = (
+  refl,
+  let same = line_length rows both most_depth (parent_of rows topic) (parent_of both topic) (file_wants file caller topic) in omega arith,
+  λ none. (
+    sym (same_wants rows more both caller topic added none),
+    line_length rows both most_depth (parent_of rows topic) (parent_of both topic) (file_wants file caller topic),
+    λ made.
+    subst (λ p. AreSteps rows (line_steps rows most_depth (parent_of rows topic) ++ file_wants file caller topic ∷ []) (line_steps both most_depth p ++ file_wants file caller topic ∷ []))
+    (sym (parents_stay rows more both caller topic added none made)) (line_stays rows more both most_depth (parent_of rows topic) (file_wants file caller topic) added),
+  ),
+)
 
 -- each step asks for what was not known, and lowers what is left
 pub asking_lowers : AskingLowers

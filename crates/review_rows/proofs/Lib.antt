@@ -7,3 +7,4 @@ pub mod Requested
 pub mod Looked
 pub mod Joins
 pub mod Puts
+pub mod Lined

@@ -1,6 +1,7 @@
 -- What is read of the texts that a history puts.
 use Rattle.std.proofs.Common.{◌≡◌, ◌⊎◌, inl, inr, ◌∙◌, ℕ, List, [], ◌∷◌, Option, Some, None, Bool, true, false, cond, refl, sym, ap, subst, ⊎_elim}
-use Rattle.std.specs.Prelude.{MatchOption}
+use Rattle.std.specs.Bool.{MatchBool}
+use Rattle.std.specs.Prelude.{MatchOption, nat_lt, ◌&&◌}
 use Rattle.std.specs.Str.{bytes_eq}
 use Rattle.std.proofs.lemmas.Bool.{cases_Bool}
 use Rattle.std.proofs.lemmas.Slice.Eq.{bytes_eq-Decides}
@@ -8,16 +9,16 @@ use Rattle.review_words.specs.History.{Asking, Entry, asking_of, accepted, if_do
 use Rattle.review_words.specs.declared.command.Command.{Command}
 use Rattle.review_words.specs.declared.command.Command.TheVariants.{CreateAccount, PutGroup, PutProject, RecordBase, CreateChange, OnChange, Submit}
 use Rattle.review_words.specs.declared.reply.Answer.{Answer}
+use Rattle.review_words.specs.declared.faults.FileFault.TheVariants.{UnknownKey}
 use Rattle.review_words.specs.declared.reply.Refusal.{Refusal}
+use Rattle.review_words.specs.declared.reply.Refusal.TheVariants.{BadFile}
 use Rattle.review_words.specs.declared.reply.Refusal.TheVariants.{BadFile}
 use Rattle.review_words.specs.declared.reply.Reply.{Reply}
 use Rattle.review_words.specs.declared.reply.Reply.TheVariants.{Done, Refused, IdentityReused, NotTaken}
-use Rattle.review_rows.specs.Answer.{IsAnswerBy, IsAnswerIn, IsHistory, IsFaultAnswer, IsFileAnswer, refused_by}
+use Rattle.review_project.specs.Inherited.{no_file}
+use Rattle.review_rows.specs.Answer.{IsAnswer, IsAnswerBy, IsAnswerIn, IsAnswerWithoutParents, IsHistory, IsFaultAnswer, IsFileAnswer, puts_parent, refused_by}
 use Rattle.review_rows.specs.Changes.{Reading, Reads, IsReadRight}
 use Rattle.review_rows.specs.Files.{File, IsRead}
-
-no_file : File
-no_file = record { parent = None; description = None; access = record { create = []; upload = []; submit = []; abandon = [] }; labels = []; requirements = [] }
 
 -- what is read, with the file of one text more
 abbrev reading_with : Reading → List ℕ → File → Reading
@@ -61,8 +62,18 @@ abbrev pub IsDoneBy : Reading → List Entry → ℕ → Command → Reply → T
 IsDoneBy reading h caller command (Done a) = IsAnswerBy reading h caller command (Done a)
 IsDoneBy reading h caller command reply = Unit {0}
 
+-- a text with the key `parent` was never put in version 1
+not_done : (o : Option Refusal) (a : Answer) → MatchOption o (Done a ≡ Refused (BadFile UnknownKey)) (λ r. Done a ≡ Refused r) → ⊥
+not_done None a e = absurd (cc)
+not_done (Some r) a e = absurd (cc)
+
+done_by : (b : Bool) (h : List Entry) (caller : ℕ) (command : Command) (a : Answer) → MatchBool b (IsAnswerWithoutParents h caller command (Done a)) (IsAnswer h caller command (Done a)) → (reading : Reading) → Reads reading h →
+    IsAnswerBy reading h caller command (Done a)
+done_by true h caller command a answer reading reads = absurd (not_done (refused_by reading h caller command) a (answer reading reads))
+done_by false h caller command a answer reading reads = answer reading reads
+
 done_in : (h : List Entry) (asking : Asking) (command : Command) (reply : Reply) → IsAnswerIn h asking command reply → (reading : Reading) → Reads reading h → IsDoneBy reading h asking.caller command reply
-done_in h asking command (Done a) answer reading reads = answer reading reads
+done_in h asking command (Done a) answer reading reads = done_by (nat_lt asking.version 2 && puts_parent command) h asking.caller command a answer reading reads
 done_in h asking command (Refused r) answer reading reads = tt
 done_in h asking command IdentityReused answer reading reads = tt
 done_in h asking command (NotTaken cause) answer reading reads = tt

@@ -1,6 +1,7 @@
 -- The answer to a command and to a question, and which lists of entries are histories.
 use Rattle.std.specs.Prelude.{ℕ, ◌+◌, ◌<◌, ◌≡◌, ◌⊎◌, ◌==◌, List, [], ◌∷◌, ◌++◌, Option, Some, None, Bool, true, false, not, is_some, nat_le, nat_lt, int_le, ◌&&◌, ◌||◌, length, option_map, if◌then◌else◌, MatchOption}
 use Rattle.std.specs.Option.{option_map_or}
+use Rattle.std.specs.Bool.{MatchBool}
 use Rattle.std.specs.Ordering.{int_eq}
 use Rattle.std.specs.Str.{bytes_eq}
 use Rattle.std.specs.List.{list_all, list_any}
@@ -18,11 +19,14 @@ use Rattle.review_words.specs.declared.reply.Reply.TheVariants.{Done, Refused}
 use Rattle.review_words.specs.declared.reply.Answer.{Answer}
 use Rattle.review_words.specs.declared.reply.Answer.TheVariants.{Account, Nothing, Change as AChange, Patch, Reviewed}
 use Rattle.review_words.specs.declared.reply.Refusal.{Refusal}
-use Rattle.review_words.specs.declared.reply.Refusal.TheVariants.{UnknownCaller, NotAdmin, NoProject, NoBranch, NoChange, NoPatchSet, NoAccount, NoComment, NotAllowed, Closed, SameState, WorkInProgress, StalePatchSet, NoLabel, ValueOut, VoteRestricted, CommitKnown, UnknownParent, NotEligible, NameTaken, BadFile, LabelNarrowed, Limit}
+use Rattle.review_words.specs.declared.reply.Refusal.TheVariants.{UnknownCaller, NotAdmin, NoProject, NoBranch, NoChange, NoPatchSet, NoAccount, NoComment, NotAllowed, Closed, SameState, WorkInProgress, StalePatchSet, NoLabel, ValueOut, VoteRestricted, CommitKnown, UnknownParent, NotEligible, NameTaken, BadFile, LabelNarrowed, Limit, NoParent, ParentFixed, ParentDepth}
 use Rattle.review_words.specs.declared.faults.FileFault.{FileFault}
-use Rattle.review_words.specs.History.{Asking, Entry, IsFirst, asking_of, may_follow, account_count, name_taken, is_account, is_admin, file_text, is_project, project_count, base_count, is_branch}
+use Rattle.review_words.specs.declared.faults.FileFault.TheVariants.{UnknownKey, UnknownLabel}
+use Rattle.review_words.specs.History.{Asking, Entry, IsFirst, asking_of, may_follow, account_count, name_taken, is_account, is_admin, is_project, project_count, base_count, is_branch}
 use Rattle.review_names.specs.Forms.{is_within, most_changes, most_patches, most_comments}
 use Rattle.review_names.specs.Names.{registered_users}
+use Rattle.review_project.specs.Inherited.{inherit, inherits_unknown_label}
+use Rattle.review_project.specs.Reading.{has_parent_key}
 use Rattle.review_project.specs.Rights.{may, granted, least_of, greatest_of}
 use Rattle.review_project.specs.declared.parts.Right.{Right}
 use Rattle.review_project.specs.declared.parts.Right.TheVariants as right
@@ -32,7 +36,8 @@ use Rattle.review_changes.specs.Shown.{is_cc}
 use Rattle.review_changes.specs.Sound.{answer_stored}
 use Rattle.review_changes.specs.Votes.{voted}
 pub use Rattle.review_rows.specs.Limits.{most_requests, most_accounts, most_projects, most_bases}
-use Rattle.review_rows.specs.Changes.{Reading, Reads, change, change_count, file_of, groups_of, is_known, setting_of}
+use Rattle.review_rows.specs.Changes.{Reading, Reads, change, change_count, depth, file_of, groups_of, is_known, own_of, setting_of}
+use Rattle.review_rows.specs.Lines.{most_depth}
 use Rattle.review_rows.specs.Files.{File, IsRead, IsFileFault, covers}
 pub use Rattle.review_rows.specs.Submits.{IsOf, is_merged}
 use Rattle.review_rows.specs.Submits.{IsSubmitAnswer}
@@ -162,15 +167,36 @@ abbrev pub refused_or : Option Refusal → Answer → Reply
 refused_or None otherwise = Done otherwise
 refused_or (Some refusal) otherwise = Refused refusal
 
--- the checks of the file that a PutProject puts, where the project has the old one: each label keeps its values, and a new project is among the most
-abbrev pub file_checks : List Entry → List ℕ → Option File → File → List (Bool × Refusal)
-file_checks h project old new =
-    (option_map_or (λ f. covers f new) old true, LabelNarrowed) ∷ (is_project h project || nat_lt (project_count h) most_projects, Limit) ∷ []
+-- whether two projects, or none, are the same
+abbrev pub is_same_parent : Option (List ℕ) → Option (List ℕ) → Bool
+is_same_parent None None = true
+is_same_parent (Some a) (Some b) = bytes_eq a b
+is_same_parent _ _ = false
+
+-- whether a project has the parent that its new file names: one that has no file yet may have any
+abbrev pub keeps_parent : List Entry → List ℕ → Option (List ℕ) → Bool
+keeps_parent h project parent = option_map_or (λ f. is_same_parent f.parent parent) (own_of h project) true
+
+-- the effective file of a project that gets this own file: it goes on from that of its parent
+abbrev pub file_with : Reading → List Entry → File → File
+file_with reading h own = option_map_or (λ parent. inherit (file_of reading h parent) own) own.parent own
+
+-- whether an own requirement, whether or not it counts, names a label that isn't among the effective ones; of a file without a parent its text was asked that
+abbrev pub puts_unknown_label : Reading → List Entry → File → Bool
+puts_unknown_label reading h own = option_map_or (λ parent. inherits_unknown_label (file_of reading h parent) own) own.parent false
+
+-- The checks of the file that a PutProject puts: the project keeps its parent, which is there and not at the greatest depth; its requirements name labels
+-- that it has; each label that it had keeps its values; and a new project is among the most.
+abbrev pub file_checks : Reading → List Entry → List ℕ → File → List (Bool × Refusal)
+file_checks reading h project own =
+    (keeps_parent h project own.parent, ParentFixed) ∷ (option_map_or (is_project h) own.parent true, NoParent)
+    ∷ (option_map_or (λ parent. nat_lt (depth h parent) most_depth) own.parent true, ParentDepth) ∷ (not (puts_unknown_label reading h own), BadFile UnknownLabel)
+    ∷ (not (is_project h project) || covers (file_of reading h project) (file_with reading h own), LabelNarrowed)
+    ∷ (is_project h project || nat_lt (project_count h) most_projects, Limit) ∷ []
 
 -- what a PutProject is told where its text spells a file
 abbrev pub IsFileAnswer : Reading → List Entry → List ℕ → List ℕ → Reply → Type 0
-IsFileAnswer reading h project text reply =
-    (new : File) × IsRead text new × (reply ≡ refused_or (first_refusal (file_checks h project (option_map reading (file_text h project)) new)) Nothing)
+IsFileAnswer reading h project text reply = (own : File) × IsRead text own × (reply ≡ refused_or (first_refusal (file_checks reading h project own)) Nothing)
 
 -- what a PutProject is told where its text has a fault
 abbrev pub IsFaultAnswer : List ℕ → Reply → Type 0
@@ -205,9 +231,20 @@ IsAnswerBy reading h caller command reply = MatchOption (refused_by reading h ca
 abbrev pub IsAnswer : List Entry → ℕ → Command → Reply → Type 0
 IsAnswer h caller command reply = (reading : Reading) → Reads reading h → IsAnswerBy reading h caller command reply
 
--- The reply is an answer to the command, asked so: by the rules of that version. There is one version so far, and its rules are those above.
+-- whether a command puts a text with the key `parent`
+abbrev pub puts_parent : Command → Bool
+puts_parent (PutProject project text) = has_parent_key text
+puts_parent command = false
+
+-- The reply is that of version 1 to a text with the key `parent`, which was unknown then: the text is refused for it.
+abbrev pub IsAnswerWithoutParents : List Entry → ℕ → Command → Reply → Type 0
+IsAnswerWithoutParents h caller command reply =
+    (reading : Reading) → Reads reading h → MatchOption (refused_by reading h caller command) (reply ≡ Refused (BadFile UnknownKey)) (λ refusal. reply ≡ Refused refusal)
+
+-- The reply is an answer to the command, asked so: by the rules of that version. Those of version 1 know no parents, and are otherwise those of version 2.
 abbrev pub IsAnswerIn : List Entry → Asking → Command → Reply → Type 0
-IsAnswerIn h asking command reply = IsAnswer h asking.caller command reply
+IsAnswerIn h asking command reply =
+    MatchBool (nat_lt asking.version 2 && puts_parent command) (IsAnswerWithoutParents h asking.caller command reply) (IsAnswer h asking.caller command reply)
 
 -- A history: each identity stands once, each reply is an answer after what stood before by the rules of its version, there are at most so many
 -- requests, and versions never fall. Nothing is asked of the forms of names and numbers in it, so where a history is assumed, more lists are spoken of

@@ -21,6 +21,7 @@ use Rattle.review_rows.specs.declared.rows.Counted.TheVariants as counted
 use Rattle.review_rows.specs.declared.rows.Want.{Want}
 use Rattle.review_rows.specs.declared.rows.Want.TheVariants as want
 use Rattle.review_rows.specs.declared.rows.Rows.{Rows}
+use Rattle.review_rows.specs.declared.rows.StoredFile.{StoredFile}
 use Rattle.review_rows.specs.Limits.{most_projects, most_bases}
 use Rattle.review_rows.specs.Rows.{Key, AccountKey, MemberKey, FileKey, BaseKey, PartKey, APart, Row, AccountRow, MemberRow, FileRow, BaseRow, Count, Projects, BasesOf, Tables, member_cmp, branch_cmp, base_cmp, member_row}
 
@@ -31,7 +32,7 @@ pub data Found : Type 0 where
   Holder : Option ℕ → Found
   IsSo : Bool → Found
   Members : List (ℕ × Unit {0}) → Found
-  Text : Option (List ℕ) → Found
+  Text : Option StoredFile → Found
   Commits : List (List ℕ) → Found
   AChange : Option Change → Found
   Stands : Standing → Found
@@ -180,7 +181,7 @@ IsFound t (want.AccountNamed name) = Finds Holder (IsFoundByName t.row name)
 IsFound t want.LastAccount = Finds Number (IsLast AccountKey t.row)
 IsFound t (want.Member m) = Finds IsSo (λ is. t.row (MemberKey m.group m.account) ≡ (if is then Some MemberRow else None))
 IsFound t (want.Group group) = Finds Members (HasMembers t.row group)
-IsFound t (want.File project) = Finds Text (λ text. t.row (FileKey project) ≡ option_map FileRow text)
+IsFound t (want.File project) = Finds Text (λ file. t.row (FileKey project) ≡ option_map FileRow file)
 IsFound t (want.Project project) = Finds IsSo (λ is. is_some (t.row (FileKey project)) ≡ is)
 IsFound t (want.Room counted) = Finds IsSo (λ is. nat_lt (t.count (count_of counted)) (most (count_of counted)) ≡ is)
 IsFound t (want.Base base) = Finds IsSo (IsBaseOrNot t.row base)
@@ -257,10 +258,10 @@ abbrev pub members_of : Option Found → List (ℕ × Unit {0})
 members_of (Some (Members members)) = members
 members_of found = []
 
--- the text of a file that is found
-abbrev pub text_of : Option Found → Option (List ℕ)
-text_of (Some (Text text)) = text
-text_of found = None
+-- the file that is found
+abbrev pub file_in : Option Found → Option StoredFile
+file_in (Some (Text file)) = file
+file_in found = None
 
 -- the bases of a branch that are found
 abbrev pub commits_of : Option Found → List (List ℕ)

@@ -18,6 +18,7 @@ use Rattle.review_rows.specs.declared.rows.Base.{Base}
 use Rattle.review_rows.specs.declared.rows.PlaceKey.{PlaceKey}
 use Rattle.review_rows.specs.declared.rows.Put.{Put}
 use Rattle.review_rows.specs.declared.rows.ChangeEdit.{ChangeEdit}
+use Rattle.review_rows.specs.declared.rows.StoredFile.{StoredFile}
 use Rattle.review_rows.specs.declared.rows.Delta.{Delta}
 use Rattle.review_rows.specs.declared.rows.Kept.{Kept}
 
@@ -30,11 +31,11 @@ pub data Key : Type 0 where
   PartKey : ℕ → Part → Key
   OddKey : List ℕ → Key
 
--- the rest of a row: an account's name, the text of a project's file, the commit of a base, the rest of a row of a change; a member has no more than its key, and an odd row is none of its table
+-- the rest of a row: an account's name, the text of a project's file with its parent, the commit of a base, the rest of a row of a change; a member has no more than its key, and an odd row is none of its table
 pub data Row : Type 0 where
   AccountRow : List ℕ → Row
   MemberRow : Row
-  FileRow : List ℕ → Row
+  FileRow : StoredFile → Row
   BaseRow : List ℕ → Row
   APart : PartRow → Row
   OddRow : Row

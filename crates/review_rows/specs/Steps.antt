@@ -1,5 +1,5 @@
 -- What a command or a question asks of the tables, in steps.
-use Rattle.std.specs.Prelude.{ℕ, zero, suc, Bool, true, false, ◌+◌, ◌<◌, ◌≡◌, ◌&&◌, Option, Some, None, List, [], ◌∷◌, ◌++◌, map, flat_map, option_map, option_to_list, not, is_some, length, if◌then◌else◌}
+use Rattle.std.specs.Prelude.{ℕ, zero, suc, Bool, true, false, ◌+◌, ◌<◌, ◌≡◌, ◌&&◌, Option, Some, None, List, [], ◌∷◌, ◌++◌, map, flat_map, option_map, option_and_then, option_to_list, not, is_some, length, if◌then◌else◌}
 use Rattle.std.specs.List.{All, filter}
 use Rattle.review_names.specs.Names.{administrators}
 use Rattle.review_words.specs.declared.command.Command.{Command}
@@ -15,7 +15,9 @@ use Rattle.review_chain.specs.declared.walks.Walked.{Walked}
 use Rattle.review_chain.specs.Parts.{HasWalked, Want as ChainWant, TheChange, TheCommit}
 use Rattle.review_chain.specs.Steps.{wanted, left as left_in_chain}
 use Rattle.review_changes.specs.Change.{Change, is_open}
-use Rattle.review_rows.specs.Files.{File, IsRead}
+use Rattle.review_project.specs.Inherited.{IsEffective}
+use Rattle.review_project.specs.Reading.{named_parent}
+use Rattle.review_rows.specs.Files.{File}
 use Rattle.review_words.specs.declared.command.Query.{Query}
 use Rattle.review_words.specs.declared.command.Query.TheVariants as asked
 use Rattle.review_rows.specs.declared.rows.Counted.TheVariants as counted
@@ -26,7 +28,9 @@ use Rattle.review_rows.specs.declared.rows.Rows.{Rows}
 use Rattle.review_rows.specs.declared.matter.Matter.{Matter}
 use Rattle.review_rows.specs.declared.matter.Matter.TheVariants as matter
 use Rattle.review_rows.specs.Links.{links_in}
-use Rattle.review_rows.specs.Known.{known, AreAdded, IsKnown, change_in, text_of}
+use Rattle.review_rows.specs.declared.rows.StoredFile.{StoredFile}
+use Rattle.review_rows.specs.Known.{known, AreAdded, IsKnown, change_in, file_in}
+use Rattle.review_rows.specs.Lines.{line_of, most_depth}
 
 -- what is to be answered, as a value
 pub data Topic : Type 0 where
@@ -156,10 +160,6 @@ file_wants (Some file) caller (OfCommand (Submit change)) = submit_groups file c
 file_wants (Some file) caller (OfQuery (asked.OnChange change query)) = question_groups file query
 file_wants (Some file) caller topic = []
 
--- The look-ups of a command or a question, step by step, where this file was read: what a step asks may depend on what the steps before it found.
-abbrev pub steps : Option File → Rows → ℕ → Topic → List (List Want)
-steps file rows caller topic = first_wants caller topic ∷ change_wants rows topic ∷ file_wants file caller topic ∷ []
-
 -- whether a request on a change is judged by the file of the change's project: a review only where it gives values on labels
 abbrev pub needs_file : ChangeCommand → Bool
 needs_file (Upload patch) = true
@@ -187,19 +187,56 @@ project_of rows (OfCommand (Submit change)) = project_for true (change_in (known
 project_of rows (OfQuery (asked.OnChange change query)) = project_for (asks_file query) (change_in (known rows (want.Change change)))
 project_of rows topic = None
 
--- the text of a project's file, as rows know it
-abbrev pub text_in : Rows → Option (List ℕ) → Option (List ℕ)
-text_in rows None = None
-text_in rows (Some project) = text_of (known rows (want.File project))
+-- the file that a project is known to have of its own
+abbrev pub own_in : Rows → List ℕ → Option StoredFile
+own_in rows project = file_in (known rows (want.File project))
 
--- the text of the file that is to be read
-abbrev pub text_for : Rows → Topic → Option (List ℕ)
-text_for rows topic = text_in rows (project_of rows topic)
+-- the parent that a project is known to have
+abbrev pub parent_in : Rows → List ℕ → Option (List ℕ)
+parent_in rows project = option_and_then (λ f. f.parent) (own_in rows project)
 
--- the file that is read, which is one that the text spells; none where there is no text
-abbrev pub HasFile : Option (List ℕ) → Option File → Type 0
-HasFile None file = file ≡ None
-HasFile (Some text) file = (f : File) × IsRead text f × (file ≡ Some f)
+-- the parent of a file that is there, or else this one
+abbrev pub parent_or : Option (List ℕ) → Option StoredFile → Option (List ℕ)
+parent_or named None = named
+parent_or named (Some f) = f.parent
+
+-- the parent of the project by whose file a command or a question is judged; of a project that gets its first file the one that this names
+abbrev pub parent_of : Rows → Topic → Option (List ℕ)
+parent_of rows (OfCommand (PutProject project text)) = parent_or (named_parent text) (own_in rows project)
+parent_of rows topic = option_and_then (parent_in rows) (project_of rows topic)
+
+-- the file of a project, where there is one to ask for
+abbrev pub line_wants : Option (List ℕ) → List Want
+line_wants None = []
+line_wants (Some project) = want.File project ∷ []
+
+-- what is asked of a project and its ancestors: one file in each step
+abbrev pub line_steps : Rows → ℕ → Option (List ℕ) → List (List Want)
+line_steps rows zero project = []
+line_steps rows (suc n) project = line_wants project ∷ line_steps rows n (option_and_then (parent_in rows) project)
+
+-- The look-ups of a command or a question, step by step, where this file was read: what a step asks may depend on what the steps before it found.
+abbrev pub steps : Option File → Rows → ℕ → Topic → List (List Want)
+steps file rows caller topic = first_wants caller topic ∷ change_wants rows topic ∷ (line_steps rows most_depth (parent_of rows topic) ++ file_wants file caller topic ∷ [])
+
+-- the texts of the line of a project, its own first, as rows know them
+abbrev pub texts_in : Rows → Option (List ℕ) → List (List ℕ)
+texts_in rows None = []
+texts_in rows (Some project) = line_of (own_in rows) most_depth project
+
+-- the texts of the file that is to be read, its own first
+abbrev pub texts_for : Rows → Topic → List (List ℕ)
+texts_for rows topic = texts_in rows (project_of rows topic)
+
+-- the texts of the parent from whose file a file that is put goes on
+abbrev pub texts_above : Rows → Command → List (List ℕ)
+texts_above rows (PutProject project text) = texts_in rows (parent_of rows (OfCommand (PutProject project text)))
+texts_above rows command = []
+
+-- The file that is read, which is the effective one of these texts; none where there are no texts.
+abbrev pub HasFile : List (List ℕ) → Option File → Type 0
+HasFile [] file = file ≡ None
+HasFile (text ∷ above) file = (f : File) × IsEffective (text ∷ above) f × (file ≡ Some f)
 
 -- those of some look-ups that weren't made
 abbrev pub unknown : Rows → List Want → List Want

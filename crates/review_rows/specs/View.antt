@@ -1,23 +1,23 @@
 -- The tables of a history, and what was decided.
 use Rattle.std.specs.Prelude.{ℕ, ◌+◌, ◌≡◌, List, [], ◌∷◌, Option, Some, None, length, option_map, if◌then◌else◌}
 use Rattle.review_words.specs.Texts.{content_text, reply_text}
-use Rattle.review_words.specs.History.{Entry, Identity, entry_of, is_same, latest, name_of, is_listed, file_text, project_count, bases, base_count}
+use Rattle.review_words.specs.History.{Entry, Identity, entry_of, is_same, latest, name_of, is_listed, project_count, bases, base_count}
 use Rattle.review_words.specs.declared.command.Command.{Command}
 use Rattle.review_words.specs.declared.reply.Reply.{Reply}
 use Rattle.review_rows.specs.declared.rows.Delta.{Delta}
 use Rattle.review_rows.specs.declared.rows.Rows.{Rows}
 use Rattle.review_rows.specs.Rows.{Key, AccountKey, MemberKey, FileKey, BaseKey, PartKey, OddKey, Row, AccountRow, MemberRow, FileRow, BaseRow, APart, Count, Projects, BasesOf, AnswerRow, Stored, Answered, Tables, after, count_after}
 use Rattle.review_rows.specs.Known.{at_place, part_of, Agrees}
-use Rattle.review_rows.specs.Steps.{Topic, HasFile, next, text_for}
+use Rattle.review_rows.specs.Steps.{Topic, HasFile, next, texts_for}
 use Rattle.review_rows.specs.Answer.{IsAnswerBy}
-use Rattle.review_rows.specs.Changes.{Reading, Reads, change}
+use Rattle.review_rows.specs.Changes.{Reading, Reads, change, own_of}
 use Rattle.review_rows.specs.Files.{File}
 
 -- the row of a key that the history says, by what is read of the texts that were put
 abbrev pub fact : Reading → List Entry → Key → Option Row
 fact reading h (AccountKey number) = option_map AccountRow (name_of h number)
 fact reading h (MemberKey group account) = if is_listed h group account then Some MemberRow else None
-fact reading h (FileKey project) = option_map FileRow (file_text h project)
+fact reading h (FileKey project) = option_map FileRow (own_of h project)
 fact reading h (BaseKey project branch place) = option_map BaseRow (at_place (bases h project branch) place)
 fact reading h (PartKey n part) = option_map APart (part_of (change reading h n) part)
 fact reading h (OddKey o) = None
@@ -60,7 +60,7 @@ IsView h t = (reading : Reading) → Reads reading h → IsViewBy reading h t
 pub record AreEnough (reading : Reading) (h : List Entry) (caller : ℕ) (topic : Topic) (file : Option File) (rows : Rows) : Type 0 where
   pub reads : Reads reading h
   pub agree : Agrees (view reading h) rows
-  pub file_is : HasFile (text_for rows topic) file
+  pub file_is : HasFile (texts_for rows topic) file
   pub nothing_left : next file rows caller topic ≡ []
 
 -- The reply is an answer after the history, and the delta turns its rows and counts into those of the history with the entry.

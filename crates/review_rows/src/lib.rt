@@ -15,6 +15,6 @@ pub use links::RowLinks;
 pub use matter::Matter;
 pub use rows::{
     Base, BranchKey, ChangeEdit, Counted, Delta, Kept, MemberKey, Need, PlaceKey, Put, Recalled,
-    Rows, Want,
+    Rows, StoredFile, Want,
 };
 pub use shelf::{Shelf, ShelfFault};

@@ -63,6 +63,27 @@ impl Key for Base {
     }
 }
 
+/// The text of a project's file, with the parent that it names.
+#[derive(Debug, Drop)]
+pub struct StoredFile {
+    pub text: FileText,
+    pub parent: Option<ProjectName>,
+}
+
+impl StoredFile {
+    /// The same file once more, with a text of its own. An error where there was no memory for it.
+    pub fn copy(&self, alloc: Global) -> Result<StoredFile, AllocError>
+        ensures { IfOk result (λ f. f ≡ self.now) }
+    {
+        let text = self.text.copy(alloc)?;
+        let parent = match &self.parent {
+            Some(name) => Some(name.copy(alloc)?),
+            None => None,
+        };
+        Ok(StoredFile { text, parent })
+    }
+}
+
 /// A place of a branch, which is counted from 1.
 #[derive(Debug, PartialEq, Eq, PartialOrd, Ord, Drop)]
 pub struct PlaceKey {
@@ -169,7 +190,7 @@ pub struct Rows {
     pub last_account: Option<u32>,
     pub members: Table<MemberKey, bool>,
     pub groups: Table<GroupName, Table<AccountNo, ()>>,
-    pub files: Table<ProjectName, Option<FileText>>,
+    pub files: Table<ProjectName, Option<StoredFile>>,
     pub projects: Table<ProjectName, bool>,
     pub room_for_projects: Option<bool>,
     pub room_for_bases: Table<ProjectName, bool>,
@@ -194,7 +215,7 @@ pub struct Rows {
 pub struct Delta {
     pub accounts: Vec<Change<AccountNo, AccountName>>,
     pub members: Vec<Change<MemberKey, ()>>,
-    pub file: Option<Put<ProjectName, FileText>>,
+    pub file: Option<Put<ProjectName, StoredFile>>,
     pub base: Option<Put<PlaceKey, CommitName>>,
     pub changes: Vec<ChangeEdit>,
 }

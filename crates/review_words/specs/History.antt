@@ -33,9 +33,9 @@ pub record Asking : Type 0 where
 abbrev pub asking_of : Entry → Asking
 asking_of e = record { caller = e.identity.caller; version = e.version }
 
--- the latest version of the desk, whose rules answer requests from now on
+-- the latest version of the desk, whose rules answer requests from now on; in version 1 projects had no parents
 abbrev pub latest : ℕ
-latest = 1
+latest = 2
 
 -- a request that is taken from now on, as an entry
 abbrev pub entry_of : ℕ → List ℕ → Command → Reply → Entry
