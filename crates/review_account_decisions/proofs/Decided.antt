@@ -31,7 +31,10 @@ use Rattle.review_rows.specs.Known.{known, Agrees, IsKnown, is_so, is_there, mem
 use Rattle.review_rows.specs.Steps.{OfCommand, command_wants}
 use Rattle.review_rows.proofs.Asked.{all_asked}
 use Rattle.review_rows.specs.Answer.{IsAnswerBy, IsOutcome, first_refusal, refused_by, checks}
-use Rattle.review_rows.specs.Changes.{Reading, is_known}
+use Rattle.review_rows.specs.Changes.{Reading, is_known, own_of, placed}
+use Rattle.review_rows.specs.declared.rows.StoredFile.{StoredFile}
+use Rattle.review_rows.proofs.Lined.{there_is}
+use Rattle.review_project.specs.Reading.{named_parent}
 use Rattle.review_rows.specs.Files.{File}
 use Rattle.review_rows.specs.View.{view, fact, counted, AreEnough, IsDecided}
 use Rattle.review_account_decisions.specs.Decisions.{IsEmpty, added, dropped, is_held, member_of}
@@ -223,9 +226,9 @@ put_decided {reading = reading} h caller group members rows delta l a b c d da d
 
 -- whether a project is there
 pub project_is : (reading : Reading) (h : List Entry) (project : List ℕ) → is_some (fact reading h (FileKey project)) ≡ is_project h project
-project_is reading h project = some_file (file_text h project)
+project_is reading h project = some_file (own_of h project) ∙ sym (there_is h project)
   where
-    some_file : (o : Option (List ℕ)) → is_some (option_map FileRow o) ≡ is_some o
+    some_file : (o : Option StoredFile) → is_some (option_map FileRow o) ≡ is_some o
     some_file None = refl
     some_file (Some t) = refl
 
@@ -291,7 +294,7 @@ base_decided {reading = reading} h caller project branch commit place delta is a
 -- the project has the file that is put
 pub file_decided : {reading : Reading} (h : List Entry) (caller : ℕ) (project text : List ℕ) (delta : Delta) →
     IsAnswerBy reading h caller (PutProject project text) (Done made.Nothing) →
-    delta.accounts.items ≡ [] → delta.members.items ≡ [] → delta.file ≡ Some (record { key = project; row = text }) → delta.base ≡ None → delta.changes.items ≡ [] →
+    delta.accounts.items ≡ [] → delta.members.items ≡ [] → delta.file ≡ Some (record { key = project; row = record { text = text; parent = named_parent text } }) → delta.base ≡ None → delta.changes.items ≡ [] →
     IsDecided reading h caller (PutProject project text) delta (Done made.Nothing)
 file_decided {reading = reading} h caller project text delta is da dm df db dc = record {
   reply_is = is;
@@ -303,7 +306,7 @@ file_decided {reading = reading} h caller project text delta is da dm df db dc =
     counts Projects = ap (λ b. cond b (project_count h) (project_count h + 1)) (sym (project_is reading h project)) ∙ sym (ap (λ o. count_put (λ p. true) o (λ p. fact reading h (FileKey p)) (project_count h)) df)
     counts (BasesOf p) = sym (no_base_more delta db (fact reading h) p (base_count h p))
 
-    file_where : (b : Bool) (o : Option (List ℕ)) → option_map FileRow (cond b (Some text) o) ≡ cond b (Some (FileRow text)) (option_map FileRow o)
+    file_where : (b : Bool) (o : Option (List ℕ)) → option_map FileRow (placed (cond b (Some text) o)) ≡ cond b (Some (FileRow (record { text = text; parent = named_parent text }))) (option_map FileRow (placed o))
     file_where true o = refl
     file_where false o = refl
 
@@ -313,7 +316,7 @@ file_decided {reading = reading} h caller project text delta is da dm df db dc =
     rows (FileKey p) =
         file_where (bytes_eq project p) (file_text h p)
         ∙ sym (ap (λ o. after_put (slice_cmp nat_cmp) FileRow o p (fact reading h (FileKey p))) df
-        ∙ ap (λ t. cond t (Some (FileRow text)) (fact reading h (FileKey p))) (is_eq-slice_cmp project p))
+        ∙ ap (λ t. cond t (Some (FileRow (record { text = text; parent = named_parent text }))) (fact reading h (FileKey p))) (is_eq-slice_cmp project p))
     rows (BaseKey p b n) = sym (no_base delta db p b n (fact reading h (BaseKey p b n)))
     rows (PartKey m part) = sym (ap (λ es. after_change (option_map (option_map APart) (edited es m part)) (fact reading h (PartKey m part))) dc)
     rows (OddKey o) = refl

@@ -17,7 +17,7 @@ use Rattle.review_project.specs.declared.parts.Right.TheVariants as right
 use Rattle.review_changes.specs.Change.{Change, begun}
 use Rattle.review_changes.specs.Parts.{Part, part_row}
 use Rattle.review_rows.specs.Answer.{first_refusal, has_right, refused_by}
-use Rattle.review_rows.specs.Changes.{Reading, change, change_count, is_known}
+use Rattle.review_rows.specs.Changes.{Reading, change, change_count, is_known, own_of, texts_of}
 use Rattle.review_rows.specs.Files.{File}
 use Rattle.review_rows.specs.Known.{known, IsKnown, number_of, part_of}
 use Rattle.review_rows.specs.Rows.{Key, AccountKey, MemberKey, FileKey, BaseKey, PartKey, OddKey, APart, Count, Projects, BasesOf, account_change, member_change, edited, after, count_after, part_change, member_cmp}
@@ -28,9 +28,11 @@ use Rattle.review_rows.specs.declared.rows.ChangeEdit.{ChangeEdit}
 use Rattle.review_rows.specs.declared.rows.Delta.{Delta}
 use Rattle.review_rows.specs.declared.rows.Rows.{Rows}
 use Rattle.review_rows.specs.declared.rows.Want.TheVariants as want
-use Rattle.review_rows.proofs.Asked.{file_asked}
+use Rattle.review_rows.proofs.Asked.{file_asked, line_asked}
 use Rattle.review_account_decisions.proofs.Decided.{asked_beside, outcome_answer}
-use Rattle.review_account_decisions.proofs.Told.{text_told}
+use Rattle.review_rows.proofs.Lined.{texts_told, there_is}
+use Rattle.review_rows.specs.Lines.{line_of, with_above}
+use Rattle.review_rows.specs.declared.rows.StoredFile.{StoredFile}
 use Rattle.review_change_laws.proofs.Sound.{all_pass}
 use Rattle.review_change_laws.proofs.There.{change_there, is_up_to}
 use Rattle.review_change_decisions.specs.Facts.{create_checks, known_in, right_in}
@@ -47,26 +49,45 @@ checks_are : (reading : Reading) (h : List Entry) (caller : ℕ) (new : NewChang
     refused_by reading h caller (CreateChange new) ≡ refusal_of a b c d e f g
 checks_are reading h caller new a b c d e f g p q r s t u v = λ i. refusal_of (p i) (q i) (r i) (s i) (t i) (u i) (v i)
 
--- no file is read where there is no text, and one where there is one
-pub no_text : (text : Option (List ℕ)) → HasFile text None → text ≡ None
-no_text None has = refl
-no_text (Some t) has = let bad = has.2 in absurd (cc)
+-- no file is read where there are no texts, and one where there are some
+pub no_text : (texts : List (List ℕ)) → HasFile texts None → texts ≡ []
+no_text [] has = refl
+no_text (t ∷ ts) has = let bad = has.2 in absurd (cc)
 
-some_text : (text : Option (List ℕ)) (f : File) → HasFile text (Some f) → is_some text ≡ true
-some_text None f has = absurd (cc)
-some_text (Some t) f has = refl
+-- whether there are texts
+has_texts : List (List ℕ) → Bool
+has_texts [] = false
+has_texts (t ∷ ts) = true
+
+-- a project has texts where it is there
+texts_there : (h : List Entry) (project : List ℕ) → is_project h project ≡ has_texts (texts_of h project)
+texts_there h project = there_is h project ∙ by (own_of h project)
+  where
+    by : (o : Option StoredFile) → is_some o ≡ has_texts (with_above o (line_of (own_of h) 7))
+    by None = refl
+    by (Some f) = refl
+
+pub no_project : (h : List Entry) (project : List ℕ) → HasFile (texts_of h project) None → is_project h project ≡ false
+no_project h project has = texts_there h project ∙ ap has_texts (no_text (texts_of h project) has)
+
+some_project : (h : List Entry) (project : List ℕ) (f : File) → HasFile (texts_of h project) (Some f) → is_project h project ≡ true
+some_project h project f has = texts_there h project ∙ by (texts_of h project) has
+  where
+    by : (ts : List (List ℕ)) → HasFile ts (Some f) → has_texts ts ≡ true
+    by [] has = absurd (let none : Some f ≡ None = has in cc)
+    by (t ∷ ts) has = refl
 
 refused_at : OneFile → (reading : Reading) (h : List Entry) (caller : ℕ) (new : NewChange) (had o : Option File) (rows : Rows) → is_account h caller ≡ true → AreEnough reading h caller (OfCommand (CreateChange new)) had rows →
-    HasFile (file_text h new.project) o → AllByRecursion (IsKnown rows) (command_wants (CreateChange new)) → AllByRecursion (IsKnown rows) (file_wants o caller (OfCommand (CreateChange new))) →
+    HasFile (texts_of h new.project) o → AllByRecursion (IsKnown rows) (command_wants (CreateChange new)) → AllByRecursion (IsKnown rows) (file_wants o caller (OfCommand (CreateChange new))) →
     refused_by reading h caller (CreateChange new) ≡ first_refusal (create_checks o rows caller new)
 refused_at one reading h caller new had None rows account l has all asked =
     checks_are reading h caller new true false (is_branch h new.project new.branch) (has_right reading h new.project right.Create caller) (is_known reading h new.project new.branch new.commit)
-    (is_known reading h new.project new.branch new.parent) (nat_lt (change_count h) most_changes) account (ap is_some (no_text (file_text h new.project) has)) refl refl refl refl refl
+    (is_known reading h new.project new.branch new.parent) (nat_lt (change_count h) most_changes) account (no_project h new.project has) refl refl refl refl refl
 refused_at one reading h caller new had (Some f) rows account l has all asked =
     checks_are reading h caller new true true
     (nat_le 1 (number_of (known rows (want.LastPlace (record { project = new.project; branch = new.branch }))))) (right_in rows f right.Create caller)
     (known_in rows new.project new.branch new.commit) (known_in rows new.project new.branch new.parent) (nat_lt (number_of (known rows want.LastChange)) most_changes)
-    account (some_text (file_text h new.project) f has)
+    account (some_project h new.project f has)
     (sym (branch_told reading h rows new.project new.branch l.agree all.0))
     (sym (right_told one reading h rows new.project f right.Create caller l.reads l.agree has asked))
     (sym (known_told reading h rows new.project new.branch new.commit l.agree all.1.1.1.0 all.1.1.1.1.0))
@@ -79,7 +100,7 @@ pub refused_told : OneFile → (reading : Reading) (h : List Entry) (caller : �
 refused_told one reading h caller new had rows account l =
     let all = asked_beside h caller (CreateChange new) rows l in
     refused_at one reading h caller new had had rows account l
-    (subst (λ t. HasFile t had) (text_told reading h rows new.project l.agree all.1.1.0) l.file_is) all (file_asked had rows caller (OfCommand (CreateChange new)) l.nothing_left)
+    (subst (λ t. HasFile t had) (texts_told reading h rows l.agree new.project all.1.1.0 (line_asked had rows caller (OfCommand (CreateChange new)) l.nothing_left)) l.file_is) all (file_asked had rows caller (OfCommand (CreateChange new)) l.nothing_left)
 
 -- where no check refuses, there is a number left
 pub number_left : (had : Option File) (rows : Rows) (caller : ℕ) (new : NewChange) → first_refusal (create_checks had rows caller new) ≡ None → nat_lt (number_of (known rows want.LastChange)) most_changes ≡ true

@@ -1,6 +1,6 @@
 -- What the rows of a question about a change tell of the history.
-use Rattle.std.proofs.Common.{◌≡◌, ◌⊎◌, inl, inr, ℕ, List, [], Option, Some, None, true, false, refl, sym, ap, ◌∙◌, subst, ⊎_elim, unwrap_or}
-use Rattle.std.specs.Prelude.{is_some, option_map, IfErr, Result}
+use Rattle.std.proofs.Common.{◌≡◌, ◌⊎◌, inl, inr, ℕ, List, [], ◌∷◌, Option, Some, None, true, false, refl, sym, ap, ◌∙◌, subst, ⊎_elim}
+use Rattle.std.specs.Prelude.{is_some, option_and_then, IfErr, Result}
 use Rattle.std.specs.Result.{IsErr, IsErrAnd}
 use Rattle.std.proofs.lemmas.Result.{err_from_is_err_and}
 use Rattle.std.specs.List.{AllByRecursion}
@@ -9,29 +9,32 @@ use Rattle.review_words.specs.declared.command.ChangeQuery.TheVariants.{Change a
 use Rattle.review_words.specs.declared.command.Query.TheVariants as asked
 use Rattle.review_words.specs.declared.reply.NotTaken.{NotTaken as Cause}
 use Rattle.review_words.specs.declared.reply.NotTaken.TheVariants.{Damaged, Memory}
-use Rattle.review_words.specs.History.{Entry, file_text}
+use Rattle.review_words.specs.History.{Entry, is_project}
 use Rattle.review_project.specs.Trees.{file_trees}
 use Rattle.review_changes.specs.Change.{Change}
 use Rattle.review_changes.specs.Sound.{IsSound}
 use Rattle.review_rows.specs.Answer.{IsHistory}
-use Rattle.review_rows.specs.Changes.{Reading, Reads, change, file_of}
+use Rattle.review_rows.specs.Changes.{Reading, Reads, change, file_of, own_of, texts_of}
+use Rattle.review_rows.specs.Lines.{line_of, most_depth, with_above}
+use Rattle.review_rows.specs.declared.rows.StoredFile.{StoredFile}
+use Rattle.review_rows.proofs.Lined.{texts_told, there_is}
+use Rattle.review_ancestors.proofs.Effective.{OneEffective, same_file}
+use Rattle.std.specs.Option.{option_map_or}
 use Rattle.review_rows.specs.Decisions.{IsUnshown}
-use Rattle.review_rows.specs.Files.{File, IsRead}
+use Rattle.review_rows.specs.Files.{File}
 use Rattle.review_rows.specs.Known.{IsKnown, change_in, known}
-use Rattle.review_rows.specs.Steps.{HasFile, OfQuery, question_wants, text_in, wants_by}
+use Rattle.review_rows.specs.Steps.{HasFile, OfQuery, line_steps, parent_in, project_for, question_wants, texts_in, unknown, wants_by}
 use Rattle.review_rows.specs.View.{AreEnough, view}
 use Rattle.review_rows.specs.declared.rows.Rows.{Rows}
 use Rattle.review_rows.specs.declared.rows.Want.TheVariants as want
-use Rattle.review_rows.proofs.Asked.{all_asked, change_asked, found_of}
-use Rattle.review_rows.proofs.Readings.{read_of}
-use Rattle.review_account_decisions.proofs.Told.{text_told}
+use Rattle.review_rows.proofs.Asked.{all_asked, change_asked, found_of, line_asked}
 use Rattle.review_change_laws.proofs.Projects.{has_project}
 use Rattle.review_change_laws.proofs.Same.{rows_tell}
 use Rattle.review_questions.specs.Told.{LacksFile}
 
 -- the files that a text spells have the same trees
 abbrev pub OneFile : Type 0
-OneFile = (text : List ℕ) (f g : File) → IsRead text f → IsRead text g → file_trees f ≡ file_trees g
+OneFile = OneEffective
 
 -- every change of a history is sound
 abbrev pub ChangesAreSound : Type 0
@@ -52,26 +55,36 @@ unsound_unshown law caller n query had rows c e found =
     (λ d. subst (λ x. IsUnshown caller (asked.OnChange n query) had rows x) (sym d.0)
     (λ reading h history l. d.1 (law reading h n c history l.reads (sym (change_told reading h caller n query had rows l) ∙ found))))
 
-no_text : (text : Option (List ℕ)) → HasFile text None → text ≡ None
-no_text None has = refl
-no_text (Some t) has = let bad = has.2 in absurd (cc)
+no_text : (texts : List (List ℕ)) → HasFile texts None → texts ≡ []
+no_text [] has = refl
+no_text (t ∷ ts) has = let bad = has.2 in absurd (cc)
 
 -- the file that was read is that of the change's project
 pub has_file : (reading : Reading) (h : List Entry) (caller n : ℕ) (had : Option File) (rows : Rows) (c : Change) → change_in (known rows (want.Change n)) ≡ Some c → AreEnough reading h caller (OfQuery (asked.OnChange n Requirements)) had rows →
-    HasFile (file_text h c.project) had
+    HasFile (texts_of h c.project) had
 has_file reading h caller n had rows c found l =
     let there : IsKnown rows (want.File c.project) =
     (subst (AllByRecursion (IsKnown rows)) (ap (wants_by (question_wants Requirements)) found) (change_asked had rows caller (OfQuery (asked.OnChange n Requirements)) l.nothing_left)).0 in
-    subst (λ t. HasFile t had) (ap (λ o. text_in rows (option_map (λ (x : Change). x.project) o)) found ∙ text_told reading h rows c.project l.agree there) l.file_is
+    let start : project_for true (change_in (known rows (want.Change n))) ≡ Some c.project = ap (project_for true) found in
+    let line = line_asked had rows caller (OfQuery (asked.OnChange n Requirements)) l.nothing_left in
+    subst (λ t. HasFile t had)
+    (ap (texts_in rows) start
+    ∙ texts_told reading h rows l.agree c.project there (subst (λ o. AllByRecursion (λ s. unknown rows s ≡ []) (line_steps rows most_depth (option_and_then (parent_in rows) o))) start line)) l.file_is
+
+-- a project that is there has texts
+some_texts : (h : List Entry) (project : List ℕ) → is_project h project ≡ true → texts_of h project ≡ [] → ⊥
+some_texts h project is = by (own_of h project) (sym (there_is h project) ∙ is)
+  where
+    by : (o : Option StoredFile) → is_some o ≡ true → with_above o (line_of (own_of h) 7) ≡ [] → ⊥
+    by None some none = let e : false ≡ true = some in absurd (cc)
+    by (Some f) some none = absurd (cc)
 
 -- no change of a history is of a project without a file
 lacks_file : (caller n : ℕ) (query : ChangeQuery) (had : Option File) (rows : Rows) (c : Change) → change_in (known rows (want.Change n)) ≡ Some c → LacksFile had query →
     (reading : Reading) (h : List Entry) → IsHistory h → AreEnough reading h caller (OfQuery (asked.OnChange n query)) had rows → ⊥
 lacks_file caller n Requirements None rows c found lacks reading h history l =
-    let none = no_text (file_text h c.project) (has_file reading h caller n None rows c found l) in
-    let some : is_some (file_text h c.project) ≡ true = has_project reading h n c history l.reads (sym (change_told reading h caller n Requirements None rows l) ∙ found) in
-    let bad : false ≡ true = sym (ap is_some none) ∙ some in
-    absurd (cc)
+    some_texts h c.project (has_project reading h n c history l.reads (sym (change_told reading h caller n Requirements None rows l) ∙ found))
+    (no_text (texts_of h c.project) (has_file reading h caller n None rows c found l))
 lacks_file caller n Requirements (Some f) rows c found lacks reading h history l = lacks
 lacks_file caller n TheChange None rows c found lacks reading h history l = lacks
 lacks_file caller n TheChange (Some f) rows c found lacks reading h history l = lacks
@@ -94,14 +107,8 @@ untold law caller n query had rows c e found =
     (λ d. ⊎_elim (λ u. unsound_unshown law caller n query had rows c e found (inr (d.0, u))) (λ l. missing_unshown caller n query had rows c e found (inr (d.0, l))) d.1)
 
 -- the file that was read has the trees of the one that is read
-pub same_trees : OneFile → (reading : Reading) (h : List Entry) (project : List ℕ) (file : File) → Reads reading h → HasFile (file_text h project) (Some file) → file_trees file ≡ file_trees (file_of reading h project)
-same_trees one reading h project file reads has = at (file_text h project) refl has
-  where
-    at : (o : Option (List ℕ)) → file_text h project ≡ o → HasFile o (Some file) → file_trees file ≡ file_trees (reading (unwrap_or (file_text h project) []))
-    at None is has = absurd (cc)
-    at (Some text) is has =
-        let same : file ≡ has.0 = cc in
-        ap file_trees same ∙ (one text has.0 (reading text) has.1 (read_of reading h project text reads is) ∙ ap (λ o. file_trees (reading (unwrap_or o []))) (sym is))
+pub same_trees : OneFile → (reading : Reading) (h : List Entry) (project : List ℕ) (file : File) → Reads reading h → HasFile (texts_of h project) (Some file) → file_trees file ≡ file_trees (file_of reading h project)
+same_trees one reading h project file reads has = same_file one reading h project file reads has
 
 -- an error that is known
 pub err_with : {T : Type 0} (P : Cause → Type 0) (r : Result T Cause) (e : Cause) → IsErr r × IsErrAnd r (λ d. d ≡ e) → P e → IfErr r P

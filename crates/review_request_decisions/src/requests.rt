@@ -24,7 +24,7 @@ use review_change_laws::changes_are_sound;
 use review_changes::ChangeRows;
 use review_core::ChangeFile;
 use review_file::ProjectFile;
-use review_project_laws::one_file;
+use review_inheritance::one_effective_file;
 use review_rows::{Delta, Rows};
 use review_words::{AccountNo, Answer, ChangeCommand, ChangeNo, NotTaken, Refusal, Reply};
 use std::alloc::{AllocError, Global};
@@ -85,7 +85,7 @@ fn request(
     ensures refused { IfOk result (λ r. HasNoEffect r.1 r.0) }
     ensures once { IfOk result (λ r. NamesEachOnce r.0) }
 {
-    one_file();
+    one_effective_file();
     changes_are_sound();
     let Some(found) = rows.change(change) else {
         return Ok(refused(alloc, Refusal::NoChange));

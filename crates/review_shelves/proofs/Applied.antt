@@ -21,6 +21,7 @@ use Rattle.review_rows.specs.declared.rows.Delta.{Delta}
 use Rattle.review_rows.specs.declared.rows.Kept.{Kept}
 use Rattle.review_rows.specs.declared.rows.PlaceKey.{PlaceKey}
 use Rattle.review_rows.specs.declared.rows.Put.{Put}
+use Rattle.review_rows.specs.declared.rows.StoredFile.{StoredFile}
 use Rattle.review_rows.specs.Rows.{Key, AccountKey, MemberKey, FileKey, BaseKey, PartKey, OddKey, Row, AccountRow, FileRow, BaseRow, APart, Count, Projects, BasesOf, AnswerRow, Answered, Tables, member_cmp, member_row, member_change, account_change, after_put, count_put, place_cmp, after, count_after, kept_row}
 use Rattle.review_rows.specs.Shelf.{IsCommitted}
 use Rattle.review_changes.specs.Parts.{PartRow}
@@ -119,7 +120,7 @@ change_put : {X : Type 0} (kind : X → Row) (b : Bool) (row : X) (was : Option 
 change_put kind true row was = refl
 change_put kind false row was = refl
 
-file_row_after : (put : Option (Put (List ℕ) (List ℕ))) (project : List ℕ) (was : Option (List ℕ)) →
+file_row_after : (put : Option (Put (List ℕ) StoredFile)) (project : List ℕ) (was : Option StoredFile) →
     option_map FileRow (changed (slice_cmp nat_cmp) (file_changes put) project was) ≡ after_put (slice_cmp nat_cmp) FileRow put project (option_map FileRow was)
 file_row_after None project was = refl
 file_row_after (Some put) project was = change_put FileRow (is_at (slice_cmp nat_cmp put.key) project) put.row was

@@ -10,6 +10,7 @@ use Rattle.review_words.specs.History.{Identity}
 use Rattle.review_rows.specs.declared.rows.MemberKey.{MemberKey as Member}
 use Rattle.review_rows.specs.declared.rows.PlaceKey.{PlaceKey}
 use Rattle.review_rows.specs.declared.rows.Put.{Put}
+use Rattle.review_rows.specs.declared.rows.StoredFile.{StoredFile}
 use Rattle.review_rows.specs.declared.rows.Delta.{Delta}
 use Rattle.review_rows.specs.declared.rows.Kept.{Kept}
 use Rattle.review_rows.specs.Rows.{Key, AccountKey, MemberKey, FileKey, BaseKey, PartKey, OddKey, Row, AccountRow, FileRow, BaseRow, APart, Count, Projects, BasesOf, AnswerRow, Stored, Answered, Tables, member_cmp, member_row, kept_row}
@@ -35,7 +36,7 @@ answer_cmp a b = ordering_then (nat_cmp a.caller b.caller) (slice_cmp nat_cmp a.
 pub record Desk : Type 0 where
   pub accounts : List (ℕ × List ℕ)
   pub members : List (Member × Unit {0})
-  pub files : List (List ℕ × List ℕ)
+  pub files : List (List ℕ × StoredFile)
   pub branches : BranchesView
   pub changes : List (ℕ × ChangeTables)
   pub projects : ℕ
@@ -61,7 +62,7 @@ stored_row i None = None
 stored_row i (Some s) = Some (record { identity = i; request = s.request; content = string_bytes s.content; reply = string_bytes s.reply })
 
 -- the row of a project's file, among rows
-abbrev pub file_row : List (List ℕ × List ℕ) → List ℕ → Option Row
+abbrev pub file_row : List (List ℕ × StoredFile) → List ℕ → Option Row
 file_row files project = option_map FileRow (row_in (slice_cmp nat_cmp) files project)
 
 -- the row of a key
@@ -166,7 +167,7 @@ pub record PutsAnswer (kept : Kept) (c : Change AnswerKey StoredAnswer) : Type 0
   pub row : stored_row (kept_row kept).identity c.row ≡ Some (kept_row kept)
 
 -- the change of a project's file
-abbrev pub file_changes : Option (Put (List ℕ) (List ℕ)) → List (Change (List ℕ) (List ℕ))
+abbrev pub file_changes : Option (Put (List ℕ) StoredFile) → List (Change (List ℕ) StoredFile)
 file_changes None = []
 file_changes (Some put) = record { key = put.key; row = Some put.row } ∷ []
 

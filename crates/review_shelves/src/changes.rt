@@ -7,9 +7,9 @@ ghost use Rattle.review_shelves.specs.Desk.{IsNumber, IsHeld, IsGiven, AreChange
 
 use crate::keys::{AnswerKey, NameKey, StoredAnswer};
 use review_kept_changes::{KeptChanges, Prepared};
-use review_rows::{Delta, Kept, MemberKey, Put};
+use review_rows::{Delta, Kept, MemberKey, Put, StoredFile};
 use review_table::{Change, Key, Table};
-use review_words::{AccountName, AccountNo, FileText, ProjectName};
+use review_words::{AccountName, AccountNo, ProjectName};
 use std::alloc::{AllocError, Global};
 
 /// The changes of a delta but for the base of a branch, and the row of its request.
@@ -17,7 +17,7 @@ use std::alloc::{AllocError, Global};
 pub struct Changes {
     pub accounts: Vec<Change<AccountNo, AccountName>>,
     pub members: Vec<Change<MemberKey, ()>>,
-    pub files: Vec<Change<ProjectName, FileText>>,
+    pub files: Vec<Change<ProjectName, StoredFile>>,
     pub edits: Prepared,
     pub answers: Vec<Change<AnswerKey, StoredAnswer>>,
 }
@@ -109,8 +109,8 @@ fn copied_member(
 
 fn copied_file(
     alloc: Global,
-    file: &Option<Put<ProjectName, FileText>>,
-) -> Result<Vec<Change<ProjectName, FileText>>, AllocError>
+    file: &Option<Put<ProjectName, StoredFile>>,
+) -> Result<Vec<Change<ProjectName, StoredFile>>, AllocError>
     ensures { IfOk result (λ v. v.items ≡ file_changes file.now) }
 {
     match file {

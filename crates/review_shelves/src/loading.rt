@@ -16,7 +16,7 @@ use crate::tables::MemoryTables;
 use review_chain::Standing;
 use review_rows::{Base, BranchKey, Counted, MemberKey, Need, Rows, ShelfFault, Want};
 use review_table::{Key, Table};
-use review_words::{AccountName, AccountNo, ChangeNo, FileText, GroupName, ProjectName};
+use review_words::{AccountName, AccountNo, ChangeNo, GroupName, ProjectName};
 use std::alloc::{AllocError, Global};
 
 /// The most projects of a desk.

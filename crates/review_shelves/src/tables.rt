@@ -17,10 +17,10 @@ use crate::changes::{Changes, names_given, names_held};
 use crate::keys::{AnswerKey, NameKey, StoredAnswer};
 use review_kept_branches::Branches;
 use review_kept_changes::{KeptChanges, Prepared};
-use review_rows::{Delta, Kept, MemberKey, PlaceKey, Put, Recalled};
+use review_rows::{Delta, Kept, MemberKey, PlaceKey, Put, Recalled, StoredFile};
 use review_table::{Key, Table};
 use review_words::{
-    AccountName, AccountNo, CommitName, FileText, ProjectName, RequestId, admin_name,
+    AccountName, AccountNo, CommitName, ProjectName, RequestId, admin_name,
     administrators,
 };
 use std::alloc::{AllocError, Global};
@@ -32,7 +32,7 @@ pub struct MemoryTables {
     pub accounts: Table<AccountNo, AccountName>,
     pub names: Table<NameKey, ()>,
     pub members: Table<MemberKey, ()>,
-    pub files: Table<ProjectName, FileText>,
+    pub files: Table<ProjectName, StoredFile>,
     pub branches: Branches,
     pub changes: KeptChanges,
     /// How many projects have a file.
@@ -113,7 +113,7 @@ impl MemoryTables {
     }
 
     /// How many projects there are once one gets a file.
-    fn projects_with(&self, file: &Option<Put<ProjectName, FileText>>) -> u64
+    fn projects_with(&self, file: &Option<Put<ProjectName, StoredFile>>) -> u64
         requires { self.now.projects < 2 ^ 64 - 1 }
         ensures { result ≡ count_put (λ p. true) file.now (λ p. row_of (desk_of self.now) (FileKey p)) self.now.projects }
     {
@@ -359,7 +359,7 @@ fn first_members(alloc: Global) -> Result<Table<MemberKey, ()>, AllocError>
 }
 
 // Drops the place of a project's file, where it holds none.
-fn release_file(files: &mut Table<ProjectName, FileText>, file: &Option<Put<ProjectName, FileText>>)
+fn release_file(files: &mut Table<ProjectName, StoredFile>, file: &Option<Put<ProjectName, StoredFile>>)
     ensures same { rows_of files.new ≡ rows_of files.old }
     ensures filled { HasEmptyOnly (slice_cmp nat_cmp) (is_named (slice_cmp nat_cmp) (file_changes file.now)) files.old → HasNoEmptyPlace (slice_cmp nat_cmp) files.new }
 {
