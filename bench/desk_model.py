@@ -1,6 +1,12 @@
 """A model of the desk, written from its rules alone: it keeps all in dictionaries, and goes over all of it for each answer. `bench/model` compares the desk with it."""
+import collections
+import itertools
 import json
 import re
+
+# A project file: of each label its values, copy condition and grants; the rights; of each submit requirement its conditions; the parent, and the
+# requirements that children may override.
+File = collections.namedtuple("File", "labels access requirements parent overridable", defaults=(None, ()))
 
 # ---- project files: what the model knows of them, and their texts
 
@@ -48,9 +54,10 @@ def shown(value):
     return f"+{value}" if value > 0 else str(value)
 
 
-def text_of(labels, access, requirements):
+def text_of(labels, access, requirements, parent=None, overridable=()):
     """The text of a project file."""
-    lines = ["[access]"]
+    lines = [f'parent = "{parent}"'] if parent else []
+    lines.append("[access]")
     lines += [f"{right} = {json.dumps(groups)}" for right, groups in access.items()]
     for name, (values, condition, grants) in labels.items():
         lines.append(f"[label.{name}]")
@@ -63,12 +70,32 @@ def text_of(labels, access, requirements):
     for name, conditions in requirements.items():
         lines.append(f"[submit-requirement.{name}]")
         lines += [f"{key} = {json.dumps(it, ensure_ascii=False)}" for key, it in zip(("applicableIf", "overrideIf", "submittableIf"), conditions) if it is not None]
+        lines += ["canOverrideInChildProjects = true"] if name in overridable else []
     return "\n".join(lines) + "\n"
 
 
-FILES = {text_of(labels, access, REQUIREMENTS[name]): (labels, access, REQUIREMENTS[name]) for name, labels in LABELS.items() for access in ACCESS.values()}
+def by_text(files):
+    return {text_of(*file): file for file in files}
+
+
 EASY_FILE = text_of(LABELS["easy"], ACCESS["open"], REQUIREMENTS["easy"])
+ROOTS = by_text(File(labels, access, REQUIREMENTS[name], None, may) for may in ((), ("Code-Review", "Talked", "Two")) for name, labels in LABELS.items() for access in ACCESS.values())
+# Files that go on from others: little of their own, which takes the place of what they get, or counts for nothing.
+OWN_LABELS = [{}, {"Notes": (range(-1, 2), "is:ANY", {"Bots": (-1, 1)})}, {"Code-Review": (range(-2, 3), None, {"Core": (-2, 2)}), "Own": (range(0, 2), None, {"Core": (0, 1)})}]
+OWN_REQUIREMENTS = [
+    {}, {"Code-Review": (None, None, "is:true"), "Own": ("branch:main", None, "label:Notes=1")}, {"Talked": (None, None, "label:Own=1"), "Docs": ("is:false", None, "is:true")},
+    {"Sent": (None, None, "label:Elsewhere=1")}]
+CHILDREN = by_text(
+    File(labels, access, requirements, parent, may)
+    for parent in ("tools", "kid", "lib/a", "gone")
+    for labels, access, requirements, may in itertools.product(OWN_LABELS, ({}, {"create": ["Bots"], "submit": ["Core"]}), OWN_REQUIREMENTS, ((), ("Own", "Talked"))))
+# Projects of which each is the parent of the next.
+LINE = by_text(File({}, {}, {}, f"p{above}" if above else None) for above in range(9))
+FILES = {**ROOTS, **CHILDREN, **LINE}
+MOST_DEPTH = 8
 BAD_FILES = {
+    'parent = "a b"\n': {"reason": "BAD_NAME"},
+    "parent = 3\n": {"reason": "UNKNOWN_KEY"},
     "[access\n": {"reason": "TOML"},
     'color = "red"\n': {"reason": "UNKNOWN_KEY"},
     '[submit-requirement.A]\nsubmittableIf = "label:B=MAX"\n': {"reason": "UNKNOWN_LABEL"},
@@ -183,6 +210,7 @@ NUMBERS = {
     "UNKNOWN_CALLER": 1, "NOT_ADMIN": 2, "NO_PROJECT": 3, "NO_BRANCH": 4, "NO_CHANGE": 5, "NO_PATCH_SET": 6, "NO_ACCOUNT": 7, "NO_COMMENT": 8,
     "NOT_ALLOWED": 9, "CLOSED": 10, "SAME_STATE": 11, "WORK_IN_PROGRESS": 12, "STALE_PATCH_SET": 13, "NO_LABEL": 14, "VALUE_OUT": 15, "VOTE_RESTRICTED": 16, "COMMIT_KNOWN": 17, "UNKNOWN_PARENT": 18,
     "CHAIN_OUTDATED": 19, "CHAIN_ABANDONED": 20, "CHAIN_WIP": 21, "CHAIN_TOO_LONG": 22, "REQUIREMENT_UNSATISFIED": 23, "NOT_ELIGIBLE": 24, "NAME_TAKEN": 25, "BAD_FILE": 26, "LABEL_NARROWED": 27,
+    "NO_PARENT": 29, "PARENT_FIXED": 30, "PARENT_DEPTH": 31,
 }
 
 
@@ -211,7 +239,23 @@ class Desk:
         return group == "Registered-Users" or account in self.groups.get(group, ())
 
     def may(self, project, right, account):
-        return any(self.is_in(group, account) for group in self.projects[project][1].get(right, []))
+        return any(self.is_in(group, account) for group in self.file(project).access.get(right, []))
+
+    def file(self, project):
+        """What a project's file amounts to, with its parent's."""
+        own = self.projects[project]
+        return self.inherited(own) if own.parent else own
+
+    def inherited(self, own):
+        above = self.file(own.parent)
+        counting = {name: it for name, it in own.requirements.items() if name not in above.requirements or name in above.overridable}
+        overridable = {name for name in {**above.requirements, **counting} if name in (own if name in counting else above).overridable}
+        access = {right: above.access.get(right, []) + own.access.get(right, []) for right in {**above.access, **own.access}}
+        return File({**above.labels, **own.labels}, access, {**above.requirements, **counting}, own.parent, overridable)
+
+    def depth(self, project):
+        above = self.projects[project].parent
+        return 1 + (self.depth(above) if above else 0)
 
     def is_known(self, project, branch, commit):
         if commit in self.bases.get((project, branch), []):
@@ -260,7 +304,7 @@ class Desk:
             "uploader": last["uploader"], "votes": votes, "work_in_progress": change["wip"]}
 
     def show_requirements(self, number, change):
-        labels, _, requirements = self.projects[change["project"]]
+        labels, _, requirements, *_ = self.file(change["project"])
         last = change["patches"][-1]
         facts = {
             "labels": labels, "votes": last["votes"], "owner": change["owner"], "uploader": last["uploader"], "branch": change["branch"],
@@ -293,10 +337,18 @@ class Desk:
         self.unless_admin(caller)
         if body["file"] in BAD_FILES:
             raise Refused("BAD_FILE", **BAD_FILES[body["file"]])
-        labels = FILES[body["file"]][0]
-        for name, (values, _, _) in self.projects.get(line["project"], ({}, {}))[0].items():
+        project, own = line["project"], FILES[body["file"]]
+        unless(project in self.projects and self.projects[project].parent != own.parent, "PARENT_FIXED")
+        if own.parent:
+            unless(own.parent not in self.projects, "NO_PARENT")
+            unless(self.depth(own.parent) == MOST_DEPTH, "PARENT_DEPTH")
+            known = {**self.file(own.parent).labels, **own.labels}
+            if any(name not in known for conditions in own.requirements.values() for name in re.findall(r"label:([A-Za-z-]+)", " ".join(it for it in conditions if it))):
+                raise Refused("BAD_FILE", reason="UNKNOWN_LABEL")
+        labels = (self.inherited(own) if own.parent else own).labels
+        for name, (values, _, _) in self.file(project).labels.items() if project in self.projects else []:
             unless(name not in labels or not set(values) <= set(labels[name][0]), "LABEL_NARROWED")
-        self.projects[line["project"]] = FILES[body["file"]]
+        self.projects[project] = own
         return {}
 
     def RecordBase(self, line, caller, body):
@@ -342,7 +394,7 @@ class Desk:
         unless(change["state"] != "NEW", "CLOSED")
         unless(self.is_known(project, change["branch"], body["commit"]), "COMMIT_KNOWN")
         unless(not self.is_known(project, change["branch"], body["parent"]), "UNKNOWN_PARENT")
-        labels = self.projects[project][0]
+        labels = self.file(project).labels
         copied = {}
         for (label, account), value in last["votes"].items():
             if label not in labels or labels[label][1] is None:
@@ -367,7 +419,7 @@ class Desk:
         unless(patch > current, "NO_PATCH_SET")
         given = body.get("labels", {})
         if given:
-            labels = self.projects[change["project"]][0]
+            labels = self.file(change["project"]).labels
             unless(change["state"] != "NEW", "CLOSED")
             unless(patch != current, "STALE_PATCH_SET")
             unless(any(name not in labels for name in given), "NO_LABEL")
