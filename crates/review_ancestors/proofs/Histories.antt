@@ -32,7 +32,8 @@ use Rattle.review_ancestors.specs.Ends.{ends, ends_above}
 use Rattle.review_ancestors.proofs.Accepted.{IsAcceptable, acceptable, parent_named}
 use Rattle.review_ancestors.proofs.Ending.{Files, begins, ends_short}
 use Rattle.review_ancestors.proofs.Growing.{IsPutAgain, OwnKnown, eff, eff_known, eff_ordered}
-use Rattle.review_ancestors.proofs.Kept.{AreSoundFiles, Grow, IsFirst, files_put, first_grows, first_sound, again_grows, again_sound, eff_same, own_after, parent_ends, putting, there_is}
+use Rattle.review_ancestors.proofs.Kept.{AreSoundFiles, Grow, IsFirst, files_put, first_grows, first_sound, again_grows, again_sound, eff_same, own_after, parent_ends, putting}
+use Rattle.review_rows.proofs.Lined.{there_is}
 
 -- two descriptions of what projects have are one
 same_files : (reading : Reading) (own new : Files) → ((q : List ℕ) → new q ≡ own q) → new ≡ own
@@ -102,7 +103,7 @@ module _ (one : OneFile) (reading : Reading) (h : List Entry) (sound : AreSoundF
       where
         by : (o : Option (List ℕ)) → named_parent text ≡ o → option_map_or (λ p. inherits_unknown_label (eff reading (own_of h) most_depth p) (reading text)) (named_parent text) (names_unknown_label (reading text)) ≡ false
         by None none =
-            let alone = known_labels (reading text) (text, read) in
+            let alone = known_labels text (reading text) read in
             let parent : (reading text).parent ≡ None = names ∙ none in
             ap (λ o. option_map_or (λ p. inherits_unknown_label (eff reading (own_of h) most_depth p) (reading text)) o (names_unknown_label (reading text))) none
             ∙ (sym (ap (λ o. is_none o && names_unknown_label (reading text)) parent) ∙ alone)

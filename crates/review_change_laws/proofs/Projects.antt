@@ -20,7 +20,8 @@ some_put : (b : Bool) (text : List ℕ) (before : Option (List ℕ)) → is_some
 some_put true text before some = refl
 some_put false text before some = some
 
-text_stays : (o : Option Command) (project : List ℕ) (before : Option (List ℕ)) → is_some before ≡ true → is_some (text_put o project before) ≡ true
+-- a project that is there stays there
+pub text_stays : (o : Option Command) (project : List ℕ) (before : Option (List ℕ)) → is_some before ≡ true → is_some (text_put o project before) ≡ true
 text_stays None project before some = some
 text_stays (Some (CreateAccount name)) project before some = some
 text_stays (Some (PutGroup group members)) project before some = some
@@ -53,12 +54,13 @@ project_by reading h caller n c (OnChange m command) a answer before is =
     named (λ p. is_project h p ≡ true) (m == n) (change reading h n) (λ x. after (setting_of reading h x.project) command caller (length h + 1) x) c before (λ x. refl) is
 project_by reading h caller n c (Submit m) a answer before is = before c is
 
-step : (reading : Reading) (h : List Entry) (caller n : ℕ) (c : Change) (command : Command) (reply : Reply) → IsDoneBy reading h caller command reply →
+-- the project of a change is there, also after what was done
+pub project_stays : (reading : Reading) (h : List Entry) (caller n : ℕ) (c : Change) (command : Command) (reply : Reply) → IsDoneBy reading h caller command reply →
     ((x : Change) → change reading h n ≡ Some x → is_project h x.project ≡ true) → change_by reading h caller (if_done reply command) n (change reading h n) ≡ Some c → is_project h c.project ≡ true
-step reading h caller n c command (Done a) answer before is = project_by reading h caller n c command a answer before is
-step reading h caller n c command (Refused r) answer before is = before c is
-step reading h caller n c command IdentityReused answer before is = before c is
-step reading h caller n c command (NotTaken cause) answer before is = before c is
+project_stays reading h caller n c command (Done a) answer before is = project_by reading h caller n c command a answer before is
+project_stays reading h caller n c command (Refused r) answer before is = before c is
+project_stays reading h caller n c command IdentityReused answer before is = before c is
+project_stays reading h caller n c command (NotTaken cause) answer before is = before c is
 
 pub has_project : (reading : Reading) (h : List Entry) (n : ℕ) (c : Change) → IsHistory h → Reads reading h → change reading h n ≡ Some c → is_project h c.project ≡ true
 has_project reading [] n c history reads is = absurd (cc)
@@ -66,4 +68,4 @@ has_project reading (e ∷ h) n c history reads is =
     text_stays (accepted e) c.project (file_text h c.project)
     (joining_keeps (λ x. is_project h x.project ≡ true) (λ place request x holds. holds) h (submitted (accepted e) e.reply) n
     (change_by reading h e.identity.caller (accepted e) n (change reading h n)) c
-    (λ x there. step reading h e.identity.caller n x e.command e.reply (done_of e h history reading reads.1) (λ y was. has_project reading h n y history.3 reads.1 was) there) is)
+    (λ x there. project_stays reading h e.identity.caller n x e.command e.reply (done_of e h history reading reads.1) (λ y was. has_project reading h n y history.3 reads.1 was) there) is)
