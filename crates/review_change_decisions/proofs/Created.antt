@@ -6,7 +6,7 @@ use Rattle.std.specs.Ordering.{nat_cmp}
 use Rattle.std.proofs.lemmas.Bool.Decides.{nat_tests}
 use Rattle.review_names.specs.Forms.{most_changes}
 use Rattle.review_table.specs.Rows.{after_change, change_of}
-use Rattle.review_words.specs.History.{Entry, entry_of, base_count, file_text, is_account, is_branch, is_project, project_count}
+use Rattle.review_words.specs.History.{Entry, entry_of, base_count, is_account, is_branch, is_project, project_count}
 use Rattle.review_words.specs.declared.changes.NewChange.{NewChange}
 use Rattle.review_words.specs.declared.command.Command.TheVariants.{CreateChange}
 use Rattle.review_words.specs.declared.reply.Answer.TheVariants as made
