@@ -261,6 +261,20 @@ fn inherited(alloc: Global, parent: &ProjectFile, own: &ProjectFile) -> Result<C
     })
 }
 
+/// The effective file of a project that is stored: what `inherit` gives, which isn't asked again whether requirements name unknown labels.
+pub fn inherit_stored(
+    alloc: Global,
+    parent: &ProjectFile,
+    own: &ProjectFile,
+) -> Result<ProjectFile, AllocError>
+    ensures { IfOk result (λ f. f ≡ inherit parent.now own.now) }
+{
+    parent.facts();
+    own.facts();
+    let content = inherited(alloc, parent, own)?;
+    ProjectFile::new(alloc, content)
+}
+
 /// The effective file of a project by its own file, where its parent has this effective file: labels and requirements by name, the own ones in
 /// place of those of the same name, and the groups of each right joined. An own requirement counts where the parent has none of its name or lets
 /// children override its own.
@@ -282,6 +296,5 @@ pub fn inherit(
     if unknown {
         return Err(InheritFault::UnknownLabel);
     }
-    let content = inherited(alloc, parent, own)?;
-    Ok(ProjectFile::new(alloc, content)?)
+    Ok(inherit_stored(alloc, parent, own)?)
 }

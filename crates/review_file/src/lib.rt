@@ -14,7 +14,10 @@
 //! [`read_file`] gives the file that a text spells, or the first of its faults in the order of
 //! [`FileFault`]; its contract says which. A file, a [`Label`] and a [`Requirement`] are shared: a copy has the same parts and takes no memory.
 //! What is true of every file [`ProjectFile::facts`] tells. [`covers`] holds one file against another and takes no
-//! memory. [`inherit`] gives the effective file of a project whose file goes on from its parent's. A [`FileMemo`] remembers the files that were read, by project, each held to its text, and hands out copies. What a file gives an account `review_ranges` says; what an expression is, and when it holds, `review_expr`.
+//! memory. [`inherit`] gives the effective file of a project whose file goes on from its parent's, and [`named_parent`] the parent that a text names. A
+//! [`ReadLine`] is an effective file with the texts that spell it, of the project and its ancestors; a [`FileMemo`] remembers those that were read,
+//! by project, each held to its texts, and hands out copies. What a file gives an account `review_ranges` says; what an expression is, and when it
+//! holds, `review_expr`.
 #![tactic(auto)]
 
 mod access;
@@ -22,6 +25,7 @@ pub mod covering;
 pub mod file;
 pub mod inheriting;
 mod labels;
+pub mod lines;
 pub mod memo;
 pub mod read;
 mod requirements;
@@ -31,9 +35,10 @@ mod unknown;
 
 pub use covering::covers;
 pub use file::{Access, Label, LabelValue, ProjectFile, Requirement};
-pub use inheriting::{InheritFault, inherit};
+pub use inheriting::{InheritFault, inherit, inherit_stored};
+pub use lines::{LinePart, ReadLine};
 pub use memo::FileMemo;
-pub use read::read_file;
+pub use read::{named_parent, read_file};
 pub use review_document::limits::{MOST_BYTES, MOST_DESCRIPTION, MOST_PARTS, MOST_TEXT};
 pub use review_project::{Grant, ReadFault, Right};
 pub use review_words::FileFault;

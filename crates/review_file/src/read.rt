@@ -1,10 +1,11 @@
 //! Reading a project file.
-ghost use Rattle.std.specs.Prelude.{◌≡◌, ◌≢◌, false, IfOk, IfErr};
+ghost use Rattle.std.specs.Prelude.{◌≡◌, ◌≢◌, false, IfOk, IfErr, option_map};
 ghost use Rattle.toml.specs.View.{table_view, view};
 ghost use Rattle.toml.specs.Data.{table};
+ghost use Rattle.toml.specs.Parse.{parse_document};
 ghost use Rattle.review_project.specs.Expressions.{IsFile, IsStoppedBy, has_unknown_label};
 ghost use Rattle.review_project.specs.Patterns.{HasPattern};
-ghost use Rattle.review_project.specs.Reading.{IsFaultless, IsRead, IsReadFault, IsDocumentFault, first_fault};
+ghost use Rattle.review_project.specs.Reading.{IsFaultless, IsRead, IsReadFault, IsDocumentFault, first_fault, named_parent};
 ghost use Rattle.review_project.specs.Spelled.{parent_in, spelled};
 
 use crate::access::read_access;
@@ -19,7 +20,7 @@ use review_document::names::{has_bad_name, project_name};
 use review_document::values::{has_bad_values, has_value_twice};
 use review_expr::ParseFault;
 use review_project::ReadFault;
-use review_words::{FileFault, ProjectName};
+use review_words::{FileFault, FileText, ProjectName};
 use std::alloc::{AllocError, Global};
 use toml::Value;
 
@@ -90,6 +91,36 @@ fn read_document(alloc: Global, file: &Value) -> Result<Content, ReadFault>
         return Err(ReadFault::File(FileFault::Limit));
     }
     Ok(content)
+}
+
+// The document that a text is, if it is one.
+fn document_in(alloc: Global, text: &str) -> Result<Option<Value>, AllocError>
+    ensures { IfOk result (λ d. option_map view d ≡ option_map table (parse_document text.now)) }
+{
+    match toml::table_from_str(alloc, text) {
+        Ok(table) => Ok(Some(Value::Table(table))),
+        Err(error) => {
+            if error.is_memory() {
+                Err(AllocError)
+            } else {
+                Ok(None)
+            }
+        }
+    }
+}
+
+/// The parent that a text names, whose file isn't read for it; none where the text is too long to be read, or no document.
+pub fn named_parent(alloc: Global, text: &FileText) -> Result<Option<ProjectName>, AllocError>
+    ensures { IfOk result (λ parent. parent ≡ named_parent text.now) }
+{
+    let text = text.as_str();
+    if text.len() > MOST_BYTES {
+        return Ok(None);
+    }
+    match document_in(alloc, text)? {
+        Some(document) => parent_in(alloc, &document),
+        None => Ok(None),
+    }
 }
 
 fn read_content(alloc: Global, text: &str) -> Result<Content, ReadFault>
