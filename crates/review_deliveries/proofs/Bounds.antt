@@ -1,6 +1,10 @@
--- How many changes and votes a history has at most.
-use Rattle.std.proofs.Common.{◌≡◌, ℕ, ℤ, pos, zero, suc, ◌*◌, ◌==◌, ◌<◌, ◌≤◌, List, [], ◌∷◌, ◌++◌, length, Option, Some, None, Bool, true, false, cond, not, ◌&&◌, ◌||◌, refl, sym, ap, ◌∙◌, subst, ⊎_elim, arith, eq-eqb, length-append}
-use Rattle.std.specs.Prelude.{is_some, nat_le, nat_lt, find, filter, codes, unwrap_or}
+-- How many votes a change of a history has at most.
+use Rattle.std.proofs.Common.{◌≡◌, ℕ, ℤ, pos, zero, suc, ◌*◌, ◌==◌, ◌<◌, ◌≤◌, List, [], ◌∷◌, ◌++◌, length, Option, Some, None, Bool, true, false, cond, not, ◌&&◌, ◌||◌, Less, Equal, Greater, nat_cmp, refl, sym, ap, ◌∙◌, ⊎_elim, arith, eq-eqb, length-append}
+use Rattle.std.specs.Prelude.{is_some, nat_le, nat_lt, find, filter, fold, codes}
+use Rattle.std.specs.declared.cmp.Ordering.{Ordering}
+use Rattle.std.specs.Cmp.Lexicographic.{slice_cmp}
+use Rattle.std.specs.Option.{option_map_or}
+use Rattle.std.specs.Ordering.{match_ordering}
 use Rattle.std.specs.Str.{bytes_eq}
 use Rattle.std.proofs.lemmas.Bool.{and_parts, and_from, cases_Bool, cases_lt, ltb-true, ltb-false, leb-true}
 use Rattle.std.proofs.lemmas.List.{length-map}
@@ -13,11 +17,12 @@ use Rattle.review_words.specs.declared.reply.Answer.{Answer}
 use Rattle.review_words.specs.declared.reply.Refusal.TheVariants.{UnknownCaller}
 use Rattle.review_words.specs.declared.reply.Reply.{Reply}
 use Rattle.review_words.specs.declared.reply.Reply.TheVariants.{Done, Refused, IdentityReused, NotTaken}
-use Rattle.review_words.specs.History.{Entry, if_done, account_count, counted, file_text, is_account, is_project}
+use Rattle.review_words.specs.History.{Entry, if_done, account_count, counted, is_account}
 use Rattle.review_document.specs.Document.{members_at}
 use Rattle.review_document.specs.Limits.{most_parts}
 use Rattle.review_expr.specs.declared.expr.Expr.{Expr}
 use Rattle.review_project.specs.Expressions.{EachTo, IsLabel}
+use Rattle.review_project.specs.Inherited.{inherited_labels, put_by}
 use Rattle.review_project.specs.Spelled.{label_in, named, spelled}
 use Rattle.review_project.specs.View.{FileView, LabelView}
 use Rattle.review_changes.specs.Change.{Change, carried, copying, current, is_lost}
@@ -27,9 +32,12 @@ use Rattle.review_words.specs.declared.command.ChangeCommand.TheVariants as on
 use Rattle.review_changes.specs.declared.rows.VoteKey.{VoteKey}
 use Rattle.review_change_laws.proofs.Sound.{all_pass, done_passes}
 use Rattle.review_rows.specs.Answer.{IsAnswerBy, IsHistory, IsUploadAnswer, checks}
-use Rattle.review_rows.specs.Changes.{Reading, Reads, change, file_of, setting_of}
+use Rattle.review_ancestors.proofs.Effective.{AreReadRight, line_read}
+use Rattle.review_rows.specs.declared.rows.StoredFile.{StoredFile}
+use Rattle.review_rows.specs.Changes.{Reading, Reads, change, effective_of, file_of, own_of, setting_of, texts_of}
 use Rattle.review_rows.specs.Files.{IsRead}
-use Rattle.review_rows.proofs.Readings.{IsDoneBy, done_of, read_of}
+use Rattle.review_rows.specs.Lines.{line_of, most_depth, with_above}
+use Rattle.review_rows.proofs.Readings.{IsDoneBy, done_of}
 use Rattle.review_deliveries.proofs.Voted.{have_voters}
 use Rattle.review_deliveries.proofs.Votes.{no_more}
 
@@ -95,7 +103,7 @@ all_votes_there (x ∷ xs) l n u there low high =
     (cases_Bool (bytes_eq x.name l))
 
 -- so many votes, each of an account on a label
-votes_below : (xs : List (LabelView Expr)) (accounts : ℕ) (test : List ℕ → ℕ → Bool) (n : ℕ) → length xs ≤ 64 → accounts ≤ 1000000 →
+votes_below : (xs : List (LabelView Expr)) (accounts : ℕ) (test : List ℕ → ℕ → Bool) (n : ℕ) → length xs ≤ 512 → accounts ≤ 1000000 →
     ((l : List ℕ) (u : ℕ) → test l u ≡ true → is_some (find (λ x. bytes_eq x.name l) xs) ≡ true) → ((l : List ℕ) (u : ℕ) → test l u ≡ true → (nat_le 1 u && nat_le u accounts) ≡ true) →
     AreMany test n → n < 18446744073709551616
 votes_below xs accounts test n labels below named voters many =
@@ -138,6 +146,58 @@ labels_bound text f (short, (ms, parsed, good)) =
     let read_long = same_long IsLabel (spelled (table ms)).labels f.labels good.0.1.2 in
     omega arith
 
+put_long : (xs : List (LabelView Expr)) (x : LabelView Expr) → length (put_by (λ l. l.name) xs x) ≤ length xs + 1
+put_long [] x = omega arith
+put_long (y ∷ ys) x = by (slice_cmp nat_cmp x.name y.name) (put_long ys x)
+  where
+    by : (o : Ordering) → length (put_by (λ l. l.name) ys x) ≤ length ys + 1 → length (match_ordering o (x ∷ y ∷ ys) (x ∷ ys) (y ∷ put_by (λ l. l.name) ys x)) ≤ length (y ∷ ys) + 1
+    by Less later = omega arith
+    by Equal later = omega arith
+    by Greater later = omega arith
+
+named_long : (acc xs : List (LabelView Expr)) → length (fold (put_by (λ l. l.name)) acc xs) ≤ length acc + length xs
+named_long acc [] = omega arith
+named_long acc (x ∷ xs) =
+    let one = put_long acc x in
+    let rest = named_long (put_by (λ l. l.name) acc x) xs in
+    omega arith
+
+inherited_long : (parent own : List (LabelView Expr)) → length (inherited_labels parent own) ≤ length parent + length own
+inherited_long parent own =
+    let all = named_long [] (parent ++ own) in
+    let both = length-append parent own in
+    omega arith
+
+-- the labels of an effective file are at most those of all its texts
+effective_bound : (reading : Reading) (texts : List (List ℕ)) → AreReadRight reading texts → length (effective_of reading texts).labels ≤ length texts * 64
+effective_bound reading [] all = omega arith
+effective_bound reading (text ∷ []) all = let own = labels_bound text (reading text) all.0 in omega arith
+effective_bound reading (text ∷ next ∷ above) all =
+    let own = labels_bound text (reading text) all.0 in
+    let rest = effective_bound reading (next ∷ above) all.1 in
+    let both = inherited_long (effective_of reading (next ∷ above)).labels (reading text).labels in
+    omega arith
+
+-- a line has at most as many texts as it has steps
+line_short : (own : List ℕ → Option StoredFile) (n : ℕ) (project : List ℕ) → length (line_of own n project) ≤ n
+line_short own zero project = omega arith
+line_short own (suc n) project = by (own project) (λ q. line_short own n q)
+  where
+    above : (p : Option (List ℕ)) → ((q : List ℕ) → length (line_of own n q) ≤ n) → length (option_map_or (line_of own n) p []) ≤ n
+    above None later = omega arith
+    above (Some q) later = later q
+
+    by : (o : Option StoredFile) → ((q : List ℕ) → length (line_of own n q) ≤ n) → length (with_above o (line_of own n)) ≤ suc n
+    by None later = omega arith
+    by (Some f) later = let rest = above f.parent later in omega arith
+
+-- the effective file of a project has so many labels at most
+file_bound : (reading : Reading) (h : List Entry) (project : List ℕ) → Reads reading h → length (file_of reading h project).labels ≤ 512
+file_bound reading h project reads =
+    let all = effective_bound reading (texts_of h project) (line_read reading h reads most_depth project) in
+    let few : length (texts_of h project) ≤ 8 = line_short (own_of h) most_depth project in
+    omega arith
+
 -- ---- accounts
 
 account_made : (reading : Reading) (h : List Entry) (caller : ℕ) (command : Command) (a : Answer) → IsAnswerBy reading h caller command (Done a) → account_count h ≤ 1000000 →
@@ -165,14 +225,6 @@ accounts_bound : (reading : Reading) (h : List Entry) → Reads reading h → Is
 accounts_bound reading [] reads history = omega arith
 accounts_bound reading (e ∷ h) reads history = account_by reading h e.identity.caller e.command e.reply (done_of e h history reading reads.1) (accounts_bound reading h reads.1 history.3)
 
--- the file of a project that has one is read
-project_read : (reading : Reading) (h : List Entry) (project : List ℕ) → Reads reading h → is_project h project ≡ true → (text : List ℕ) × IsRead text (file_of reading h project)
-project_read reading h project reads there = at (file_text h project) refl there
-  where
-    at : (o : Option (List ℕ)) → file_text h project ≡ o → is_some o ≡ true → (text : List ℕ) × IsRead text (file_of reading h project)
-    at None is there = absurd (cc)
-    at (Some text) is there = (text, subst (λ o. IsRead text (reading (unwrap_or o []))) (sym is) (read_of reading h project text reads is))
-
 -- a vote that is carried was there
 carried_vote : (b : Bool) (v : ℤ) → voted (cond b v (pos 0)) ≡ true → voted v ≡ true
 carried_vote true v is = is
@@ -184,8 +236,7 @@ pub votes_bound : (reading : Reading) (h : List Entry) (caller n : ℕ) (patch :
 votes_bound reading h caller n patch c reply history reads there is =
     let has = have_voters reading h n c reads history there in
     let file = file_of reading h c.project in
-    let read = project_read reading h c.project reads has.project in
-    let few = labels_bound read.0 file read.1 in
+    let few = file_bound reading h c.project reads in
     let below = accounts_bound reading h reads history in
     let k = copying (setting_of reading h c.project) (on.Upload patch) caller c in
     let was = λ (l : List ℕ) (u : ℕ) (v : voted (carried k c l u) ≡ true). carried_vote (k.copies l u (c.vote (current c) l u)) (c.vote (current c) l u) v in

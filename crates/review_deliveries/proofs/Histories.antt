@@ -1,6 +1,6 @@
 -- Identities in histories, and the tables of a history with one more entry.
 use Rattle.std.proofs.Common.{◌≡◌, ℕ, ◌+◌, ◌≤◌, List, [], ◌∷◌, ◌++◌, length, Option, Some, None, true, false, cond, refl, sym, ap, ◌∙◌, subst, ⊎_elim, inl, inr, arith, eqb-true, eq-eqb, ◌==◌}
-use Rattle.std.specs.Prelude.{MatchOption, nat_le, option_map}
+use Rattle.std.specs.Prelude.{MatchOption, nat_le}
 use Rattle.std.specs.Str.{bytes_eq}
 use Rattle.std.proofs.lemmas.Bool.{and_parts, and_from, cases_Bool}
 use Rattle.std.proofs.lemmas.Slice.Eq.{bytes_eq-Decides}
@@ -15,7 +15,7 @@ use Rattle.review_words.specs.declared.reply.Reply.{Reply}
 use Rattle.review_words.specs.declared.reply.Reply.TheVariants.{Done, Refused, IdentityReused, NotTaken}
 use Rattle.review_words.specs.declared.reply.Answer.TheVariants.{Nothing}
 use Rattle.review_words.specs.declared.reply.Refusal.{Refusal}
-use Rattle.review_words.specs.History.{Entry, Identity, IsFirst, stored, is_same, file_text, entry_of, latest, may_follow, version_of}
+use Rattle.review_words.specs.History.{Entry, Identity, IsFirst, stored, is_same, entry_of, latest, may_follow, version_of}
 use Rattle.review_changes.specs.Change.{Change}
 use Rattle.review_rows.specs.declared.rows.Delta.{Delta}
 use Rattle.review_rows.specs.declared.rows.Rows.{Rows}
@@ -85,7 +85,7 @@ outcome_given reading h caller (PutGroup group members) reply is = subst IsDoneO
 outcome_given reading h caller (RecordBase project branch commit) reply is = subst IsDoneOrRefused (sym is) tt
 outcome_given reading h caller (PutProject project text) reply (inl f) = subst IsDoneOrRefused (sym f.2) tt
 outcome_given reading h caller (PutProject project text) reply (inr f) =
-    subst IsDoneOrRefused (sym f.2) (file_given (first_refusal (file_checks h project (option_map reading (file_text h project)) f.0)))
+    subst IsDoneOrRefused (sym f.2) (file_given (first_refusal (file_checks reading h project f.0)))
 outcome_given reading h caller (CreateChange new) reply is = subst IsDoneOrRefused (sym is) tt
 outcome_given reading h caller (OnChange n command) reply is = request_given reading h caller n command reply is
 outcome_given reading h caller (Submit n) reply is = submit_given reading h n (change reading h n) reply is

@@ -1,6 +1,6 @@
 -- One answer to each command, unless a pattern nests too deep.
 use Rattle.std.proofs.Common.{◌≡◌, ◌⊎◌, ℕ, List, [], ◌∷◌, Option, Some, None, true, ◌+◌, ◌||◌, ◌∙◌, sym, ap, inl, inr, refl, subst, ⊎_elim}
-use Rattle.std.specs.Prelude.{nat_lt, option_map, MatchOption}
+use Rattle.std.specs.Prelude.{nat_lt, not, MatchOption}
 use Rattle.std.specs.Option.{option_map_or}
 use Rattle.review_words.specs.declared.changes.NewPatch.{NewPatch}
 use Rattle.review_words.specs.declared.command.Command.{Command}
@@ -10,26 +10,58 @@ use Rattle.review_words.specs.declared.reply.Reply.{Reply}
 use Rattle.review_words.specs.declared.reply.Reply.TheVariants.{Done, Refused}
 use Rattle.review_words.specs.declared.reply.Answer.TheVariants.{Nothing, Patch}
 use Rattle.review_words.specs.declared.reply.Refusal.{Refusal}
-use Rattle.review_words.specs.declared.reply.Refusal.TheVariants.{BadFile, LabelNarrowed, Limit}
-use Rattle.review_words.specs.History.{Entry, is_project, project_count, file_text}
+use Rattle.review_words.specs.declared.reply.Refusal.TheVariants.{BadFile, LabelNarrowed, Limit, NoParent, ParentDepth, ParentFixed}
+use Rattle.review_words.specs.declared.faults.FileFault.TheVariants.{UnknownLabel}
+use Rattle.review_words.specs.History.{Entry, is_project, project_count}
+use Rattle.review_project.specs.Inherited.{inherit, inherits_unknown_label}
 use Rattle.review_project.specs.Reading.{IsBadValue}
-use Rattle.review_project_laws.proofs.Together.{same_covers, never_both, one_refusal}
+use Rattle.review_project.specs.Trees.{ExprTree, file_trees}
+use Rattle.review_project.specs.View.{FileView}
+use Rattle.review_project_laws.proofs.Together.{never_both, one_refusal}
+use Rattle.review_inheritance.proofs.Alike.{covers_alike, inherit_alike, inherits_alike}
 use Rattle.review_changes.specs.Change.{Change, carried, copying, current, is_lost}
 use Rattle.review_words.specs.declared.command.ChangeCommand.TheVariants as change_asked
 use Rattle.review_changes.specs.Votes.{voted}
-use Rattle.review_rows.specs.Changes.{Reading, change, setting_of}
+use Rattle.review_rows.specs.Changes.{Reading, change, depth, file_of, setting_of}
 use Rattle.review_rows.specs.Files.{File, IsRead, covers, HasDeepPattern}
-use Rattle.review_rows.specs.Answer.{IsAnswerBy, IsOf, IsOutcome, IsRequestOutcome, IsUploadAnswer, first_refusal, refused_by, refused_or}
+use Rattle.review_rows.specs.Answer.{IsAnswerBy, IsOf, IsOutcome, IsRequestOutcome, IsUploadAnswer, file_checks, file_with, first_refusal, keeps_parent, puts_unknown_label, refused_by, refused_or}
+use Rattle.review_rows.specs.Limits.{most_projects}
+use Rattle.review_rows.specs.Lines.{most_depth}
 use Rattle.review_rows.proofs.Readings.{reading_of}
 use Rattle.review_rows.proofs.Requested.{IsToldDone, sent_or_done}
 use Rattle.review_deliveries.specs.Restart.{IsFree, RefusesBadValue, OneAnswer}
+use Rattle.review_deliveries.proofs.OneFile.{spelled_once}
 use Rattle.review_deliveries.proofs.Submits.{OneStanding, one_submit}
 use Rattle.review_deliveries.proofs.Votes.{one_count}
 
--- what the old file covers, whichever of those is put that the text spells
-same_cover : (old : Option File) (text : List ℕ) (new next : File) → IsRead text new → IsRead text next → option_map_or (λ f. covers f new) old true ≡ option_map_or (λ f. covers f next) old true
-same_cover None text new next r s = refl
-same_cover (Some f) text new next r s = (same_covers text new next r s f).1
+module _ (reading : Reading) (h : List Entry) (f g : File) (trees : file_trees f ≡ file_trees g) where
+  same_parent : f.parent ≡ g.parent
+  same_parent = ap (λ (t : FileView ExprTree). t.parent) trees
+
+  -- whether own requirements name unknown labels is one for files of the same trees
+  same_unknown : puts_unknown_label reading h f ≡ puts_unknown_label reading h g
+  same_unknown = by f.parent ∙ ap (λ o. option_map_or (λ parent. inherits_unknown_label (file_of reading h parent) g) o false) same_parent
+    where
+      by : (o : Option (List ℕ)) → option_map_or (λ parent. inherits_unknown_label (file_of reading h parent) f) o false ≡ option_map_or (λ parent. inherits_unknown_label (file_of reading h parent) g) o false
+      by None = refl
+      by (Some parent) = inherits_alike (file_of reading h parent) f g trees
+
+  same_with : file_trees (file_with reading h f) ≡ file_trees (file_with reading h g)
+  same_with = by f.parent ∙ ap (λ o. file_trees (option_map_or (λ parent. inherit (file_of reading h parent) g) o g)) same_parent
+    where
+      by : (o : Option (List ℕ)) → file_trees (option_map_or (λ parent. inherit (file_of reading h parent) f) o f) ≡ file_trees (option_map_or (λ parent. inherit (file_of reading h parent) g) o g)
+      by None = trees
+      by (Some parent) = inherit_alike (file_of reading h parent) f g trees
+
+  -- a file is checked as one of the same trees
+  same_checks : (project : List ℕ) → file_checks reading h project f ≡ file_checks reading h project g
+  same_checks project =
+      let old = file_of reading h project in
+      let covered : covers old (file_with reading h f) ≡ covers old (file_with reading h g) = covers_alike old (file_with reading h f) (file_with reading h g) same_with in
+      λ i.
+      (keeps_parent h project (same_parent i), ParentFixed) ∷ (option_map_or (is_project h) (same_parent i) true, NoParent)
+      ∷ (option_map_or (λ parent. nat_lt (depth h parent) most_depth) (same_parent i) true, ParentDepth) ∷ (not (same_unknown i), BadFile UnknownLabel)
+      ∷ (not (is_project h project) || covered i, LabelNarrowed) ∷ (is_project h project || nat_lt (project_count h) most_projects, Limit) ∷ []
 
 one_put : (reading : Reading) (h : List Entry) (caller : ℕ) (project text : List ℕ) (r s : Reply) → IsOutcome reading h caller (PutProject project text) r → IsOutcome reading h caller (PutProject project text) s →
     (r ≡ s) ⊎ (HasDeepPattern text × (RefusesBadValue r ⊎ RefusesBadValue s))
@@ -42,10 +74,7 @@ one_put reading h caller project text r s (inl f) (inl g) = by (one_refusal text
 one_put reading h caller project text r s (inl f) (inr g) = absurd (never_both text g.0 f.0 g.1 f.1)
 one_put reading h caller project text r s (inr f) (inl g) = absurd (never_both text f.0 g.0 f.1 g.1)
 one_put reading h caller project text r s (inr f) (inr g) =
-    inl (f.2
-    ∙ ap (λ b. refused_or (first_refusal ((b, LabelNarrowed) ∷ (is_project h project || nat_lt (project_count h) 1000, Limit) ∷ [])) Nothing)
-    (same_cover (option_map reading (file_text h project)) text f.0 g.0 f.1 g.1)
-    ∙ sym g.2)
+    inl (f.2 ∙ (ap (λ cs. refused_or (first_refusal cs) Nothing) (same_checks reading h f.0 g.0 (spelled_once text f.0 g.0 f.1 g.1) project) ∙ sym g.2))
 
 -- one count of the votes that are copied, and one of those that are not
 one_upload : (reading : Reading) (h : List Entry) (caller n : ℕ) (patch : NewPatch) (o : Option Change) (r s : Reply) →

@@ -1,5 +1,6 @@
 -- A list of answered entries, however long, has a reading.
 use Rattle.std.proofs.Common.{◌≡◌, ℕ, List, [], ◌∷◌, Option, Some, None, true, false, cond, refl, sym, ap, subst, ⊎_elim}
+use Rattle.std.specs.Prelude.{MatchOption}
 use Rattle.std.specs.Str.{bytes_eq}
 use Rattle.std.proofs.lemmas.Bool.{cases_Bool}
 use Rattle.std.proofs.lemmas.Slice.Eq.{bytes_eq-Decides}
@@ -9,6 +10,7 @@ use Rattle.review_words.specs.declared.command.Command.TheVariants.{CreateAccoun
 use Rattle.review_words.specs.declared.command.Delivery.{Delivery}
 use Rattle.review_words.specs.declared.command.Delivery.TheVariants.{Write, Read}
 use Rattle.review_words.specs.declared.reply.Answer.{Answer}
+use Rattle.review_words.specs.declared.reply.Refusal.{Refusal}
 use Rattle.review_words.specs.declared.reply.Refusal.TheVariants.{BadFile}
 use Rattle.review_words.specs.declared.reply.Reply.{Reply}
 use Rattle.review_words.specs.declared.reply.Reply.TheVariants.{Done, Refused, IdentityReused, NotTaken}
@@ -18,7 +20,6 @@ use Rattle.review_rows.specs.Files.{File, IsRead}
 use Rattle.review_deliveries.specs.Replies.{IsTold, history_after}
 use Rattle.review_deliveries.proofs.Histories.{answer_given_by, told_where}
 use Rattle.review_deliveries.proofs.Served.{new_history, same_history}
-use Rattle.review_deliveries.proofs.Voted.{not_fault}
 
 -- something is read of each text that was put, which is right
 abbrev pub HasReading : List Entry → Type 0
@@ -51,6 +52,11 @@ right_there reading text file is (Some (Submit n)) right = tt
 reads_there : (reading : Reading) (text : List ℕ) (file : File) → IsRead text file → (h : List Entry) → Reads reading h → Reads (with_file reading text file) h
 reads_there reading text file is [] reads = tt
 reads_there reading text file is (e ∷ h) reads = (right_there reading text file is (accepted e) reads.0, reads_there reading text file is h reads.1)
+
+-- an answer that is no refusal is given where no check refuses
+not_fault : {A : Type 0} (o : Option Refusal) (a : Answer) → MatchOption o A (λ r. Done a ≡ Refused r) → A
+not_fault None a outcome = outcome
+not_fault (Some r) a refused = absurd (cc)
 
 -- the file that an accepted PutProject puts
 put_file : (reading : Reading) (h : List Entry) (caller : ℕ) (project text : List ℕ) (a : Answer) → IsAnswerBy reading h caller (PutProject project text) (Done a) → (f : File) × IsRead text f

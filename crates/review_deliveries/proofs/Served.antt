@@ -33,6 +33,7 @@ use Rattle.review_rows.specs.Known.{Agrees}
 use Rattle.review_rows.proofs.Readings.{reading_of}
 use Rattle.review_deliveries.specs.Gathered.{IsAllAsked, IsUngathered}
 use Rattle.review_deliveries.specs.Replies.{history_after, with_entries as hist, IsRight, IsTold, IsToldOfStored, IsServed, IsToldAgain, IsLawful, reply_of, IsNew, HasEffect, StopGoesOnFrom, StopHasEntry, IsEntered, GoesOn, KeepsUntaken, CountsReply}
+use Rattle.review_deliveries.proofs.Patterns.{reads_pattern}
 use Rattle.review_deliveries.proofs.Resting.{rests_on}
 use Rattle.review_deliveries.proofs.Histories.{told_where, where_told, latest_follows, recalled, not_recalled, view_grows, answer_given, stored_given, enough_shown, stored_stays, stored_here, same_to}
 
@@ -304,7 +305,7 @@ pub undecided_lawful : (h : List Entry) (caller : ℕ) (id : List ℕ) (command 
     ((reading : Reading) → Reads reading h → AreEnough reading h caller (OfCommand command) file rows) →
     IsFirst h (record { caller = caller; id = id }) → IsUndecided caller command file rows cause → after ≡ before → IsLawful h (Write caller id command) cause before after
 undecided_lawful h caller id command file rows Memory before after hist l none u same = same
-undecided_lawful h caller id command file rows Pattern before after hist l none u same = (none, (λ reading reads. inl u), same)
+undecided_lawful h caller id command file rows Pattern before after hist l none u same = (none, (λ reading reads. reads_pattern reading h hist caller command file rows (l reading reads) u), same)
 undecided_lawful h caller id command file rows Damaged before after hist l none u same = let r = reading_of h hist in absurd (u r.0 h hist (l r.0 r.1))
 undecided_lawful h caller id command file rows Store before after hist l none u same = absurd u
 undecided_lawful h caller id command file rows Full before after hist l none u same = absurd u

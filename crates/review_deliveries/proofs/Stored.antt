@@ -1,6 +1,7 @@
 -- Each answer of a history is stored with numbers of their forms.
 use Rattle.std.proofs.Common.{◌≡◌, ◌⊎◌, ℕ, suc, ◌+◌, ◌<◌, ◌≤◌, List, [], ◌∷◌, ◌++◌, length, Option, Some, None, Bool, true, false, cond, refl, sym, ap, ◌∙◌, subst, ⊎_elim, inl, inr, arith}
-use Rattle.std.specs.Prelude.{MatchOption, is_some, option_map, unwrap_or, map}
+use Rattle.std.specs.Prelude.{MatchOption, is_some, nat_lt, option_map, map, ◌&&◌}
+use Rattle.std.specs.Bool.{MatchBool}
 use Rattle.std.specs.List.{All, AllByRecursion}
 use Rattle.std.proofs.lemmas.List.Elements.{All-head, All-tail}
 use Rattle.std.proofs.lemmas.Bool.{cases_Bool, ltb-true, leb-true}
@@ -16,9 +17,10 @@ use Rattle.review_words.specs.declared.command.ChangeCommand.TheVariants as on
 use Rattle.review_words.specs.declared.reply.Reply.{Reply}
 use Rattle.review_words.specs.declared.reply.Reply.TheVariants.{Done, Refused}
 use Rattle.review_words.specs.declared.reply.Answer.TheVariants.{Nothing, Reviewed}
+use Rattle.review_words.specs.declared.faults.FileFault.TheVariants.{UnknownKey}
 use Rattle.review_words.specs.declared.reply.Refusal.{Refusal}
-use Rattle.review_words.specs.declared.reply.Refusal.TheVariants.{UnknownCaller, ChainOutdated, ChainAbandoned, ChainWip, ChainTooLong, RequirementUnsatisfied}
-use Rattle.review_words.specs.History.{Entry, is_account, account_count, file_text}
+use Rattle.review_words.specs.declared.reply.Refusal.TheVariants.{BadFile, UnknownCaller, ChainOutdated, ChainAbandoned, ChainWip, ChainTooLong, RequirementUnsatisfied}
+use Rattle.review_words.specs.History.{Entry, is_account, account_count}
 use Rattle.review_words.specs.declared.shown.ShownRequirement.{ShownRequirement}
 use Rattle.review_judging.specs.declared.facts.ChangeFacts.{ChangeFacts}
 use Rattle.review_expr.specs.declared.expr.Expr.{Expr}
@@ -33,15 +35,16 @@ use Rattle.review_chain.proofs.Fronts.{chain_ready}
 use Rattle.review_changes.specs.Facts.{AreStanding, IsFirstUnsatisfied, is_unsatisfied, stands, unsatisfied_in}
 use Rattle.review_changes.specs.Status.{status_of}
 use Rattle.review_changes.specs.Change.{Change, Setting, current, said}
-use Rattle.review_change_laws.proofs.Projects.{has_project}
 use Rattle.review_change_laws.proofs.Sound.{Passes, all_pass, later_pass}
-use Rattle.review_rows.specs.Answer.{IsHistory, IsAnswer, IsAnswerBy, IsOutcome, IsOf, IsRequestOutcome, IsUploadAnswer, checks, comment_numbers, file_checks, first_refusal, given_checks, numbers_after, of_change, refused_by, refused_or, request_checks, review_checks, submit_checks, upload_checks}
-use Rattle.review_rows.specs.Changes.{Reading, Reads, change, change_count, file_of, setting_of}
+use Rattle.review_rows.specs.Answer.{IsHistory, IsAnswer, IsAnswerBy, IsAnswerWithoutParents, IsOutcome, IsOf, IsRequestOutcome, IsUploadAnswer, checks, comment_numbers, file_checks, first_refusal, given_checks, numbers_after, of_change, puts_parent, refused_by, refused_or, request_checks, review_checks, submit_checks, upload_checks}
+use Rattle.review_ancestors.proofs.Effective.{line_read}
+use Rattle.review_rows.specs.Changes.{Reading, Reads, change, change_count, file_of, setting_of, texts_of}
+use Rattle.review_rows.specs.Lines.{most_depth}
 use Rattle.review_rows.specs.Links.{link_for}
 use Rattle.review_rows.specs.Submits.{IsSubmitAnswer, branch_after, checked_reply, judged_after, refusal_of}
-use Rattle.review_rows.proofs.Readings.{read_of, reading_of}
+use Rattle.review_rows.proofs.Readings.{reading_of}
 use Rattle.review_deliveries.proofs.Bounds.{votes_bound}
-use Rattle.review_deliveries.proofs.Named.{HasName, names_of_form}
+use Rattle.review_deliveries.proofs.Named.{HasName, effective_names}
 use Rattle.review_branch_laws.proofs.Counted.{change_bound}
 
 -- the refusals of checks are stored
@@ -177,14 +180,9 @@ unsatisfied_name f (q ∷ qs) name all is = by (is_unsatisfied (status_of q (fac
     by true e on = let same : q.name ≡ name = cc in subst (λ x. is_label x ≡ true) same all.0
     by false e on = on e
 
--- the file of a change has requirements with names of their form
-file_names : (reading : Reading) (h : List Entry) (n : ℕ) (c : Change) → IsHistory h → Reads reading h → change reading h n ≡ Some c → AllByRecursion HasName (file_of reading h c.project).requirements
-file_names reading h n c history reads there = at (file_text h c.project) refl (has_project reading h n c history reads there)
-  where
-    at : (o : Option (List ℕ)) → file_text h c.project ≡ o → is_some o ≡ true → AllByRecursion HasName (file_of reading h c.project).requirements
-    at None is some = absurd (let e : false ≡ true = some in cc)
-    at (Some text) is some =
-        subst (λ o. AllByRecursion HasName (reading (unwrap_or o [])).requirements) (sym is) (names_of_form text (reading text) (read_of reading h c.project text reads is))
+-- the file of a project has requirements with names of their form
+file_names : (reading : Reading) (h : List Entry) (project : List ℕ) → Reads reading h → AllByRecursion HasName (file_of reading h project).requirements
+file_names reading h project reads = effective_names reading (texts_of h project) (line_read reading h reads most_depth project)
 
 -- what is found first is a change of the chain and a requirement with a name of its form
 found_stored : (reading : Reading) (h : List Entry) → IsHistory h → Reads reading h → (ds : List ℕ) (found : ℕ × List ℕ) → AllByRecursion IsChangeNumber ds → IsFirstUnsatisfied (judged_after reading h) ds (Some found) →
@@ -206,7 +204,7 @@ found_stored reading h history reads (d ∷ ds) found all is = at (change readin
         (IsFirstUnsatisfied (judged_after reading h) ds (Some found) → IsStored (Refused (RequirementUnsatisfied found.0 found.1))) → IsStored (Refused (RequirementUnsatisfied found.0 found.1))
     at None there bad on = absurd bad
     at (Some x) there (shown, standing, found_in) on =
-        first standing.facts (file_of reading h x.project).requirements shown (unsatisfied_in shown) (file_names reading h d x history reads there) standing.each refl found_in on
+        first standing.facts (file_of reading h x.project).requirements shown (unsatisfied_in shown) (file_names reading h x.project reads) standing.each refl found_in on
 
 checked_stored : (reading : Reading) (h : List Entry) (chain : List ℕ) (found : Option (ℕ × List ℕ)) → IsHistory h → Reads reading h → length chain ≤ 100 → AllByRecursion IsChangeNumber chain →
     IsFirstUnsatisfied (judged_after reading h) chain found → IsStored (checked_reply chain found)
@@ -228,8 +226,8 @@ outcome_stored reading h caller (PutGroup group members) reply history reads all
 outcome_stored reading h caller (RecordBase project branch commit) reply history reads all is = subst IsStored (sym is) tt
 outcome_stored reading h caller (PutProject project text) reply history reads all (inl f) = subst IsStored (sym f.2) (placed text f.0 f.1)
 outcome_stored reading h caller (PutProject project text) reply history reads all (inr f) =
-    let old = option_map reading (file_text h project) in
-    subst IsStored (sym f.2) (refused_or_stored (first_refusal (file_checks h project old f.0)) (λ r is. first_stored (file_checks h project old f.0) r (tt, (tt, tt)) is))
+    subst IsStored (sym f.2)
+    (refused_or_stored (first_refusal (file_checks reading h project f.0)) (λ r is. first_stored (file_checks reading h project f.0) r (tt, (tt, (tt, (tt, (tt, (tt, tt)))))) is))
 outcome_stored reading h caller (CreateChange new) reply history reads all is =
     let below : change_count h < most_changes = ltb-true (change_count h) most_changes all.1.1.1.1.1.0 in
     subst IsStored (sym is) (omega arith, omega arith, omega arith, omega arith)
@@ -248,6 +246,18 @@ pub answer_stored : (h : List Entry) (caller : ℕ) (command : Command) (reply :
 answer_stored h caller command reply history is =
     let r = reading_of h history in answer_stored_by r.0 h caller command reply history r.1 (is r.0 r.1)
 
--- and so is that of an entry, whatever version's rules gave it
+-- and so is that of version 1 to a text that names a parent
+old_stored : (h : List Entry) (caller : ℕ) (command : Command) (reply : Reply) → IsHistory h → IsAnswerWithoutParents h caller command reply → IsStored reply
+old_stored h caller command reply history is = let r = reading_of h history in at r.0 (refused_by r.0 h caller command) refl (is r.0 r.1)
+  where
+    at : (reading : Reading) (o : Option Refusal) → refused_by reading h caller command ≡ o → MatchOption o (reply ≡ Refused (BadFile UnknownKey)) (λ refusal. reply ≡ Refused refusal) → IsStored reply
+    at reading None none is = subst IsStored (sym is) tt
+    at reading (Some r) some is = subst IsStored (sym is) (first_stored ((is_account h caller, UnknownCaller) ∷ checks reading h caller command) r (tt, checks_stored reading h caller command) some)
+
+-- and that of an entry, whatever version's rules gave it
 pub entry_stored : (e : Entry) (h : List Entry) → IsHistory (e ∷ h) → IsStored e.reply
-entry_stored e h history = answer_stored h e.identity.caller e.command e.reply history.3 history.1
+entry_stored e h history = by (nat_lt e.version 2 && puts_parent e.command) history.1
+  where
+    by : (b : Bool) → MatchBool b (IsAnswerWithoutParents h e.identity.caller e.command e.reply) (IsAnswer h e.identity.caller e.command e.reply) → IsStored e.reply
+    by true is = old_stored h e.identity.caller e.command e.reply history.3 is
+    by false is = answer_stored h e.identity.caller e.command e.reply history.3 is

@@ -1,8 +1,7 @@
--- Whose votes a change has, and on which labels: accounts vote, on labels of the file of the change's project.
+-- Whose votes a change has, and on which labels: accounts vote, on labels of the effective file of the change's project.
 use Rattle.std.proofs.Common.{◌≡◌, ℕ, ℤ, pos, ◌+◌, ◌==◌, ◌≤◌, List, [], ◌∷◌, ◌++◌, length, Option, Some, None, Bool, true, false, cond, ◌&&◌, ◌||◌, refl, sym, ap, ◌∙◌, subst, ⊎_elim, arith, eqb-true}
-use Rattle.std.specs.Prelude.{find, is_some, nat_le, nat_lt, option_map, unwrap_or, MatchOption}
+use Rattle.std.specs.Prelude.{find, is_some, nat_le, option_map}
 use Rattle.std.specs.List.{AllByRecursion, list_all, list_any}
-use Rattle.std.specs.Option.{option_map_or}
 use Rattle.std.specs.Str.{bytes_eq}
 use Rattle.std.proofs.lemmas.Bool.{and_parts, and_from, cases_Bool, leb-true, le-leb}
 use Rattle.std.proofs.lemmas.Slice.Eq.{bytes_eq-Decides}
@@ -13,26 +12,25 @@ use Rattle.review_words.specs.declared.command.Command.{Command}
 use Rattle.review_words.specs.declared.command.Command.TheVariants.{CreateAccount, PutGroup, PutProject, RecordBase, CreateChange, OnChange, Submit}
 use Rattle.review_words.specs.declared.command.ChangeCommand.{ChangeCommand}
 use Rattle.review_words.specs.declared.reply.Answer.{Answer}
-use Rattle.review_words.specs.declared.reply.Answer.TheVariants.{Nothing}
 use Rattle.review_words.specs.declared.reply.Refusal.{Refusal}
-use Rattle.review_words.specs.declared.reply.Refusal.TheVariants.{BadFile, UnknownCaller, Limit, LabelNarrowed}
+use Rattle.review_words.specs.declared.reply.Refusal.TheVariants.{UnknownCaller}
 use Rattle.review_words.specs.declared.reply.Reply.{Reply}
 use Rattle.review_words.specs.declared.reply.Reply.TheVariants.{Done, Refused, IdentityReused, NotTaken}
-use Rattle.review_words.specs.History.{Entry, accepted, if_done, account_count, counted, file_text, is_account, is_project, project_count, text_put}
+use Rattle.review_words.specs.History.{Entry, accepted, if_done, account_count, counted, file_text, is_account, is_project, text_put}
 use Rattle.review_project.specs.Rights.{has_values, is_covered}
 use Rattle.review_project.specs.View.{LabelView}
 use Rattle.review_expr.specs.declared.expr.Expr.{Expr}
-use Rattle.review_project_laws.proofs.Together.{same_covers}
 use Rattle.review_changes.specs.Change.{Change, Copying, Setting, after, begun, carried, copying, current, given_or, label_in, reviewed}
 use Rattle.review_changes.specs.Votes.{voted}
 use Rattle.review_words.specs.declared.command.ChangeCommand.TheVariants as on
+use Rattle.review_ancestors.proofs.Histories.{files_grow}
 use Rattle.review_change_laws.proofs.Joining.{joining_keeps}
 use Rattle.review_change_laws.proofs.Sound.{Passes, all_pass, checks_pass, done_passes}
 use Rattle.review_rows.proofs.Readings.{IsDoneBy, done_of}
-use Rattle.review_rows.specs.Answer.{IsAnswerBy, IsFaultAnswer, IsFileAnswer, IsHistory, checks, first_refusal, given_checks, refused_by, refused_or, request_checks}
-use Rattle.review_rows.specs.Changes.{Reading, Reads, IsReadRight, change, change_by, change_count, file_of, setting_of, submitted}
-use Rattle.review_rows.specs.Files.{File, IsRead, covers}
-use Rattle.review_rows.specs.Limits.{most_projects}
+use Rattle.review_rows.specs.Answer.{IsAnswerBy, IsHistory, checks, given_checks, request_checks}
+use Rattle.review_rows.specs.Changes.{Reading, Reads, change, change_by, change_count, file_of, setting_of, submitted}
+use Rattle.review_rows.specs.Files.{File}
+use Rattle.review_deliveries.proofs.OneFile.{spelled_once}
 
 -- ---- labels of a file that covers another
 
@@ -71,73 +69,37 @@ more_accounts n m u grows is =
     let below : u ≤ n = leb-true u n p.1 in
     and_from (nat_le 1 u) (nat_le u m) p.0 (le-leb u m (omega arith))
 
--- an answer that is no refusal is given where no check refuses
-pub not_fault : {A : Type 0} (o : Option Refusal) (a : Answer) → MatchOption o A (λ r. Done a ≡ Refused r) → A
-not_fault None a outcome = outcome
-not_fault (Some r) a refused = absurd (cc)
+accounts_put : (o : Option Command) (n u : ℕ) → (nat_le 1 u && nat_le u n) ≡ true → (nat_le 1 u && nat_le u (counted o n)) ≡ true
+accounts_put None n u is = is
+accounts_put (Some (CreateAccount name)) n u is = more_accounts n (n + 1) u (omega arith) is
+accounts_put (Some (PutGroup group members)) n u is = is
+accounts_put (Some (PutProject project text)) n u is = is
+accounts_put (Some (RecordBase project branch commit)) n u is = is
+accounts_put (Some (CreateChange new)) n u is = is
+accounts_put (Some (OnChange m command)) n u is = is
+accounts_put (Some (Submit m)) n u is = is
 
-first_passes : (b : Bool) (r : Refusal) (cs : List (Bool × Refusal)) (a : Answer) → Done a ≡ refused_or (first_refusal ((b, r) ∷ cs)) Nothing → b ≡ true
-first_passes true r cs a is = refl
-first_passes false r cs a is = absurd (cc)
+put_there : (b : Bool) (text : List ℕ) (o : Option (List ℕ)) → is_some o ≡ true → is_some (cond b (Some text) o) ≡ true
+put_there true text o is = refl
+put_there false text o is = is
 
--- the file that is put covers the one that was there
-put_covers : (reading : Reading) (h : List Entry) (caller : ℕ) (project text : List ℕ) (a : Answer) → IsRead text (reading text) → IsAnswerBy reading h caller (PutProject project text) (Done a) →
-    option_map_or (λ f. covers f (reading text)) (option_map reading (file_text h project)) true ≡ true
-put_covers reading h caller project text a read answer =
-    ⊎_elim
-    (λ (fault : IsFaultAnswer text (Done a)). let e : Done a ≡ Refused (BadFile fault.0) = fault.2 in absurd (cc))
-    (λ (file : IsFileAnswer reading h project text (Done a)).
-    same (option_map reading (file_text h project)) file.0 file.1 (first_passes (option_map_or (λ f. covers f file.0) (option_map reading (file_text h project)) true) LabelNarrowed ((is_project h project || nat_lt (project_count h) most_projects, Limit) ∷ []) a file.2))
-    (not_fault (refused_by reading h caller (PutProject project text)) a answer)
-  where
-    same : (o : Option File) (new : File) → IsRead text new → option_map_or (λ f. covers f new) o true ≡ true → option_map_or (λ f. covers f (reading text)) o true ≡ true
-    same None new is pass = refl
-    same (Some f) new is pass = sym (same_covers text new (reading text) is read f).1 ∙ pass
+projects_put : (o : Option Command) (p : List ℕ) (before : Option (List ℕ)) → is_some before ≡ true → is_some (text_put o p before) ≡ true
+projects_put None p before is = is
+projects_put (Some (CreateAccount name)) p before is = is
+projects_put (Some (PutGroup group members)) p before is = is
+projects_put (Some (PutProject project text)) p before is = put_there (bytes_eq project p) text before is
+projects_put (Some (RecordBase project branch commit)) p before is = is
+projects_put (Some (CreateChange new)) p before is = is
+projects_put (Some (OnChange m command)) p before is = is
+projects_put (Some (Submit m)) p before is = is
 
--- the labels of a project that gets a file, or doesn't
-labels_put : (reading : Reading) (b : Bool) (text l : List ℕ) (o : Option (List ℕ)) → (b ≡ true → option_map_or (λ f. covers f (reading text)) (option_map reading o) true ≡ true) → is_some o ≡ true →
-    is_some (label_in (reading (unwrap_or o [])) l) ≡ true → is_some (label_in (reading (unwrap_or (cond b (Some text) o) [])) l) ≡ true
-labels_put reading b text l None covered is there = absurd (cc)
-labels_put reading true text l (Some old) covered is there = covered_label l (reading text).labels (reading old).labels (covered refl) there
-labels_put reading false text l (Some old) covered is there = there
-
-projects_put : (b : Bool) (text : List ℕ) (o : Option (List ℕ)) → is_some o ≡ true → is_some (cond b (Some text) o) ≡ true
-projects_put true text o is = refl
-projects_put false text o is = is
-
-stay_alike : (reading : Reading) (h g : List Entry) → account_count g ≡ account_count h → ((p : List ℕ) → file_text g p ≡ file_text h p) → Stay reading h g
-stay_alike reading h g accounts files = record {
-  accounts = λ u is. ap (λ n. nat_le 1 u && nat_le u n) accounts ∙ is;
-  projects = λ p is. ap is_some (files p) ∙ is;
-  labels = λ p l is there. ap (λ o. is_some (label_in (reading (unwrap_or o [])) l)) (files p) ∙ there;
+-- each entry of a history leaves what there was
+stay : (reading : Reading) (h : List Entry) (e : Entry) → IsHistory (e ∷ h) → Reads reading (e ∷ h) → Stay reading h (e ∷ h)
+stay reading h e history reads = record {
+  accounts = λ u is. accounts_put (accepted e) (account_count h) u is;
+  projects = λ p is. projects_put (accepted e) p (file_text h p) is;
+  labels = λ p l is there. covered_label l (file_of reading (e ∷ h) p).labels (file_of reading h p).labels (files_grow spelled_once reading e h history reads p is) there;
 }
-
-stay_done : (reading : Reading) (h : List Entry) (e : Entry) (command : Command) (a : Answer) → accepted e ≡ Some command → IsReadRight reading (Some command) →
-    IsAnswerBy reading h e.identity.caller command (Done a) → Stay reading h (e ∷ h)
-stay_done reading h e (CreateAccount name) a is right answer =
-    let more : account_count (e ∷ h) ≡ account_count h + 1 = ap (λ o. counted o (account_count h)) is in
-    record {
-      accounts = λ u there. more_accounts (account_count h) (account_count (e ∷ h)) u (omega arith) there;
-      projects = λ p there. ap (λ o. is_some (text_put o p (file_text h p))) is ∙ there;
-      labels = λ p l there named. ap (λ o. is_some (label_in (reading (unwrap_or (text_put o p (file_text h p)) [])) l)) is ∙ named;
-    }
-stay_done reading h e (PutProject project text) a is right answer = record {
-  accounts = λ u there. ap (λ o. nat_le 1 u && nat_le u (counted o (account_count h))) is ∙ there;
-  projects = λ p there. ap (λ o. is_some (text_put o p (file_text h p))) is ∙ projects_put (bytes_eq project p) text (file_text h p) there;
-  labels = λ p l there named.
-      ap (λ o. is_some (label_in (reading (unwrap_or (text_put o p (file_text h p)) [])) l)) is
-      ∙ labels_put reading (bytes_eq project p) text l (file_text h p)
-      (λ same. subst (λ q. option_map_or (λ f. covers f (reading text)) (option_map reading (file_text h q)) true ≡ true) ((bytes_eq-Decides project p).0 same)
-      (put_covers reading h e.identity.caller project text a right answer)) there named;
-}
-stay_done reading h e (PutGroup group members) a is right answer = stay_alike reading h (e ∷ h) (ap (λ o. counted o (account_count h)) is) (λ p. ap (λ o. text_put o p (file_text h p)) is)
-stay_done reading h e (RecordBase project branch commit) a is right answer = stay_alike reading h (e ∷ h) (ap (λ o. counted o (account_count h)) is) (λ p. ap (λ o. text_put o p (file_text h p)) is)
-stay_done reading h e (CreateChange new) a is right answer = stay_alike reading h (e ∷ h) (ap (λ o. counted o (account_count h)) is) (λ p. ap (λ o. text_put o p (file_text h p)) is)
-stay_done reading h e (OnChange n command) a is right answer = stay_alike reading h (e ∷ h) (ap (λ o. counted o (account_count h)) is) (λ p. ap (λ o. text_put o p (file_text h p)) is)
-stay_done reading h e (Submit n) a is right answer = stay_alike reading h (e ∷ h) (ap (λ o. counted o (account_count h)) is) (λ p. ap (λ o. text_put o p (file_text h p)) is)
-
-stay_undone : (reading : Reading) (h : List Entry) (e : Entry) → accepted e ≡ None → Stay reading h (e ∷ h)
-stay_undone reading h e is = stay_alike reading h (e ∷ h) (ap (λ o. counted o (account_count h)) is) (λ p. ap (λ o. text_put o p (file_text h p)) is)
 
 -- ---- votes
 
@@ -261,13 +223,12 @@ voters_done reading h caller n c (OnChange m command) a answer before is =
 voters_done reading h caller n c (Submit m) a answer before is = before c is
 
 -- one entry more
-voters_step : (reading : Reading) (h : List Entry) (e : Entry) (n : ℕ) (c : Change) (reply : Reply) → e.reply ≡ reply → IsReadRight reading (if_done reply e.command) → IsDoneBy reading h e.identity.caller e.command reply →
+voters_step : (reading : Reading) (h : List Entry) (e : Entry) (n : ℕ) (c : Change) (reply : Reply) → Stay reading h (e ∷ h) → IsDoneBy reading h e.identity.caller e.command reply →
     ((x : Change) → change reading h n ≡ Some x → HasVoters reading h x) → change_by reading h e.identity.caller (if_done reply e.command) n (change reading h n) ≡ Some c → HasVoters reading (e ∷ h) c
-voters_step reading h e n c (Done a) of right answer before is =
-    voters_stay reading h (e ∷ h) c (stay_done reading h e e.command a (ap (λ r. if_done r e.command) of) right answer) (voters_done reading h e.identity.caller n c e.command a answer before is)
-voters_step reading h e n c (Refused r) of right answer before is = voters_stay reading h (e ∷ h) c (stay_undone reading h e (ap (λ r. if_done r e.command) of)) (before c is)
-voters_step reading h e n c IdentityReused of right answer before is = voters_stay reading h (e ∷ h) c (stay_undone reading h e (ap (λ r. if_done r e.command) of)) (before c is)
-voters_step reading h e n c (NotTaken cause) of right answer before is = voters_stay reading h (e ∷ h) c (stay_undone reading h e (ap (λ r. if_done r e.command) of)) (before c is)
+voters_step reading h e n c (Done a) stays answer before is = voters_stay reading h (e ∷ h) c stays (voters_done reading h e.identity.caller n c e.command a answer before is)
+voters_step reading h e n c (Refused r) stays answer before is = voters_stay reading h (e ∷ h) c stays (before c is)
+voters_step reading h e n c IdentityReused stays answer before is = voters_stay reading h (e ∷ h) c stays (before c is)
+voters_step reading h e n c (NotTaken cause) stays answer before is = voters_stay reading h (e ∷ h) c stays (before c is)
 
 -- whose votes a change of a history has
 pub have_voters : (reading : Reading) (h : List Entry) (n : ℕ) (c : Change) → Reads reading h → IsHistory h → change reading h n ≡ Some c → HasVoters reading h c
@@ -275,4 +236,4 @@ have_voters reading [] n c reads history is = absurd (cc)
 have_voters reading (e ∷ h) n c reads history is =
     joining_keeps (HasVoters reading (e ∷ h)) (λ place request x has. record { project = has.project; voters = has.voters; labels = has.labels }) h (submitted (accepted e) e.reply) n
     (change_by reading h e.identity.caller (accepted e) n (change reading h n)) c
-    (λ x there. voters_step reading h e n x e.reply refl reads.0 (done_of e h history reading reads.1) (λ y was. have_voters reading h n y reads.1 history.3 was) there) is
+    (λ x there. voters_step reading h e n x e.reply (stay reading h e history reads) (done_of e h history reading reads.1) (λ y was. have_voters reading h n y reads.1 history.3 was) there) is

@@ -37,7 +37,8 @@ const MOST_REQUESTS: u64 = 9_007_199_254_740_991;
 /// the answer; after an answer it leaves only tables that have the request.
 ///
 /// Pattern is lawful only for a first arrival that puts a project file with a pattern which the engine refuses, or where a first arrival is
-/// judged or a question answered by a project's file with a pattern: the file of the project that it names, or of the change that it names.
+/// judged or a question answered by the effective file of a project that has a pattern in its own file or in an ancestor's: the project that it
+/// names, or that of the change that it names, or the parent of a project that it makes.
 ///
 /// On any tables whatever, what isn't taken and a used identity leave them as they are, and Done and Refused either found
 /// the identity stored with this command and this reply, and left them, or stored the request beside the others; a refusal

@@ -15,7 +15,7 @@ pub trait Rules {
     ghost use Rattle.review_rows.specs.Questions.{IsQueryAnswerBy};
     ghost use Rattle.review_rows.specs.Changes.{Reading};
     ghost use Rattle.review_rows.specs.Rows.{HasNoEffect};
-    ghost use Rattle.review_rows.specs.Steps.{HasComeTo, HasFile, next, text_for, topic_of, wants_in, unless_none, OfCommand, OfQuery};
+    ghost use Rattle.review_rows.specs.Steps.{HasComeTo, HasFile, next, texts_for, topic_of, wants_in, unless_none, OfCommand, OfQuery};
     ghost use Rattle.review_rows.specs.View.{AreEnough, IsDecided};
     ghost use Rattle.review_rows.specs.Decisions.{IsUndecided, IsUnread, IsUnshown, NamesEachOnce, IsDoneOrRefused, RestsOn};
 
@@ -35,15 +35,16 @@ pub trait Rules {
         ensures walked { HasComeTo (option_copied read.entry) rows.now caller (topic_of matter.entry) walked.old →
             HasComeTo (option_copied read.entry) rows.now caller (topic_of matter.entry) walked.new };
 
-    /// Reads the file of the project by which a command or a question is judged, as rows know its text; none where there is none.
+    /// Reads the effective file of the project by which a command or a question is judged, as rows know its text and those of its ancestors; none where
+    /// the project has none.
     fn read(
         &mut self,
         alloc: Global,
         rows: &Rows,
         matter: Matter<'_>,
     ) -> Result<Option<ProjectFile>, NotTaken>
-        ensures read { IfOk result (λ r. HasFile (text_for rows.now (topic_of matter.entry)) r) }
-        ensures cause { IfErr result (IsUnread (text_for rows.now (topic_of matter.entry))) };
+        ensures read { IfOk result (λ r. HasFile (texts_for rows.now (topic_of matter.entry)) r) }
+        ensures cause { IfErr result (IsUnread (texts_for rows.now (topic_of matter.entry))) };
 
     /// The reply to a command and what it changes, where this file was read and a number is left for the request.
     fn decide(
