@@ -1,32 +1,30 @@
 -- The files of every history are sound, and each request leaves effective files what they had of labels and values.
-use Rattle.std.proofs.Common.{◌≡◌, ◌⊎◌, inl, inr, ◌∙◌, ℕ, ◌+◌, ◌<◌, ◌≤◌, zero, suc, List, [], ◌∷◌, Option, Some, None, Bool, true, false, cond, not, refl, sym, ap, subst, ⊎_elim, arith}
-use Rattle.std.specs.Prelude.{◌&&◌, ◌||◌, nat_lt, length, is_some, is_none, option_map}
+use Rattle.std.proofs.Common.{◌≡◌, ◌∙◌, ℕ, ◌<◌, List, [], ◌∷◌, Option, Some, None, true, false, cond, not, refl, sym, ap, subst, arith}
+use Rattle.std.specs.Prelude.{◌&&◌, ◌||◌, nat_lt, is_some, is_none}
 use Rattle.std.proofs.lemmas.Bool.Decides.{nat_tests}
 use Rattle.std.specs.Option.{option_map_or}
 use Rattle.std.specs.Str.{bytes_eq}
 use Rattle.std.proofs.lemmas.Slice.Eq.{bytes_eq-Decides}
-use Rattle.review_words.specs.History.{Entry, accepted, file_text, if_done, is_project, text_put}
+use Rattle.review_words.specs.History.{Entry, accepted, if_done, is_project}
 use Rattle.review_words.specs.declared.command.Command.{Command}
 use Rattle.review_words.specs.declared.command.Command.TheVariants.{CreateAccount, PutGroup, PutProject, RecordBase, CreateChange, OnChange, Submit}
-use Rattle.review_words.specs.declared.reply.Answer.{Answer}
 use Rattle.review_words.specs.declared.reply.Reply.{Reply}
 use Rattle.review_words.specs.declared.reply.Reply.TheVariants.{Done, Refused, IdentityReused, NotTaken}
-use Rattle.review_expr.specs.declared.expr.Expr.{Expr}
-use Rattle.review_project.specs.Expressions.{has_unknown_label, names_unknown_label}
+use Rattle.review_project.specs.Expressions.{names_unknown_label}
 use Rattle.review_project.specs.Inherited.{inherit, inherits_unknown_label}
 use Rattle.review_project.specs.Reading.{IsRead, named_parent}
 use Rattle.review_project.specs.Rights.{covers}
 use Rattle.review_project.specs.Trees.{ExprTree, file_trees}
 use Rattle.review_project.specs.View.{FileView}
 use Rattle.review_file.proofs.SoundLabels.{known_labels}
-use Rattle.review_inheritance.proofs.Alike.{covers_alike, inherit_alike, inherits_alike, unknown_alike}
-use Rattle.review_inheritance.proofs.Covered.{OrderedLabels, covers_itself}
+use Rattle.review_inheritance.proofs.Alike.{covers_alike, inherit_alike, inherits_alike}
+use Rattle.review_inheritance.proofs.Covered.{covers_itself}
 use Rattle.review_inheritance.proofs.Trees.{OneFile}
 use Rattle.review_rows.specs.declared.rows.StoredFile.{StoredFile}
-use Rattle.review_rows.specs.Answer.{IsAnswerBy, IsAnswerIn, IsHistory, file_with, is_same_parent, keeps_parent, puts_unknown_label}
-use Rattle.review_rows.specs.Changes.{IsReadRight, Reading, Reads, depth, effective_of, file_of, own_of, placed, texts_of}
+use Rattle.review_rows.specs.Answer.{IsHistory, file_with, is_same_parent}
+use Rattle.review_rows.specs.Changes.{IsReadRight, Reading, Reads, depth, file_of, own_of, placed}
 use Rattle.review_rows.specs.Files.{File}
-use Rattle.review_rows.specs.Lines.{line_of, most_depth}
+use Rattle.review_rows.specs.Lines.{most_depth}
 use Rattle.review_rows.proofs.Readings.{IsDoneBy, done_of}
 use Rattle.review_ancestors.specs.Ends.{ends, ends_above}
 use Rattle.review_ancestors.proofs.Accepted.{IsAcceptable, acceptable, parent_named}

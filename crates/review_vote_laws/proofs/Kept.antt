@@ -52,12 +52,12 @@ labels_stay one reading [] before history reads project is = covers_itself (file
 labels_stay one reading (e ∷ later) before history reads project is =
     let there = still_there later before project is in
     covers_through (file_of reading before project) (file_of reading (later ++ before) project) (file_of reading (e ∷ later ++ before) project)
-    (begin_ordered later before history.3 reads.1)
+    (begin_ordered later before history.3 reads.1 is)
     (file_ordered one reading (later ++ before) history.3 reads.1 project there)
     (file_ordered one reading (e ∷ later ++ before) history reads project (still_there (e ∷ later) before project is))
     (labels_stay one reading later before history.3 reads.1 project is)
     (files_grow one reading e (later ++ before) history reads project there)
   where
-    begin_ordered : (later before : List Entry) → IsHistory (later ++ before) → Reads reading (later ++ before) → OrderedLabels (file_of reading before project).labels
-    begin_ordered [] before history reads = file_ordered one reading before history reads project is
-    begin_ordered (x ∷ xs) before history reads = begin_ordered xs before history.3 reads.1
+    begin_ordered : (later before : List Entry) → IsHistory (later ++ before) → Reads reading (later ++ before) → is_project before project ≡ true → OrderedLabels (file_of reading before project).labels
+    begin_ordered [] before history reads is = file_ordered one reading before history reads project is
+    begin_ordered (x ∷ xs) before history reads is = begin_ordered xs before history.3 reads.1 is
