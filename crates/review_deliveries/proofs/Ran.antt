@@ -7,11 +7,13 @@ use Rattle.review_rows.specs.Answer.{IsHistory}
 use Rattle.review_rows.specs.Rows.{Tables}
 use Rattle.review_rows.specs.Shelf.{Shown, Views}
 use Rattle.review_branch_laws.proofs.Sound.{sound_branches}
+use Rattle.review_vote_laws.proofs.Sound.{sound_projects}
 use Rattle.review_deliveries.specs.Delivered.{IsDelivered, WasRun}
 use Rattle.review_deliveries.specs.Replies.{AreSteps, CountsReplies, IsRun, history_after}
 use Rattle.review_deliveries.proofs.Going.{run_none, run_one, run-append}
+use Rattle.review_deliveries.proofs.OneFile.{spelled_once}
 
--- the branches are sound in the history of a run
+-- the branches and the projects are sound in the history of a run
 was_run : (ds : List Delivery) (rs : List Reply) (old new : Shown) → length rs ≡ length ds → (new.is_honest → old.is_honest)
     → (new.is_honest → (h : List Entry) → IsHistory h → Views h old.tables → IsRun h ds rs old new)
     → (new.is_honest → AreSteps ds rs old.tables new.tables) → CountsReplies rs old.faults new.faults → WasRun ds rs old new
@@ -20,6 +22,7 @@ was_run ds rs old new each honest run steps counted = record {
   honest = honest;
   acts_once = run;
   branches = λ fair h hist v. sound_branches (history_after h ds rs) (run fair h hist v).history;
+  projects = λ fair h hist v. sound_projects spelled_once (history_after h ds rs) (run fair h hist v).history;
   steps = steps;
   counted = counted;
 }

@@ -6,6 +6,7 @@ use Rattle.review_words.specs.History.{Entry}
 use Rattle.review_rows.specs.Answer.{IsHistory}
 use Rattle.review_rows.specs.Shelf.{Shown, Views}
 use Rattle.review_branch_laws.specs.Sound.{AreSoundBranches}
+use Rattle.review_vote_laws.specs.Sound.{AreSoundProjects}
 use Rattle.review_deliveries.specs.Replies.{IsServed, IsRun, AreSteps, KeepsUntaken, StoresOnce, CountsReply, CountsReplies, StopGoesOnFrom, StopHasEntry, history_after}
 
 -- One delivery got this reply. What is said of tables is said where the store returned what was written to it.
@@ -29,6 +30,8 @@ pub record WasRun (ds : List Delivery) (replies : List Reply) (old new : Shown) 
   pub acts_once : new.is_honest → (h : List Entry) → IsHistory h → Views h old.tables → IsRun h ds replies old new
   -- of the history that it leaves: each change joined its branch once, at its place, after what it stands on, and was ready just before
   pub branches : new.is_honest → (h : List Entry) → IsHistory h → Views h old.tables → AreSoundBranches (history_after h ds replies)
+  -- and each line of projects ends, no effective file has lost a label or a value, and each vote is on a label of one
+  pub projects : new.is_honest → (h : List Entry) → IsHistory h → Views h old.tables → AreSoundProjects (history_after h ds replies)
   -- on any tables whatever, made of steps, one a delivery
   pub steps : new.is_honest → AreSteps ds replies old.tables new.tables
   -- on any shelf whatever, store faults are told only where they were counted
