@@ -19,7 +19,10 @@ use Rattle.review_project.specs.Spelled.{parent_in}
 use Rattle.review_rows.specs.Answer.{IsAnswer, IsAnswerIn, IsAnswerWithoutParents, IsHistory, puts_parent, refused_by}
 use Rattle.review_rows.specs.Changes.{own_of, placed}
 use Rattle.review_rows.specs.declared.rows.StoredFile.{StoredFile}
-use Rattle.review_rows.proofs.Readings.{not_done, reading_of}
+use Rattle.review_words.specs.declared.faults.FileFault.TheVariants.{UnknownKey}
+use Rattle.review_words.specs.declared.reply.Refusal.{Refusal}
+use Rattle.review_words.specs.declared.reply.Refusal.TheVariants.{BadFile}
+use Rattle.review_rows.proofs.Readings.{reading_of}
 
 -- a document without the key names no parent
 no_name : (d : Data) → is_some (get (codes "parent") d) ≡ false → parent_in d ≡ None
@@ -46,6 +49,11 @@ from_one (e ∷ h) history = let before = from_one h history.3 in let follows = 
 -- those before the first version's are of it
 first_before : (e : Entry) (h : List Entry) → IsHistory (e ∷ h) → version_of (e ∷ h) ≡ 1 → version_of h ≡ 1
 first_before e h history first = let before = from_one h history.3 in let follows = history.4 in grind (arith, nat_tests)
+
+-- what was refused wasn't done
+not_done : (o : Option Refusal) (a : Answer) → MatchOption o (Done a ≡ Refused (BadFile UnknownKey)) (λ r. Done a ≡ Refused r) → ⊥
+not_done None a e = absurd (cc)
+not_done (Some r) a e = absurd (cc)
 
 -- a text that was put in version 1 has no key `parent`
 put_before : (h : List Entry) (version caller : ℕ) (project text : List ℕ) (a : Answer) → IsHistory h → version ≡ 1 → IsAnswerIn h (record { caller = caller; version = version }) (PutProject project text) (Done a) →

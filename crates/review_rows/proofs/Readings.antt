@@ -62,7 +62,7 @@ IsDoneBy reading h caller command (Done a) = IsAnswerBy reading h caller command
 IsDoneBy reading h caller command reply = Unit {0}
 
 -- a text with the key `parent` was never put in version 1
-pub not_done : (o : Option Refusal) (a : Answer) → MatchOption o (Done a ≡ Refused (BadFile UnknownKey)) (λ r. Done a ≡ Refused r) → ⊥
+not_done : (o : Option Refusal) (a : Answer) → MatchOption o (Done a ≡ Refused (BadFile UnknownKey)) (λ r. Done a ≡ Refused r) → ⊥
 not_done None a e = absurd (cc)
 not_done (Some r) a e = absurd (cc)
 
