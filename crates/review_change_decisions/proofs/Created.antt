@@ -55,7 +55,7 @@ no_text [] has = refl
 no_text (t ∷ ts) has = let bad = has.2 in absurd (cc)
 
 -- whether there are texts
-has_texts : List (List ℕ) → Bool
+abbrev has_texts : List (List ℕ) → Bool
 has_texts [] = false
 has_texts (t ∷ ts) = true
 
@@ -67,8 +67,9 @@ texts_there h project = there_is h project ∙ by (own_of h project)
     by None = refl
     by (Some f) = refl
 
-pub no_project : (h : List Entry) (project : List ℕ) → HasFile (texts_of h project) None → is_project h project ≡ false
-no_project h project has = texts_there h project ∙ ap has_texts (no_text (texts_of h project) has)
+-- a project of whose line no file is read isn't there
+pub lacks_project : (h : List Entry) (project : List ℕ) → HasFile (texts_of h project) None → is_project h project ≡ false
+lacks_project h project has = texts_there h project ∙ ap has_texts (no_text (texts_of h project) has)
 
 some_project : (h : List Entry) (project : List ℕ) (f : File) → HasFile (texts_of h project) (Some f) → is_project h project ≡ true
 some_project h project f has = texts_there h project ∙ by (texts_of h project) has
@@ -82,7 +83,7 @@ refused_at : OneFile → (reading : Reading) (h : List Entry) (caller : ℕ) (ne
     refused_by reading h caller (CreateChange new) ≡ first_refusal (create_checks o rows caller new)
 refused_at one reading h caller new had None rows account l has all asked =
     checks_are reading h caller new true false (is_branch h new.project new.branch) (has_right reading h new.project right.Create caller) (is_known reading h new.project new.branch new.commit)
-    (is_known reading h new.project new.branch new.parent) (nat_lt (change_count h) most_changes) account (no_project h new.project has) refl refl refl refl refl
+    (is_known reading h new.project new.branch new.parent) (nat_lt (change_count h) most_changes) account (lacks_project h new.project has) refl refl refl refl refl
 refused_at one reading h caller new had (Some f) rows account l has all asked =
     checks_are reading h caller new true true
     (nat_le 1 (number_of (known rows (want.LastPlace (record { project = new.project; branch = new.branch }))))) (right_in rows f right.Create caller)
