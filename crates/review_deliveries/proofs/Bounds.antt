@@ -1,5 +1,5 @@
 -- How many votes a change of a history has at most.
-use Rattle.std.proofs.Common.{◌≡◌, ℕ, ℤ, pos, zero, suc, ◌*◌, ◌==◌, ◌<◌, ◌≤◌, List, [], ◌∷◌, ◌++◌, length, Option, Some, None, Bool, true, false, cond, not, ◌&&◌, ◌||◌, Less, Equal, Greater, nat_cmp, refl, sym, ap, ◌∙◌, ⊎_elim, arith, eq-eqb, length-append}
+use Rattle.std.proofs.Common.{◌≡◌, ℕ, ℤ, pos, zero, suc, ◌+◌, ◌*◌, ◌==◌, ◌<◌, ◌≤◌, List, [], ◌∷◌, ◌++◌, length, Option, Some, None, Bool, true, false, cond, not, ◌&&◌, ◌||◌, Less, Equal, Greater, nat_cmp, refl, sym, ap, ◌∙◌, ⊎_elim, arith, eq-eqb, length-append}
 use Rattle.std.specs.Prelude.{is_some, nat_le, nat_lt, find, filter, fold, codes}
 use Rattle.std.specs.declared.cmp.Ordering.{Ordering}
 use Rattle.std.specs.Cmp.Lexicographic.{slice_cmp}
@@ -32,12 +32,13 @@ use Rattle.review_words.specs.declared.command.ChangeCommand.TheVariants as on
 use Rattle.review_changes.specs.declared.rows.VoteKey.{VoteKey}
 use Rattle.review_change_laws.proofs.Sound.{all_pass, done_passes}
 use Rattle.review_rows.specs.Answer.{IsAnswerBy, IsHistory, IsUploadAnswer, checks}
-use Rattle.review_ancestors.proofs.Effective.{AreReadRight, line_read}
+use Rattle.review_ancestors.proofs.Effective.{line_read}
 use Rattle.review_rows.specs.declared.rows.StoredFile.{StoredFile}
 use Rattle.review_rows.specs.Changes.{Reading, Reads, change, effective_of, file_of, own_of, setting_of, texts_of}
 use Rattle.review_rows.specs.Files.{IsRead}
 use Rattle.review_rows.specs.Lines.{line_of, most_depth, with_above}
 use Rattle.review_rows.proofs.Readings.{IsDoneBy, done_of}
+use Rattle.review_deliveries.proofs.Named.{AreReadRight}
 use Rattle.review_deliveries.proofs.Voted.{have_voters}
 use Rattle.review_deliveries.proofs.Votes.{no_more}
 

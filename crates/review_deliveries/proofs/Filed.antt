@@ -13,7 +13,7 @@ use Rattle.review_words.specs.declared.reply.NotTaken.TheVariants.{Memory, Store
 use Rattle.review_project.specs.Inherited.{IsEffective}
 use Rattle.review_project.specs.Reading.{named_parent}
 use Rattle.review_changes.specs.Change.{Change}
-use Rattle.review_ancestors.proofs.Effective.{AreReadRight, effective_is, line_read}
+use Rattle.review_ancestors.proofs.Effective.{effective_is, line_read}
 use Rattle.review_rows.specs.declared.rows.Rows.{Rows}
 use Rattle.review_rows.specs.declared.rows.StoredFile.{StoredFile}
 use Rattle.review_rows.specs.declared.rows.Want.TheVariants as want
@@ -32,6 +32,7 @@ use Rattle.review_rows.proofs.Readings.{reading_of}
 use Rattle.review_change_laws.proofs.Same.{rows_tell}
 use Rattle.review_deliveries.specs.Gathered.{IsJudgedByPattern, IsUngathered, StaysKnown}
 use Rattle.review_deliveries.proofs.Histories.{view_of}
+use Rattle.review_deliveries.proofs.Named.{AreReadRight}
 
 -- a file that is found was looked for
 file_known : (o : Option Found) (f : StoredFile) → file_in o ≡ Some f → is_some o ≡ true
