@@ -17,7 +17,7 @@ use Rattle.review_ancestors.proofs.Effective.{effective_is, line_read}
 use Rattle.review_rows.specs.declared.rows.Rows.{Rows}
 use Rattle.review_rows.specs.declared.rows.StoredFile.{StoredFile}
 use Rattle.review_rows.specs.declared.rows.Want.TheVariants as want
-use Rattle.review_rows.specs.Changes.{Reading, Reads, change, effective_of, own_of, texts_of}
+use Rattle.review_rows.specs.Changes.{Reading, change, effective_of, texts_of}
 use Rattle.review_rows.specs.Decisions.{HasPatternIn, IsUnread, SomePattern, judging_project, topic_project}
 use Rattle.review_rows.specs.Files.{File}
 use Rattle.review_rows.specs.Known.{Found, Number, Name, Holder, IsSo, Members, Text, Commits, AChange, Stands, Joins, IsKnown, part_of, known, Agrees, change_in, file_in}
