@@ -1,15 +1,17 @@
 -- How many votes a change of a history has at most.
-use Rattle.std.proofs.Common.{◌≡◌, ℕ, ℤ, pos, zero, suc, ◌*◌, ◌==◌, ◌<◌, ◌≤◌, List, [], ◌∷◌, ◌++◌, length, Option, Some, None, Bool, true, false, cond, not, ◌&&◌, ◌||◌, Less, Equal, Greater, nat_cmp, refl, sym, ap, ◌∙◌, ⊎_elim, arith, eq-eqb, length-append}
+use Rattle.std.proofs.Common.{◌≡◌, ℕ, ℤ, pos, zero, suc, ◌+◌, ◌*◌, ◌==◌, ◌<◌, ◌≤◌, List, [], ◌∷◌, ◌++◌, length, Option, Some, None, Bool, true, false, cond, not, ◌&&◌, ◌||◌, Less, Equal, Greater, nat_cmp, refl, sym, ap, ◌∙◌, ⊎_elim, arith, eq-eqb, length-append}
 use Rattle.std.specs.Prelude.{is_some, nat_le, nat_lt, find, filter, fold, codes}
 use Rattle.std.specs.declared.cmp.Ordering.{Ordering}
 use Rattle.std.specs.Cmp.Lexicographic.{slice_cmp}
 use Rattle.std.specs.Option.{option_map_or}
-use Rattle.std.specs.Ordering.{match_ordering}
+use Rattle.std.specs.List.{list_any}
+use Rattle.std.specs.Ordering.{int_eq, match_ordering}
 use Rattle.std.specs.Str.{bytes_eq}
 use Rattle.std.proofs.lemmas.Bool.{and_parts, and_from, cases_Bool, cases_lt, ltb-true, ltb-false, leb-true}
 use Rattle.std.proofs.lemmas.List.{length-map}
 use Rattle.toml.specs.Data.{Data, table}
 use Rattle.review_names.specs.Forms.{is_label}
+use Rattle.review_words.specs.declared.changes.Given.{Given}
 use Rattle.review_words.specs.declared.changes.NewPatch.{NewPatch}
 use Rattle.review_words.specs.declared.command.Command.{Command}
 use Rattle.review_words.specs.declared.command.Command.TheVariants.{CreateAccount, PutGroup, PutProject, RecordBase, CreateChange, OnChange, Submit}
@@ -31,13 +33,16 @@ use Rattle.review_changes.specs.Votes.{voted}
 use Rattle.review_words.specs.declared.command.ChangeCommand.TheVariants as on
 use Rattle.review_changes.specs.declared.rows.VoteKey.{VoteKey}
 use Rattle.review_change_laws.proofs.Sound.{all_pass, done_passes}
-use Rattle.review_rows.specs.Answer.{IsAnswerBy, IsHistory, IsUploadAnswer, checks}
-use Rattle.review_ancestors.proofs.Effective.{AreReadRight, line_read}
+use Rattle.review_rows.specs.Answer.{IsAnswerBy, IsHistory, IsUploadAnswer, checks, is_value_of}
+use Rattle.review_ancestors.proofs.Effective.{line_read}
 use Rattle.review_rows.specs.declared.rows.StoredFile.{StoredFile}
 use Rattle.review_rows.specs.Changes.{Reading, Reads, change, effective_of, file_of, own_of, setting_of, texts_of}
 use Rattle.review_rows.specs.Files.{IsRead}
 use Rattle.review_rows.specs.Lines.{line_of, most_depth, with_above}
 use Rattle.review_rows.proofs.Readings.{IsDoneBy, done_of}
+use Rattle.review_vote_laws.proofs.Standing.{votes_stand}
+use Rattle.review_deliveries.proofs.Named.{AreReadRight}
+use Rattle.review_deliveries.proofs.OneFile.{spelled_once}
 use Rattle.review_deliveries.proofs.Voted.{have_voters}
 use Rattle.review_deliveries.proofs.Votes.{no_more}
 
@@ -230,19 +235,27 @@ carried_vote : (b : Bool) (v : ℤ) → voted (cond b v (pos 0)) ≡ true → vo
 carried_vote true v is = is
 carried_vote false v is = absurd (cc)
 
+-- a value of a label is on a label
+of_label : (file : FileView Expr) (g : Given) → is_value_of file g ≡ true → is_some (find (λ x. bytes_eq x.name g.label) file.labels) ≡ true
+of_label file g is = by (find (λ x. bytes_eq x.name g.label) file.labels) is
+  where
+    by : (o : Option (LabelView Expr)) → option_map_or (λ label. list_any (λ v. int_eq v.0 g.value) label.values) o false ≡ true → is_some o ≡ true
+    by None is = absurd (cc)
+    by (Some label) is = refl
+
 -- the votes that an Upload counts
 pub votes_bound : (reading : Reading) (h : List Entry) (caller n : ℕ) (patch : NewPatch) (c : Change) (reply : Reply) → IsHistory h → Reads reading h → change reading h n ≡ Some c →
     (is : IsUploadAnswer reading h caller n patch c reply) → (is.copied < 18446744073709551616) × (is.outdated < 18446744073709551616)
 votes_bound reading h caller n patch c reply history reads there is =
-    let has = have_voters reading h n c reads history there in
     let file = file_of reading h c.project in
     let few = file_bound reading h c.project reads in
     let below = accounts_bound reading h reads history in
+    let voters = have_voters reading h n c reads history there (current c) in
+    let stand = votes_stand spelled_once reading h history reads n c there (current c) in
+    let labels = λ (l : List ℕ) (u : ℕ) (v : voted (c.vote (current c) l u) ≡ true). of_label file (record { label = l; value = c.vote (current c) l u }) (stand l u v) in
     let k = copying (setting_of reading h c.project) (on.Upload patch) caller c in
     let was = λ (l : List ℕ) (u : ℕ) (v : voted (carried k c l u) ≡ true). carried_vote (k.copies l u (c.vote (current c) l u)) (c.vote (current c) l u) v in
     let lost = λ (l : List ℕ) (u : ℕ) (v : is_lost k c u l ≡ true). (and_parts (voted (c.vote (current c) l u)) (not (k.copies l u (c.vote (current c) l u))) v).0 in (
-      votes_below file.labels (account_count h) (λ l u. voted (carried k c l u)) is.copied few below
-          (λ l u v. has.labels (current c) l u (was l u v)) (λ l u v. has.voters (current c) l u (was l u v)) is.many_copied,
-      votes_below file.labels (account_count h) (λ l u. is_lost k c u l) is.outdated few below
-          (λ l u v. has.labels (current c) l u (lost l u v)) (λ l u v. has.voters (current c) l u (lost l u v)) is.many_outdated,
+      votes_below file.labels (account_count h) (λ l u. voted (carried k c l u)) is.copied few below (λ l u v. labels l u (was l u v)) (λ l u v. voters l u (was l u v)) is.many_copied,
+      votes_below file.labels (account_count h) (λ l u. is_lost k c u l) is.outdated few below (λ l u v. labels l u (lost l u v)) (λ l u v. voters l u (lost l u v)) is.many_outdated,
     )

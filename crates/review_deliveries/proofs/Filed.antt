@@ -13,11 +13,11 @@ use Rattle.review_words.specs.declared.reply.NotTaken.TheVariants.{Memory, Store
 use Rattle.review_project.specs.Inherited.{IsEffective}
 use Rattle.review_project.specs.Reading.{named_parent}
 use Rattle.review_changes.specs.Change.{Change}
-use Rattle.review_ancestors.proofs.Effective.{AreReadRight, effective_is, line_read}
+use Rattle.review_ancestors.proofs.Effective.{effective_is, line_read}
 use Rattle.review_rows.specs.declared.rows.Rows.{Rows}
 use Rattle.review_rows.specs.declared.rows.StoredFile.{StoredFile}
 use Rattle.review_rows.specs.declared.rows.Want.TheVariants as want
-use Rattle.review_rows.specs.Changes.{Reading, Reads, change, effective_of, own_of, texts_of}
+use Rattle.review_rows.specs.Changes.{Reading, change, effective_of, texts_of}
 use Rattle.review_rows.specs.Decisions.{HasPatternIn, IsUnread, SomePattern, judging_project, topic_project}
 use Rattle.review_rows.specs.Files.{File}
 use Rattle.review_rows.specs.Known.{Found, Number, Name, Holder, IsSo, Members, Text, Commits, AChange, Stands, Joins, IsKnown, part_of, known, Agrees, change_in, file_in}
@@ -32,6 +32,7 @@ use Rattle.review_rows.proofs.Readings.{reading_of}
 use Rattle.review_change_laws.proofs.Same.{rows_tell}
 use Rattle.review_deliveries.specs.Gathered.{IsJudgedByPattern, IsUngathered, StaysKnown}
 use Rattle.review_deliveries.proofs.Histories.{view_of}
+use Rattle.review_deliveries.proofs.Named.{AreReadRight}
 
 -- a file that is found was looked for
 file_known : (o : Option Found) (f : StoredFile) → file_in o ≡ Some f → is_some o ≡ true

@@ -1,5 +1,5 @@
 -- One answer to each command, unless a pattern nests too deep.
-use Rattle.std.proofs.Common.{◌≡◌, ◌⊎◌, ℕ, List, [], ◌∷◌, Option, Some, None, true, ◌+◌, ◌||◌, ◌∙◌, sym, ap, inl, inr, refl, subst, ⊎_elim}
+use Rattle.std.proofs.Common.{◌≡◌, ◌⊎◌, ℕ, List, [], ◌∷◌, Option, Some, None, true, false, ◌+◌, ◌||◌, ◌∙◌, sym, ap, inl, inr, refl, subst, ⊎_elim}
 use Rattle.std.specs.Prelude.{nat_lt, not, MatchOption}
 use Rattle.std.specs.Option.{option_map_or}
 use Rattle.review_words.specs.declared.changes.NewPatch.{NewPatch}
@@ -23,7 +23,7 @@ use Rattle.review_changes.specs.Change.{Change, carried, copying, current, is_lo
 use Rattle.review_words.specs.declared.command.ChangeCommand.TheVariants as change_asked
 use Rattle.review_changes.specs.Votes.{voted}
 use Rattle.review_rows.specs.Changes.{Reading, change, depth, file_of, setting_of}
-use Rattle.review_rows.specs.Files.{File, IsRead, covers, HasDeepPattern}
+use Rattle.review_rows.specs.Files.{File, covers, HasDeepPattern}
 use Rattle.review_rows.specs.Answer.{IsAnswerBy, IsOf, IsOutcome, IsRequestOutcome, IsUploadAnswer, file_checks, file_with, first_refusal, keeps_parent, puts_unknown_label, refused_by, refused_or}
 use Rattle.review_rows.specs.Limits.{most_projects}
 use Rattle.review_rows.specs.Lines.{most_depth}

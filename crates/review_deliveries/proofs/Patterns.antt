@@ -13,10 +13,9 @@ use Rattle.review_ancestors.proofs.Histories.{sound_files}
 use Rattle.review_ancestors.proofs.Kept.{parent_ends}
 use Rattle.review_rows.specs.declared.rows.Rows.{Rows}
 use Rattle.review_rows.specs.declared.rows.StoredFile.{StoredFile}
-use Rattle.review_rows.specs.declared.rows.Want.TheVariants as want
 use Rattle.review_rows.specs.Answer.{IsHistory}
 use Rattle.review_rows.specs.Changes.{Reading, own_of, texts_of}
-use Rattle.review_rows.specs.Decisions.{HasPatternIn, PutsPattern, ReadsPattern, SomePattern, judging_project, putting_project}
+use Rattle.review_rows.specs.Decisions.{HasPatternIn, PutsPattern, ReadsPattern, SomePattern, putting_project}
 use Rattle.review_rows.specs.Files.{File}
 use Rattle.review_rows.specs.Lines.{line_of, most_depth, with_above}
 use Rattle.review_rows.specs.Steps.{OfCommand, line_steps, own_in, parent_or, texts_above, texts_in, unknown}

@@ -1,6 +1,6 @@
 -- Each answer of a history is stored with numbers of their forms.
 use Rattle.std.proofs.Common.{◌≡◌, ◌⊎◌, ℕ, suc, ◌+◌, ◌<◌, ◌≤◌, List, [], ◌∷◌, ◌++◌, length, Option, Some, None, Bool, true, false, cond, refl, sym, ap, ◌∙◌, subst, ⊎_elim, inl, inr, arith}
-use Rattle.std.specs.Prelude.{MatchOption, is_some, nat_lt, option_map, map, ◌&&◌}
+use Rattle.std.specs.Prelude.{MatchOption, nat_lt, option_map, map, ◌&&◌}
 use Rattle.std.specs.Bool.{MatchBool}
 use Rattle.std.specs.List.{All, AllByRecursion}
 use Rattle.std.proofs.lemmas.List.Elements.{All-head, All-tail}
