@@ -9,6 +9,9 @@ use review_words::{FileText, ProjectName};
 use std::alloc::{AllocError, Global};
 use std::marker::Model;
 
+/// The greatest depth of a project: so many projects a line has at most.
+pub const MOST_DEPTH: u64 = 8;
+
 /// A project of a line, with the text of its own file.
 #[derive(Clone, Copy)]
 pub struct LinePart<'a> {
