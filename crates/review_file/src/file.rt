@@ -409,7 +409,7 @@ impl ProjectFile {
     }
 
     /// A copy of the parent. An error where there was no memory for it.
-    pub(crate) fn copied_parent(&self, alloc: Global) -> Result<Option<ProjectName>, AllocError>
+    pub fn copied_parent(&self, alloc: Global) -> Result<Option<ProjectName>, AllocError>
         ensures { IfOk result (λ p. p ≡ self.now.parent) }
     {
         match self.parent() {

@@ -36,7 +36,7 @@ mod unknown;
 pub use covering::covers;
 pub use file::{Access, Label, LabelValue, ProjectFile, Requirement};
 pub use inheriting::{InheritFault, inherit, inherit_stored};
-pub use lines::{LinePart, ReadLine};
+pub use lines::{LinePart, MOST_DEPTH, ReadLine};
 pub use memo::FileMemo;
 pub use read::{named_parent, read_file};
 pub use review_document::limits::{MOST_BYTES, MOST_DESCRIPTION, MOST_PARTS, MOST_TEXT};

@@ -1,5 +1,5 @@
 //! The line of a project: it, its parent, and so on.
-ghost use Rattle.std.specs.Prelude.{◌≡◌, ◌≢◌, ◌∷◌, ◌↔◌, [], IfOk, IfErr, IsTrue, OnOk, ◌++◌, map, true};
+ghost use Rattle.std.specs.Prelude.{◌≡◌, ◌≢◌, ◌∷◌, ◌↔◌, [], IfOk, IfErr, IsTrue, OnOk, ◌++◌, false, length, map, true};
 ghost use Rattle.review_project.specs.Inherited.{IsEffective, inherit, inherits_unknown_label};
 
 use crate::file::ProjectFile;
@@ -8,6 +8,9 @@ use crate::texts::ReadText;
 use review_words::{FileText, ProjectName};
 use std::alloc::{AllocError, Global};
 use std::marker::Model;
+
+/// The greatest depth of a project: so many projects a line has at most.
+pub const MOST_DEPTH: usize = 8;
 
 /// A project of a line, with the text of its own file.
 #[derive(Clone, Copy)]
@@ -54,6 +57,7 @@ impl ReadLine {
     pub fn inherit(&self, alloc: Global, own: ReadText) -> Result<ReadLine, InheritFault>
         ensures texts { IfOk result (λ l. l.texts ≡ own.text ∷ self.now.texts) }
         ensures file { IfOk result (λ l. l.file ≡ inherit self.now.file own.file) }
+        ensures known { IfOk result (λ l. inherits_unknown_label self.now.file own.file ≡ false) }
         ensures fault { IfErr result (λ e. e ≢ InheritFault.Memory → inherits_unknown_label self.now.file own.file ≡ true) }
     {
         let file = inherit(alloc, self.file(), own.file())?;
@@ -97,6 +101,20 @@ impl ReadLine {
         ensures effective { IsEffective self.now.texts self.now.file }
     {
         &self.file
+    }
+
+    /// The effective file alone.
+    pub fn into_file(self) -> ProjectFile
+        ensures { result ≡ self.file }
+    {
+        self.file
+    }
+
+    /// How many projects there are in the line.
+    pub fn depth(&self) -> usize
+        ensures { result ≡ length self.now.texts }
+    {
+        self.texts.len()
     }
 
     /// Whether the texts are those of a project and its ancestors, byte for byte.

@@ -1,8 +1,9 @@
 //! Reading a project file.
-ghost use Rattle.std.specs.Prelude.{◌≡◌, ◌≢◌, false, IfOk, IfErr, option_map};
+ghost use Rattle.std.specs.Prelude.{◌≡◌, ◌≢◌, false, IfOk, IfErr, length, nat_lt, option_map};
 ghost use Rattle.toml.specs.View.{table_view, view};
 ghost use Rattle.toml.specs.Data.{table};
 ghost use Rattle.toml.specs.Parse.{parse_document};
+ghost use Rattle.review_document.specs.Limits.{most_bytes};
 ghost use Rattle.review_project.specs.Expressions.{IsFile, IsStoppedBy, has_unknown_label};
 ghost use Rattle.review_project.specs.Patterns.{HasPattern};
 ghost use Rattle.review_project.specs.Reading.{IsFaultless, IsRead, IsReadFault, IsDocumentFault, first_fault, named_parent};
@@ -93,9 +94,16 @@ fn read_document(alloc: Global, file: &Value) -> Result<Content, ReadFault>
     Ok(content)
 }
 
+// Whether a text is too long to be read.
+fn is_too_long(text: &str) -> bool
+    ensures { result ≡ nat_lt most_bytes (length text.now) }
+{
+    text.len() > MOST_BYTES
+}
+
 // The document that a text is, if it is one.
 fn document_in(alloc: Global, text: &str) -> Result<Option<Value>, AllocError>
-    ensures { IfOk result (λ d. option_map view d ≡ option_map table (parse_document text.now)) }
+    ensures { IfOk result (λ document. option_map view document ≡ option_map table (parse_document text.now)) }
 {
     match toml::table_from_str(alloc, text) {
         Ok(table) => Ok(Some(Value::Table(table))),
@@ -114,7 +122,7 @@ pub fn named_parent(alloc: Global, text: &FileText) -> Result<Option<ProjectName
     ensures { IfOk result (λ parent. parent ≡ named_parent text.now) }
 {
     let text = text.as_str();
-    if text.len() > MOST_BYTES {
+    if is_too_long(text) {
         return Ok(None);
     }
     match document_in(alloc, text)? {
@@ -127,18 +135,12 @@ fn read_content(alloc: Global, text: &str) -> Result<Content, ReadFault>
     ensures read { IfOk result (IsRead text.now) }
     ensures fault { IfErr result (IsReadFault text.now) }
 {
-    if text.len() > MOST_BYTES {
+    if is_too_long(text) {
         return Err(ReadFault::File(FileFault::Limit));
     }
-    match toml::table_from_str(alloc, text) {
-        Ok(table) => read_document(alloc, &Value::Table(table)),
-        Err(error) => {
-            if error.is_memory() {
-                Err(ReadFault::Memory)
-            } else {
-                Err(ReadFault::File(FileFault::Toml))
-            }
-        }
+    match document_in(alloc, text)? {
+        Some(document) => read_document(alloc, &document),
+        None => Err(ReadFault::File(FileFault::Toml)),
     }
 }
 

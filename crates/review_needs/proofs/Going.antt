@@ -1,6 +1,6 @@
 -- Looks for a chain that go on.
-use Rattle.std.proofs.Common.{◌≡◌, ℕ, true, [], Option, Some, None, refl, sym, ◌∙◌, subst}
-use Rattle.std.specs.Prelude.{◌&&◌, not, IfSome}
+use Rattle.std.proofs.Common.{List, ap, ◌≡◌, ℕ, true, [], Option, Some, None, refl, sym, ◌∙◌, subst}
+use Rattle.std.specs.Prelude.{◌&&◌, not, is_some, IfSome}
 use Rattle.review_words.specs.declared.command.Command.TheVariants.{CreateAccount, PutGroup, PutProject, RecordBase, CreateChange, OnChange, Submit}
 use Rattle.review_changes.specs.Change.{Change, is_open}
 use Rattle.review_chain.specs.declared.walks.Walked.{Walked}
@@ -12,7 +12,9 @@ use Rattle.review_rows.specs.declared.rows.Rows.{Rows}
 use Rattle.review_rows.specs.declared.rows.Want.TheVariants as want
 use Rattle.review_rows.specs.Known.{known, change_in}
 use Rattle.review_rows.specs.Links.{links_in}
-use Rattle.review_rows.specs.Steps.{Topic, OfCommand, OfQuery, HasComeTo, MayGoOn, next_of, steps}
+use Rattle.review_rows.specs.Steps.{Topic, OfCommand, OfQuery, HasComeTo, MayGoOn, last_wants, next, next_of, or_next, steps, unless_none}
+use Rattle.review_rows.specs.declared.rows.Want.{Want}
+use Rattle.review_needs.proofs.Asking.{first_left}
 use Rattle.review_needs.specs.Walks.{IsWalkIn, MayGoOnFor}
 
 -- a walk that was begun goes on in the branch of the change
@@ -64,8 +66,7 @@ come_to file rows caller (OfCommand (CreateChange new)) (Some w) made h = absurd
 come_to file rows caller (OfCommand (OnChange change command)) (Some w) made h = absurd (cc)
 come_to file rows caller (OfCommand (Submit n)) (Some w) made h = (made, h)
 
--- a look that was begun has all that is asked before
-pub made_before : (file : Option File) (rows : Rows) (caller : ℕ) (topic : Topic) (w : Walked) → HasComeTo file rows caller topic (Some w) → next_of rows (steps file rows caller topic) ≡ []
+made_before : (file : Option File) (rows : Rows) (caller : ℕ) (topic : Topic) (w : Walked) → HasComeTo file rows caller topic (Some w) → next_of rows (steps file rows caller topic) ≡ []
 made_before file rows caller (OfQuery query) w h = absurd h
 made_before file rows caller (OfCommand (CreateAccount name)) w h = absurd h
 made_before file rows caller (OfCommand (PutGroup group members)) w h = absurd h
@@ -74,3 +75,16 @@ made_before file rows caller (OfCommand (RecordBase project branch commit)) w h 
 made_before file rows caller (OfCommand (CreateChange new)) w h = absurd h
 made_before file rows caller (OfCommand (OnChange change command)) w h = absurd h
 made_before file rows caller (OfCommand (Submit n)) w h = h.0
+
+-- a look that was begun has all that is asked before
+pub made_where : (file : Option File) (rows : Rows) (caller : ℕ) (topic : Topic) (o : Option Walked) (ws : List Want) → is_some o ≡ true → HasComeTo file rows caller topic o → ws ≡ [] → ws ≡ next_of rows (steps file rows caller topic)
+made_where file rows caller topic None ws begun h none = absurd (cc)
+made_where file rows caller topic (Some w) ws begun h none = none ∙ sym (made_before file rows caller topic w h)
+
+-- what is left of the steps is asked next
+pub step_left : (file : Option File) (rows : Rows) (caller : ℕ) (topic : Topic) (ws : List Want) → ws ≡ next_of rows (steps file rows caller topic) → (ws ≡ [] → ⊥) → Some ws ≡ unless_none (next file rows caller topic)
+step_left file rows caller topic ws is some = first_left ws (last_wants rows topic) some ∙ ap (λ a. unless_none (or_next a (last_wants rows topic))) is
+
+-- and otherwise what is asked last
+pub last_left : (file : Option File) (rows : Rows) (caller : ℕ) (topic : Topic) (ws last : List Want) → ws ≡ next_of rows (steps file rows caller topic) → ws ≡ [] → last ≡ last_wants rows topic → unless_none last ≡ unless_none (next file rows caller topic)
+last_left file rows caller topic ws last is none so = ap unless_none so ∙ ap (λ a. unless_none (or_next a (last_wants rows topic))) (sym none ∙ is)
