@@ -81,6 +81,6 @@ tables_at db = record {
   requests = number_of (λ d. d.requests) (row_at desk db tt);
 }
 
--- the row of the desk says version 1 and so many requests
+-- the row of the desk says version 2 and so many requests
 abbrev pub IsDesk : ℕ → Trees → Type 0
-IsDesk requests db = row_at desk db tt ≡ Some (Some (record { version = 1; requests = requests }))
+IsDesk requests db = row_at desk db tt ≡ Some (Some (record { version = 2; requests = requests }))
