@@ -70,14 +70,14 @@ refused_other s other = record { no_desk = λ is. absurd (cc); other_version = �
 
 -- what the table `desk` says is no desk, or one of another version
 pub refused_said : (s : State) (said : Said) (fault : DeskFault) → IsSaid s.now said
-    → ((fault ≡ NotADesk) × ((said.version ≡ None) ⊎ ((said.version ≡ Some 1) × (said.requests ≡ None)))) ⊎ ((fault ≡ WrongVersion) × ((version : ℕ) × (said.version ≡ Some version) × (version ≢ 1))) → IsRefused s fault
+    → ((fault ≡ NotADesk) × ((said.version ≡ None) ⊎ ((said.version ≡ Some 2) × (said.requests ≡ None)))) ⊎ ((fault ≡ WrongVersion) × ((version : ℕ) × (said.version ≡ Some version) × (version ≢ 2))) → IsRefused s fault
 refused_said s said fault it (inl (is, inl none)) = subst (IsRefused s) (sym is) (refused_none s (inr (it.rows, it.shown, inl (sym it.version_is ∙ none))))
 refused_said s said fault it (inl (is, inr one)) = subst (IsRefused s) (sym is) (refused_none s (inr (it.rows, it.shown, inr (sym it.version_is ∙ one.0, inl (sym it.requests_are ∙ one.1)))))
 refused_said s said fault it (inr (is, other)) = subst (IsRefused s) (sym is) (refused_other s (it.rows, it.shown, (other.0, sym it.version_is ∙ other.1, other.2)))
 
 -- a desk is there, but a table of records is missing
-pub refused_missing : (s : State) (said : Said) (requests : ℕ) → IsSaid s.now said → said.version ≡ Some 1 → (AreAllRead s.now.schema → ⊥) → IsRefused s NotADesk
+pub refused_missing : (s : State) (said : Said) (requests : ℕ) → IsSaid s.now said → said.version ≡ Some 2 → (AreAllRead s.now.schema → ⊥) → IsRefused s NotADesk
 refused_missing s said requests it one missing = refused_none s (inr (it.rows, it.shown, inr (sym it.version_is ∙ one, inr missing)))
 
-pub desk_there : (s : State) (said : Said) (requests : ℕ) → IsSaid s.now said → said.version ≡ Some 1 → said.requests ≡ Some requests → AreAllRead s.now.schema → IsDeskThere s.now requests
+pub desk_there : (s : State) (said : Said) (requests : ℕ) → IsSaid s.now said → said.version ≡ Some 2 → said.requests ≡ Some requests → AreAllRead s.now.schema → IsDeskThere s.now requests
 desk_there s said requests it one some all = record { rows = it.rows; shown = it.shown; version_is = sym it.version_is ∙ one; requests_are = sym it.requests_are ∙ some; tables = all }

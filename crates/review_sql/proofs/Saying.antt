@@ -100,8 +100,8 @@ module _ (db : Database) (has : db.schema ≡ desk_schema) (rows : List Row) (sh
   says_row (r ∷ []) version requests v n = rw (v, n) refl
   says_row (r ∷ s ∷ raws) version requests v n = absurd (cc)
 
-  pub is_desk : (requests : ℕ) → version_in rows ≡ Some 1 → requests_in rows ≡ Some requests → IsDesk requests db.trees
-  is_desk requests v n = says_row stored 1 requests (says 0 ∙ v) (says 1 ∙ n)
+  pub is_desk : (requests : ℕ) → version_in rows ≡ Some 2 → requests_in rows ≡ Some requests → IsDesk requests db.trees
+  is_desk requests v n = says_row stored 2 requests (says 0 ∙ v) (says 1 ∙ n)
 
   parts_of : (a b : Option ℕ) (d : DeskRow) → Some (desk_row a b) ≡ Some (Some d) → (a ≡ Some d.version) × (b ≡ Some d.requests)
   parts_of None b d is = let e = same_Some None (Some d) is in cc
@@ -115,9 +115,9 @@ module _ (db : Database) (has : db.schema ≡ desk_schema) (rows : List Row) (sh
   row_says (r ∷ []) d is = parts_of _ _ d is
   row_says (r ∷ s ∷ raws) d is = absurd (let e = same_Some None (Some d) is in cc)
 
-  pub desk_says : (requests : ℕ) → IsDesk requests db.trees → (version_in rows ≡ Some 1) × (requests_in rows ≡ Some requests)
+  pub desk_says : (requests : ℕ) → IsDesk requests db.trees → (version_in rows ≡ Some 2) × (requests_in rows ≡ Some requests)
   desk_says requests is =
-      let it = row_says stored (record { version = 1; requests = requests }) is in
+      let it = row_says stored (record { version = 2; requests = requests }) is in
       (sym (says 0) ∙ it.0, sym (says 1) ∙ it.1)
 
 -- ---- a desk of ours
@@ -132,7 +132,7 @@ pub never_no_desk : (db : Database) → db.schema ≡ desk_schema → (requests 
 never_no_desk db has requests is (inl missing) = missing (subst (λ s. IsUnderstood s FIND_DESK.now) (sym has) understands)
 never_no_desk db has requests is (inr odd) = let it = desk_says db has odd.0 odd.1 requests is in lacks odd.0 it.0 it.1 odd.2
   where
-    lacks : (rows : List Row) → version_in rows ≡ Some 1 → requests_in rows ≡ Some requests → LacksDesk db rows → ⊥
+    lacks : (rows : List Row) → version_in rows ≡ Some 2 → requests_in rows ≡ Some requests → LacksDesk db rows → ⊥
     lacks rows v n (inl none) = no_some _ _ v none
     lacks rows v n (inr (_, inl none)) = no_some _ _ n none
     lacks rows v n (inr (_, inr missing)) = missing (subst AreAllRead (sym has) reads_all)

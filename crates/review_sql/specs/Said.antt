@@ -38,22 +38,22 @@ pub record IsSaid (db : Database) (said : Said) : Type 0 where
   pub version_is : said.version ≡ version_in rows
   pub requests_are : said.requests ≡ requests_in rows
 
--- the table `desk` has one row, which says version 1 and so many requests, and all columns of the eleven tables of records are there
+-- the table `desk` has one row, which says version 2 and so many requests, and all columns of the eleven tables of records are there
 pub record IsDeskThere (db : Database) (requests : ℕ) : Type 0 where
   pub rows : List Row
   pub shown : ShowsDesk db rows
-  pub version_is : version_in rows ≡ Some 1
+  pub version_is : version_in rows ≡ Some 2
   pub requests_are : requests_in rows ≡ Some requests
   pub tables : AreAllRead db.schema
 
--- the rows say no version, or version 1 where they don't say how many requests there are or a table of records is missing
+-- the rows say no version, or version 2 where they don't say how many requests there are or a table of records is missing
 abbrev pub LacksDesk : Database → List Row → Type 0
-LacksDesk db rows = (version_in rows ≡ None) ⊎ ((version_in rows ≡ Some 1) × ((requests_in rows ≡ None) ⊎ (AreAllRead db.schema → ⊥)))
+LacksDesk db rows = (version_in rows ≡ None) ⊎ ((version_in rows ≡ Some 2) × ((requests_in rows ≡ None) ⊎ (AreAllRead db.schema → ⊥)))
 
 -- the table `desk` isn't there with its columns, or what its rows say is no desk
 abbrev pub IsNoDesk : Database → Type 0
 IsNoDesk db = (IsUnderstood db.schema FIND_DESK.now → ⊥) ⊎ ((rows : List Row) × ShowsDesk db rows × LacksDesk db rows)
 
--- the one row of the table `desk` says another version than 1, whatever else it says
+-- the one row of the table `desk` says another version than 2, whatever else it says
 abbrev pub IsOtherVersion : Database → Type 0
-IsOtherVersion db = (rows : List Row) × ShowsDesk db rows × ((version : ℕ) × (version_in rows ≡ Some version) × (version ≢ 1))
+IsOtherVersion db = (rows : List Row) × ShowsDesk db rows × ((version : ℕ) × (version_in rows ≡ Some version) × (version ≢ 2))

@@ -12,7 +12,7 @@ use crate::seen::{Said, Seen};
 use crate::there::{are_all_there, is_understood};
 use review_statements::texts;
 use review_tables::columns::number_at;
-use review_tables::creating::is_desk;
+use review_tables::creating::{TablesVersion, is_desk};
 use review_tables::rowids::are_all_apart;
 use sqlite::{Alter, Connection, Error, Row};
 use std::alloc::Global;
@@ -69,16 +69,16 @@ fn ask<S: Alter>(conn: &mut Connection<S>) -> Result<Said, DeskFault>
     }
 }
 
-// The requests of a desk of version 1. Another version is told whatever is said of requests.
-fn first_version(said: Said) -> Result<u64, DeskFault>
-    ensures ok { IfOk result (λ requests. (said.version ≡ Some 1) × (said.requests ≡ Some requests)) }
-    ensures err { IfErr result (λ e. ((e ≡ DeskFault.NotADesk) × ((said.version ≡ None) ⊎ ((said.version ≡ Some 1) × (said.requests ≡ None))))
-        ⊎ ((e ≡ DeskFault.WrongVersion) × ((version : ℕ) × (said.version ≡ Some version) × (version ≢ 1)))) }
+// The requests of a desk of version 2. Another version is told whatever is said of requests.
+fn requests_of(said: Said) -> Result<u64, DeskFault>
+    ensures ok { IfOk result (λ requests. (said.version ≡ Some 2) × (said.requests ≡ Some requests)) }
+    ensures err { IfErr result (λ e. ((e ≡ DeskFault.NotADesk) × ((said.version ≡ None) ⊎ ((said.version ≡ Some 2) × (said.requests ≡ None))))
+        ⊎ ((e ≡ DeskFault.WrongVersion) × ((version : ℕ) × (said.version ≡ Some version) × (version ≢ 2)))) }
 {
     let Some(version) = said.version else {
         return Err(DeskFault::NotADesk);
     };
-    if version != 1 {
+    if version != 2 {
         return Err(DeskFault::WrongVersion);
     }
     match said.requests {
@@ -87,7 +87,7 @@ fn first_version(said: Said) -> Result<u64, DeskFault>
     }
 }
 
-// How many requests are stored, where the tables are those of a desk of version 1, of whatever form.
+// How many requests are stored, where the tables are those of a desk of version 2, of whatever form.
 fn find_desk<S: Alter>(conn: &mut Connection<S>) -> Result<u64, DeskFault>
     requires mode { conn.old.in_transaction ≡ false }
     ensures mode { conn.new.in_transaction ≡ false }
@@ -97,7 +97,7 @@ fn find_desk<S: Alter>(conn: &mut Connection<S>) -> Result<u64, DeskFault>
     ensures not_ours { IfErr result (λ fault. fault ≢ DeskFault.NotOurs) }
 {
     let said = ask(conn)?;
-    let requests = first_version(said)?;
+    let requests = requests_of(said)?;
     match are_all_there(conn) {
         Ok(true) => Ok(requests),
         Ok(false) => Err(DeskFault::NotADesk),
@@ -127,7 +127,7 @@ pub fn see<S: Alter>(conn: &mut Connection<S>, alloc: Global) -> Result<Seen, De
     ensures refused { IsTrue (state S.Store conn.new).is_open → IfErr result (IsRefused (state S.Store conn.old)) }
     ensures not_ours { IfErr result (λ fault. fault ≢ DeskFault.NotOurs) }
 {
-    let has_form = match is_desk(alloc, conn.schema()) {
+    let has_form = match is_desk(alloc, conn.schema(), TablesVersion::Second) {
         Ok(has_form) => has_form,
         Err(error) => return Err(DeskFault::of(error)),
     };

@@ -110,7 +110,7 @@ impl<S: Alter + Drop, O: Origin> SqlShelf<S, O> {
     ghost use Rattle.review_sql.specs.Reopened.{ReopensLast, IsRefusedAgain};
 
     /// Makes an empty desk, in one transaction: over a store with no table as ours. A refusal hands the connection back with its tables as
-    /// they were: NotEmpty where a table of one of the twelve names is there, and NotOurs where the shelf is to be ours and other tables
+    /// they were: NotEmpty where a table of one of the names that tables of a desk have is there, and NotOurs where the shelf is to be ours and other tables
     /// are, both with nothing touched.
     pub fn create(
         alloc: Global,
@@ -153,7 +153,7 @@ impl<S: Alter + Drop, O: Origin> SqlShelf<S, O> {
     }
 
     /// Opens a desk. Nothing is written, and a refusal hands the connection back with its tables as they were. Whatever the form of the tables,
-    /// it is opened only where the table `desk` has one row, which says version 1 and so many requests, and all columns of the eleven tables
+    /// it is opened only where the table `desk` has one row, which says version 2 and so many requests, and all columns of the eleven tables
     /// of records are there. Looked at in this order, it is NotADesk only where that row is missing, or says no version; WrongVersion only
     /// where it says another, whatever else it says; NotADesk, where it says no requests or a table of records is missing; and NotOurs only where
     /// the shelf is to be ours and the tables are of another form than `create` makes, or two rows of one have the same rowid.

@@ -43,15 +43,15 @@ pub fn seen<S: Alter>(conn: &mut Connection<S>, error: Error) -> Error
     }
 }
 
-// A text that reads no column of a table of one of the twelve names.
+// A text that reads no column of a table of one of the names that tables of a desk have.
 fn any_row(at: usize) -> &'static str
-    requires { at < 12 }
+    requires { at < 13 }
     ensures { (d : List ℕ) → result.now ≡ slice_index_or (map (λ t. t.now) ANY_ROW) at d }
 {
     texts::ANY_ROW[at]
 }
 
-/// Whether a table of one of the twelve names is there.
+/// Whether a table of one of the names that tables of a desk have is there.
 pub fn is_any_there<S: Alter>(conn: &mut Connection<S>) -> Result<bool, Error>
     requires mode { conn.old.in_transaction ≡ false }
     ensures mode { conn.new.in_transaction ≡ false }
@@ -59,7 +59,7 @@ pub fn is_any_there<S: Alter>(conn: &mut Connection<S>) -> Result<bool, Error>
     ensures is { HasCleanDisk (state S.Store conn.new) → IfOk result (λ is. is ≡ true → IsTrue (state S.Store conn.new).is_open → IsAnyThere (state S.Store conn.old).now.schema) }
     ensures none { HasCleanDisk (state S.Store conn.new) → IfOk result (λ is. is ≡ false → IsAnyThere (state S.Store conn.old).now.schema → ⊥) }
 {
-    for at in 0..12 {
+    for at in 0..13 {
         if is_understood(conn, any_row(at))? {
             return Ok(true);
         }
