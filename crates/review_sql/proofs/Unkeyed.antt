@@ -86,7 +86,7 @@ any_filtered p (x ∷ xs) = elim (cases_Bool (p x)) [ inl is ↦ rw is refl | in
 any_same : (p : Raw → Bool) (xs ys : List Raw) → filter p xs ≡ filter p ys → list_any p xs ≡ list_any p ys
 any_same p xs ys same = any_filtered p xs ∙ (ap (list_any (λ r. true)) same ∙ sym (any_filtered p ys))
 
-all_same : (tables : List (ℕ × (Raw → Bool))) (old new : Trees) → AllByRecursion (λ t. filter (λ r. not (t.1 r)) (new t.0) ≡ filter (λ r. not (t.1 r)) (old t.0)) tables → has_unkeyed tables new ≡ has_unkeyed tables old
+pub all_same : (tables : List (ℕ × (Raw → Bool))) (old new : Trees) → AllByRecursion (λ t. filter (λ r. not (t.1 r)) (new t.0) ≡ filter (λ r. not (t.1 r)) (old t.0)) tables → has_unkeyed tables new ≡ has_unkeyed tables old
 all_same [] old new all = refl
 all_same (t ∷ tables) old new all = (λ i. any_same (λ r. not (t.1 r)) (new t.0) (old t.0) all.0 i || all_same tables old new all.1 i)
 

@@ -11,6 +11,7 @@ use Rattle.sqlite_tied.specs.Compute.{everything}
 use Rattle.sqlite.specs.Effect.{Database}
 use Rattle.sqlite.specs.Listing.{understood}
 use Rattle.review_statements.specs.declared.texts.TheConstants.{CREATE_PROJECTS_2}
+use Rattle.review_statements.specs.Content.{AreApart}
 use Rattle.review_statements.specs.Desk.{desk_schema, desk_tables, projects, projects_2, schema_0, schema_1, schema_of, tables_1}
 use Rattle.review_statements.specs.Moved.{AreMoved, FillsProjects, DropsProjects, both_tables, columns_of, without_parent}
 use Rattle.review_tables.specs.Made.{Grows, IsMade, MakesBy, MakesText}
@@ -60,8 +61,11 @@ module _ (old a b new : Database) (makes : MakesBy CREATE_PROJECTS_2.now old a) 
         subst (AreMoved without_parent (old.trees projects.tree)) (sym (dropped.others.1.1.1.1.1.1.1.1.1.1.1.0))
         (subst (λ rows. AreMoved without_parent rows (b.trees projects_2.tree)) made.others.1.1.0 filled.moved)
 
+    apart : AreApart (new.trees projects_2.tree)
+    apart = subst AreApart (sym (dropped.others.1.1.1.1.1.1.1.1.1.1.1.0)) filled.apart
+
   pub migrates : Migrates old new
-  migrates = record { schema = λ has. (dropped has).schema; moved = moved; others = kept }
+  migrates = record { schema = λ has. (dropped has).schema; moved = moved; apart = apart; others = kept }
 
 -- ---- empty tables
 
@@ -69,15 +73,19 @@ none_moved : (rows : List Row) → IsPermutation [] (map columns_of rows) → ro
 none_moved [] same = refl
 none_moved (r ∷ rows) same = absurd (let l = length_permutation _ _ same in cc)
 
--- tables are empty that were and keep their rows, and so are the new projects
-empty_all : (old new : Trees) (tables : List Table) → new projects_2.tree ≡ [] → AllByRecursion (λ t. t.tree ≢ projects_2.tree → new t.tree ≡ old t.tree) tables → AllByRecursion (λ t. t.tree ≢ projects_2.tree → old t.tree ≡ []) tables
-    → AllByRecursion (λ t. new t.tree ≡ []) tables
-empty_all old new [] none same was = tt
-empty_all old new (t ∷ tables) none same was = (by (eqb t.tree projects_2.tree) refl, empty_all old new tables none same.1 was.1)
+-- what holds of the rows of tables that keep them holds of those of all tables, where it does of the new projects
+all_after : (P : List Row → Type 0) (old new : Trees) (tables : List Table) → P (new projects_2.tree) → AllByRecursion (λ t. t.tree ≢ projects_2.tree → new t.tree ≡ old t.tree) tables → AllByRecursion (λ t. t.tree ≢ projects_2.tree → P (old t.tree)) tables
+    → AllByRecursion (λ t. P (new t.tree)) tables
+all_after P old new [] it same was = tt
+all_after P old new (t ∷ tables) it same was = (by (eqb t.tree projects_2.tree) refl, all_after P old new tables it same.1 was.1)
   where
-    by : (b : Bool) → eqb t.tree projects_2.tree ≡ b → new t.tree ≡ []
-    by true e = subst (λ n. new n ≡ []) (sym (eqb-true t.tree projects_2.tree e)) none
-    by false e = let other : t.tree ≢ projects_2.tree = λ is. absurd (let yes = (Decides-eqb t.tree projects_2.tree).1 is in cc) in same.0 other ∙ was.0 other
+    by : (b : Bool) → eqb t.tree projects_2.tree ≡ b → P (new t.tree)
+    by true e = subst (λ n. P (new n)) (sym (eqb-true t.tree projects_2.tree e)) it
+    by false e = let other : t.tree ≢ projects_2.tree = λ is. absurd (let yes = (Decides-eqb t.tree projects_2.tree).1 is in cc) in subst P (sym (same.0 other)) (was.0 other)
+
+-- rowids that are apart stay so
+pub apart_after : (old new : Database) → Migrates old new → old.schema ≡ schema_1 → AllByRecursion (λ t. AreApart (old.trees t.tree)) tables_1 → AllByRecursion (λ t. AreApart (new.trees t.tree)) desk_tables
+apart_after old new it has all = all_after AreApart old.trees new.trees desk_tables (it.apart has) (it.others has) (of_desk (λ t. AreApart (old.trees t.tree)) all)
 
 -- of the empty tables of version 1 those of version 2 are made
 pub grows : (old new : Database) → Next (Grows schema_0 schema_1) Migrates old new → Grows schema_0 desk_schema old new
@@ -85,4 +93,4 @@ grows old new h blank =
     let was = h.1 blank in
     let it = h.2 in
     let none = none_moved (new.trees projects_2.tree) (subst (λ rows. AreMoved without_parent rows (new.trees projects_2.tree)) was.empty.1.1.0 (it.moved was.schema_is)) in
-    record { schema_is = it.schema was.schema_is; empty = empty_all h.0.trees new.trees desk_tables none (it.others was.schema_is) (of_desk (λ t. h.0.trees t.tree ≡ []) was.empty) }
+    record { schema_is = it.schema was.schema_is; empty = all_after (λ rows. rows ≡ []) h.0.trees new.trees desk_tables none (it.others was.schema_is) (of_desk (λ t. h.0.trees t.tree ≡ []) was.empty) }
