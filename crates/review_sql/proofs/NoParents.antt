@@ -6,9 +6,8 @@ use Rattle.std.specs.Option.{option_map_or}
 use Rattle.std.specs.Prelude.{MatchOption, length, nat_lt, option_and_then}
 use Rattle.std.specs.Str.{bytes_eq}
 use Rattle.std.proofs.lemmas.Bool.{cases_Bool}
-use Rattle.toml.specs.Data.{Data, Members, table, get}
+use Rattle.toml.specs.Data.{Data, Members, as_str, table, get}
 use Rattle.toml.specs.Parse.{parse_document}
-use Rattle.review_document.specs.Document.{as_str}
 use Rattle.review_document.specs.Limits.{most_bytes}
 use Rattle.review_project.specs.Reading.{has_parent_key, named_parent}
 use Rattle.review_project.specs.Spelled.{parent_in, project_name}

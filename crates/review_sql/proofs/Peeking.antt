@@ -1,5 +1,5 @@
 -- A look at tables that is taken back.
-use Rattle.std.proofs.Common.{◌≡◌, ◌≢◌, ◌∙◌, ◌⊎◌, inl, inr, ℕ, List, [], ◌∷◌, Some, None, Bool, eqb, eqb-true, true, false, Ok, Err, Result, IfOk, IsTrue, refl, sym, subst, arith}
+use Rattle.std.proofs.Common.{◌≡◌, ◌≢◌, ◌∙◌, ◌⊎◌, inl, inr, ℕ, List, [], ◌∷◌, Some, None, Bool, eqb, eqb-true, true, false, Ok, Err, Result, IfOk, IfErr, IsTrue, refl, sym, subst, arith}
 use Rattle.std.specs.Bool.{Decides}
 use Rattle.std.specs.List.{AllByRecursion, list_any}
 use Rattle.std.proofs.lemmas.Bool.{or_cases}
@@ -73,10 +73,20 @@ refused_other s other = record { no_desk = λ is. absurd (cc); other_version = �
 
 -- tables that lack something of a desk
 pub lacking : (s : State) (version : TablesVersion) → IsNone version s.now → IsLacking version s NotADesk
-lacking s version none = record { no_desk = λ is. none; no_other = ((λ is. cc), ((λ is. cc), (λ is. cc))) }
+lacking s version none = record { no_desk = λ is. none; no_other = ((λ is. cc), (λ is. cc), (λ is. cc)) }
 
 pub refused_lacking : (s : State) (fault : DeskFault) → IsLacking Second s fault → IsRefused s fault
 refused_lacking s fault it = record { no_desk = it.no_desk; other_version = λ is. absurd (it.no_other.0 is); not_ours = λ is. absurd (it.no_other.2 is); not_empty = it.no_other.1 }
+
+-- the same, of tables that are as they were
+pub refused_second : {X : Type 0} (s t : State) (r : Result X DeskFault) → t.now ≡ s.now → IfErr r (IsLacking Second t) → IfErr r (IsRefused s)
+refused_second s t (Ok x) same it = tt
+refused_second s t (Err fault) same it = record {
+  no_desk = λ is. subst (IsNone Second) same (it.no_desk is);
+  other_version = λ is. absurd (it.no_other.0 is);
+  not_ours = λ is. absurd (it.no_other.2 is);
+  not_empty = it.no_other.1;
+}
 
 -- nothing is said of a version
 pub none_said : (s : State) (said : Said) (version : TablesVersion) → IsSaid s.now said → said.version ≡ None → IsNone version s.now

@@ -1,5 +1,5 @@
 -- Tables of version 1 that became those of a desk show the same history.
-use Rattle.std.proofs.Common.{◌≡◌, ◌≢◌, ◌∙◌, ◌||◌, ℕ, List, [], ◌∷◌, Option, Some, None, option_map, Bool, cond, true, false, not, length, IsTrue, refl, sym, ap, subst, arith}
+use Rattle.std.proofs.Common.{◌≡◌, ◌≢◌, ◌∙◌, ◌||◌, ℕ, List, [], ◌∷◌, Option, Some, None, option_map, Bool, cond, true, false, not, drop, filter, length, IsTrue, refl, sym, ap, subst, arith}
 use Rattle.std.specs.Bool.{Decides}
 use Rattle.std.specs.List.{list_any}
 use Rattle.std.proofs.lemmas.Bool.{or_parts}
@@ -13,6 +13,7 @@ use Rattle.review_rows.specs.declared.rows.StoredFile.{StoredFile}
 use Rattle.review_rows.specs.Changes.{Reading, Reads, own_of}
 use Rattle.review_rows.specs.Rows.{Key, AccountKey, MemberKey, FileKey, BaseKey, PartKey, OddKey, Row, AccountRow, MemberRow, FileRow, BaseRow, OddRow, Count, Projects, BasesOf}
 use Rattle.review_rows.specs.View.{IsView, IsViewBy, fact, counted, tables_version}
+use Rattle.review_statements.specs.Content.{AreApart}
 use Rattle.review_statements.specs.Desk.{desk_schema, is_tree, schema_1}
 use Rattle.review_statements.specs.Moved.{AreMoved, without_parent}
 use Rattle.review_statements.specs.Ran.{IsReady, OnDesk}
@@ -52,6 +53,10 @@ no_odd : (odd : Bool) → cond odd (Some OddRow) None ≡ None → odd ≡ false
 no_odd true is = absurd (cc)
 no_odd false is = refl
 
+-- the tables of records behind the projects
+abbrev later : List (ℕ × (Raw → Bool))
+later = drop 3 keyed_tables
+
 module _ (requests : ℕ) (old mid new : Trees) (others : (t : ℕ) → is_tree t ≡ true → t ≢ 26 → mid t ≡ old t) (moved : AreMoved without_parent (old 4) (mid 26)) (sets : SetsDesk requests mid new) where
   same : (t : ℕ) → is_tree t ≡ true → t ≢ 25 → t ≢ 26 → new t ≡ old t
   same t is p q = sets.others t is p ∙ others t is q
@@ -82,14 +87,11 @@ module _ (requests : ℕ) (old mid new : Trees) (others : (t : ℕ) → is_tree 
         (λ i. kept 0 accounts.keyed (same 0 refl (λ e. omega (arith, e)) (λ e. omega (arith, e))) i || (kept 2 members.keyed (same 2 refl (λ e. omega (arith, e)) (λ e. omega (arith, e))) i || (still i || rest i)))
         ∙ none_odd
       where
-        abbrev later : List (ℕ × (Raw → Bool))
-        later = Rattle.std.proofs.Common.drop 3 keyed_tables
-
         rest : has_unkeyed later new ≡ has_unkeyed later old
         rest = all_same later old new (stay 6 refl (λ e. omega (arith, e)) (λ e. omega (arith, e)), (stay 22 refl (λ e. omega (arith, e)) (λ e. omega (arith, e)), (stay 9 refl (λ e. omega (arith, e)) (λ e. omega (arith, e)), (stay 11 refl (λ e. omega (arith, e)) (λ e. omega (arith, e)), (stay 14 refl (λ e. omega (arith, e)) (λ e. omega (arith, e)), (stay 16 refl (λ e. omega (arith, e)) (λ e. omega (arith, e)), (stay 18 refl (λ e. omega (arith, e)) (λ e. omega (arith, e)), (stay 20 refl (λ e. omega (arith, e)) (λ e. omega (arith, e)), tt))))))))
           where
-            stay : {keyed : Raw → Bool} (t : ℕ) → is_tree t ≡ true → t ≢ 25 → t ≢ 26 → Rattle.std.proofs.Common.filter (λ r. not (keyed r)) (new t) ≡ Rattle.std.proofs.Common.filter (λ r. not (keyed r)) (old t)
-            stay {keyed} t is p q = ap (Rattle.std.proofs.Common.filter (λ r. not (keyed r))) (same t is p q)
+            stay : {keyed : Raw → Bool} (t : ℕ) → is_tree t ≡ true → t ≢ 25 → t ≢ 26 → filter (λ r. not (keyed r)) (new t) ≡ filter (λ r. not (keyed r)) (old t)
+            stay {keyed} t is p q = ap (filter (λ r. not (keyed r))) (same t is p q)
 
     file_row : (project : List ℕ) → told FileRow (row_at projects new project) ≡ option_map FileRow (own_of h project)
     file_row project =
@@ -148,7 +150,7 @@ upgrades requests old new h = record {
     others has t is p = ap (λ (d : Database). d.trees t) (looked has).0 ∙ at_tree (λ n. n ≢ 26 → between.trees n ≡ old.trees n) desk_schema.tables (migrated.others has) t is p
 
     ready : old.schema ≡ schema_1 → IsReady mid
-    ready has = subst IsReady (sym (looked has).0) (record { schema = migrated.schema has; apart = λ t is. at_tree (λ n. Rattle.review_statements.specs.Content.AreApart (between.trees n)) desk_schema.tables ((looked has).1.0 refl) t is })
+    ready has = subst IsReady (sym (looked has).0) (record { schema = migrated.schema has; apart = λ t is. at_tree (λ n. AreApart (between.trees n)) desk_schema.tables ((looked has).1.0 refl) t is })
 
 -- of tables that are not ours nothing is said
 pub upgrades_others : (requests : ℕ) (old new : Database) → Upgrades false requests old new

@@ -83,8 +83,8 @@ pub record IsNotMigrated (is_ours : Bool) (old new : State) : Type 0 where
 
 -- Why tables are not migrated: as no desk only where they are none, or lack something of one of the version that they say; as another version only where they say neither version 1 nor 2; and as not ours only
 -- where a desk of one of these versions is there whose tables are of another form than was made here, or have two rows with one rowid.
-pub record IsUnfit (s : State) (fault : DeskFault) : Type 0 where
-  pub no_desk : fault ≡ NotADesk → (version : TablesVersion) × IsNone version s.now
-  pub other_version : fault ≡ WrongVersion → SaysOther (First ∷ Second ∷ []) s.now
-  pub not_ours : fault ≡ NotOurs → (version : TablesVersion) × ((requests : ℕ) × IsThere version s.now requests) × (s.now.schema ≡ schema_at version → AreApartIn version s.now.trees → ⊥)
+pub record IsUnfit (db : Database) (fault : DeskFault) : Type 0 where
+  pub no_desk : fault ≡ NotADesk → (version : TablesVersion) × IsNone version db
+  pub other_version : fault ≡ WrongVersion → SaysOther (First ∷ Second ∷ []) db
+  pub not_ours : fault ≡ NotOurs → (version : TablesVersion) × ((requests : ℕ) × IsThere version db requests) × (db.schema ≡ schema_at version → AreApartIn version db.trees → ⊥)
   pub not_empty : fault ≢ NotEmpty

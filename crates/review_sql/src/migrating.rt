@@ -128,7 +128,7 @@ fn upgrade<S: Alter>(
     ensures mode { conn.new.in_transaction ≡ false }
     ensures raised { IfOk result (IsRaised S.Store is_ours conn.old conn.new) }
     ensures refused { IfErr result (λ e. IsNotMigrated is_ours (state S.Store conn.old) (state S.Store conn.new)) }
-    ensures unfit { IsTrue (state S.Store conn.new).is_open → IfErr result (IsUnfit (state S.Store conn.old)) }
+    ensures unfit { IsTrue (state S.Store conn.new).is_open → IfErr result (IsUnfit (state S.Store conn.old).now) }
     ensures ours { IfErr result (λ e. e ≡ DeskFault.NotOurs → IsTrue is_ours) }
 {
     let seen = see_tables(conn, alloc, TablesVersion::First, said)?;
@@ -154,7 +154,7 @@ fn keep<S: Alter>(
     ensures mode { conn.new.in_transaction ≡ false }
     ensures stays { Stays (state S.Store conn.old) (state S.Store conn.new) }
     ensures kept { IfOk result (IsKept is_ours (state S.Store conn.old) (state S.Store conn.new)) }
-    ensures unfit { IsTrue (state S.Store conn.new).is_open → IfErr result (IsUnfit (state S.Store conn.old)) }
+    ensures unfit { IsTrue (state S.Store conn.new).is_open → IfErr result (IsUnfit (state S.Store conn.old).now) }
     ensures ours { IfErr result (λ e. e ≡ DeskFault.NotOurs → IsTrue is_ours) }
 {
     let seen = see_desk(conn, alloc, said)?;
@@ -174,7 +174,7 @@ pub fn bring<S: Alter>(
     ensures mode { conn.new.in_transaction ≡ false }
     ensures brought { IfOk result (IsBrought S.Store is_ours conn.old conn.new) }
     ensures refused { IfErr result (λ e. IsNotMigrated is_ours (state S.Store conn.old) (state S.Store conn.new)) }
-    ensures unfit { IsTrue (state S.Store conn.new).is_open → IfErr result (IsUnfit (state S.Store conn.old)) }
+    ensures unfit { IsTrue (state S.Store conn.new).is_open → IfErr result (IsUnfit (state S.Store conn.old).now) }
     ensures ours { IfErr result (λ e. e ≡ DeskFault.NotOurs → IsTrue is_ours) }
 {
     let said = ask(conn)?;

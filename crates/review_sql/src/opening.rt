@@ -57,6 +57,7 @@ pub fn ask<S: Alter>(conn: &mut Connection<S>) -> Result<Said, DeskFault>
     ensures stays { Stays (state S.Store conn.old) (state S.Store conn.new) }
     ensures said { IsTrue (state S.Store conn.new).is_open → IfOk result (IsSaid (state S.Store conn.old).now) }
     ensures lacking { IsTrue (state S.Store conn.new).is_open → IfErr result (IsLacking TablesVersion.Second (state S.Store conn.old)) }
+    ensures not_ours { IfErr result (λ fault. fault ≢ DeskFault.NotOurs) }
 {
     match is_understood(conn, texts::FIND_DESK) {
         Ok(true) => {}
@@ -95,6 +96,7 @@ fn find_tables<S: Alter>(
     ensures stays { Stays (state S.Store conn.old) (state S.Store conn.new) }
     ensures there { IsTrue (state S.Store conn.new).is_open → IfOk result (IsThere version (state S.Store conn.old).now) }
     ensures lacking { IsTrue (state S.Store conn.new).is_open → IfErr result (IsLacking version (state S.Store conn.old)) }
+    ensures not_ours { IfErr result (λ fault. fault ≢ DeskFault.NotOurs) }
 {
     let Some(requests) = said.requests else {
         return Err(DeskFault::NotADesk);
@@ -120,6 +122,7 @@ pub fn see_tables<S: Alter>(
     ensures form { IfOk result (λ seen. Decides seen.is_ours (conn.old.schema ≡ schema_at version)) }
     ensures there { IsTrue (state S.Store conn.new).is_open → IfOk result (λ seen. IsThere version (state S.Store conn.old).now seen.requests) }
     ensures lacking { IsTrue (state S.Store conn.new).is_open → IfErr result (IsLacking version (state S.Store conn.old)) }
+    ensures not_ours { IfErr result (λ fault. fault ≢ DeskFault.NotOurs) }
 {
     let is_ours = match is_desk(alloc, conn.schema(), version) {
         Ok(has_form) => has_form,
@@ -154,6 +157,7 @@ pub fn see_desk<S: Alter>(
     ensures stays { Stays (state S.Store conn.old) (state S.Store conn.new) }
     ensures seen { IsTrue (state S.Store conn.new).is_open → IfOk result (IsSeen (state S.Store conn.old)) }
     ensures lacking { IsTrue (state S.Store conn.new).is_open → IfErr result (IsLacking TablesVersion.Second (state S.Store conn.old)) }
+    ensures not_ours { IfErr result (λ fault. fault ≢ DeskFault.NotOurs) }
 {
     let seen = see_tables(conn, alloc, TablesVersion::Second, said)?;
     if !seen.is_ours {

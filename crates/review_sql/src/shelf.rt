@@ -213,7 +213,7 @@ impl<S: Alter + Drop, O: Origin> SqlShelf<S, O> {
         ensures migrated { IfOk result (λ s. IsUpgraded S.Store O.IS_OURS conn s ⊎ IsOpenedAsIs S.Store O.IS_OURS conn s) }
         ensures mode { IfErr result (λ e. e.0.in_transaction ≡ false) }
         ensures refused { IfErr result (λ e. IsNotMigrated O.IS_OURS (state S.Store conn) (state S.Store e.0)) }
-        ensures cause { IfErr result (λ e. IsTrue (state S.Store e.0).is_open → IsUnfit (state S.Store conn) e.1) }
+        ensures cause { IfErr result (λ e. IsTrue (state S.Store e.0).is_open → IsUnfit (state S.Store conn).now e.1) }
         ensures ours { IfErr result (λ e. e.1 ≡ DeskFault.NotOurs → IsTrue O.IS_OURS) }
     {
         let mut conn = conn;

@@ -141,7 +141,7 @@ pub record IsUnmigrated {S X : Type 0} (g : Ghosts S) (is_ours : Bool) (ended : 
   pub ends : ended ≡ Err (desk_fault fault)
   pub lacking : fault ≢ NotOurs
   pub left : IsNotMigrated is_ours (state g old) (state g new)
-  pub cause : IsTrue (state g new).is_open → IsUnfit (state g old) fault
+  pub cause : IsTrue (state g new).is_open → IsUnfit (state g old).now fault
 
 -- Tables were migrated as ours or not, or none were. It was told that they are not ours where they were migrated so, and only there.
 abbrev pub IsMigratedOrNot : {S : Type 0} → Ghosts S → Bool → Bool → Bool → Result (Unit {0}) ProgramFault → Held S → Held S → Type 0
@@ -151,7 +151,7 @@ IsMigratedOrNot g is_ours before after ended old new =
 -- tables were not migrated as ours, since they are not
 pub record AreOthers {S : Type 0} (g : Ghosts S) (old new : Held S) : Type 0 where
   pub left : IsNotMigrated true (state g old) (state g new)
-  pub cause : IsTrue (state g new).is_open → IsUnfit (state g old) NotOurs
+  pub cause : IsTrue (state g new).is_open → IsUnfit (state g old).now NotOurs
 
 -- Tables were migrated as ours, or none were; where they are not ours, they were migrated as those of others, or none were.
 abbrev pub WasMigrated : {S : Type 0} → Ghosts S → Bool → Bool → Result (Unit {0}) ProgramFault → Held S → Held S → Type 0

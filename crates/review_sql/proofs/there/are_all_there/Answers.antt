@@ -49,4 +49,4 @@ returns-then-not-branch-clause-missing g c clean same all =
     let back = c.is_understood.ensures.stays.kept (c.in_ok-is_understood.ensures.opens clean) in
     let first = c.loop-at.invariant.stays.kept back.0 in
     c.in_ok-is_understood.ensures.unknown clean no
-    (subst (λ (db : Database). IsUnderstood db.schema text) (sym first.1) (all.each text (c.loop-at.at, c.loop-at-test.true, sym (c.read_row.ensures text))))
+    (subst (λ (db : Database). IsUnderstood db.schema text) (sym first.1) (all.each text (c.loop-at.at, omega (arith, c.loop-at-test.true, eleven c.args.version), sym (c.read_row.ensures text))))
