@@ -23,11 +23,7 @@ use std::alloc::{AllocError, Global};
 pub struct Projects;
 
 // The parent that a column names; none where it is no text, or one that is no name of a project.
-fn parent_at(
-    alloc: Global,
-    row: &Row,
-    at: usize,
-) -> Result<Option<Option<ProjectName>>, AllocError>
+fn parent_at(alloc: Global, row: &Row, at: usize) -> Result<Option<Option<ProjectName>>, AllocError>
     ensures { IfOk result (λ parent. parent ≡ parent_in (text_in (column row.now at))) }
 {
     let Some(text) = text_at(row, at) else {

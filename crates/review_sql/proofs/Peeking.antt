@@ -1,5 +1,5 @@
 -- A look at tables that is taken back.
-use Rattle.std.proofs.Common.{◌≡◌, ◌≢◌, ◌∙◌, ◌⊎◌, inl, inr, ℕ, List, [], ◌∷◌, Some, None, Bool, eqb, eqb-true, true, false, Ok, Err, Result, IfOk, IfErr, IsTrue, refl, sym, subst, arith}
+use Rattle.std.proofs.Common.{◌≡◌, ◌≢◌, ◌∙◌, inl, inr, ℕ, List, [], ◌∷◌, Some, None, Bool, eqb, eqb-true, true, false, Ok, Err, Result, IfOk, IfErr, IsTrue, refl, sym, subst, arith}
 use Rattle.std.specs.Bool.{Decides}
 use Rattle.std.specs.List.{AllByRecursion, list_any}
 use Rattle.std.proofs.lemmas.Bool.{or_cases}
@@ -39,7 +39,7 @@ peeked {X} Found s0 s2 s3 settled open_clean r looks undone last = record {
     by_result (Ok x) h = λ is_open. h.2
     by_result (Err e) h = tt
 
-at_tree : (P : ℕ → Type 0) (tables : List Table) → AllByRecursion (λ x. P x.tree) tables → (t : ℕ) → list_any (λ x. eqb x.tree t) tables ≡ true → P t
+pub at_tree : (P : ℕ → Type 0) (tables : List Table) → AllByRecursion (λ x. P x.tree) tables → (t : ℕ) → list_any (λ x. eqb x.tree t) tables ≡ true → P t
 at_tree P [] all t is = absurd (cc)
 at_tree P (x ∷ tables) all t is = elim (or_cases _ _ is) [ inl here ↦ subst P (eqb-true x.tree t here) all.0 | inr later ↦ at_tree P tables all.1 t later ]
 

@@ -1,5 +1,5 @@
 -- Tables of version 1 that became those of a desk show the same history.
-use Rattle.std.proofs.Common.{◌≡◌, ◌≢◌, ◌∙◌, ◌||◌, ℕ, List, [], ◌∷◌, Option, Some, None, option_map, Bool, cond, true, false, not, drop, filter, length, IsTrue, refl, sym, ap, subst, arith}
+use Rattle.std.proofs.Common.{◌≡◌, ◌≢◌, ◌∙◌, ◌||◌, ℕ, List, [], ◌∷◌, Option, Some, None, option_map, Bool, cond, true, false, not, drop, filter, length, refl, sym, ap, subst, arith}
 use Rattle.std.specs.Bool.{Decides}
 use Rattle.std.specs.List.{list_any}
 use Rattle.std.proofs.lemmas.Bool.{or_parts}
@@ -10,9 +10,9 @@ use Rattle.sqlite.specs.Effect.{Database}
 use Rattle.review_words.specs.History.{Entry}
 use Rattle.review_changes.specs.Parts.{Part}
 use Rattle.review_rows.specs.declared.rows.StoredFile.{StoredFile}
-use Rattle.review_rows.specs.Changes.{Reading, Reads, own_of}
+use Rattle.review_rows.specs.Changes.{Reading, own_of}
 use Rattle.review_rows.specs.Rows.{Key, AccountKey, MemberKey, FileKey, BaseKey, PartKey, OddKey, Row, AccountRow, MemberRow, FileRow, BaseRow, OddRow, Count, Projects, BasesOf}
-use Rattle.review_rows.specs.View.{IsView, IsViewBy, fact, counted, tables_version}
+use Rattle.review_rows.specs.View.{IsViewBy, fact, counted, tables_version}
 use Rattle.review_statements.specs.Content.{AreApart}
 use Rattle.review_statements.specs.Desk.{desk_schema, is_tree, schema_1}
 use Rattle.review_statements.specs.Moved.{AreMoved, without_parent}
@@ -20,13 +20,14 @@ use Rattle.review_statements.specs.Ran.{IsReady, OnDesk}
 use Rattle.review_statements.specs.Search.{only, reads, row_at, rows_at}
 use Rattle.review_tables.specs.Migrated.{Migrates}
 use Rattle.review_tables.proofs.Sequences.{Next}
+use Rattle.review_change_records.specs.Forms.{headers, patches, votes, roles, comments, calls}
 use Rattle.review_records.specs.Keyed.{project_keyed}
 use Rattle.review_records.specs.Forms.{accounts, members, projects, first_projects, bases, answers}
 use Rattle.review_records.proofs.ReadAlike.{count_moved, file_moved, still_keyed}
 use Rattle.review_lookups.specs.FirstTables.{first_keyed_tables, first_tables_at, IsFirstDesk}
 use Rattle.review_lookups.specs.Tables.{has_unkeyed, keyed_tables, number_of, row_in, count_in, stored_as, tables_at, told}
 use Rattle.review_sql.specs.Changes.{SetsDesk}
-use Rattle.review_sql.specs.Migrated.{IsFirstView, Upgrades}
+use Rattle.review_sql.specs.Migrated.{Upgrades}
 use Rattle.review_sql.specs.Opened.{AreAllApart}
 use Rattle.review_sql.proofs.Edits.{part_same}
 use Rattle.review_sql.proofs.Peeking.{at_tree}
@@ -88,10 +89,10 @@ module _ (requests : ℕ) (old mid new : Trees) (others : (t : ℕ) → is_tree 
         ∙ none_odd
       where
         rest : has_unkeyed later new ≡ has_unkeyed later old
-        rest = all_same later old new (stay 6 refl (λ e. omega (arith, e)) (λ e. omega (arith, e)), (stay 22 refl (λ e. omega (arith, e)) (λ e. omega (arith, e)), (stay 9 refl (λ e. omega (arith, e)) (λ e. omega (arith, e)), (stay 11 refl (λ e. omega (arith, e)) (λ e. omega (arith, e)), (stay 14 refl (λ e. omega (arith, e)) (λ e. omega (arith, e)), (stay 16 refl (λ e. omega (arith, e)) (λ e. omega (arith, e)), (stay 18 refl (λ e. omega (arith, e)) (λ e. omega (arith, e)), (stay 20 refl (λ e. omega (arith, e)) (λ e. omega (arith, e)), tt))))))))
+        rest = all_same later old new (stay bases.keyed 6 refl (λ e. omega (arith, e)) (λ e. omega (arith, e)), (stay answers.keyed 22 refl (λ e. omega (arith, e)) (λ e. omega (arith, e)), (stay headers.keyed 9 refl (λ e. omega (arith, e)) (λ e. omega (arith, e)), (stay patches.keyed 11 refl (λ e. omega (arith, e)) (λ e. omega (arith, e)), (stay votes.keyed 14 refl (λ e. omega (arith, e)) (λ e. omega (arith, e)), (stay roles.keyed 16 refl (λ e. omega (arith, e)) (λ e. omega (arith, e)), (stay comments.keyed 18 refl (λ e. omega (arith, e)) (λ e. omega (arith, e)), (stay calls.keyed 20 refl (λ e. omega (arith, e)) (λ e. omega (arith, e)), tt))))))))
           where
-            stay : {keyed : Raw → Bool} (t : ℕ) → is_tree t ≡ true → t ≢ 25 → t ≢ 26 → filter (λ r. not (keyed r)) (new t) ≡ filter (λ r. not (keyed r)) (old t)
-            stay {keyed} t is p q = ap (filter (λ r. not (keyed r))) (same t is p q)
+            stay : (keyed : Raw → Bool) (t : ℕ) → is_tree t ≡ true → t ≢ 25 → t ≢ 26 → filter (λ r. not (keyed r)) (new t) ≡ filter (λ r. not (keyed r)) (old t)
+            stay keyed t is p q = ap (filter (λ r. not (keyed r))) (same t is p q)
 
     file_row : (project : List ℕ) → told FileRow (row_at projects new project) ≡ option_map FileRow (own_of h project)
     file_row project =

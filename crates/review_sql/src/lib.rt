@@ -12,4 +12,5 @@ mod seen;
 mod serving;
 pub mod shelf;
 mod there;
+pub mod versions;
 mod writing;

@@ -100,8 +100,7 @@ pub const DELETE_MEMBER: &str =
 pub const FIND_MEMBER: &str =
     "SELECT account FROM members WHERE grp = ?1 AND account = ?2 AND typeof(account) = 'integer'";
 
-pub const INSERT_PROJECT: &str =
-    "INSERT INTO projects_2 (name, file, parent) VALUES (?1, ?2, ?3)";
+pub const INSERT_PROJECT: &str = "INSERT INTO projects_2 (name, file, parent) VALUES (?1, ?2, ?3)";
 
 pub const DELETE_PROJECT: &str = "DELETE FROM projects_2 WHERE name = ?1";
 

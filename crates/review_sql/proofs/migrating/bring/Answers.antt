@@ -1,4 +1,3 @@
-use Rattle.sqlite.specs.Held.{state}
 use Rattle.review_sql.proofs.Raised.{brought_first, unfit_first, unfit_second, unmigrated_first, unmigrated_second}
 use Rattle.review_sql.proofs.migrating.bring.Goals as goal
 

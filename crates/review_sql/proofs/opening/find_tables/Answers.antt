@@ -1,9 +1,7 @@
-use Rattle.std.proofs.Common.{rules, ◌≡◌, false, true, sym, subst}
-use Rattle.sqlite.specs.Effect.{Database}
+use Rattle.std.proofs.Common.{rules, ◌≡◌, false, true}
 use Rattle.sqlite.specs.Held.{state}
 use Rattle.sqlite.proofs.StateLemmas.{clean_if_open}
-use Rattle.review_sql.specs.Shelf.{AreAllRead}
-use Rattle.review_sql.proofs.Peeking.{lacking, no_requests, table_missing, tables_there}
+use Rattle.review_sql.proofs.Peeking.{lacking, table_missing, tables_there}
 use Rattle.review_sql.proofs.opening.find_tables.Goals as goal
 
 pub returns-in-Ok-true-clause-there : goal.returns-in-Ok-true-clause-there

@@ -1,4 +1,3 @@
-use Rattle.std.proofs.Common.{subst}
 use Rattle.sqlite.specs.Held.{state}
 use Rattle.review_sql.proofs.Peeking.{refused_second}
 use Rattle.review_sql.proofs.opening.see.Goals as goal

@@ -8,13 +8,16 @@ pub returns-in-Ok-clause-migrated : goal.returns-in-Ok-clause-migrated
 returns-in-Ok-clause-migrated g c = inl (inl (refl, (c.in-Ok.shelf, c.in-Ok.ensures.migrated, c.close.ensures.closed), refl))
 
 pub returns-in-Err-clause-migrated : goal.returns-in-Err-clause-migrated
-returns-in-Err-clause-migrated g c = inl (inr (record {
-  fault = c.in-Err.fault;
-  ends = ap Err c.from.ensures;
-  lacking = λ same. search rules;
-  left = c.in-Err.ensures.refused;
-  cause = c.in-Err.ensures.cause;
-}, refl))
+returns-in-Err-clause-migrated g c = inl (inr (
+  record {
+    fault = c.in-Err.fault;
+    ends = ap Err c.from.ensures;
+    lacking = λ same. search rules;
+    left = c.in-Err.ensures.refused;
+    cause = c.in-Err.ensures.cause;
+  },
+  refl,
+))
 
 pub returns-in-Err-default-NotOurs-clause-migrated : goal.returns-in-Err-default-NotOurs-clause-migrated
 returns-in-Err-default-NotOurs-clause-migrated g c =
