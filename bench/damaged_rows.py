@@ -9,14 +9,14 @@ from desk_file import FIRST, TABLES
 
 # Which rows are of the first side, so that the other side needs none of them.
 OF_TOOLS = {
-    "accounts": "number IN (2, 3)", "members": "grp = 'Core'", "projects": "name = 'tools'", "bases": "project = 'tools'", "changes": "project = 'tools'",
+    "accounts": "number IN (2, 3)", "members": "grp = 'Core'", "projects_2": "name = 'tools'", "bases": "project = 'tools'", "changes": "project = 'tools'",
     **{table: "change <= 14" for table in ("patches", "votes", "reviewers", "comments", "attention")}, "answers": "id LIKE 'a-%'", "desk": "1",
 }
 # By these columns rows are found: one that is damaged isn't found, as if it weren't there.
 FINDING = {
     "accounts": ("number", "name"),
     "members": ("grp", "account"),
-    "projects": ("name",),
+    "projects_2": ("name",),
     "bases": ("project", "branch", "place", "commit_name"),
     "changes": ("number", "project", "branch", "place"),
     "patches": ("change", "patch", "commit_name"),
@@ -28,7 +28,7 @@ FINDING = {
     "desk": (),
 }
 # Any text is a text of these.
-FREE = (("answers", "content"), ("projects", "file"))
+FREE = (("answers", "content"), ("projects_2", "file"))
 NUMBERS = {
     "0": "0",
     "-1": "-1",
@@ -56,14 +56,14 @@ LOOSE = {"INTEGER": ("NULL",), "TEXT": ("a number", "a fraction", "NULL")}
 ROWS = {
     "accounts": (999, "more"),
     "members": ("Core", 77),
-    "projects": ("more", "x = 1"),
+    "projects_2": ("more", "x = 1", ""),
     "bases": ("tools", "main", 9, commit(50)),
     "changes": (99, "tools", "main", "Fix", 2, "NEW", 0, 0, 5),
     "patches": (2, 9, commit(51), FIRST, "REWORK", 2, "a"),
     "votes": (2, 1, "Code-Review", 2, 7),
     "reviewers": (2, 77, "REVIEWER"),
     "comments": (2, 9, 1, "a", 0, 2, "m", 0, 0, 5),
-    "attention": (2, 77, "look", 5), "answers": (1, "more", 999, "x", "x"), "desk": (1, 3),
+    "attention": (2, 77, "look", 5), "answers": (1, "more", 999, "x", "x"), "desk": (2, 3),
 }
 # Rows that fit to no others, by the table that they stand in, and what they are.
 ODD = [
@@ -71,8 +71,9 @@ ODD = [
     ("accounts", "no administrator", "DELETE FROM accounts WHERE number = 1"),
     ("members", "a member -1", "INSERT INTO members VALUES ('Core', -1)"),
     ("members", "a member that is no account", "UPDATE members SET account = 900 WHERE account = 3"),
-    ("projects", "no project file", "UPDATE projects SET file = 'x = 1'"), ("projects", "no labels", "UPDATE projects SET file = ''"),
-    ("projects", "a pattern too large", f"UPDATE projects SET file = '{TOO_LARGE}'"),
+    ("projects_2", "no project file", "UPDATE projects_2 SET file = 'x = 1'"), ("projects_2", "no labels", "UPDATE projects_2 SET file = ''"),
+    ("projects_2", "a parent that isn't there", "UPDATE projects_2 SET parent = 'gone'"), ("projects_2", "its own parent", "UPDATE projects_2 SET parent = name"),
+    ("projects_2", "a pattern too large", f"UPDATE projects_2 SET file = '{TOO_LARGE}'"),
     ("bases", "equal places", "DELETE FROM bases; INSERT INTO bases VALUES ('tools', 'main', 2, 'x')"),
     ("bases", "a gap", "UPDATE bases SET place = 2"), ("changes", "a place and no merge", "UPDATE changes SET place = 5 WHERE number = 2"),
     ("changes", "MERGED without a place", "UPDATE changes SET status = 'MERGED' WHERE number = 2"),
@@ -98,7 +99,7 @@ ODD = [
     ("answers", "the next request is taken", "UPDATE answers SET request = (SELECT requests + 1 FROM desk) WHERE id = 'n2'"),
     ("desk", "too few requests", "UPDATE desk SET requests = 3"),
     ("desk", "the last request", f"UPDATE desk SET requests = {2**53 - 1}"),
-    ("desk", "version 2", "UPDATE desk SET version = 2"),
+    ("desk", "version 1", "UPDATE desk SET version = 1"),
     ("desk", "version 9 and no number", "UPDATE desk SET version = 9, requests = 'x'"),
 ]
 # Changes of the first side whose commits the other side has, too.
@@ -110,7 +111,7 @@ SHARED = [
 MISSING = [
     ("accounts", "number = 3"),
     ("members", "grp = 'Core' AND account = 3"),
-    ("projects", "name = 'tools'"),
+    ("projects_2", "name = 'tools'"),
     ("bases", "project = 'tools'"),
     ("changes", "number = 2"),
     ("changes", "number = 13"),

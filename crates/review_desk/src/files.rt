@@ -40,6 +40,19 @@ pub fn init(rt: &HostRuntime, file: &str) -> Result<Outcome, ProgramFault> {
     }
 }
 
+/// Makes the tables of the desk in a file those of the latest version, and says so once the file is closed. Standard error is warned of tables that are not those of
+/// a desk alone.
+pub fn migrate(rt: &HostRuntime, file: &str) -> Result<Outcome, ProgramFault> {
+    let conn = open(rt, file)?;
+    let mut notices = StandardError::new(rt);
+    let (conn, migrated) = review_work::migrate(rt.alloc(), &mut notices, conn);
+    after_closing(migrated, close(conn))?;
+    match println!(rt; "desk migrated") {
+        Ok(()) => Ok(Outcome::Complete),
+        Err(_) => Err(ProgramFault::Output),
+    }
+}
+
 /// Does a task on the desk in a file: from standard input, to standard output, and over connections on a port where it serves them. Standard error is
 /// warned of tables that are not those of a desk alone.
 pub fn work_on(

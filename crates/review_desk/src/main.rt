@@ -1,4 +1,4 @@
-//! The program of the desk: `review_desk init FILE` makes an empty desk in a file, `apply FILE` takes the deliveries of its input, each a
+//! The program of the desk: `review_desk init FILE` makes an empty desk in a file, `migrate FILE` makes one of an earlier version one of this version, `apply FILE` takes the deliveries of its input, each a
 //! line of JSON, and writes a line with the answer to each, `show FILE --change N` and `joined FILE --project P --branch B` show a
 //! change and what joined a branch. `serve FILE --port P --count N` takes deliveries over HTTP on loopback. With `apply :memory:` the desk is an empty one in memory.
 //!
@@ -20,6 +20,7 @@ use std::process::ExitCode;
 const USAGE: &str = "usage: review_desk COMMAND FILE ..
 
   init FILE                            makes an empty desk in a new file
+  migrate FILE                         makes a desk of an earlier version one of this version
   apply FILE                           takes deliveries from standard input, each a line of JSON, and answers each by a line
   serve FILE --port P --count N        serves N connections over HTTP on port P of 127.0.0.1, one after the other
   show FILE --change N                 shows a change
@@ -37,6 +38,7 @@ fn apply_in_memory(rt: &HostRuntime) -> Result<Outcome, ProgramFault> {
 fn run_on(rt: &HostRuntime, file: &str, job: Job<'_>) -> Result<Outcome, ProgramFault> {
     match job {
         Job::Init { .. } => files::init(rt, file),
+        Job::Migrate { .. } => files::migrate(rt, file),
         Job::Apply { .. } => files::work_on(rt, file, 0, &Task::Apply),
         Job::Serve { port, count, .. } => files::serve(rt, file, port, count),
         Job::Show { change, .. } => files::work_on(rt, file, 0, &Task::Show { change }),

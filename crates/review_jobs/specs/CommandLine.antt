@@ -33,6 +33,10 @@ count = record (new_rule (codes "count")) { long = Some (codes "count"); require
 abbrev pub init : App
 init = with_rule (new_app (codes "init")) file
 
+-- migrate FILE
+abbrev pub migrate : App
+migrate = with_rule (new_app (codes "migrate")) file
+
 -- apply FILE
 abbrev pub apply : App
 apply = with_rule (new_app (codes "apply")) file
@@ -55,7 +59,7 @@ top = record (new_app (codes "review_desk")) { top = record (new_app (codes "rev
 
 -- the program with the commands that may change a desk
 abbrev pub changing : App
-changing = with_subcommand (with_subcommand (with_subcommand top init.top) apply.top) serve.top
+changing = with_subcommand (with_subcommand (with_subcommand (with_subcommand top init.top) migrate.top) apply.top) serve.top
 
 -- the program with all its commands
 abbrev pub desk : App

@@ -5,7 +5,7 @@ use Rattle.clap.specs.Words.{Row, Text, Kinds, first_of, subcommand_of, fault_of
 use Rattle.review_names.specs.Forms.{is_slashed_name, is_within, most_changes}
 use Rattle.review_names.specs.Numerals.{number_of}
 use Rattle.review_jobs.specs.declared.job.Job.{Job}
-use Rattle.review_jobs.specs.declared.job.Job.TheVariants.{Init, Apply, Serve, Show, Joined}
+use Rattle.review_jobs.specs.declared.job.Job.TheVariants.{Init, Migrate, Apply, Serve, Show, Joined}
 use Rattle.review_jobs.specs.declared.job.Place.{Place}
 use Rattle.review_jobs.specs.declared.job.Place.TheVariants as place
 use Rattle.review_jobs.specs.declared.job.WordsFault.{WordsFault}
@@ -15,6 +15,7 @@ use Rattle.review_jobs.specs.CommandLine.{desk}
 -- a job with its values, where a file is its text
 pub data Spelled : Type 0 where
   to_init : Text → Spelled
+  to_migrate : Text → Spelled
   to_apply : Text → Spelled
   to_serve : Text → ℕ → ℕ → Spelled
   to_show : Text → ℕ → Spelled
@@ -23,6 +24,7 @@ pub data Spelled : Type 0 where
 -- the values of a job
 abbrev pub spelled : Job → Spelled
 spelled (Init file) = to_init file.now
+spelled (Migrate file) = to_migrate file.now
 spelled (Apply file) = to_apply file.now
 spelled (Serve file port count) = to_serve file.now port count
 spelled (Show file change) = to_show file.now change
@@ -36,6 +38,7 @@ placed (place.File file) = Some file.now
 -- where the tables of a job are: in memory for `apply :memory:` alone
 abbrev pub place_of : Spelled → Option Text
 place_of (to_init file) = Some file
+place_of (to_migrate file) = Some file
 place_of (to_apply file) = if bytes_eq file (codes ":memory:") then None else Some file
 place_of (to_serve file port count) = Some file
 place_of (to_show file change) = Some file
@@ -95,6 +98,7 @@ joined_in file rows =
 abbrev pub job_on : Text → List Row → Text → Option Spelled
 job_on name rows file =
     if bytes_eq name (codes "init") then Some (to_init file)
+    else if bytes_eq name (codes "migrate") then Some (to_migrate file)
     else if bytes_eq name (codes "apply") then Some (to_apply file)
     else if bytes_eq name (codes "serve") then serve_in file rows
     else if bytes_eq name (codes "show") then show_from file rows

@@ -1,7 +1,7 @@
 //! The command line of the program. Each call fails for want of memory alone.
 ghost use Rattle.std.specs.Prelude.{◌≡◌, IfOk, false};
 ghost use Rattle.clap.specs.Words.{app_of, rule_of};
-ghost use Rattle.review_jobs.specs.CommandLine.{IsLocal, apply, branch, change, changing, count, desk, file, init, joined, port, project, serve, show, top};
+ghost use Rattle.review_jobs.specs.CommandLine.{IsLocal, apply, branch, change, changing, count, desk, file, init, joined, migrate, port, project, serve, show, top};
 
 use clap::{Arg, ArgAction, Command};
 use std::alloc::{AllocError, Global};
@@ -72,6 +72,13 @@ fn init_command<'a>(alloc: Global) -> Result<Command<'a>, AllocError>
     Command::new(alloc, "init").arg(file_arg(alloc))
 }
 
+fn migrate_command<'a>(alloc: Global) -> Result<Command<'a>, AllocError>
+    ensures shape { IfOk result (λ c. app_of c ≡ migrate) }
+    ensures local { IfOk result IsLocal }
+{
+    Command::new(alloc, "migrate").arg(file_arg(alloc))
+}
+
 fn apply_command<'a>(alloc: Global) -> Result<Command<'a>, AllocError>
     ensures shape { IfOk result (λ c. app_of c ≡ apply) }
     ensures local { IfOk result IsLocal }
@@ -120,7 +127,8 @@ fn changing_command<'a>(alloc: Global) -> Result<Command<'a>, AllocError>
     ensures local { IfOk result IsLocal }
 {
     let with_init = top_command(alloc).subcommand(init_command(alloc)?)?;
-    let with_apply = with_init.subcommand(apply_command(alloc)?)?;
+    let with_migrate = with_init.subcommand(migrate_command(alloc)?)?;
+    let with_apply = with_migrate.subcommand(apply_command(alloc)?)?;
     with_apply.subcommand(serve_command(alloc)?)
 }
 

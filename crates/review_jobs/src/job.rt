@@ -12,6 +12,10 @@ pub enum Job<'a> {
     Init {
         file: &'a str,
     },
+    /// Makes the tables of an earlier version those of the latest.
+    Migrate {
+        file: &'a str,
+    },
     /// Takes the deliveries of its input.
     Apply {
         file: &'a str,
@@ -52,6 +56,7 @@ impl<'a> Job<'a> {
         match self {
             Job::Apply { file } if *file == ":memory:" => Place::Memory,
             Job::Init { file }
+            | Job::Migrate { file }
             | Job::Apply { file }
             | Job::Serve { file, .. }
             | Job::Show { file, .. }

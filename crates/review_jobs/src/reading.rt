@@ -151,6 +151,9 @@ fn job_on<'a>(
     if name == "init" {
         return Ok(Job::Init { file });
     }
+    if name == "migrate" {
+        return Ok(Job::Migrate { file });
+    }
     if name == "apply" {
         return Ok(Job::Apply { file });
     }
@@ -184,7 +187,7 @@ fn job_in<'a>(alloc: Global, matches: &ArgMatches<'a>) -> Result<Job<'a>, WordsF
     }
 }
 
-/// The job that the words after the program's name ask for: `init FILE`, `apply FILE`, `serve FILE --port P --count N`, `show FILE --change N`, or
+/// The job that the words after the program's name ask for: `init FILE`, `migrate FILE`, `apply FILE`, `serve FILE --port P --count N`, `show FILE --change N`, or
 /// `joined FILE --project P --branch B`. FILE is taken as it stands; of `serve`, P is 1 to 65,535 and N 0 to 4,294,967,295, both in decimal without leading
 /// zeros; of `show`, N is the number of a change; of `joined`, P and B are names of a project and a branch. Usage exactly where they ask for none of these, Memory apart; a request for help asks for none.
 #[tactic(auto, unfolding(crate::specs::Jobs::job_spelled))]

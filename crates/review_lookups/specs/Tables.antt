@@ -34,11 +34,15 @@ part_in db n (RoleOf u) = told (λ x. APart (ARole x)) (row_at roles db (n, u))
 part_in db n (CommentOf k) = told (λ x. APart (AComment x)) (row_at comments db (n, k))
 part_in db n (AttentionOf u) = told (λ x. APart (ACall x)) (row_at calls db (n, u))
 
+-- the tables of records, where the projects stand in this one, and which of their rows have a key
+abbrev pub keyed_with : ℕ × (Raw → Bool) → List (ℕ × (Raw → Bool))
+keyed_with files =
+    (accounts.tree, accounts.keyed) ∷ (members.tree, members.keyed) ∷ files ∷ (bases.tree, bases.keyed) ∷ (answers.tree, answers.keyed)
+    ∷ (headers.tree, headers.keyed) ∷ (patches.tree, patches.keyed) ∷ (votes.tree, votes.keyed) ∷ (roles.tree, roles.keyed) ∷ (comments.tree, comments.keyed) ∷ (calls.tree, calls.keyed) ∷ []
+
 -- the tables of records, and which of their rows have a key
 abbrev pub keyed_tables : List (ℕ × (Raw → Bool))
-keyed_tables =
-    (accounts.tree, accounts.keyed) ∷ (members.tree, members.keyed) ∷ (projects.tree, projects.keyed) ∷ (bases.tree, bases.keyed) ∷ (answers.tree, answers.keyed)
-    ∷ (headers.tree, headers.keyed) ∷ (patches.tree, patches.keyed) ∷ (votes.tree, votes.keyed) ∷ (roles.tree, roles.keyed) ∷ (comments.tree, comments.keyed) ∷ (calls.tree, calls.keyed) ∷ []
+keyed_tables = keyed_with (projects.tree, projects.keyed)
 
 -- whether a row has no key of its table, as a member with a negative number
 abbrev pub has_unkeyed : List (ℕ × (Raw → Bool)) → Trees → Bool
@@ -81,6 +85,6 @@ tables_at db = record {
   requests = number_of (λ d. d.requests) (row_at desk db tt);
 }
 
--- the row of the desk says version 1 and so many requests
+-- the row of the desk says version 2 and so many requests
 abbrev pub IsDesk : ℕ → Trees → Type 0
-IsDesk requests db = row_at desk db tt ≡ Some (Some (record { version = 1; requests = requests }))
+IsDesk requests db = row_at desk db tt ≡ Some (Some (record { version = 2; requests = requests }))

@@ -25,12 +25,12 @@ use review_records::bases::{self, BaseCommits, Bases, BranchBases, LastPlace};
 use review_records::desk::Desk;
 use review_records::projects::{self, ProjectNames, Projects};
 use review_records::rows::{DeskRow, PlaceNo};
-use review_rows::{Base, BranchKey, PlaceKey, Rows};
+use review_rows::{Base, BranchKey, PlaceKey, Rows, StoredFile};
 use review_table::{Key, Table};
 use review_tables::fronts::find_parts;
 use review_tables::greatest::find_greatest;
 use review_tables::reads::{find, find_any};
-use review_words::{Bases as DeskBases, CommitName, FileText, ProjectName};
+use review_words::{Bases as DeskBases, CommitName, ProjectName};
 use sqlite::{Alter, Error, Transaction};
 use std::alloc::{AllocError, Global};
 
@@ -66,7 +66,7 @@ pub fn find_requests<S: Alter>(
 fn tell_file(
     alloc: Global,
     project: &ProjectName,
-    found: Option<Option<FileText>>,
+    found: Option<Option<StoredFile>>,
     rows: &mut Rows,
 ) -> Sight
     ensures told { (db : Trees) → found ≡ row_at projects db project.now → Sees (want.File project.now) rows.old rows.new db result }

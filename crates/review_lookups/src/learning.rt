@@ -10,10 +10,10 @@ ghost use Rattle.review_lookups.specs.Loads.{last_of, learnt_by};
 
 use crate::loading::Sight;
 use review_chain::Standing;
-use review_rows::{Base, BranchKey, MemberKey, Rows};
+use review_rows::{Base, BranchKey, MemberKey, Rows, StoredFile};
 use review_table::{Key, Table};
 use review_words::{
-    AccountName, AccountNo, Bases, ChangeNo, FileText, GroupName, JoinedChange, Listed, ProjectName,
+    AccountName, AccountNo, Bases, ChangeNo, GroupName, JoinedChange, Listed, ProjectName,
 };
 use std::alloc::{AllocError, Global};
 
@@ -91,7 +91,7 @@ pub fn learn_group(
 pub fn learn_file(
     alloc: Global,
     project: &ProjectName,
-    file: Option<FileText>,
+    file: Option<StoredFile>,
     rows: &mut Rows,
 ) -> Result<(), AllocError>
     ensures { OnOk result (Learns (want.File project.now) (Text file) rows.old rows.new) }

@@ -17,7 +17,8 @@ use Rattle.review_statements.specs.Moved.{AreMoved, columns_of, without_parent}
 use Rattle.review_statements.specs.Search.{only, reads, rows_at}
 use Rattle.review_tables.specs.Columns.{text_in}
 use Rattle.review_records.specs.Keyed.{is_text, project_keyed}
-use Rattle.review_records.specs.Forms.{orphan, projects, projects_2}
+use Rattle.review_records.specs.Forms.{file_in, first_projects, orphan, parent_in, projects}
+use Rattle.review_rows.specs.declared.rows.StoredFile.{StoredFile}
 use Rattle.review_records.specs.Laws.{no_text}
 
 -- the column at a place of a row is that before it of its columns
@@ -68,39 +69,43 @@ abbrev named : List ℕ → Raw → Bool
 named p columns = is_value (column columns 0) (Text p) && true
 
 module _ (old new : List Raw) (moved : AreMoved without_parent old new) (keyed : list_any (λ r. not (project_keyed r)) old ≡ false) where
-  of_name : (p : List ℕ) → IsPermutation (map without_parent (rows_at (projects.at p) old)) (map columns_of (rows_at (projects_2.at p) new))
+  of_name : (p : List ℕ) → IsPermutation (map without_parent (rows_at (first_projects.at p) old)) (map columns_of (rows_at (projects.at p) new))
   of_name p =
-      let before : filter (λ r. named p (without_parent r)) old ≡ rows_at (projects.at p) old = filter_as _ _ old (all_of old (λ r is. ap (λ v. is_value v (Text p) && true) (text_stays (column r 1) is)) (all_keyed old keyed)) in
-      let after : filter (λ r. named p (columns_of r)) new ≡ rows_at (projects_2.at p) new = filter_same _ _ (λ r. ap (λ v. is_value v (Text p) && true) (behind r 0)) new in
+      let before : filter (λ r. named p (without_parent r)) old ≡ rows_at (first_projects.at p) old = filter_as _ _ old (all_of old (λ r is. ap (λ v. is_value v (Text p) && true) (text_stays (column r 1) is)) (all_keyed old keyed)) in
+      let after : filter (λ r. named p (columns_of r)) new ≡ rows_at (projects.at p) new = filter_same _ _ (λ r. ap (λ v. is_value v (Text p) && true) (behind r 0)) new in
       subst₂ IsPermutation (filter-map (named p) without_parent old ∙ ap (map without_parent) before) (filter-map (named p) columns_of new ∙ ap (map columns_of) after) (IsPermutation-filter (named p) _ _ moved)
 
   -- a row that moved reads as it did
-  reads_on : (r s : Raw) (t : List ℕ) → columns_of s ≡ without_parent r → reads projects r ≡ Some t → reads projects_2 s ≡ Some t
-  reads_on r s t same is =
-      let file : column s 2 ≡ column r 2 = sym (behind s 1) ∙ ap (λ c. column c 1) same ∙ reads_text (column r 2) t is in
-      let parent : column s 3 ≡ Text [] = sym (behind s 2) ∙ ap (λ c. column c 2) same in
-      (λ i. orphan (text_in (file i)) (text_in (parent i))) ∙ rw (is, no_text) refl
+  reads_on : (r s : Raw) (f : StoredFile) → columns_of s ≡ without_parent r → reads first_projects r ≡ Some f → reads projects s ≡ Some f
+  reads_on r s f same is = by (text_in (column r 2)) refl is
+    where
+      by : (o : Option (List ℕ)) → text_in (column r 2) ≡ o → option_map orphan o ≡ Some f → reads projects s ≡ Some f
+      by None e h = absurd (cc)
+      by (Some t) e h =
+          let file : column s 2 ≡ column r 2 = sym (behind s 1) ∙ ap (λ c. column c 1) same ∙ reads_text (column r 2) t e in
+          let parent : column s 3 ≡ Text [] = sym (behind s 2) ∙ ap (λ c. column c 2) same in
+          (λ i. file_in (text_in (file i)) (parent_in (text_in (parent i)))) ∙ rw (e, no_text) h
 
-  only_on : (xs ys : List Raw) → IsPermutation (map without_parent xs) (map columns_of ys) → (file : Option (List ℕ)) → only (reads projects) xs ≡ option_map Some file → only (reads projects_2) ys ≡ option_map Some file
+  only_on : (xs ys : List Raw) → IsPermutation (map without_parent xs) (map columns_of ys) → (file : Option StoredFile) → only (reads first_projects) xs ≡ option_map Some file → only (reads projects) ys ≡ option_map Some file
   only_on [] [] same file is = is
   only_on [] (y ∷ ys) same file is = absurd (let l = length_permutation _ _ same in cc)
   only_on (x ∷ []) ys same file is = one ys (one_permutation (without_parent x) (map columns_of ys) same)
     where
-      read : (f : Option (List ℕ)) → Some (reads projects x) ≡ option_map Some f → (t : List ℕ) × (reads projects x ≡ Some t) × (f ≡ Some t)
+      read : (f : Option StoredFile) → Some (reads first_projects x) ≡ option_map Some f → (t : StoredFile) × (reads first_projects x ≡ Some t) × (f ≡ Some t)
       read None h = absurd (cc)
       read (Some t) h = (t, same_Some _ _ h, refl)
 
-      one : (ys : List Raw) → map columns_of ys ≡ without_parent x ∷ [] → only (reads projects_2) ys ≡ option_map Some file
+      one : (ys : List Raw) → map columns_of ys ≡ without_parent x ∷ [] → only (reads projects) ys ≡ option_map Some file
       one [] e = absurd (cc)
       one (y ∷ []) e = let it = read file is in ap Some (reads_on x y it.0 (ap (λ (l : List Raw). get_or l 0 []) e) it.1) ∙ ap (option_map Some) (sym it.2)
       one (y ∷ z ∷ ys) e = absurd (let l = ap length e in cc)
   only_on (x ∷ z ∷ xs) ys same file is = absurd (never file is)
     where
-      never : (f : Option (List ℕ)) → Some None ≡ option_map Some f → ⊥
+      never : (f : Option StoredFile) → Some None ≡ option_map Some f → ⊥
       never None e = cc
       never (Some t) e = let same = same_Some _ _ e in cc
 
-  pub file_moved : (p : List ℕ) (file : Option (List ℕ)) → only (reads projects) (rows_at (projects.at p) old) ≡ option_map Some file → only (reads projects_2) (rows_at (projects_2.at p) new) ≡ option_map Some file
+  pub file_moved : (p : List ℕ) (file : Option StoredFile) → only (reads first_projects) (rows_at (first_projects.at p) old) ≡ option_map Some file → only (reads projects) (rows_at (projects.at p) new) ≡ option_map Some file
   file_moved p file is = only_on _ _ (of_name p) file is
 
   pub count_moved : length new ≡ length old

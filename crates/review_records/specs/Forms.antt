@@ -1,14 +1,15 @@
 -- The tables that are not of changes: how their rows are looked up and stored.
-use Rattle.std.specs.Prelude.{nat_le, ℕ, pos, ◌&&◌, Bool, List, [], ◌∷◌, Option, Some, None, if◌then◌else◌}
+use Rattle.std.specs.Prelude.{nat_le, ℕ, pos, ◌&&◌, Bool, List, [], ◌∷◌, Option, Some, None, option_map, if◌then◌else◌}
 use Rattle.std.specs.Str.{is_utf8}
 use Rattle.sqlite_value.specs.declared.value.Value.TheVariants.{Int, Text}
 use Rattle.sqlite_value.specs.Order.{column}
 use Rattle.review_names.specs.Names.{is_word}
 use Rattle.review_names.specs.Names.{is_account_number}
-use Rattle.review_names.specs.Forms.{is_commit}
+use Rattle.review_names.specs.Forms.{is_commit, is_slashed_name}
 use Rattle.review_rows.specs.declared.rows.Base.{Base}
 use Rattle.review_rows.specs.declared.rows.BranchKey.{BranchKey}
 use Rattle.review_rows.specs.declared.rows.PlaceKey.{PlaceKey}
+use Rattle.review_rows.specs.declared.rows.StoredFile.{StoredFile}
 use Rattle.review_records.specs.declared.rows.RequestKey.{RequestKey}
 use Rattle.review_records.specs.declared.rows.Answered.{Answered}
 use Rattle.review_records.specs.declared.rows.DeskRow.{DeskRow}
@@ -60,25 +61,51 @@ group_members = record { tree = table.members.tree; keyed = member_keyed; at = �
 
 -- ---- projects
 
--- the file of a project
-abbrev pub projects : Search (List ℕ) (List ℕ)
-projects = record { tree = table.projects.tree; keyed = project_keyed; at = λ project. (1, Text project) ∷ []; columns = 2 ∷ []; read = λ r. text_in (column r 0) }
-
-abbrev pub project_form : Form (List ℕ) (List ℕ)
-project_form = with_rowid (λ project file. Text project ∷ Text file ∷ []) (λ project. Rattle.std.specs.Prelude.true) (λ file. is_utf8 file)
-
 -- the file of a project that has no parent
-abbrev pub orphan : Option (List ℕ) → Option (List ℕ) → Option (List ℕ)
-orphan (Some file) (Some []) = Some file
-orphan _ _ = None
+abbrev pub orphan : List ℕ → StoredFile
+orphan text = record { text = text; parent = None }
 
--- the file of a project of version 2 that has no parent
-abbrev pub projects_2 : Search (List ℕ) (List ℕ)
-projects_2 = record { tree = table.projects_2.tree; keyed = project_keyed; at = λ project. (1, Text project) ∷ []; columns = 2 ∷ 3 ∷ []; read = λ r. orphan (text_in (column r 0)) (text_in (column r 1)) }
+-- the parent that a text names: none where it is empty
+abbrev pub parent_in : Option (List ℕ) → Option (Option (List ℕ))
+parent_in None = None
+parent_in (Some []) = Some None
+parent_in (Some (b ∷ name)) = option_map Some (where_is is_slashed_name (Some (b ∷ name)))
+
+-- the file of a project, where its parts are there
+abbrev pub file_in : Option (List ℕ) → Option (Option (List ℕ)) → Option StoredFile
+file_in (Some text) (Some parent) = Some (record { text = text; parent = parent })
+file_in _ _ = None
+
+-- the file of a project
+abbrev pub projects : Search (List ℕ) StoredFile
+projects = record {
+  tree = table.projects_2.tree;
+  keyed = project_keyed;
+  at = λ project. (1, Text project) ∷ [];
+  columns = 2 ∷ 3 ∷ [];
+  read = λ r. file_in (text_in (column r 0)) (parent_in (text_in (column r 1)));
+}
+
+-- a parent as it is stored: the empty text for none
+abbrev pub parent_text : Option (List ℕ) → List ℕ
+parent_text None = []
+parent_text (Some name) = name
+
+-- whether a parent, where there is one, has the form of a project's name
+abbrev pub is_parent : Option (List ℕ) → Bool
+is_parent None = Rattle.std.specs.Prelude.true
+is_parent (Some name) = is_utf8 name && is_slashed_name name
+
+abbrev pub project_form : Form (List ℕ) StoredFile
+project_form = with_rowid (λ project file. Text project ∷ Text file.text ∷ Text (parent_text file.parent) ∷ []) (λ project. Rattle.std.specs.Prelude.true) (λ file. is_utf8 file.text && is_parent file.parent)
 
 -- whether a project is there, without its file
 abbrev pub project_names : Search (List ℕ) (Unit {0})
-project_names = record { tree = table.projects.tree; keyed = project_keyed; at = λ project. (1, Text project) ∷ []; columns = 1 ∷ []; read = λ r. Some tt }
+project_names = record { tree = table.projects_2.tree; keyed = project_keyed; at = λ project. (1, Text project) ∷ []; columns = 1 ∷ []; read = λ r. Some tt }
+
+-- the file of a project as version 1 keeps it, where no project has a parent
+abbrev pub first_projects : Search (List ℕ) StoredFile
+first_projects = record { tree = table.projects.tree; keyed = project_keyed; at = λ project. (1, Text project) ∷ []; columns = 2 ∷ []; read = λ r. option_map orphan (text_in (column r 0)) }
 
 -- ---- bases
 

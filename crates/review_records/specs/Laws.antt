@@ -1,5 +1,5 @@
 -- The laws of the tables.
-use Rattle.std.proofs.Common.{◌≡◌, ◌&&◌, nat_le, ℕ, pos, negsuc, List, [], Option, Some, None, Bool, true, refl, ap, sym, subst, inl, inr}
+use Rattle.std.proofs.Common.{◌≡◌, ◌&&◌, nat_le, ℕ, pos, negsuc, List, [], ◌∷◌, Option, Some, None, Bool, true, refl, ap, sym, subst, inl, inr}
 use Rattle.std.specs.Ordering.{nat_cmp, is_eq}
 use Rattle.std.proofs.lemmas.Cmp.{nat_cmp_total, tied_itself}
 use Rattle.std.proofs.lemmas.Map.Lookups.{exact_unsigned}
@@ -18,8 +18,8 @@ use Rattle.review_statements.specs.Search.{IsLawful}
 use Rattle.review_statements.specs.Content.{is_value}
 use Rattle.review_tables.proofs.Keys.{equal_is, int_is, itself, same_int, same_text, text_is}
 use Rattle.review_records.specs.Keyed.{is_number, is_small, is_text}
-use Rattle.review_records.specs.Forms.{where_is, alone, both, member_parts, group_members, base_parts, branch_bases, accounts, account_form, members, member_form, projects, project_form, bases, base_form, answers, answer_form, desk, desk_form}
-use Rattle.review_names.specs.Forms.{is_commit}
+use Rattle.review_records.specs.Forms.{where_is, alone, both, member_parts, group_members, base_parts, branch_bases, accounts, account_form, members, member_form, projects, project_form, parent_in, parent_text, is_parent, file_in, bases, base_form, answers, answer_form, desk, desk_form}
+use Rattle.review_names.specs.Forms.{is_commit, is_slashed_name, is_step}
 
 -- a value that has a number of a kind is one of that kind
 pub keyed_number : (test : ℕ → Bool) (v : Value) (n : ℕ) → test n ≡ true → is_value v (Int (pos n)) ≡ true → is_number test v ≡ true
@@ -63,10 +63,23 @@ no_text = rw (is_utf8-from_IsUtf8 [] (IsUtf8-from_ascii [] IsAscii-nil)) refl
 reads_plain : (t : List ℕ) → is_utf8 t ≡ true → text_in (Text t) ≡ Some t
 reads_plain t good = rw good refl
 
+-- no project has the empty name
+never_empty : is_slashed_name [] ≡ true → ⊥
+unfolding is_slashed_name is_step
+never_empty is = cc
+
+-- a parent reads as itself
+pub reads_parent : (parent : Option (List ℕ)) → is_parent parent ≡ true → parent_in (text_in (Text (parent_text parent))) ≡ Some parent
+reads_parent None good = ap parent_in no_text
+reads_parent (Some []) good = absurd (never_empty (and_parts (is_utf8 []) (is_slashed_name []) good).1)
+reads_parent (Some (b ∷ name)) good = let parts = and_parts (is_utf8 (b ∷ name)) (is_slashed_name (b ∷ name)) good in rw (parts.0, parts.1) refl
+
 pub project_lawful : IsLawful projects project_form
 project_lawful = record {
   keyed = λ project file id. ap (λ b. b && true) (itself (Text project));
-  reads_back = λ project file id good. reads_plain file good;
+  reads_back = λ project file id good.
+      let parts = and_parts (is_utf8 file.text) (is_parent file.parent) good in
+      (λ i. file_in (reads_plain file.text parts.0 i) (reads_parent file.parent parts.1 i));
   exact = λ a b r p q. same_text (column r 1) a b (and_parts _ _ p).0 (and_parts _ _ q).0;
   known = λ a r formed has. keyed_text (column r 1) a (and_parts _ _ has).0;
 }

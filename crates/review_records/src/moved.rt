@@ -4,14 +4,15 @@ ghost use Rattle.std.specs.List.{list_any};
 ghost use Rattle.sqlite_value.specs.Order.{Row as Raw};
 ghost use Rattle.review_statements.specs.Moved.{AreMoved, without_parent};
 ghost use Rattle.review_statements.specs.Search.{only, reads, rows_at};
-ghost use Rattle.review_records.specs.Forms.{projects, projects_2};
+ghost use Rattle.review_records.specs.Forms.{first_projects, projects};
+ghost use Rattle.review_rows.specs.declared.rows.StoredFile.{StoredFile};
 ghost use Rattle.review_records.specs.Keyed.{project_keyed};
 
 /// Where each row of the projects of version 1 has a name, those that moved to the table of version 2 are as many, have names, and have under each name the
 /// file that it had, or none; no other file is under a name that had one, and none is lost.
 pub fn moved_projects_read_alike()
-    ensures files { (old new : List Raw) → AreMoved without_parent old new → list_any (λ r. not (project_keyed r)) old ≡ false → (project : List ℕ) (file : Option (List ℕ)) →
-        only (reads projects) (rows_at (projects.at project) old) ≡ option_map Some file → only (reads projects_2) (rows_at (projects_2.at project) new) ≡ option_map Some file }
+    ensures files { (old new : List Raw) → AreMoved without_parent old new → list_any (λ r. not (project_keyed r)) old ≡ false → (project : List ℕ) (file : Option StoredFile) →
+        only (reads first_projects) (rows_at (first_projects.at project) old) ≡ option_map Some file → only (reads projects) (rows_at (projects.at project) new) ≡ option_map Some file }
     ensures count { (old new : List Raw) → AreMoved without_parent old new → list_any (λ r. not (project_keyed r)) old ≡ false → length new ≡ length old }
     ensures named { (old new : List Raw) → AreMoved without_parent old new → list_any (λ r. not (project_keyed r)) old ≡ false → list_any (λ r. not (project_keyed r)) new ≡ false }
 {}

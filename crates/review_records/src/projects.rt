@@ -1,11 +1,16 @@
 //! The projects and their files.
-ghost use Rattle.std.specs.Prelude.{◌≡◌, [], length, nat_lt};
+ghost use Rattle.std.specs.Prelude.{◌≡◌, [], true, IfOk, length, nat_lt};
 ghost use Rattle.sqlite.specs.Held.{state};
+ghost use Rattle.sqlite_value.specs.Order.{column};
 ghost use Rattle.review_statements.specs.Desk as table;
 ghost use Rattle.review_statements.specs.Greatest.{ShowsBeyond};
 ghost use Rattle.review_statements.specs.Ran.{Looks};
 ghost use Rattle.review_statements.specs.Search.{rows_at};
+ghost use Rattle.review_tables.specs.Columns.{text_in};
+ghost use Rattle.review_records.specs.Forms.{is_parent, parent_in, parent_text};
 
+use crate::names::name_at;
+use review_rows::StoredFile;
 use review_statements::texts;
 use review_tables::bound::Bound;
 use review_tables::columns::text_at;
@@ -17,6 +22,30 @@ use std::alloc::{AllocError, Global};
 /// The files of the projects.
 pub struct Projects;
 
+// The parent that a column names; none where it is no text, or one that is no name of a project.
+fn parent_at(alloc: Global, row: &Row, at: usize) -> Result<Option<Option<ProjectName>>, AllocError>
+    ensures { IfOk result (λ parent. parent ≡ parent_in (text_in (column row.now at))) }
+{
+    let Some(text) = text_at(row, at) else {
+        return Ok(None);
+    };
+    if text.is_empty() {
+        return Ok(Some(None));
+    }
+    Ok(name_at(alloc, row, at)?.map(Some))
+}
+
+// A parent as it is stored.
+fn parent_text(parent: &Option<ProjectName>) -> &str
+    ensures text { result.now ≡ parent_text parent.now }
+    ensures good { is_parent parent.now ≡ true }
+{
+    match parent {
+        Some(name) => name.as_str(),
+        None => "",
+    }
+}
+
 impl Lookup for Projects {
     ghost use Rattle.review_statements.specs.declared.texts.TheConstants.{FIND_PROJECT};
     ghost use Rattle.review_statements.proofs.TextsOfLookups.{find_project};
@@ -24,7 +53,7 @@ impl Lookup for Projects {
 
     type Key = ProjectName;
 
-    type Item = FileText;
+    type Item = StoredFile;
 
     ghost sql = { FIND_PROJECT.now };
 
@@ -38,11 +67,15 @@ impl Lookup for Projects {
         Ok(Bound::new().text(key.as_str()))
     }
 
-    fn read(alloc: Global, row: &Row) -> Result<Option<FileText>, AllocError> {
+    fn read(alloc: Global, row: &Row) -> Result<Option<StoredFile>, AllocError> {
         let Some(text) = text_at(row, 0) else {
             return Ok(None);
         };
-        Ok(Some(FileText::from_str(alloc, text)?))
+        let Some(parent) = parent_at(alloc, row, 1)? else {
+            return Ok(None);
+        };
+        let text = FileText::from_str(alloc, text)?;
+        Ok(Some(StoredFile { text, parent }))
     }
 
     ghost asks = { find_project };
@@ -51,12 +84,12 @@ impl Lookup for Projects {
 impl Table for Projects {
     ghost use Rattle.review_statements.specs.declared.texts.TheConstants.{INSERT_PROJECT, DELETE_PROJECT};
     ghost use Rattle.review_statements.proofs.TextsOfChanges.{insert_project, delete_project};
-    ghost use Rattle.review_records.specs.Forms.{projects, project_form};
+    ghost use Rattle.review_records.specs.Forms.{projects, project_form, parent_text};
     ghost use Rattle.review_records.specs.Laws.{project_lawful};
 
     type Key = ProjectName;
 
-    type Item = FileText;
+    type Item = StoredFile;
 
     ghost insert_sql = { INSERT_PROJECT.now };
 
@@ -81,13 +114,14 @@ impl Table for Projects {
     fn bind_row<'a>(
         _alloc: Global,
         key: &'a ProjectName,
-        row: &'a FileText,
+        row: &'a StoredFile,
         _buffer: &'a mut String,
     ) -> Result<Bound<'a>, Error> {
-        Ok(Bound::new().text(key.as_str()).text(row.as_str()))
+        let values = Bound::new().text(key.as_str()).text(row.text.as_str());
+        Ok(values.text(parent_text(&row.parent)))
     }
 
-    ghost inserts = { insert_project };
+    ghost inserts = { λ project file. insert_project project file.text (parent_text file.parent) };
 
     ghost deletes = { delete_project };
 
@@ -128,7 +162,7 @@ impl Lookup for ProjectNames {
 // A project, where there are more than 999.
 fn find_beyond<S: Alter>(tx: &mut Transaction<'_, S>) -> Result<Vec<Row>, Error>
     ensures same_reference { tx.new.conn.ghost_name ≡ tx.old.conn.ghost_name }
-    ensures looks { Looks (λ db rows. ShowsBeyond 999 (rows_at [] (db table.projects.tree)) rows.items) (state S.Store tx.old.conn.now) (state S.Store tx.new.conn.now) result }
+    ensures looks { Looks (λ db rows. ShowsBeyond 999 (rows_at [] (db table.projects_2.tree)) rows.items) (state S.Store tx.old.conn.now) (state S.Store tx.new.conn.now) result }
 {
     tx.query_all(texts::FIND_PROJECT_BEYOND, &[])
 }
@@ -136,7 +170,7 @@ fn find_beyond<S: Alter>(tx: &mut Transaction<'_, S>) -> Result<Vec<Row>, Error>
 /// Whether there are fewer than 1,000 projects.
 pub fn has_room<S: Alter>(tx: &mut Transaction<'_, S>) -> Result<bool, Error>
     ensures same_reference { tx.new.conn.ghost_name ≡ tx.old.conn.ghost_name }
-    ensures looks { Looks (λ db is. nat_lt (length (db table.projects.tree)) 1000 ≡ is) (state S.Store tx.old.conn.now) (state S.Store tx.new.conn.now) result }
+    ensures looks { Looks (λ db is. nat_lt (length (db table.projects_2.tree)) 1000 ≡ is) (state S.Store tx.old.conn.now) (state S.Store tx.new.conn.now) result }
 {
     let rows = find_beyond(tx)?;
     Ok(rows.is_empty())

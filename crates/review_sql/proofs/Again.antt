@@ -16,7 +16,7 @@ use Rattle.review_sql.proofs.Shown.{stays}
 
 -- the rows of each table of a desk have rowids of their own
 all_apart : (db : Database) → IsReady db → AreAllApart db.trees
-all_apart db ready = (ready.apart 0 refl, (ready.apart 2 refl, (ready.apart 4 refl, (ready.apart 6 refl, (ready.apart 9 refl, (ready.apart 11 refl, (ready.apart 14 refl, (ready.apart 16 refl, (ready.apart 18 refl, (ready.apart 20 refl, (ready.apart 22 refl, (ready.apart 25 refl, tt))))))))))))
+all_apart db ready = (ready.apart 0 refl, (ready.apart 2 refl, (ready.apart 6 refl, (ready.apart 9 refl, (ready.apart 11 refl, (ready.apart 14 refl, (ready.apart 16 refl, (ready.apart 18 refl, (ready.apart 20 refl, (ready.apart 22 refl, (ready.apart 25 refl, (ready.apart 26 refl, tt))))))))))))
 
 -- the faults that are left
 store_or_memory : (fault : DeskFault) → (fault ≡ NotADesk → ⊥) → (fault ≡ WrongVersion → ⊥) → fault ≢ NotEmpty → (fault ≡ NotOurs → ⊥) → (fault ≡ Memory) ⊎ (fault ≡ Store)

@@ -71,13 +71,13 @@ module _ (a b : Trees) (blank : (t : ℕ) → is_tree t ≡ true → a t ≡ [])
   rows : (reading : Reading) (k : Key) → row_in b k ≡ fact reading [] k
   rows reading (AccountKey n) = ap (λ l. told AccountRow (only (reads accounts) (rows_at (accounts.at n) l))) (h.2.others 0 refl (λ e. omega (arith, e)) ∙ mem.others 0 refl (λ e. omega (arith, e))) ∙ account_row n
   rows reading (OfMember group n) = ap (λ l. told (λ u. MemberRow) (only (reads members) (rows_at (members.at (record { group = group; account = n })) l))) (h.2.others 2 refl (λ e. omega (arith, e))) ∙ member_row group n
-  rows reading (FileKey project) = ap (λ l. told FileRow (only (reads projects) (rows_at (projects.at project) l))) (untouched 4 refl (λ e. omega (arith, e)) (λ e. omega (arith, e)) (λ e. omega (arith, e)))
+  rows reading (FileKey project) = ap (λ l. told FileRow (only (reads projects) (rows_at (projects.at project) l))) (untouched 26 refl (λ e. omega (arith, e)) (λ e. omega (arith, e)) (λ e. omega (arith, e)))
   rows reading (BaseKey project branch place) = ap (λ l. told BaseRow (only (reads bases) (rows_at (bases.at (record { project = project; branch = branch; place = place })) l))) (untouched 6 refl (λ e. omega (arith, e)) (λ e. omega (arith, e)) (λ e. omega (arith, e)))
   rows reading (PartKey n part) = no_part n part
   rows reading (OddKey o) = ap (λ odd. cond odd (Some OddRow) None) (unkeyed_same a b (first_keeps a b h) ∙ none_unkeyed a blank)
 
   counts : (c : Count) → count_in b c ≡ counted [] c
-  counts Projects = ap length (untouched 4 refl (λ e. omega (arith, e)) (λ e. omega (arith, e)) (λ e. omega (arith, e)))
+  counts Projects = ap length (untouched 26 refl (λ e. omega (arith, e)) (λ e. omega (arith, e)) (λ e. omega (arith, e)))
   counts (BasesOf project) = ap (λ l. length (rows_at ((1, Text project) ∷ []) l)) (untouched 6 refl (λ e. omega (arith, e)) (λ e. omega (arith, e)) (λ e. omega (arith, e)))
 
   pub first_view : IsView [] (tables_at b)

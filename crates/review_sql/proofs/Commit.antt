@@ -21,6 +21,7 @@ use Rattle.review_rows.specs.Rows.{Key, AccountKey, MemberKey, FileKey, BaseKey,
 use Rattle.review_rows.specs.Shelf.{IsCommitted}
 use Rattle.review_rows.proofs.Puts.{exact_place, place_total}
 use Rattle.review_rows.specs.declared.rows.PlaceKey.{PlaceKey}
+use Rattle.review_rows.specs.declared.rows.StoredFile.{StoredFile}
 use Rattle.review_statements.specs.Content.{SparesOthers, Then, has_key}
 use Rattle.review_statements.specs.Desk.{is_tree}
 use Rattle.review_statements.specs.Ran.{OnDesk}
@@ -108,12 +109,12 @@ counted_as {X} kind read (r ∷ []) n m single more = go (read r) (omega (arith,
     go (Some x) same = same
 counted_as kind read (r ∷ s ∷ rows) n m single more = absurd (omega (arith, single))
 
-file_count : (o : Option (Put (List ℕ) (List ℕ))) (old new : Trees) → SetsPut projects o old new → ((p : List ℕ) → length (rows_at (projects.at p) (old 4)) ≤ 1)
-    → length (new 4) ≡ count_put (λ p. true) o (λ p. told FileRow (row_at projects old p)) (length (old 4))
-file_count None old new h single = ap (λ (t : Trees). length (t 4)) h
+file_count : (o : Option (Put (List ℕ) StoredFile)) (old new : Trees) → SetsPut projects o old new → ((p : List ℕ) → length (rows_at (projects.at p) (old 26)) ≤ 1)
+    → length (new 26) ≡ count_put (λ p. true) o (λ p. told FileRow (row_at projects old p)) (length (old 26))
+file_count None old new h single = ap (λ (t : Trees). length (t 26)) h
 file_count (Some put) old new h single =
-    counted_as FileRow (reads projects) (rows_at (projects.at put.key) (old 4)) (length (old 4)) (length (new 4)) (single put.key)
-    (let e = h.counted (λ r. true) (λ r has. refl) in rw (all_pass (new 4), all_pass (old 4)) at e)
+    counted_as FileRow (reads projects) (rows_at (projects.at put.key) (old 26)) (length (old 26)) (length (new 26)) (single put.key)
+    (let e = h.counted (λ r. true) (λ r has. refl) in rw (all_pass (new 26), all_pass (old 26)) at e)
 
 base_count : (o : Option (Put PlaceKey (List ℕ))) (old new : Trees) → SetsPut bases o old new → ((k : PlaceKey) → length (rows_at (bases.at k) (old 6)) ≤ 1) → (project : List ℕ)
     → length (rows_at ((1, Text project) ∷ []) (new 6)) ≡ count_put (λ k. bytes_eq k.project project) o (λ k. told BaseRow (row_at bases old k)) (length (rows_at ((1, Text project) ∷ []) (old 6)))
@@ -169,7 +170,7 @@ module _ (delta : Delta) (kept : Kept) (n : ℕ) (a b : Trees) (single : AreSing
   base_spares : (t : ℕ) → is_tree t ≡ true → t ≢ 6 → u t ≡ d3 t
   base_spares t is p = put_spares bases delta.base d3 u h.1.1.1.2 t is p
 
-  file_spares : (t : ℕ) → is_tree t ≡ true → t ≢ 4 → d3 t ≡ d2 t
+  file_spares : (t : ℕ) → is_tree t ≡ true → t ≢ 26 → d3 t ≡ d2 t
   file_spares t is p = put_spares projects delta.file d2 d3 h.1.1.1.1.2 t is p
 
   member_spares : (t : ℕ) → is_tree t ≡ true → t ≢ 2 → d2 t ≡ d1 t
@@ -187,11 +188,11 @@ module _ (delta : Delta) (kept : Kept) (n : ℕ) (a b : Trees) (single : AreSing
   was_2 : d1 2 ≡ a 2
   was_2 = account_spares 2 refl (λ e. omega (arith, e))
 
-  at_4 : b 4 ≡ d3 4
-  at_4 = late 4 refl refl (λ e. omega (arith, e)) (λ e. omega (arith, e)) ∙ base_spares 4 refl (λ e. omega (arith, e))
+  at_26 : b 26 ≡ d3 26
+  at_26 = late 26 refl refl (λ e. omega (arith, e)) (λ e. omega (arith, e)) ∙ base_spares 26 refl (λ e. omega (arith, e))
 
-  was_4 : d2 4 ≡ a 4
-  was_4 = member_spares 4 refl (λ e. omega (arith, e)) ∙ account_spares 4 refl (λ e. omega (arith, e))
+  was_26 : d2 26 ≡ a 26
+  was_26 = member_spares 26 refl (λ e. omega (arith, e)) ∙ account_spares 26 refl (λ e. omega (arith, e))
 
   at_6 : b 6 ≡ u 6
   at_6 = late 6 refl refl (λ e. omega (arith, e)) (λ e. omega (arith, e))
@@ -204,7 +205,7 @@ module _ (delta : Delta) (kept : Kept) (n : ℕ) (a b : Trees) (single : AreSing
 
   -- the trees of changes before edits
   early : (t : ℕ) → is_tree t ≡ true → is_part_tree t ≡ true → u t ≡ a t
-  early t is part = base_spares t is (other 6 t refl part) ∙ (file_spares t is (other 4 t refl part) ∙ (member_spares t is (other 2 t refl part) ∙ account_spares t is (other 0 t refl part)))
+  early t is part = base_spares t is (other 6 t refl part) ∙ (file_spares t is (other 26 t refl part) ∙ (member_spares t is (other 2 t refl part) ∙ account_spares t is (other 0 t refl part)))
     where
       other : (n t : ℕ) → is_part_tree n ≡ false → is_part_tree t ≡ true → t ≢ n
       other n t not_one one same = both_ways (is_part_tree n) not_one (subst (λ m. is_part_tree m ≡ true) same one)
@@ -219,8 +220,8 @@ module _ (delta : Delta) (kept : Kept) (n : ℕ) (a b : Trees) (single : AreSing
       ∙ (ap (told (λ u. MemberRow)) (rows_changed members member_cmp members_exact delta.members.items d1 d2 h.1.1.1.1.1.2 k) ∙ (told_member (change_of member_cmp delta.members.items k) (row_at members d1 k)
       ∙ ap (λ l. after_change (member_change (change_of member_cmp delta.members.items k)) (told (λ u. MemberRow) (only (reads members) (rows_at (members.at k) l)))) was_2))
   rows (FileKey project) =
-      ap (λ l. told FileRow (only (reads projects) (rows_at (projects.at project) l))) at_4
-      ∙ (row_put projects (slice_cmp nat_cmp) names_exact FileRow delta.file d2 d3 h.1.1.1.1.2 project ∙ ap (λ l. after_put (slice_cmp nat_cmp) FileRow delta.file project (told FileRow (only (reads projects) (rows_at (projects.at project) l)))) was_4)
+      ap (λ l. told FileRow (only (reads projects) (rows_at (projects.at project) l))) at_26
+      ∙ (row_put projects (slice_cmp nat_cmp) names_exact FileRow delta.file d2 d3 h.1.1.1.1.2 project ∙ ap (λ l. after_put (slice_cmp nat_cmp) FileRow delta.file project (told FileRow (only (reads projects) (rows_at (projects.at project) l)))) was_26)
   rows (BaseKey project branch place) =
       let k : PlaceKey = record { project = project; branch = branch; place = place } in
       ap (λ l. told BaseRow (only (reads bases) (rows_at (bases.at k) l))) at_6
@@ -234,8 +235,8 @@ module _ (delta : Delta) (kept : Kept) (n : ℕ) (a b : Trees) (single : AreSing
 
   counts : (c : Count) → count_in b c ≡ count_after delta (row_in a) c (count_in a c)
   counts Projects =
-      ap length at_4 ∙ (file_count delta.file d2 d3 h.1.1.1.1.2 (λ p. subst (λ l. length (rows_at (projects.at p) l) ≤ 1) (sym was_4) (single.projects_are p))
-      ∙ ap (λ l. count_put (λ p. true) delta.file (λ p. told FileRow (only (reads projects) (rows_at (projects.at p) l))) (length l)) was_4)
+      ap length at_26 ∙ (file_count delta.file d2 d3 h.1.1.1.1.2 (λ p. subst (λ l. length (rows_at (projects.at p) l) ≤ 1) (sym was_26) (single.projects_are p))
+      ∙ ap (λ l. count_put (λ p. true) delta.file (λ p. told FileRow (only (reads projects) (rows_at (projects.at p) l))) (length l)) was_26)
   counts (BasesOf project) =
       ap (λ l. length (rows_at ((1, Text project) ∷ []) l)) at_6
       ∙ (base_count delta.base d3 u h.1.1.1.2 (λ k. subst (λ l. length (rows_at (bases.at k) l) ≤ 1) (sym was_6) (single.bases_are k)) project

@@ -12,3 +12,6 @@ pub mod Shown
 pub mod Again
 pub mod Loaded
 pub mod Unkeyed
+pub mod Upgraded
+pub mod Raised
+pub mod NoParents

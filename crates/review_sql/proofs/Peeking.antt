@@ -1,5 +1,5 @@
 -- A look at tables that is taken back.
-use Rattle.std.proofs.Common.{◌≡◌, ◌≢◌, ◌∙◌, ◌⊎◌, inl, inr, ℕ, List, [], ◌∷◌, Some, None, Bool, eqb, eqb-true, true, false, Ok, Err, Result, IfOk, IsTrue, refl, sym, subst, arith}
+use Rattle.std.proofs.Common.{◌≡◌, ◌≢◌, ◌∙◌, inl, inr, ℕ, List, [], ◌∷◌, Some, None, Bool, eqb, eqb-true, true, false, Ok, Err, Result, IfOk, IfErr, IsTrue, refl, sym, subst, arith}
 use Rattle.std.specs.Bool.{Decides}
 use Rattle.std.specs.List.{AllByRecursion, list_any}
 use Rattle.std.proofs.lemmas.Bool.{or_cases}
@@ -13,11 +13,14 @@ use Rattle.review_tables.proofs.Sequences.{begun, taken_back, survives_from}
 use Rattle.review_statements.specs.Content.{AreApart}
 use Rattle.review_statements.specs.Desk.{desk_schema}
 use Rattle.review_sql.specs.declared.seen.Said.{Said}
+use Rattle.review_sql.specs.declared.seen.Seen.{Seen}
 use Rattle.review_sql.specs.declared.faults.DeskFault.{DeskFault}
 use Rattle.review_sql.specs.declared.faults.DeskFault.TheVariants.{NotADesk, WrongVersion, NotEmpty, NotOurs}
 use Rattle.review_sql.specs.Shelf.{AreAllRead}
-use Rattle.review_sql.specs.Said.{IsSaid, IsDeskThere, IsNoDesk, IsOtherVersion}
-use Rattle.review_sql.specs.Opened.{AreAllApart, Peeks, IsSeen, IsRefused}
+use Rattle.review_tables.specs.declared.creating.TablesVersion.{TablesVersion}
+use Rattle.review_tables.specs.declared.creating.TablesVersion.TheVariants.{Second}
+use Rattle.review_sql.specs.Said.{IsSaid, IsDeskThere, IsNoDesk, IsNone, IsOtherVersion, IsThere, SaysOther, version_number}
+use Rattle.review_sql.specs.Opened.{AreAllApart, Peeks, IsLacking, IsSeen, IsRefused}
 use Rattle.review_sql.proofs.Saying.{desk_of_ours}
 
 pub peeked : {X : Type 0} (Found : Trees → X → Type 0) (s0 s2 s3 : State) (settled : IsTrue s0.is_open → s0.now ≡ s0.committed) (open_clean : IsTrue s3.is_open → HasCleanDisk s3) (r : Result X Error)
@@ -36,7 +39,7 @@ peeked {X} Found s0 s2 s3 settled open_clean r looks undone last = record {
     by_result (Ok x) h = λ is_open. h.2
     by_result (Err e) h = tt
 
-at_tree : (P : ℕ → Type 0) (tables : List Table) → AllByRecursion (λ x. P x.tree) tables → (t : ℕ) → list_any (λ x. eqb x.tree t) tables ≡ true → P t
+pub at_tree : (P : ℕ → Type 0) (tables : List Table) → AllByRecursion (λ x. P x.tree) tables → (t : ℕ) → list_any (λ x. eqb x.tree t) tables ≡ true → P t
 at_tree P [] all t is = absurd (cc)
 at_tree P (x ∷ tables) all t is = elim (or_cases _ _ is) [ inl here ↦ subst P (eqb-true x.tree t here) all.0 | inr later ↦ at_tree P tables all.1 t later ]
 
@@ -49,9 +52,9 @@ seen_ours s requests is_apart has there apart = record {
 }
 
 -- and of tables of another form
-pub seen_others : (s : State) (requests : ℕ) → (s.now.schema ≡ desk_schema → ⊥) → IsDeskThere s.now requests → IsSeen s (record { is_ours = false; requests = requests })
-seen_others s requests other there = record {
-  ready = λ yes. absurd (cc);
+pub seen_others : (s : State) (seen : Seen) → seen.is_ours ≡ false → (s.now.schema ≡ desk_schema → ⊥) → IsDeskThere s.now seen.requests → IsSeen s seen
+seen_others s seen not other there = record {
+  ready = λ yes. absurd (let e = sym not ∙ yes in cc);
   ours = λ same all. absurd (other same);
   there = there;
 }
@@ -68,16 +71,39 @@ refused_none s none = record { no_desk = λ is. none; other_version = λ is. abs
 pub refused_other : (s : State) → IsOtherVersion s.now → IsRefused s WrongVersion
 refused_other s other = record { no_desk = λ is. absurd (cc); other_version = λ is. other; not_ours = λ is. absurd (cc); not_empty = λ is. cc }
 
--- what the table `desk` says is no desk, or one of another version
-pub refused_said : (s : State) (said : Said) (fault : DeskFault) → IsSaid s.now said
-    → ((fault ≡ NotADesk) × ((said.version ≡ None) ⊎ ((said.version ≡ Some 1) × (said.requests ≡ None)))) ⊎ ((fault ≡ WrongVersion) × ((version : ℕ) × (said.version ≡ Some version) × (version ≢ 1))) → IsRefused s fault
-refused_said s said fault it (inl (is, inl none)) = subst (IsRefused s) (sym is) (refused_none s (inr (it.rows, it.shown, inl (sym it.version_is ∙ none))))
-refused_said s said fault it (inl (is, inr one)) = subst (IsRefused s) (sym is) (refused_none s (inr (it.rows, it.shown, inr (sym it.version_is ∙ one.0, inl (sym it.requests_are ∙ one.1)))))
-refused_said s said fault it (inr (is, other)) = subst (IsRefused s) (sym is) (refused_other s (it.rows, it.shown, (other.0, sym it.version_is ∙ other.1, other.2)))
+-- tables that lack something of a desk
+pub lacking : (s : State) (version : TablesVersion) → IsNone version s.now → IsLacking version s NotADesk
+lacking s version none = record { no_desk = λ is. none; no_other = ((λ is. cc), (λ is. cc), (λ is. cc)) }
 
--- a desk is there, but a table of records is missing
-pub refused_missing : (s : State) (said : Said) (requests : ℕ) → IsSaid s.now said → said.version ≡ Some 1 → (AreAllRead s.now.schema → ⊥) → IsRefused s NotADesk
-refused_missing s said requests it one missing = refused_none s (inr (it.rows, it.shown, inr (sym it.version_is ∙ one, inr missing)))
+pub refused_lacking : (s : State) (fault : DeskFault) → IsLacking Second s fault → IsRefused s fault
+refused_lacking s fault it = record { no_desk = it.no_desk; other_version = λ is. absurd (it.no_other.0 is); not_ours = λ is. absurd (it.no_other.2 is); not_empty = it.no_other.1 }
 
-pub desk_there : (s : State) (said : Said) (requests : ℕ) → IsSaid s.now said → said.version ≡ Some 1 → said.requests ≡ Some requests → AreAllRead s.now.schema → IsDeskThere s.now requests
-desk_there s said requests it one some all = record { rows = it.rows; shown = it.shown; version_is = sym it.version_is ∙ one; requests_are = sym it.requests_are ∙ some; tables = all }
+-- the same, of tables that are as they were
+pub refused_second : {X : Type 0} (s t : State) (r : Result X DeskFault) → t.now ≡ s.now → IfErr r (IsLacking Second t) → IfErr r (IsRefused s)
+refused_second s t (Ok x) same it = tt
+refused_second s t (Err fault) same it = record {
+  no_desk = λ is. subst (IsNone Second) same (it.no_desk is);
+  other_version = λ is. absurd (it.no_other.0 is);
+  not_ours = λ is. absurd (it.no_other.2 is);
+  not_empty = it.no_other.1;
+}
+
+-- nothing is said of a version
+pub none_said : (s : State) (said : Said) (version : TablesVersion) → IsSaid s.now said → said.version ≡ None → IsNone version s.now
+none_said s said version it none = inr (it.rows, it.shown, inl (sym it.version_is ∙ none))
+
+-- what is said is of a version that is none of these
+pub other_said : (s : State) (said : Said) (versions : List TablesVersion) (number : ℕ) → IsSaid s.now said → said.version ≡ Some number → AllByRecursion (λ v. number ≢ version_number v) versions → SaysOther versions s.now
+other_said s said versions number it is others = (it.rows, it.shown, (number, sym it.version_is ∙ is, others))
+
+module _ (s : State) (said : Said) (version : TablesVersion) (it : IsSaid s.now said) (is : said.version ≡ Some (version_number version)) where
+  -- nothing is said of requests
+  pub no_requests : said.requests ≡ None → IsNone version s.now
+  no_requests none = inr (it.rows, it.shown, inr (sym it.version_is ∙ is, inl (sym it.requests_are ∙ none)))
+
+  -- a table of records is missing
+  pub table_missing : (AreAllRead version s.now.schema → ⊥) → IsNone version s.now
+  table_missing missing = inr (it.rows, it.shown, inr (sym it.version_is ∙ is, inr missing))
+
+  pub tables_there : (requests : ℕ) → said.requests ≡ Some requests → AreAllRead version s.now.schema → IsThere version s.now requests
+  tables_there requests some all = record { rows = it.rows; shown = it.shown; version_is = sym it.version_is ∙ is; requests_are = sym it.requests_are ∙ some; tables = all }

@@ -1,8 +1,7 @@
 -- Rows that no key of a commit names stay.
-use Rattle.std.proofs.Common.{◌≡◌, ◌∙◌, ℕ, List, [], ◌∷◌, ◌++◌, Option, Some, None, Bool, true, false, filter, IfSome, string_bytes, refl, sym, ap, subst, inl, inr, eqb, eqb-true}
+use Rattle.std.proofs.Common.{◌≡◌, ◌∙◌, ℕ, List, [], ◌∷◌, ◌++◌, Option, Some, None, Bool, true, false, filter, IfSome, string_bytes, sym, ap, subst, inl, inr, eqb, eqb-true}
 use Rattle.std.proofs.lemmas.Bool.{cases_Bool, eqb-false}
 use Rattle.std.specs.List.{AllByRecursion}
-use Rattle.sqlite_value.specs.Order.{Row as Raw}
 use Rattle.sqlite_trees.specs.Tree.{Trees}
 use Rattle.review_table.specs.declared.table.Change.{Change}
 use Rattle.review_rows.specs.declared.rows.ChangeEdit.{ChangeEdit}
@@ -70,7 +69,7 @@ module _ (tree : ℕ) (test : Test) (is : is_tree tree ≡ true) where
 pub keeps_rest : (delta : Delta) (kept : Kept) (n : ℕ) (old new : Trees) → Then (Then (SetsDelta delta) (SetsKept kept)) (SetsDesk n) old new → KeepsRest delta kept old new
 keeps_rest delta kept n old new sets = record {
   each = λ tree test is spares.
-      row_same tree test is desk tt (Some (record { version = 1; requests = n })) sets.0 new spares.of_desk sets.2
+      row_same tree test is desk tt (Some (record { version = 2; requests = n })) sets.0 new spares.of_desk sets.2
       ∙ (row_same tree test is answers (record { caller = kept.caller; id = kept.id }) (Some (record { request = kept.request; content = string_bytes kept.content; reply = string_bytes kept.reply })) sets.1.0 sets.0 spares.of_answer sets.1.2
       ∙ delta_same tree test is delta kept old sets.1.0 spares sets.1.1);
 }

@@ -1,5 +1,5 @@
 -- What the table `desk` says where the tables are of our form, and where there is none.
-use Rattle.std.proofs.Common.{◌≡◌, ◌∙◌, inl, inr, ℕ, List, [], ◌∷◌, map, filter, Option, Some, None, Ok, Err, true, false, codes, refl, sym, ap, subst, arith}
+use Rattle.std.proofs.Common.{◌≡◌, ◌∙◌, inl, inr, ℕ, List, [], ◌∷◌, length, map, filter, Option, Some, None, Ok, Err, true, false, codes, refl, sym, ap, subst, arith}
 use Rattle.std.specs.Result.{is_ok}
 use Rattle.std.specs.List.{AllByRecursion}
 use Rattle.std.specs.List.Sorted.{IsPermutation}
@@ -19,21 +19,31 @@ use Rattle.sqlite.specs.Listing.{understood, listing_schema}
 use Rattle.sqlite.proofs.Callers.{command_of, one_permutation}
 use Rattle.review_statements.specs.declared.texts.TheConstants.{FIND_DESK, READ_ROWS}
 use Rattle.review_statements.specs.Content.{has_key}
-use Rattle.review_statements.specs.Desk.{desk_schema, schema_0}
-use Rattle.review_statements.specs.Search.{only, reads}
+use Rattle.review_statements.specs.Desk.{desk_schema, schema_0, schema_1}
+use Rattle.review_statements.specs.Search.{only, reads, row_at}
 use Rattle.review_statements.specs.Texts.{over_table}
 use Rattle.review_statements.proofs.Queries.{passes, selects}
 use Rattle.review_records.specs.declared.rows.DeskRow.{DeskRow}
 use Rattle.review_records.specs.Forms.{desk, desk_row}
+use Rattle.review_tables.specs.Versions.{schema_at}
+use Rattle.review_tables.specs.declared.creating.TablesVersion.{TablesVersion}
+use Rattle.review_tables.specs.declared.creating.TablesVersion.TheVariants.{First, Second}
+use Rattle.review_lookups.specs.FirstTables.{IsFirstDesk}
 use Rattle.review_lookups.specs.Tables.{IsDesk}
-use Rattle.review_sql.specs.Said.{number_of_one, version_in, requests_in, ShowsDesk, IsDeskThere, IsNoDesk, IsOtherVersion, LacksDesk}
-use Rattle.review_sql.specs.Shelf.{AreAllRead, IsUnderstood}
+use Rattle.review_sql.specs.Said.{number_of_one, version_in, requests_in, ShowsDesk, IsDeskThere, IsThere, IsNoDesk, IsOtherVersion, LacksDesk}
+use Rattle.review_sql.specs.Shelf.{AreAllRead, IsUnderstood, rows_read}
 
 -- ---- the texts over our form
 
-find_is : command_of (understood desk_schema FIND_DESK.now) ≡ Select (record { lets = []; body = over_table 25 [] (col 1 1 ∷ col 1 2 ∷ []) [] }) (codes "version" ∷ codes "requests" ∷ [])
+find_is : (version : TablesVersion) → command_of (understood (schema_at version) FIND_DESK.now) ≡ Select (record { lets = []; body = over_table 25 [] (col 1 1 ∷ col 1 2 ∷ []) [] }) (codes "version" ∷ codes "requests" ∷ [])
 unfolding understood everything
-find_is = refl
+find_is First = refl
+find_is Second = refl
+
+-- the tables of records are eleven in each version
+pub eleven : (version : TablesVersion) → length (rows_read version) ≡ 11
+eleven First = refl
+eleven Second = refl
 
 find_known : is_ok (understood desk_schema FIND_DESK.now) ≡ true
 unfolding understood everything
@@ -62,7 +72,7 @@ understands = if_ok _ find_known
 pub understands_none : IsUnderstood schema_0 FIND_DESK.now → ⊥
 understands_none it = not_ok _ it.0 none_known it.1
 
-pub reads_all : AreAllRead desk_schema
+pub reads_all : AreAllRead Second desk_schema
 reads_all = record {
   each = λ sql inside.
       if_ok _ (subst (λ s. is_ok (understood desk_schema s) ≡ true) inside.2 (All-from_recursion (λ s. is_ok (understood desk_schema s) ≡ true) (map (λ t. t.now) READ_ROWS) all_known inside.0 sql inside.1));
@@ -82,26 +92,26 @@ same_number at (r ∷ s ∷ rows) (q ∷ p ∷ others) same = refl
 abbrev two : Row → Row
 two r = column r 1 ∷ column r 2 ∷ []
 
-module _ (db : Database) (has : db.schema ≡ desk_schema) (rows : List Row) (shown : ShowsDesk db rows) where
+module _ (version : TablesVersion) (db : Database) (has : db.schema ≡ schema_at version) (rows : List Row) (shown : ShowsDesk db rows) where
   abbrev stored : List Row
   stored = filter (has_key []) (db.trees 25)
 
   shown_are : IsPermutation (map two stored) rows
   shown_are =
       let known = sym shown.is ∙ ap (λ s. understood s FIND_DESK.now) has in
-      let it : Reads (Select (record { lets = []; body = over_table 25 [] (col 1 1 ∷ col 1 2 ∷ []) [] }) (codes "version" ∷ codes "requests" ∷ [])) db [] rows = subst (λ k. Reads k db [] rows) (ap command_of known ∙ find_is) shown.shown in
+      let it : Reads (Select (record { lets = []; body = over_table 25 [] (col 1 1 ∷ col 1 2 ∷ []) [] }) (codes "version" ∷ codes "requests" ∷ [])) db [] rows = subst (λ k. Reads k db [] rows) (ap command_of known ∙ find_is version) shown.shown in
       subst (λ l. IsPermutation (map two l) rows) (filter_same (passes [] []) (has_key []) (λ row. refl) (db.trees 25)) (selects 25 [] (col 1 1 ∷ col 1 2 ∷ []) [] db.trees [] rows refl (it.answer Null))
 
   says : (at : ℕ) → number_of_one at (map two stored) ≡ number_of_one at rows
   says at = same_number at (map two stored) rows shown_are
 
-  says_row : (raws : List Row) (version requests : ℕ) → number_of_one 0 (map two raws) ≡ Some version → number_of_one 1 (map two raws) ≡ Some requests → only (reads desk) raws ≡ Some (Some (record { version = version; requests = requests }))
-  says_row [] version requests v n = absurd (cc)
-  says_row (r ∷ []) version requests v n = rw (v, n) refl
-  says_row (r ∷ s ∷ raws) version requests v n = absurd (cc)
+  says_row : (raws : List Row) (number requests : ℕ) → number_of_one 0 (map two raws) ≡ Some number → number_of_one 1 (map two raws) ≡ Some requests → only (reads desk) raws ≡ Some (Some (record { version = number; requests = requests }))
+  says_row [] number requests v n = absurd (cc)
+  says_row (r ∷ []) number requests v n = rw (v, n) refl
+  says_row (r ∷ s ∷ raws) number requests v n = absurd (cc)
 
-  pub is_desk : (requests : ℕ) → version_in rows ≡ Some 1 → requests_in rows ≡ Some requests → IsDesk requests db.trees
-  is_desk requests v n = says_row stored 1 requests (says 0 ∙ v) (says 1 ∙ n)
+  pub is_desk : (number requests : ℕ) → version_in rows ≡ Some number → requests_in rows ≡ Some requests → row_at desk db.trees tt ≡ Some (Some (record { version = number; requests = requests }))
+  is_desk number requests v n = says_row stored number requests (says 0 ∙ v) (says 1 ∙ n)
 
   parts_of : (a b : Option ℕ) (d : DeskRow) → Some (desk_row a b) ≡ Some (Some d) → (a ≡ Some d.version) × (b ≡ Some d.requests)
   parts_of None b d is = let e = same_Some None (Some d) is in cc
@@ -115,9 +125,9 @@ module _ (db : Database) (has : db.schema ≡ desk_schema) (rows : List Row) (sh
   row_says (r ∷ []) d is = parts_of _ _ d is
   row_says (r ∷ s ∷ raws) d is = absurd (let e = same_Some None (Some d) is in cc)
 
-  pub desk_says : (requests : ℕ) → IsDesk requests db.trees → (version_in rows ≡ Some 1) × (requests_in rows ≡ Some requests)
+  pub desk_says : (requests : ℕ) → IsDesk requests db.trees → (version_in rows ≡ Some 2) × (requests_in rows ≡ Some requests)
   desk_says requests is =
-      let it = row_says stored (record { version = 1; requests = requests }) is in
+      let it = row_says stored (record { version = 2; requests = requests }) is in
       (sym (says 0) ∙ it.0, sym (says 1) ∙ it.1)
 
 -- ---- a desk of ours
@@ -126,21 +136,25 @@ no_some : (o : Option ℕ) (n : ℕ) → o ≡ Some n → o ≡ None → ⊥
 no_some o n some none = let e = sym some ∙ none in cc
 
 pub desk_of_ours : (db : Database) → db.schema ≡ desk_schema → (requests : ℕ) → IsDeskThere db requests → IsDesk requests db.trees
-desk_of_ours db has requests there = is_desk db has there.rows there.shown requests there.version_is there.requests_are
+desk_of_ours db has requests there = is_desk Second db has there.rows there.shown 2 requests there.version_is there.requests_are
+
+-- the same of version 1
+pub first_of_ours : (db : Database) → db.schema ≡ schema_1 → (requests : ℕ) → IsThere First db requests → IsFirstDesk requests db.trees
+first_of_ours db has requests there = is_desk First db has there.rows there.shown 1 requests there.version_is there.requests_are
 
 pub never_no_desk : (db : Database) → db.schema ≡ desk_schema → (requests : ℕ) → IsDesk requests db.trees → IsNoDesk db → ⊥
 never_no_desk db has requests is (inl missing) = missing (subst (λ s. IsUnderstood s FIND_DESK.now) (sym has) understands)
-never_no_desk db has requests is (inr odd) = let it = desk_says db has odd.0 odd.1 requests is in lacks odd.0 it.0 it.1 odd.2
+never_no_desk db has requests is (inr odd) = let it = desk_says Second db has odd.0 odd.1 requests is in lacks odd.0 it.0 it.1 odd.2
   where
-    lacks : (rows : List Row) → version_in rows ≡ Some 1 → requests_in rows ≡ Some requests → LacksDesk db rows → ⊥
+    lacks : (rows : List Row) → version_in rows ≡ Some 2 → requests_in rows ≡ Some requests → LacksDesk Second db rows → ⊥
     lacks rows v n (inl none) = no_some _ _ v none
     lacks rows v n (inr (_, inl none)) = no_some _ _ n none
-    lacks rows v n (inr (_, inr missing)) = missing (subst AreAllRead (sym has) reads_all)
+    lacks rows v n (inr (_, inr missing)) = missing (subst (AreAllRead Second) (sym has) reads_all)
 
 pub never_other_version : (db : Database) → db.schema ≡ desk_schema → (requests : ℕ) → IsDesk requests db.trees → IsOtherVersion db → ⊥
 never_other_version db has requests is other =
-    let it = desk_says db has other.0 other.1 requests is in
-    other.2.2 (same_Some _ _ (sym other.2.1 ∙ it.0))
+    let it = desk_says Second db has other.0 other.1 requests is in
+    other.2.2.0 (same_Some _ _ (sym other.2.1 ∙ it.0))
 
 -- where there is no table nothing is shown of one
 pub never_shown : (db : Database) → db.schema ≡ schema_0 → (rows : List Row) → ShowsDesk db rows → ⊥

@@ -13,7 +13,7 @@ use Rattle.sqlite_catalog.proofs.AlterLemmas.{keys_are_unique}
 use Rattle.sqlite.specs.Effect.{Database}
 use Rattle.review_statements.specs.Content.{has_key, is_value, AreApart}
 use Rattle.review_tables.proofs.Keys.{int_is, itself}
-use Rattle.review_statements.specs.Desk.{desk_schema, projects as project_table, bases as base_table}
+use Rattle.review_statements.specs.Desk.{desk_schema, projects_2 as project_table, bases as base_table}
 use Rattle.review_statements.specs.Ran.{IsReady}
 use Rattle.review_statements.specs.Search.{rows_at}
 use Rattle.review_tables.proofs.Single.{equal_values, differ_ids, one_passes}
@@ -26,19 +26,19 @@ equal_whole : (v : Value) (n : ℤ) → is_value v (Int n) ≡ true → is_eq (v
 equal_whole v n has = subst (λ w. is_eq (value_cmp w (Int n)) ≡ true) (sym (int_is v n has)) (itself (Int n))
 
 module _ (db : Trees) (sound : IsSound desk_schema db) where
-  project_single : (p : List ℕ) → AreApart (db 4) → length (rows_at (projects.at p) (db 4)) ≤ 1
+  project_single : (p : List ℕ) → AreApart (db 26) → length (rows_at (projects.at p) (db 26)) ≤ 1
   unfolding first_key
   project_single p apart =
-      one_passes (has_key (projects.at p)) (λ other row. agree plain (1 ∷ []) other (1 ∷ []) row && differ (rowid other) (rowid row)) (db 4)
-      (λ row has. keys_are_unique desk_schema db project_table 0 (1 ∷ []) row sound (inr (inr (inl refl))) refl has)
+      one_passes (has_key (projects.at p)) (λ other row. agree plain (1 ∷ []) other (1 ∷ []) row && differ (rowid other) (rowid row)) (db 26)
+      (λ row has. keys_are_unique desk_schema db project_table 0 (1 ∷ []) row sound (inr (inr (inr (inr (inr (inr (inr (inr (inr (inr (inr (inl refl)))))))))))) refl has)
       (λ r s keyed too other is it. and_from _ _ (and_from _ _ (equal_values (Text p) (column s 1) (column r 1) refl (and_parts _ _ it).0 (and_parts _ _ is).0) refl) (differ_ids s r too keyed other))
-      (db 4) (λ x h. h) apart
+      (db 26) (λ x h. h) apart
 
   base_single : (k : PlaceKey) → AreApart (db 6) → length (rows_at (bases.at k) (db 6)) ≤ 1
   unfolding first_key
   base_single k apart =
       one_passes (has_key (bases.at k)) (λ other row. agree plain (1 ∷ 2 ∷ 3 ∷ []) other (1 ∷ 2 ∷ 3 ∷ []) row && differ (rowid other) (rowid row)) (db 6)
-      (λ row has. keys_are_unique desk_schema db base_table 0 (1 ∷ 2 ∷ 3 ∷ []) row sound (inr (inr (inr (inl refl)))) refl has)
+      (λ row has. keys_are_unique desk_schema db base_table 0 (1 ∷ 2 ∷ 3 ∷ []) row sound (inr (inr (inl refl))) refl has)
       (λ r s keyed too other is it.
       let a = and_parts _ _ is in
       let b = and_parts _ _ it in
@@ -53,4 +53,4 @@ module _ (db : Trees) (sound : IsSound desk_schema db) where
 pub are_single : (db : Database) → IsReady db → IsSound db.schema db.trees → AreSingle db.trees
 are_single db ready sound =
     let ours = subst (λ s. IsSound s db.trees) ready.schema sound in
-    record { projects_are = λ p. project_single db.trees ours p (ready.apart 4 refl); bases_are = λ k. base_single db.trees ours k (ready.apart 6 refl) }
+    record { projects_are = λ p. project_single db.trees ours p (ready.apart 26 refl); bases_are = λ k. base_single db.trees ours k (ready.apart 6 refl) }

@@ -51,6 +51,6 @@ SetsDelta delta = Then (SetsUnowned delta) (SetsEdits [] delta.changes.items)
 abbrev pub SetsKept : Kept → Trees → Trees → Type 0
 SetsKept kept = SetsRow answers (record { caller = kept.caller; id = kept.id }) (Some (record { request = kept.request; content = string_bytes kept.content; reply = string_bytes kept.reply }))
 
--- the desk has version 1 and so many requests
+-- the desk has version 2 and so many requests
 abbrev pub SetsDesk : ℕ → Trees → Trees → Type 0
-SetsDesk requests = SetsRow desk tt (Some (record { version = 1; requests = requests }))
+SetsDesk requests = SetsRow desk tt (Some (record { version = 2; requests = requests }))

@@ -7,3 +7,4 @@ pub mod Created
 pub mod Said
 pub mod Opened
 pub mod Reopened
+pub mod Migrated

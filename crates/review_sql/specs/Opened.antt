@@ -9,16 +9,23 @@ use Rattle.sqlite.specs.declared.error.Error.{Error}
 use Rattle.review_statements.specs.Content.{AreApart}
 use Rattle.review_statements.specs.Desk.{desk_schema}
 use Rattle.review_statements.specs.Ran.{IsDeskIfOpen, IsReady}
+use Rattle.review_tables.specs.Versions.{schema_at}
+use Rattle.review_tables.specs.declared.creating.TablesVersion.{TablesVersion}
+use Rattle.review_tables.specs.declared.creating.TablesVersion.TheVariants.{Second}
 use Rattle.review_sql.specs.declared.seen.Seen.{Seen}
 use Rattle.review_sql.specs.declared.faults.DeskFault.{DeskFault}
 use Rattle.review_sql.specs.declared.faults.DeskFault.TheVariants.{NotADesk, WrongVersion, NotEmpty, NotOurs}
 use Rattle.review_lookups.specs.Tables.{IsDesk}
-use Rattle.review_sql.specs.Said.{IsDeskThere, IsNoDesk, IsOtherVersion}
+use Rattle.review_sql.specs.Said.{IsDeskThere, IsNoDesk, IsNone, IsOtherVersion}
 use Rattle.review_sql.specs.Shelf.{ShelfView, Stays}
 
--- the rows of each table have rowids of their own
+-- the rows of each table of a version have rowids of their own
+abbrev pub AreApartIn : TablesVersion → Trees → Type 0
+AreApartIn version db = AllByRecursion (λ t. AreApart (db t.tree)) (schema_at version).tables
+
+-- the rows of each table of a desk have rowids of their own
 abbrev pub AreAllApart : Trees → Type 0
-AreAllApart db = AllByRecursion (λ t. AreApart (db t.tree)) desk_schema.tables
+AreAllApart = AreApartIn Second
 
 -- a call that only looked at the tables of a desk, and left them
 pub record Peeks {X : Type 0} (Found : Trees → X → Type 0) (old new : State) (result : Result X Error) : Type 0 where
@@ -42,3 +49,8 @@ pub record IsRefused (s : State) (fault : DeskFault) : Type 0 where
   pub other_version : fault ≡ WrongVersion → IsOtherVersion s.now
   pub not_ours : fault ≡ NotOurs → ((requests : ℕ) × IsDeskThere s.now requests) × (s.now.schema ≡ desk_schema → AreAllApart s.now.trees → ⊥)
   pub not_empty : fault ≢ NotEmpty
+
+-- Why tables are refused that say this version or none: as no desk only where they are none, and else for want of memory or a fault of the store.
+pub record IsLacking (version : TablesVersion) (s : State) (fault : DeskFault) : Type 0 where
+  pub no_desk : fault ≡ NotADesk → IsNone version s.now
+  pub no_other : (fault ≢ WrongVersion) × (fault ≢ NotEmpty) × (fault ≢ NotOurs)

@@ -1,11 +1,14 @@
 -- What the table `desk` says, whatever the form of the tables.
 use Rattle.std.specs.Prelude.{ℕ, ◌≡◌, ◌≢◌, ◌⊎◌, List, [], ◌∷◌, Option, Some, None, Ok}
+use Rattle.std.specs.List.{AllByRecursion}
 use Rattle.sqlite_value.specs.Order.{Row, column}
 use Rattle.sqlite_resolve.specs.declared.compiled.Compiled.{Compiled}
 use Rattle.sqlite.specs.Effect.{Database, Reads}
 use Rattle.sqlite.specs.Listing.{understood}
 use Rattle.review_statements.specs.declared.texts.TheConstants.{FIND_DESK}
 use Rattle.review_tables.specs.Columns.{number_in}
+use Rattle.review_tables.specs.declared.creating.TablesVersion.{TablesVersion}
+use Rattle.review_tables.specs.declared.creating.TablesVersion.TheVariants.{First, Second}
 use Rattle.review_sql.specs.declared.seen.Said.{Said}
 use Rattle.review_sql.specs.Shelf.{AreAllRead, IsUnderstood}
 
@@ -38,22 +41,43 @@ pub record IsSaid (db : Database) (said : Said) : Type 0 where
   pub version_is : said.version ≡ version_in rows
   pub requests_are : said.requests ≡ requests_in rows
 
--- the table `desk` has one row, which says version 1 and so many requests, and all columns of the eleven tables of records are there
-pub record IsDeskThere (db : Database) (requests : ℕ) : Type 0 where
+-- the number of a version, as the table `desk` says it
+abbrev pub version_number : TablesVersion → ℕ
+version_number First = 1
+version_number Second = 2
+
+-- this is what the rows of the table `desk` say, and this version is among it
+abbrev pub SaysVersion : TablesVersion → Database → Said → Type 0
+SaysVersion version db said = IsSaid db said × (said.version ≡ Some (version_number version))
+
+-- the table `desk` has one row, which says this version and so many requests, and all columns of the eleven tables of records of the version are there
+pub record IsThere (version : TablesVersion) (db : Database) (requests : ℕ) : Type 0 where
   pub rows : List Row
   pub shown : ShowsDesk db rows
-  pub version_is : version_in rows ≡ Some 1
+  pub version_is : version_in rows ≡ Some (version_number version)
   pub requests_are : requests_in rows ≡ Some requests
-  pub tables : AreAllRead db.schema
+  pub tables : AreAllRead version db.schema
 
--- the rows say no version, or version 1 where they don't say how many requests there are or a table of records is missing
-abbrev pub LacksDesk : Database → List Row → Type 0
-LacksDesk db rows = (version_in rows ≡ None) ⊎ ((version_in rows ≡ Some 1) × ((requests_in rows ≡ None) ⊎ (AreAllRead db.schema → ⊥)))
+-- a desk of version 2 is there
+abbrev pub IsDeskThere : Database → ℕ → Type 0
+IsDeskThere = IsThere Second
 
--- the table `desk` isn't there with its columns, or what its rows say is no desk
+-- the rows say no version, or this one where they don't say how many requests there are or a table of records is missing
+abbrev pub LacksDesk : TablesVersion → Database → List Row → Type 0
+LacksDesk version db rows = (version_in rows ≡ None) ⊎ ((version_in rows ≡ Some (version_number version)) × ((requests_in rows ≡ None) ⊎ (AreAllRead version db.schema → ⊥)))
+
+-- the table `desk` isn't there with its columns, or what its rows say is no desk of this version nor of another
+abbrev pub IsNone : TablesVersion → Database → Type 0
+IsNone version db = (IsUnderstood db.schema FIND_DESK.now → ⊥) ⊎ ((rows : List Row) × ShowsDesk db rows × LacksDesk version db rows)
+
+-- it is no desk of version 2 nor of another
 abbrev pub IsNoDesk : Database → Type 0
-IsNoDesk db = (IsUnderstood db.schema FIND_DESK.now → ⊥) ⊎ ((rows : List Row) × ShowsDesk db rows × LacksDesk db rows)
+IsNoDesk = IsNone Second
 
--- the one row of the table `desk` says another version than 1, whatever else it says
+-- the one row of the table `desk` says a version that is none of these, whatever else it says
+abbrev pub SaysOther : List TablesVersion → Database → Type 0
+SaysOther versions db = (rows : List Row) × ShowsDesk db rows × ((version : ℕ) × (version_in rows ≡ Some version) × AllByRecursion (λ v. version ≢ version_number v) versions)
+
+-- the one row of the table `desk` says another version than 2
 abbrev pub IsOtherVersion : Database → Type 0
-IsOtherVersion db = (rows : List Row) × ShowsDesk db rows × ((version : ℕ) × (version_in rows ≡ Some version) × (version ≢ 1))
+IsOtherVersion = SaysOther (Second ∷ [])

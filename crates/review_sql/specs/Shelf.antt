@@ -2,7 +2,7 @@
 use Rattle.std.specs.Prelude.{ℕ, ◌≡◌, ◌≤◌, map, false, Bool, List, Option, Some, None, Result, Ok, Err, IsTrue, if◌then◌else◌, refl, min}
 use Rattle.std.proofs.Math.Nat.{min-le_right}
 use Rattle.std.specs.List.{Contains}
-use Rattle.review_statements.specs.declared.texts.TheConstants.{ANY_ROW, READ_ROWS}
+use Rattle.review_statements.specs.declared.texts.TheConstants.{ANY_ROW, READ_ROWS, READ_ROWS_1}
 use Rattle.std.specs.Coded.{Coded, code_by, coded×, coded_ℕ}
 use Rattle.sqlite_trees.specs.declared.store.Store.{Ghosts}
 use Rattle.sqlite_trees.specs.Tree.{Trees}
@@ -21,6 +21,8 @@ use Rattle.review_rows.specs.declared.shelf.ShelfFault.TheVariants.{Memory, Dama
 use Rattle.review_lookups.specs.declared.loading.Loaded.{Loaded}
 use Rattle.review_lookups.specs.declared.loading.Loaded.TheVariants as loaded
 use Rattle.review_statements.specs.Ran.{IsReady}
+use Rattle.review_tables.specs.declared.creating.TablesVersion.{TablesVersion}
+use Rattle.review_tables.specs.declared.creating.TablesVersion.TheVariants.{First, Second}
 use Rattle.review_sql.specs.First.{MakesDesk}
 use Rattle.review_lookups.specs.Tables.{tables_at, IsDesk}
 
@@ -74,13 +76,18 @@ pub record IsUnmade (old new : State) : Type 0 where
   pub undone : IsTrue new.is_open → IsTrue old.is_open × (new.now ≡ old.now)
   pub survives : Survives old new (λ db. IsTrue old.is_open × ((after : Database) × (db ≡ after.trees) × MakesDesk old.now after))
 
--- a text that reads no column of a table of one of the twelve names is understood
+-- a text that reads no column of a table of one of the names that tables of a desk have is understood
 abbrev pub IsAnyThere : Schema → Type 0
 IsAnyThere schema = (sql : List ℕ) × Contains (map (λ t. t.now) ANY_ROW) sql × IsUnderstood schema sql
 
--- the text that reads all columns of each of the eleven tables of records is understood
-pub record AreAllRead (schema : Schema) : Type 0 where
-  pub each : (sql : List ℕ) → Contains (map (λ t. t.now) READ_ROWS) sql → IsUnderstood schema sql
+-- the texts that read all columns of the eleven tables of records of a version, one of each
+abbrev pub rows_read : TablesVersion → List (List ℕ)
+rows_read First = map (λ t. t.now) READ_ROWS_1
+rows_read Second = map (λ t. t.now) READ_ROWS
+
+-- the text that reads all columns of each of the eleven tables of records of a version is understood
+pub record AreAllRead (version : TablesVersion) (schema : Schema) : Type 0 where
+  pub each : (sql : List ℕ) → Contains (rows_read version) sql → IsUnderstood schema sql
 
 -- what is answered of what the look-ups of a need found
 abbrev pub answer_of : Loaded → Result Rows ShelfFault

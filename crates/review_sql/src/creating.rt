@@ -10,7 +10,7 @@ use review_records::members::Members;
 use review_records::rows::DeskRow;
 use review_rows::MemberKey;
 use review_tables::changes::{change, set};
-use review_tables::creating::create_tables;
+use review_tables::creating::{TablesVersion, create_tables};
 use review_words::{AccountNo, admin_name, administrators};
 use sqlite::{Alter, Connection, Error, Transaction};
 use std::alloc::Global;
@@ -27,7 +27,7 @@ fn put_first<S: Alter>(tx: &mut Transaction<'_, S>, alloc: Global) -> Result<(),
         account: first,
     };
     let row = DeskRow {
-        version: 1,
+        version: 2,
         requests: 0,
     };
     change::<Accounts, S>(tx, alloc, &first, &name)?;
@@ -40,7 +40,7 @@ fn make<S: Alter>(tx: &mut Transaction<'_, S>, alloc: Global) -> Result<(), Erro
     ensures ran { Within MakesDesk (state S.Store tx.old.conn.now) (state S.Store tx.new.conn.now) result }
     ensures open { Opens (state S.Store tx.old.conn.now) (state S.Store tx.new.conn.now) result }
 {
-    create_tables(tx)?;
+    create_tables(tx, TablesVersion::Second)?;
     put_first(tx, alloc)
 }
 

@@ -12,7 +12,7 @@ pub enum DeskFault {
     WrongVersion,
     /// The store failed.
     Store,
-    /// A table of one of the twelve names is there.
+    /// A table of one of the names that tables of a desk have is there.
     NotEmpty,
     /// The tables are not those that `create` makes, or not these alone.
     NotOurs,

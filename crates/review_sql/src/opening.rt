@@ -4,15 +4,16 @@ ghost use Rattle.std.specs.Bool.{Decides};
 ghost use Rattle.sqlite.specs.Held.{state};
 ghost use Rattle.sqlite.specs.State.{HasCleanDisk};
 ghost use Rattle.review_sql.specs.Shelf.{Stays};
-ghost use Rattle.review_sql.specs.Said.{version_in, requests_in, ShowsDesk, IsDeskThere, IsSaid};
-ghost use Rattle.review_sql.specs.Opened.{AreAllApart, Peeks, IsSeen, IsRefused};
+ghost use Rattle.review_sql.specs.Said.{version_in, version_number, requests_in, ShowsDesk, IsSaid, IsThere, SaysVersion};
+ghost use Rattle.review_sql.specs.Opened.{AreAllApart, Peeks, IsLacking, IsSeen, IsRefused};
+ghost use Rattle.review_tables.specs.Versions.{schema_at};
 
 use crate::faults::DeskFault;
 use crate::seen::{Said, Seen};
 use crate::there::{are_all_there, is_understood};
 use review_statements::texts;
 use review_tables::columns::number_at;
-use review_tables::creating::is_desk;
+use review_tables::creating::{TablesVersion, is_desk};
 use review_tables::rowids::are_all_apart;
 use sqlite::{Alter, Connection, Error, Row};
 use std::alloc::Global;
@@ -49,13 +50,13 @@ fn desk_rows<S: Alter>(conn: &mut Connection<S>) -> Result<Vec<Row>, Error>
     conn.query_all(texts::FIND_DESK, &[])
 }
 
-// What the table `desk` says; it is no desk's where it isn't there.
-fn ask<S: Alter>(conn: &mut Connection<S>) -> Result<Said, DeskFault>
+/// What the table `desk` says; it is no desk's where it isn't there.
+pub fn ask<S: Alter>(conn: &mut Connection<S>) -> Result<Said, DeskFault>
     requires mode { conn.old.in_transaction ≡ false }
     ensures mode { conn.new.in_transaction ≡ false }
     ensures stays { Stays (state S.Store conn.old) (state S.Store conn.new) }
     ensures said { IsTrue (state S.Store conn.new).is_open → IfOk result (IsSaid (state S.Store conn.old).now) }
-    ensures refused { IsTrue (state S.Store conn.new).is_open → IfErr result (IsRefused (state S.Store conn.old)) }
+    ensures lacking { IsTrue (state S.Store conn.new).is_open → IfErr result (IsLacking TablesVersion.Second (state S.Store conn.old)) }
     ensures not_ours { IfErr result (λ fault. fault ≢ DeskFault.NotOurs) }
 {
     match is_understood(conn, texts::FIND_DESK) {
@@ -69,40 +70,66 @@ fn ask<S: Alter>(conn: &mut Connection<S>) -> Result<Said, DeskFault>
     }
 }
 
-// The requests of a desk of version 1. Another version is told whatever is said of requests.
-fn first_version(said: Said) -> Result<u64, DeskFault>
-    ensures ok { IfOk result (λ requests. (said.version ≡ Some 1) × (said.requests ≡ Some requests)) }
-    ensures err { IfErr result (λ e. ((e ≡ DeskFault.NotADesk) × ((said.version ≡ None) ⊎ ((said.version ≡ Some 1) × (said.requests ≡ None))))
-        ⊎ ((e ≡ DeskFault.WrongVersion) × ((version : ℕ) × (said.version ≡ Some version) × (version ≢ 1)))) }
+/// The version that the table `desk` says, where it is one of these.
+pub fn version_of(said: Said) -> Result<TablesVersion, DeskFault>
+    ensures ok { IfOk result (λ version. said.version ≡ Some (version_number version)) }
+    ensures err { IfErr result (λ e. ((e ≡ DeskFault.NotADesk) × (said.version ≡ None))
+        ⊎ ((e ≡ DeskFault.WrongVersion) × ((number : ℕ) × (said.version ≡ Some number) × (number ≢ 1) × (number ≢ 2)))) }
 {
-    let Some(version) = said.version else {
-        return Err(DeskFault::NotADesk);
-    };
-    if version != 1 {
-        return Err(DeskFault::WrongVersion);
-    }
-    match said.requests {
-        Some(requests) => Ok(requests),
+    match said.version {
         None => Err(DeskFault::NotADesk),
+        Some(1) => Ok(TablesVersion::First),
+        Some(2) => Ok(TablesVersion::Second),
+        Some(_) => Err(DeskFault::WrongVersion),
     }
 }
 
-// How many requests are stored, where the tables are those of a desk of version 1, of whatever form.
-fn find_desk<S: Alter>(conn: &mut Connection<S>) -> Result<u64, DeskFault>
+// How many requests are stored, where the table `desk` says this version and the tables of records of the version are there, of whatever form.
+fn find_tables<S: Alter>(
+    conn: &mut Connection<S>,
+    version: TablesVersion,
+    said: Said,
+) -> Result<u64, DeskFault>
     requires mode { conn.old.in_transaction ≡ false }
+    requires says { IsTrue (state S.Store conn.old).is_open → SaysVersion version (state S.Store conn.old).now said }
     ensures mode { conn.new.in_transaction ≡ false }
     ensures stays { Stays (state S.Store conn.old) (state S.Store conn.new) }
-    ensures there { IsTrue (state S.Store conn.new).is_open → IfOk result (IsDeskThere (state S.Store conn.old).now) }
-    ensures refused { IsTrue (state S.Store conn.new).is_open → IfErr result (IsRefused (state S.Store conn.old)) }
+    ensures there { IsTrue (state S.Store conn.new).is_open → IfOk result (IsThere version (state S.Store conn.old).now) }
+    ensures lacking { IsTrue (state S.Store conn.new).is_open → IfErr result (IsLacking version (state S.Store conn.old)) }
     ensures not_ours { IfErr result (λ fault. fault ≢ DeskFault.NotOurs) }
 {
-    let said = ask(conn)?;
-    let requests = first_version(said)?;
-    match are_all_there(conn) {
+    let Some(requests) = said.requests else {
+        return Err(DeskFault::NotADesk);
+    };
+    match are_all_there(conn, version) {
         Ok(true) => Ok(requests),
         Ok(false) => Err(DeskFault::NotADesk),
         Err(error) => Err(DeskFault::of(error)),
     }
+}
+
+/// Whether the tables have the form that this version of them has where they were made here, and how many requests are stored. Nothing is written.
+pub fn see_tables<S: Alter>(
+    conn: &mut Connection<S>,
+    alloc: Global,
+    version: TablesVersion,
+    said: Said,
+) -> Result<Seen, DeskFault>
+    requires mode { conn.old.in_transaction ≡ false }
+    requires says { IsTrue (state S.Store conn.old).is_open → SaysVersion version (state S.Store conn.old).now said }
+    ensures mode { conn.new.in_transaction ≡ false }
+    ensures stays { Stays (state S.Store conn.old) (state S.Store conn.new) }
+    ensures form { IfOk result (λ seen. Decides seen.is_ours (conn.old.schema ≡ schema_at version)) }
+    ensures there { IsTrue (state S.Store conn.new).is_open → IfOk result (λ seen. IsThere version (state S.Store conn.old).now seen.requests) }
+    ensures lacking { IsTrue (state S.Store conn.new).is_open → IfErr result (IsLacking version (state S.Store conn.old)) }
+    ensures not_ours { IfErr result (λ fault. fault ≢ DeskFault.NotOurs) }
+{
+    let is_ours = match is_desk(alloc, conn.schema(), version) {
+        Ok(has_form) => has_form,
+        Err(error) => return Err(DeskFault::of(error)),
+    };
+    let requests = find_tables(conn, version, said)?;
+    Ok(Seen { is_ours, requests })
 }
 
 // Whether the rows of each table have rowids of their own.
@@ -118,6 +145,33 @@ fn peek<S: Alter>(conn: &mut Connection<S>, alloc: Global) -> Result<bool, Error
     peeked
 }
 
+/// What is seen of tables of version 2. Nothing is written.
+pub fn see_desk<S: Alter>(
+    conn: &mut Connection<S>,
+    alloc: Global,
+    said: Said,
+) -> Result<Seen, DeskFault>
+    requires mode { conn.old.in_transaction ≡ false }
+    requires says { IsTrue (state S.Store conn.old).is_open → SaysVersion TablesVersion.Second (state S.Store conn.old).now said }
+    ensures mode { conn.new.in_transaction ≡ false }
+    ensures stays { Stays (state S.Store conn.old) (state S.Store conn.new) }
+    ensures seen { IsTrue (state S.Store conn.new).is_open → IfOk result (IsSeen (state S.Store conn.old)) }
+    ensures lacking { IsTrue (state S.Store conn.new).is_open → IfErr result (IsLacking TablesVersion.Second (state S.Store conn.old)) }
+    ensures not_ours { IfErr result (λ fault. fault ≢ DeskFault.NotOurs) }
+{
+    let seen = see_tables(conn, alloc, TablesVersion::Second, said)?;
+    if !seen.is_ours {
+        return Ok(seen);
+    }
+    match peek(conn, alloc) {
+        Ok(is_ours) => Ok(Seen {
+            is_ours,
+            requests: seen.requests,
+        }),
+        Err(error) => Err(DeskFault::of(error)),
+    }
+}
+
 /// What is seen of the tables of a connection that is to be opened as a desk. Nothing is written.
 pub fn see<S: Alter>(conn: &mut Connection<S>, alloc: Global) -> Result<Seen, DeskFault>
     requires mode { conn.old.in_transaction ≡ false }
@@ -127,19 +181,9 @@ pub fn see<S: Alter>(conn: &mut Connection<S>, alloc: Global) -> Result<Seen, De
     ensures refused { IsTrue (state S.Store conn.new).is_open → IfErr result (IsRefused (state S.Store conn.old)) }
     ensures not_ours { IfErr result (λ fault. fault ≢ DeskFault.NotOurs) }
 {
-    let has_form = match is_desk(alloc, conn.schema()) {
-        Ok(has_form) => has_form,
-        Err(error) => return Err(DeskFault::of(error)),
-    };
-    let requests = find_desk(conn)?;
-    if !has_form {
-        return Ok(Seen {
-            is_ours: false,
-            requests,
-        });
-    }
-    match peek(conn, alloc) {
-        Ok(is_ours) => Ok(Seen { is_ours, requests }),
-        Err(error) => Err(DeskFault::of(error)),
+    let said = ask(conn)?;
+    match version_of(said)? {
+        TablesVersion::First => Err(DeskFault::WrongVersion),
+        TablesVersion::Second => see_desk(conn, alloc, said),
     }
 }

@@ -10,6 +10,7 @@ ghost use Rattle.review_sql.specs.Shelf.{Stays, answer_of};
 
 use crate::creating::make_desk;
 use crate::faults::DeskFault;
+use crate::migrating::bring;
 use crate::opening::see;
 use crate::serving::find_stored;
 use crate::there::{is_any_there, seen};
@@ -108,9 +109,10 @@ impl<S: Alter + Drop, O: Origin> SqlShelf<S, O> {
     ghost use Rattle.review_sql.specs.Created.{IsCreated};
     ghost use Rattle.review_sql.specs.Opened.{IsOpened, IsRefused};
     ghost use Rattle.review_sql.specs.Reopened.{ReopensLast, IsRefusedAgain};
+    ghost use Rattle.review_sql.specs.Migrated.{IsNotMigrated, IsOpenedAsIs, IsUnfit, IsUpgraded};
 
     /// Makes an empty desk, in one transaction: over a store with no table as ours. A refusal hands the connection back with its tables as
-    /// they were: NotEmpty where a table of one of the twelve names is there, and NotOurs where the shelf is to be ours and other tables
+    /// they were: NotEmpty where a table of one of the names that tables of a desk have is there, and NotOurs where the shelf is to be ours and other tables
     /// are, both with nothing touched.
     pub fn create(
         alloc: Global,
@@ -153,7 +155,7 @@ impl<S: Alter + Drop, O: Origin> SqlShelf<S, O> {
     }
 
     /// Opens a desk. Nothing is written, and a refusal hands the connection back with its tables as they were. Whatever the form of the tables,
-    /// it is opened only where the table `desk` has one row, which says version 1 and so many requests, and all columns of the eleven tables
+    /// it is opened only where the table `desk` has one row, which says version 2 and so many requests, and all columns of the eleven tables
     /// of records are there. Looked at in this order, it is NotADesk only where that row is missing, or says no version; WrongVersion only
     /// where it says another, whatever else it says; NotADesk, where it says no requests or a table of records is missing; and NotOurs only where
     /// the shelf is to be ours and the tables are of another form than `create` makes, or two rows of one have the same rowid.
@@ -187,6 +189,40 @@ impl<S: Alter + Drop, O: Origin> SqlShelf<S, O> {
                 Ok(SqlShelf {
                     conn,
                     requests: seen.requests,
+                    faults: 0,
+                    origin: PhantomData,
+                })
+            }
+            Err(fault) => Err((conn, fault)),
+        }
+    }
+
+    /// Opens a desk whose tables are of version 2, as `open` does, or makes tables of version 1 those of version 2, in one transaction: the projects move to the
+    /// table of version 2, where none has a parent, and the table `desk` says version 2. Of tables of ours that are those of a history, as version 1 keeps
+    /// them, the shelf shows those of the same history. A refusal hands the connection back with its tables as they were; a stop
+    /// leaves the tables as they were, or those of version 2.
+    ///
+    /// It is NotADesk where the row of the table `desk` is missing or says no version, or says no requests, or a table of records of its version is missing;
+    /// WrongVersion where it says neither version 1 nor 2; and NotOurs where the shelf is to be ours and the tables
+    /// are of another form than was made here in their version, or two rows of one have the same rowid.
+    pub fn migrate(
+        alloc: Global,
+        conn: Connection<S>,
+    ) -> Result<SqlShelf<S, O>, (Connection<S>, DeskFault)>
+        requires mode { conn.in_transaction ≡ false }
+        ensures migrated { IfOk result (λ s. IsUpgraded S.Store O.IS_OURS conn s ⊎ IsOpenedAsIs S.Store O.IS_OURS conn s) }
+        ensures mode { IfErr result (λ e. e.0.in_transaction ≡ false) }
+        ensures refused { IfErr result (λ e. IsNotMigrated O.IS_OURS (state S.Store conn) (state S.Store e.0)) }
+        ensures cause { IfErr result (λ e. IsTrue (state S.Store e.0).is_open → IsUnfit (state S.Store conn).now e.1) }
+        ensures ours { IfErr result (λ e. e.1 ≡ DeskFault.NotOurs → IsTrue O.IS_OURS) }
+    {
+        let mut conn = conn;
+        match bring(&mut conn, alloc, O::IS_OURS) {
+            Ok(requests) => {
+                let _settled = conn.is_autocommit();
+                Ok(SqlShelf {
+                    conn,
+                    requests,
                     faults: 0,
                     origin: PhantomData,
                 })

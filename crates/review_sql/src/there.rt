@@ -1,11 +1,12 @@
 //! Whether a text is understood by the tables of a connection.
 ghost use Rattle.std.specs.Prelude.{◌≡◌, ◌≢◌, ◌<◌, ℕ, List, true, false, map, slice_index_or, IsTrue, IfOk};
-ghost use Rattle.review_statements.specs.declared.texts.TheConstants.{ANY_ROW, READ_ROWS};
+ghost use Rattle.review_statements.specs.declared.texts.TheConstants.{ANY_ROW};
 ghost use Rattle.sqlite.specs.Held.{state};
 ghost use Rattle.sqlite.specs.State.{HasCleanDisk};
-ghost use Rattle.review_sql.specs.Shelf.{Stays, IsUnderstood, IsAnyThere, AreAllRead};
+ghost use Rattle.review_sql.specs.Shelf.{Stays, IsUnderstood, IsAnyThere, AreAllRead, rows_read};
 
 use review_statements::texts;
+use review_tables::creating::TablesVersion;
 use sqlite::{Alter, Connection, Error, ErrorCode};
 
 /// Whether a text is understood.
@@ -43,15 +44,15 @@ pub fn seen<S: Alter>(conn: &mut Connection<S>, error: Error) -> Error
     }
 }
 
-// A text that reads no column of a table of one of the twelve names.
+// A text that reads no column of a table of one of the names that tables of a desk have.
 fn any_row(at: usize) -> &'static str
-    requires { at < 12 }
+    requires { at < 13 }
     ensures { (d : List ℕ) → result.now ≡ slice_index_or (map (λ t. t.now) ANY_ROW) at d }
 {
     texts::ANY_ROW[at]
 }
 
-/// Whether a table of one of the twelve names is there.
+/// Whether a table of one of the names that tables of a desk have is there.
 pub fn is_any_there<S: Alter>(conn: &mut Connection<S>) -> Result<bool, Error>
     requires mode { conn.old.in_transaction ≡ false }
     ensures mode { conn.new.in_transaction ≡ false }
@@ -59,7 +60,7 @@ pub fn is_any_there<S: Alter>(conn: &mut Connection<S>) -> Result<bool, Error>
     ensures is { HasCleanDisk (state S.Store conn.new) → IfOk result (λ is. is ≡ true → IsTrue (state S.Store conn.new).is_open → IsAnyThere (state S.Store conn.old).now.schema) }
     ensures none { HasCleanDisk (state S.Store conn.new) → IfOk result (λ is. is ≡ false → IsAnyThere (state S.Store conn.old).now.schema → ⊥) }
 {
-    for at in 0..12 {
+    for at in 0..13 {
         if is_understood(conn, any_row(at))? {
             return Ok(true);
         }
@@ -67,24 +68,30 @@ pub fn is_any_there<S: Alter>(conn: &mut Connection<S>) -> Result<bool, Error>
     Ok(false)
 }
 
-// A text that reads all columns of one of the eleven tables of records.
-fn read_row(at: usize) -> &'static str
+// A text that reads all columns of one of the eleven tables of records of a version.
+fn read_row(version: TablesVersion, at: usize) -> &'static str
     requires { at < 11 }
-    ensures { (d : List ℕ) → result.now ≡ slice_index_or (map (λ t. t.now) READ_ROWS) at d }
+    ensures { (d : List ℕ) → result.now ≡ slice_index_or (rows_read version) at d }
 {
-    texts::READ_ROWS[at]
+    match version {
+        TablesVersion::First => texts::READ_ROWS_1[at],
+        TablesVersion::Second => texts::READ_ROWS[at],
+    }
 }
 
-/// Whether the columns of the eleven tables of records are there.
-pub fn are_all_there<S: Alter>(conn: &mut Connection<S>) -> Result<bool, Error>
+/// Whether the columns of the eleven tables of records of a version are there.
+pub fn are_all_there<S: Alter>(
+    conn: &mut Connection<S>,
+    version: TablesVersion,
+) -> Result<bool, Error>
     requires mode { conn.old.in_transaction ≡ false }
     ensures mode { conn.new.in_transaction ≡ false }
     ensures stays { Stays (state S.Store conn.old) (state S.Store conn.new) }
-    ensures all { HasCleanDisk (state S.Store conn.new) → IfOk result (λ is. is ≡ true → IsTrue (state S.Store conn.new).is_open → AreAllRead (state S.Store conn.old).now.schema) }
-    ensures missing { HasCleanDisk (state S.Store conn.new) → IfOk result (λ is. is ≡ false → AreAllRead (state S.Store conn.old).now.schema → ⊥) }
+    ensures all { HasCleanDisk (state S.Store conn.new) → IfOk result (λ is. is ≡ true → IsTrue (state S.Store conn.new).is_open → AreAllRead version (state S.Store conn.old).now.schema) }
+    ensures missing { HasCleanDisk (state S.Store conn.new) → IfOk result (λ is. is ≡ false → AreAllRead version (state S.Store conn.old).now.schema → ⊥) }
 {
     for at in 0..11 {
-        if !is_understood(conn, read_row(at))? {
+        if !is_understood(conn, read_row(version, at))? {
             return Ok(false);
         }
     }

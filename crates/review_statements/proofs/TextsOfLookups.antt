@@ -4,7 +4,7 @@ use Rattle.sqlite_value.specs.declared.value.Value.TheVariants.{Int, Text}
 use Rattle.sqlite_tied.specs.Compute.{everything}
 use Rattle.sqlite.specs.Listing.{understood}
 use Rattle.review_statements.specs.declared.texts.TheConstants.{FIND_ACCOUNT, FIND_MEMBER, FIND_PROJECT, FIND_BASE, FIND_CHANGE, FIND_PATCH, FIND_VOTE, FIND_REVIEWER, FIND_COMMENT, FIND_ATTENTION, FIND_ANSWER, FIND_DESK, FIND_ACCOUNT_NAMED, FIND_GROUP, FIND_PROJECT_NAME, FIND_BASE_COMMIT, FIND_BRANCH, FIND_PATCHES, FIND_VOTES, FIND_REVIEWERS, FIND_COMMENTS, FIND_CALLS, FIND_CHANGE_BRANCH, FIND_SENT, FIND_CHANGE_AT, FIND_LAST_ACCOUNT, FIND_LAST_PLACE, FIND_LAST_CHANGE, FIND_LAST_JOINED, FIND_LAST_PATCH, FIND_PROJECT_BEYOND, FIND_BASE_BEYOND}
-use Rattle.review_statements.specs.Desk.{accounts, members, projects, bases, changes, patches, votes, reviewers, comments, attention, answers, desk}
+use Rattle.review_statements.specs.Desk.{accounts, members, projects_2, bases, changes, patches, votes, reviewers, comments, attention, answers, desk}
 use Rattle.review_statements.specs.Texts.{Asks, rows_where, last_where, beyond_where}
 
 pub find_account : (number : ℤ) → Asks FIND_ACCOUNT.now (rows_where accounts.tree ((0, Int number) ∷ []) (2 ∷ []))
@@ -15,9 +15,9 @@ pub find_member : (grp : List ℕ) (account : ℤ) → Asks FIND_MEMBER.now (row
 unfolding understood everything
 find_member grp account = record { names = codes "account" ∷ []; is = refl; plain = (refl, refl); unlisted = refl }
 
-pub find_project : (name : List ℕ) → Asks FIND_PROJECT.now (rows_where projects.tree ((1, Text name) ∷ []) (2 ∷ []))
+pub find_project : (name : List ℕ) → Asks FIND_PROJECT.now (rows_where projects_2.tree ((1, Text name) ∷ []) (2 ∷ 3 ∷ []))
 unfolding understood everything
-find_project name = record { names = codes "file" ∷ []; is = refl; plain = (refl, refl); unlisted = refl }
+find_project name = record { names = codes "file" ∷ codes "parent" ∷ []; is = refl; plain = (refl, refl); unlisted = refl }
 
 pub find_base : (project : List ℕ) (branch : List ℕ) (place : ℤ) → Asks FIND_BASE.now (rows_where bases.tree ((1, Text project) ∷ (2, Text branch) ∷ (3, Int place) ∷ []) (4 ∷ []))
 unfolding understood everything
@@ -63,7 +63,7 @@ pub find_group : (grp : List ℕ) → Asks FIND_GROUP.now (rows_where members.tr
 unfolding understood everything
 find_group grp = record { names = codes "account" ∷ []; is = refl; plain = (refl, refl); unlisted = refl }
 
-pub find_project_name : (name : List ℕ) → Asks FIND_PROJECT_NAME.now (rows_where projects.tree ((1, Text name) ∷ []) (1 ∷ []))
+pub find_project_name : (name : List ℕ) → Asks FIND_PROJECT_NAME.now (rows_where projects_2.tree ((1, Text name) ∷ []) (1 ∷ []))
 unfolding understood everything
 find_project_name name = record { names = codes "name" ∷ []; is = refl; plain = (refl, refl); unlisted = refl }
 
@@ -127,7 +127,7 @@ pub find_last_patch : (change : ℤ) → Asks FIND_LAST_PATCH.now (last_where pa
 unfolding understood everything
 find_last_patch change = record { names = codes "patch" ∷ []; is = refl; plain = (refl, refl); unlisted = refl }
 
-pub find_project_beyond : Asks FIND_PROJECT_BEYOND.now (beyond_where projects.tree [] (1 ∷ []) 999)
+pub find_project_beyond : Asks FIND_PROJECT_BEYOND.now (beyond_where projects_2.tree [] (1 ∷ []) 999)
 unfolding understood everything
 find_project_beyond = record { names = codes "name" ∷ []; is = refl; plain = (refl, refl); unlisted = refl }
 

@@ -34,8 +34,8 @@ ids_asked =
     record { names = codes "number" ∷ []; is = refl; plain = (refl, refl); unlisted = refl } also
     record { names = codes "rowid" ∷ []; is = refl; plain = (refl, refl); unlisted = refl } also
     record { names = codes "rowid" ∷ []; is = refl; plain = (refl, refl); unlisted = refl } also
-    record { names = codes "rowid" ∷ []; is = refl; plain = (refl, refl); unlisted = refl } also
     record { names = codes "number" ∷ []; is = refl; plain = (refl, refl); unlisted = refl } also
+    record { names = codes "rowid" ∷ []; is = refl; plain = (refl, refl); unlisted = refl } also
     record { names = codes "rowid" ∷ []; is = refl; plain = (refl, refl); unlisted = refl } also
     record { names = codes "rowid" ∷ []; is = refl; plain = (refl, refl); unlisted = refl } also
     record { names = codes "rowid" ∷ []; is = refl; plain = (refl, refl); unlisted = refl } also

@@ -6,7 +6,7 @@ use Rattle.sqlite_value.specs.Order.{Row, column}
 use Rattle.sqlite_schema.specs.declared.schema.Table.{Table}
 use Rattle.sqlite.specs.Effect.{Database}
 use Rattle.review_statements.specs.Content.{AreApart}
-use Rattle.review_statements.specs.Desk.{schema_of, tables_2, projects_2, projects, desk_tables}
+use Rattle.review_statements.specs.Desk.{schema_of, tables_2, projects_2, projects, tables_1}
 use Rattle.sqlite_rules.specs.Cast.{as_text}
 use Rattle.sqlite_value.specs.declared.value.Value.TheVariants.{Text}
 
@@ -22,7 +22,7 @@ AreMoved made old new = IsPermutation (map made old) (map columns_of new)
 
 -- the tables of version 1, and those of version 2 that are new
 abbrev pub both_tables : List Table
-both_tables = desk_tables ++ projects_2 ∷ []
+both_tables = tables_1 ++ projects_2 ∷ []
 
 -- the columns of a project by those that it had in version 1: it has no parent
 abbrev pub without_parent : Row → Row

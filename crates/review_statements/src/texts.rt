@@ -1,6 +1,6 @@
 //! The texts of all statements.
 
-// ---- the tables of a desk, in their order
+// ---- the tables of version 1, in their order
 
 pub const CREATE_ACCOUNTS: &str =
     "CREATE TABLE accounts (number INTEGER PRIMARY KEY, name TEXT NOT NULL, UNIQUE (name))";
@@ -38,7 +38,7 @@ pub const CREATE_ANSWERS: &str =
 pub const CREATE_DESK: &str =
     "CREATE TABLE desk (version INTEGER NOT NULL, requests INTEGER NOT NULL)";
 
-/// Texts that make the tables.
+/// Texts that make the tables of version 1.
 pub const CREATE: [&str; 12] = [
     CREATE_ACCOUNTS,
     CREATE_MEMBERS,
@@ -70,7 +70,6 @@ pub const DROP_PROJECTS: &str = "DROP TABLE projects";
 pub const ROW_IDS: [&str; 12] = [
     "SELECT rowid FROM accounts",
     "SELECT rowid FROM members",
-    "SELECT rowid FROM projects",
     "SELECT rowid FROM bases",
     "SELECT rowid FROM changes",
     "SELECT rowid FROM patches",
@@ -80,6 +79,7 @@ pub const ROW_IDS: [&str; 12] = [
     "SELECT rowid FROM attention",
     "SELECT rowid FROM answers",
     "SELECT rowid FROM desk",
+    "SELECT rowid FROM projects_2",
 ];
 
 // ---- rows
@@ -100,11 +100,14 @@ pub const DELETE_MEMBER: &str =
 pub const FIND_MEMBER: &str =
     "SELECT account FROM members WHERE grp = ?1 AND account = ?2 AND typeof(account) = 'integer'";
 
-pub const INSERT_PROJECT: &str = "INSERT INTO projects (name, file) VALUES (?1, ?2)";
+pub const INSERT_PROJECT: &str = "INSERT INTO projects_2 (name, file, parent) VALUES (?1, ?2, ?3)";
 
-pub const DELETE_PROJECT: &str = "DELETE FROM projects WHERE name = ?1";
+pub const DELETE_PROJECT: &str = "DELETE FROM projects_2 WHERE name = ?1";
 
-pub const FIND_PROJECT: &str = "SELECT file FROM projects WHERE name = ?1";
+pub const FIND_PROJECT: &str = "SELECT file, parent FROM projects_2 WHERE name = ?1";
+
+/// The project as version 1 has it.
+pub const FIND_PROJECT_1: &str = "SELECT file FROM projects WHERE name = ?1";
 
 pub const INSERT_BASE: &str =
     "INSERT INTO bases (project, branch, place, commit_name) VALUES (?1, ?2, ?3, ?4)";
@@ -190,7 +193,7 @@ pub const FIND_ACCOUNT_NAMED: &str = "SELECT number FROM accounts WHERE name = ?
 
 pub const FIND_GROUP: &str = "SELECT account FROM members WHERE grp = ?1";
 
-pub const FIND_PROJECT_NAME: &str = "SELECT name FROM projects WHERE name = ?1";
+pub const FIND_PROJECT_NAME: &str = "SELECT name FROM projects_2 WHERE name = ?1";
 
 pub const FIND_BASE_COMMIT: &str =
     "SELECT place FROM bases WHERE project = ?1 AND branch = ?2 AND commit_name = ?3";
@@ -240,14 +243,15 @@ pub const FIND_LAST_PATCH: &str =
 
 // ---- whether there are so many rows and more
 
-pub const FIND_PROJECT_BEYOND: &str = "SELECT name FROM projects LIMIT 1 OFFSET 999";
+pub const FIND_PROJECT_BEYOND: &str = "SELECT name FROM projects_2 LIMIT 1 OFFSET 999";
 
 pub const FIND_BASE_BEYOND: &str =
     "SELECT place FROM bases WHERE project = ?1 LIMIT 1 OFFSET 99999";
 
 // ---- whether a table is there
 
-pub const ANY_ROW: [&str; 12] = [
+/// Texts that read no column of a table of one of the names that tables of a desk have, of whatever version.
+pub const ANY_ROW: [&str; 13] = [
     "SELECT 1 FROM accounts LIMIT 1",
     "SELECT 1 FROM members LIMIT 1",
     "SELECT 1 FROM projects LIMIT 1",
@@ -260,6 +264,7 @@ pub const ANY_ROW: [&str; 12] = [
     "SELECT 1 FROM attention LIMIT 1",
     "SELECT 1 FROM answers LIMIT 1",
     "SELECT 1 FROM desk LIMIT 1",
+    "SELECT 1 FROM projects_2 LIMIT 1",
 ];
 
 /// Texts that read each column of a table, of the eleven tables of records.
@@ -267,6 +272,21 @@ pub const READ_ROWS: [&str; 11] = [
     FIND_ACCOUNT,
     FIND_MEMBER,
     FIND_PROJECT,
+    FIND_BASE,
+    FIND_CHANGE,
+    FIND_PATCH,
+    FIND_VOTE,
+    FIND_REVIEWER,
+    FIND_COMMENT,
+    FIND_ATTENTION,
+    FIND_ANSWER,
+];
+
+/// The same of version 1.
+pub const READ_ROWS_1: [&str; 11] = [
+    FIND_ACCOUNT,
+    FIND_MEMBER,
+    FIND_PROJECT_1,
     FIND_BASE,
     FIND_CHANGE,
     FIND_PATCH,

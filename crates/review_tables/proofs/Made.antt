@@ -6,7 +6,7 @@ use Rattle.std.proofs.lemmas.Bool.{or_cases, and_parts}
 use Rattle.sqlite_trees.specs.Tree.{Trees}
 use Rattle.review_statements.specs.Content.{AreApart}
 use Rattle.review_statements.specs.Desk.{desk_schema}
-use Rattle.review_statements.specs.Desk.{desk_tables, schema_of, schema_0}
+use Rattle.review_statements.specs.Desk.{schema_of, schema_0, tables_1}
 use Rattle.review_statements.specs.declared.texts.TheConstants.{CREATE}
 use Rattle.review_statements.proofs.TextsOfTables.{◌also◌}
 use Rattle.sqlite_schema.specs.declared.schema.Table.{Table}
@@ -35,7 +35,10 @@ use Rattle.sqlite_value.specs.declared.value.Value.{Value}
 use Rattle.sqlite_value.specs.declared.value.Value.TheVariants.{Null, Int, Real, Text, Blob}
 use Rattle.sqlite_sql.specs.Ops.{is_null}
 use Rattle.sqlite_schema.specs.declared.schema.Column.{Column}
-use Rattle.review_statements.proofs.Changes.{are_simple}
+use Rattle.review_statements.proofs.Changes.{IsSimple, are_simple}
+use Rattle.review_tables.specs.declared.creating.TablesVersion.{TablesVersion}
+use Rattle.review_tables.specs.declared.creating.TablesVersion.TheVariants.{First, Second}
+use Rattle.review_tables.specs.Versions.{schema_at}
 use Rattle.review_statements.proofs.Statements.{went, same_value}
 use Rattle.review_tables.proofs.Sequences.{Next}
 
@@ -99,7 +102,7 @@ AreMade [] before (t ∷ tables) = ⊥
 AreMade (sql ∷ texts) before [] = ⊥
 AreMade (sql ∷ texts) before (t ∷ tables) = MakesText sql (schema_of before) t (schema_of (before ++ t ∷ [])) × AreMade texts (before ++ t ∷ []) tables
 
-are_made : AreMade (map (λ t. t.now) CREATE) [] desk_tables
+are_made : AreMade (map (λ t. t.now) CREATE) [] tables_1
 unfolding understood everything
 are_made =
     record { command = refl; text = refl; plain = (refl, refl); defines = refl; uncounted = refl; leaves = refl } also
@@ -127,17 +130,17 @@ made_at (sql ∷ texts) before (t ∷ tables) all (suc at) d low =
 
 -- one more table of the list is made
 pub makes_next : (at : ℕ) (sql : List ℕ) → at < 12 → ((d : List ℕ) → sql ≡ slice_index_or (map (λ t. t.now) CREATE) at d) → (old new : Database)
-    → Next (Grows schema_0 (schema_of (take at desk_tables))) (MakesBy sql) old new → Grows schema_0 (schema_of (take (suc at) desk_tables)) old new
+    → Next (Grows schema_0 (schema_of (take at tables_1))) (MakesBy sql) old new → Grows schema_0 (schema_of (take (suc at) tables_1)) old new
 makes_next at sql low is old new h was =
-    let it = made_at (map (λ t. t.now) CREATE) [] desk_tables are_made at [] low in
-    let before = schema_of (take at desk_tables) in
-    let after = schema_of (take (suc at) desk_tables) in
+    let it = made_at (map (λ t. t.now) CREATE) [] tables_1 are_made at [] low in
+    let before = schema_of (take at tables_1) in
+    let after = schema_of (take (suc at) tables_1) in
     let text = subst (λ s. MakesText s before it.0 after) (sym (is [])) it.1 in
     let mid = h.1 was in
     blank_after sql before it.0 after h.0 new text mid (h.2 before it.0 after text mid.schema_is)
 
 -- the first table of the list is made
-pub makes_first : (sql : List ℕ) → ((d : List ℕ) → sql ≡ slice_index_or (map (λ t. t.now) CREATE) 0 d) → (old new : Database) → MakesBy sql old new → Grows schema_0 (schema_of (take 1 desk_tables)) old new
+pub makes_first : (sql : List ℕ) → ((d : List ℕ) → sql ≡ slice_index_or (map (λ t. t.now) CREATE) 0 d) → (old new : Database) → MakesBy sql old new → Grows schema_0 (schema_of (take 1 tables_1)) old new
 makes_first sql is old new h was = makes_next 0 sql (omega arith) is old new (old, (λ it. it), h) was
 
 -- ---- whether a schema is that of a desk
@@ -173,12 +176,16 @@ plain_forms : (tables : List Table) → AllByRecursion (λ t. t ≡ simple t.nam
 plain_forms [] all none = tt
 plain_forms (t ∷ tables) all none = let parts = and_parts _ _ none in (plain_form t parts.0 all.0, plain_forms tables all.1 parts.1)
 
-pub desk_is_plain : IsPlainSchema desk_schema
-desk_is_plain = (refl, plain_forms desk_tables are_simple refl)
+first_are_simple : AllByRecursion IsSimple tables_1
+first_are_simple = (refl, (refl, (refl, (refl, (refl, (refl, (refl, (refl, (refl, (refl, (refl, (refl, tt))))))))))))
+
+is_plain : (version : TablesVersion) → IsPlainSchema (schema_at version)
+is_plain First = (refl, plain_forms tables_1 first_are_simple refl)
+is_plain Second = (refl, plain_forms desk_schema.tables are_simple refl)
 
 -- the tables that were made in memory
-pub made_in_memory : (old new : Held MemStore) (x : Unit {0}) → IsEmpty (state over_memory old) → Transacts (Grows schema_0 desk_schema) (state over_memory old) (state over_memory new) (Ok x) → new.schema ≡ desk_schema
-made_in_memory old new x empty acts = ((acts.done (memory_is_clean new)).2 (record { schema_is = empty.2; empty = tt })).schema_is
+pub made_in_memory : (schema : Schema) (old new : Held MemStore) (x : Unit {0}) → IsEmpty (state over_memory old) → Transacts (Grows schema_0 schema) (state over_memory old) (state over_memory new) (Ok x) → new.schema ≡ schema
+made_in_memory schema old new x empty acts = ((acts.done (memory_is_clean new)).2 (record { schema_is = empty.2; empty = tt })).schema_is
 
-pub decides_desk : (is : Bool) (schema plain : Schema) → plain ≡ desk_schema → Decides is ((schema ≡ plain) × IsPlainSchema plain) → Decides is (schema ≡ desk_schema)
-decides_desk is schema plain same d = (λ yes. (d.0 yes).0 ∙ same, λ it. d.1 (it ∙ sym same, subst IsPlainSchema (sym same) desk_is_plain))
+pub decides_desk : (version : TablesVersion) (is : Bool) (schema plain : Schema) → plain ≡ schema_at version → Decides is ((schema ≡ plain) × IsPlainSchema plain) → Decides is (schema ≡ schema_at version)
+decides_desk version is schema plain same d = (λ yes. (d.0 yes).0 ∙ same, λ it. d.1 (it ∙ sym same, subst IsPlainSchema (sym same) (is_plain version)))

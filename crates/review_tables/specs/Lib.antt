@@ -4,3 +4,4 @@ pub mod Migrated
 pub mod Plain
 pub mod Rowids
 pub mod Columns
+pub mod Versions

@@ -7,6 +7,7 @@ pub mod columns;
 pub mod creating;
 pub mod fronts;
 pub mod greatest;
+pub mod making;
 pub mod migrating;
 pub mod reads;
 pub mod rowids;

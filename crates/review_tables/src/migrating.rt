@@ -1,4 +1,4 @@
-//! Tables of version 1 become those of version 2. No desk has version 2 yet, and the program calls nothing of this yet.
+//! Tables of version 1 become those of version 2.
 ghost use Rattle.std.specs.Prelude.{◌≡◌, []};
 ghost use Rattle.sqlite.specs.Effect.{Database};
 ghost use Rattle.sqlite.specs.Held.{state};
@@ -7,7 +7,7 @@ ghost use Rattle.review_statements.specs.Moved.{FillsProjects, DropsProjects, bo
 ghost use Rattle.review_statements.specs.Ran.{Within, Opens};
 ghost use Rattle.review_tables.specs.Migrated.{Migrates};
 
-use crate::creating::make;
+use crate::making::make;
 use review_statements::texts;
 use sqlite::{Alter, Error, Transaction};
 

@@ -1,5 +1,5 @@
 -- What a task on the tables of a connection did.
-use Rattle.std.specs.Prelude.{◌≡◌, ◌≢◌, ◌⊎◌, ◌||◌, ℕ, Bool, true, false, not, List, [], Option, Result, Err, IsTrue, IfOk, IfErr}
+use Rattle.std.specs.Prelude.{◌≡◌, ◌≢◌, ◌⊎◌, ◌||◌, ℕ, Bool, true, false, not, List, [], Option, Result, Ok, Err, IsTrue, IfOk, IfErr}
 use Rattle.std.specs.Io.KnownBytes.{Appends}
 use Rattle.sqlite_trees.specs.declared.store.Store.{Ghosts}
 use Rattle.sqlite.specs.Held.{Held, state}
@@ -21,6 +21,7 @@ use Rattle.review_sql.specs.Reopened.{ReopensLast}
 use Rattle.review_sql.specs.Said.{IsDeskThere}
 use Rattle.review_sql.specs.Opened.{IsOpened, IsRefused}
 use Rattle.review_sql.specs.Created.{IsCreated}
+use Rattle.review_sql.specs.Migrated.{IsNotMigrated, IsOpenedAsIs, IsUnfit, IsUpgraded}
 use Rattle.review_sql.specs.declared.faults.DeskFault.{DeskFault}
 use Rattle.review_sql.specs.declared.faults.DeskFault.TheVariants.{NotADesk, WrongVersion, NotEmpty, NotOurs}
 use Rattle.review_work.specs.Faults.{desk_fault, lines_outcome, serve_outcome, shown_outcome}
@@ -129,3 +130,30 @@ pub record WasMade {S X : Type 0} (g : Ghosts S) (old new : Held S) (made : Resu
   pub ours : old.schema ≡ schema_0 → is_ours ≡ true
   pub only : is_ours ≡ true → old.schema ≡ schema_0
   pub how : Made g is_ours old new made
+
+-- A desk was migrated, or was of the latest version, and closed; no fault ended it.
+abbrev pub Migrated : {S : Type 0} → Ghosts S → Bool → Held S → Held S → Type 0
+Migrated {S} g is_ours old new = (shelf : ShelfView S) × (IsUpgraded g is_ours old shelf ⊎ IsOpenedAsIs g is_ours old shelf) × IsClosed g is_ours shelf new
+
+-- No desk was migrated, for no other reason than that the tables aren't ours.
+pub record IsUnmigrated {S X : Type 0} (g : Ghosts S) (is_ours : Bool) (ended : Result X ProgramFault) (old new : Held S) : Type 0 where
+  pub fault : DeskFault
+  pub ends : ended ≡ Err (desk_fault fault)
+  pub lacking : fault ≢ NotOurs
+  pub left : IsNotMigrated is_ours (state g old) (state g new)
+  pub cause : IsTrue (state g new).is_open → IsUnfit (state g old).now fault
+
+-- Tables were migrated as ours or not, or none were. It was told that they are not ours where they were migrated so, and only there.
+abbrev pub IsMigratedOrNot : {S : Type 0} → Ghosts S → Bool → Bool → Bool → Result (Unit {0}) ProgramFault → Held S → Held S → Type 0
+IsMigratedOrNot g is_ours before after ended old new =
+    ((ended ≡ Ok tt) × Migrated g is_ours old new × (after ≡ (not is_ours || before))) ⊎ (IsUnmigrated g is_ours ended old new × (after ≡ before))
+
+-- tables were not migrated as ours, since they are not
+pub record AreOthers {S : Type 0} (g : Ghosts S) (old new : Held S) : Type 0 where
+  pub left : IsNotMigrated true (state g old) (state g new)
+  pub cause : IsTrue (state g new).is_open → IsUnfit (state g old).now NotOurs
+
+-- Tables were migrated as ours, or none were; where they are not ours, they were migrated as those of others, or none were.
+abbrev pub WasMigrated : {S : Type 0} → Ghosts S → Bool → Bool → Result (Unit {0}) ProgramFault → Held S → Held S → Type 0
+WasMigrated {S} g before after ended old new =
+    IsMigratedOrNot g true before after ended old new ⊎ ((between : Held S) × AreOthers g old between × IsMigratedOrNot g false before after ended between new)

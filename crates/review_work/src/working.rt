@@ -7,7 +7,7 @@ ghost use Rattle.sqlite.specs.Held.{Held};
 ghost use Rattle.review_sql.specs.Shelf.{IsClosed, ShelfView, shown};
 ghost use Rattle.review_serving.specs.Served.{Peers};
 ghost use Rattle.review_work.specs.Faults.{lines_outcome, serve_outcome, shown_outcome};
-ghost use Rattle.review_work.specs.Worked.{Does, EndsServed, HasDone, IsRefusedDesk, Made, OnShelf, WasMade, Worked, known};
+ghost use Rattle.review_work.specs.Worked.{Does, EndsServed, HasDone, IsMigratedOrNot, IsRefusedDesk, Made, OnShelf, WasMade, WasMigrated, Worked, known};
 
 use crate::fault::ProgramFault;
 use crate::notices::Notices;
@@ -50,6 +50,42 @@ fn create_as<S: Alter + Drop, O: Origin>(
 {
     match SqlShelf::<S, O>::create(alloc, conn) {
         Ok(shelf) => (shelf.close(), Ok(())),
+        Err((conn, fault)) => (conn, Err(ProgramFault::from(fault))),
+    }
+}
+
+/// Makes the tables of an earlier version those of the latest, and leaves those of the latest, as `SqlShelf::migrate` says. It tells where the tables that were
+/// migrated are not ours, and only there.
+pub fn migrate<N: Notices, S: Alter + Drop>(
+    alloc: Global,
+    notices: &mut N,
+    conn: Connection<S>,
+) -> (Connection<S>, Result<(), ProgramFault>)
+    requires mode { conn.in_transaction ≡ false }
+    ensures mode { result.0.in_transaction ≡ false }
+    ensures migrated { WasMigrated S.Store (N.is_warned notices.old) (N.is_warned notices.new) result.1 conn result.0 }
+{
+    match SqlShelf::<S, Ours>::migrate(alloc, conn) {
+        Ok(shelf) => (shelf.close(), Ok(())),
+        Err((conn, DeskFault::NotOurs)) => migrate_others(alloc, notices, conn),
+        Err((conn, fault)) => (conn, Err(ProgramFault::from(fault))),
+    }
+}
+
+fn migrate_others<N: Notices, S: Alter + Drop>(
+    alloc: Global,
+    notices: &mut N,
+    conn: Connection<S>,
+) -> (Connection<S>, Result<(), ProgramFault>)
+    requires mode { conn.in_transaction ≡ false }
+    ensures mode { result.0.in_transaction ≡ false }
+    ensures migrated { IsMigratedOrNot S.Store false (N.is_warned notices.old) (N.is_warned notices.new) result.1 conn result.0 }
+{
+    match SqlShelf::<S, Others>::migrate(alloc, conn) {
+        Ok(shelf) => {
+            notices.warn();
+            (shelf.close(), Ok(()))
+        }
         Err((conn, fault)) => (conn, Err(ProgramFault::from(fault))),
     }
 }

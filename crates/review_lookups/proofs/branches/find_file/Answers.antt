@@ -1,6 +1,7 @@
-use Rattle.std.proofs.Common.{◌≡◌, Option, List, ℕ, Ok}
+use Rattle.std.proofs.Common.{◌≡◌, Option, Ok}
 use Rattle.sqlite.specs.Held.{state}
 use Rattle.sqlite_trees.specs.Tree.{Trees}
+use Rattle.review_rows.specs.declared.rows.StoredFile.{StoredFile}
 use Rattle.review_statements.specs.Search.{row_at}
 use Rattle.review_records.specs.Forms.{projects}
 use Rattle.review_tables.proofs.Found.{look_on}
@@ -8,7 +9,7 @@ use Rattle.review_lookups.proofs.branches.find_file.Goals as goal
 
 pub returns-clause-looks : goal.returns-clause-looks
 returns-clause-looks g c =
-    let F : Trees → Option (Option (List ℕ)) → Type 0 = λ db found. found ≡ row_at projects db c.args.project.now in
+    let F : Trees → Option (Option StoredFile) → Type 0 = λ db found. found ≡ row_at projects db c.args.project.now in
     let a = state g.S.Store c.args.tx.now.conn.now in
     let m = state g.S.Store c.find.new.tx.conn.now in
     look_on F _ a m c.in_ok-found.found (Ok c.tell_file.result) c.in_ok-found.ensures.looks (λ db h. c.tell_file.ensures.told db h)

@@ -7,7 +7,7 @@ use Rattle.review_lookups.proofs.branches.find_room_for_projects.Goals as goal
 
 pub returns-clause-looks : goal.returns-clause-looks
 returns-clause-looks g c =
-    let F : Trees → Bool → Type 0 = λ db found. nat_lt (length (db 4)) 1000 ≡ found in
+    let F : Trees → Bool → Type 0 = λ db found. nat_lt (length (db 26)) 1000 ≡ found in
     let a = state g.S.Store c.args.tx.now.conn.now in
     let m = state g.S.Store c.has_room.new.tx.conn.now in
     look_on F _ a m c.in_ok-found.found (Ok c.tell_room_for_projects.result) c.in_ok-found.ensures.looks (λ db h. c.tell_room_for_projects.ensures.told db h)

@@ -1,18 +1,6 @@
-use Rattle.std.proofs.Common.{◌∙◌, ap, sym, subst}
-use Rattle.std.specs.Bool.{Decides}
-use Rattle.sqlite.specs.Effect.{Database}
 use Rattle.sqlite.specs.Held.{state}
-use Rattle.sqlite.proofs.StateLemmas.{clean_if_open}
-use Rattle.review_sql.specs.Opened.{AreAllApart}
-use Rattle.review_sql.proofs.Peeking.{seen_ours}
+use Rattle.review_sql.proofs.Peeking.{refused_second}
 use Rattle.review_sql.proofs.opening.see.Goals as goal
 
-pub returns-in-Ok-peek-clause-seen : goal.returns-in-Ok-peek-clause-seen
-returns-in-Ok-peek-clause-seen g c is_open =
-    let last = c.peek.new.conn in
-    let it = c.in-Ok-peek.ensures.peeks in
-    let back = it.stays.kept is_open in
-    let first = c.find_desk.ensures.stays.kept back.0 in
-    let has = sym c.schema.ensures.value ∙ c.in-Ok.ensures.0 c.if-not-has_form.false in
-    let apart = it.found (clean_if_open (g.S.Store.view last.store) (g.met.S.Store.shut_if_dirty last.store) is_open) (λ _. ap (λ (db : Database). db.schema) first.1 ∙ has) is_open in
-    seen_ours (state g.S.Store c.args.conn.now) c.in_ok-requests.requests c.in-Ok-peek.is_ours has (c.in_ok-requests.ensures.there back.0) (subst (λ (db : Database). Decides c.in-Ok-peek.is_ours (AreAllApart db.trees)) first.1 apart)
+pub returns-in-Second-clause-refused : goal.returns-in-Second-clause-refused
+returns-in-Second-clause-refused g c is_open = refused_second (state g.S.Store c.args.conn.now) (state g.S.Store c.ask.new.conn) c.see_desk.result (c.ask.ensures.stays.kept (c.see_desk.ensures.stays.kept is_open).0).1 (c.see_desk.ensures.lacking is_open)

@@ -1,9 +1,9 @@
-use Rattle.std.proofs.Common.{rules, ◌≡◌, ◌<◌, ℕ, List, length, refl, true, false, inl, inr, sym, subst, get_or, map, arith}
+use Rattle.std.proofs.Common.{rules, ◌≡◌, ◌<◌, ℕ, List, true, false, inl, inr, sym, subst, get_or, arith}
 use Rattle.std.proofs.lemmas.Bool.{cases_lt}
 use Rattle.sqlite.specs.Effect.{Database}
 use Rattle.sqlite.specs.Held.{state}
-use Rattle.review_statements.specs.declared.texts.TheConstants.{READ_ROWS}
-use Rattle.review_sql.specs.Shelf.{IsUnderstood}
+use Rattle.review_sql.specs.Shelf.{IsUnderstood, rows_read}
+use Rattle.review_sql.proofs.Saying.{eleven}
 use Rattle.review_sql.proofs.Staying.{stays_still, stays_then}
 use Rattle.review_sql.proofs.there.are_all_there.Goals as goal
 
@@ -29,8 +29,8 @@ loop-at-preserved g c =
             | inr late ↦
                 let same : c.loop-at.at ≡ i = omega (arith, late, up_to) in
                 let here = subst (λ (sql : List ℕ). IsUnderstood s1.now.schema sql) (c.read_row.ensures d) (c.in_ok-is_understood.ensures.is clean yes) in
-                let there = subst (λ (db : Database). IsUnderstood db.schema (get_or (map (λ t. t.now) READ_ROWS) c.loop-at.at d)) first.1 here in
-                subst (λ (n : ℕ). IsUnderstood s0.now.schema (get_or (map (λ t. t.now) READ_ROWS) n d)) same there
+                let there = subst (λ (db : Database). IsUnderstood db.schema (get_or (rows_read c.args.version) c.loop-at.at d)) first.1 here in
+                subst (λ (n : ℕ). IsUnderstood s0.now.schema (get_or (rows_read c.args.version) n d)) same there
           ];
     }
 
@@ -38,7 +38,7 @@ pub returns-clause-all : goal.returns-clause-all
 returns-clause-all g c clean same is_open = record {
   each = λ sql inside.
       let schema = (state g.S.Store c.args.conn.now).now.schema in
-      let short : length (map (λ t. t.now) READ_ROWS) ≡ 11 = refl in
+      let short = eleven c.args.version in
       subst (λ (s : List ℕ). IsUnderstood schema s) inside.2 (c.loop-at.invariant.all clean is_open inside.0 sql (omega (arith, c.loop-at-test.false, inside.1, short)));
 }
 
@@ -49,4 +49,4 @@ returns-then-not-branch-clause-missing g c clean same all =
     let back = c.is_understood.ensures.stays.kept (c.in_ok-is_understood.ensures.opens clean) in
     let first = c.loop-at.invariant.stays.kept back.0 in
     c.in_ok-is_understood.ensures.unknown clean no
-    (subst (λ (db : Database). IsUnderstood db.schema text) (sym first.1) (all.each text (c.loop-at.at, c.loop-at-test.true, sym (c.read_row.ensures text))))
+    (subst (λ (db : Database). IsUnderstood db.schema text) (sym first.1) (all.each text (c.loop-at.at, omega (arith, c.loop-at-test.true, eleven c.args.version), sym (c.read_row.ensures text))))

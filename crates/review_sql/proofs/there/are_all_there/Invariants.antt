@@ -1,8 +1,7 @@
-use Rattle.std.proofs.Common.{◌≡◌, ◌≤◌, ◌<◌, ℕ, List, get_or, map, IsTrue, false}
+use Rattle.std.proofs.Common.{◌≡◌, ◌≤◌, ◌<◌, ℕ, List, get_or, IsTrue, false}
 use Rattle.sqlite.specs.Held.{state}
 use Rattle.sqlite.specs.State.{HasCleanDisk}
-use Rattle.review_statements.specs.declared.texts.TheConstants.{READ_ROWS}
-use Rattle.review_sql.specs.Shelf.{IsUnderstood, Stays}
+use Rattle.review_sql.specs.Shelf.{IsUnderstood, Stays, rows_read}
 use Rattle.review_sql.proofs.there.are_all_there.Given as goal
 
 abbrev pub invariant-loop-at : goal.invariant-loop-at
@@ -10,5 +9,5 @@ invariant-loop-at g l = record {
   within : l.at ≤ 11;
   mode : l.conn.in_transaction ≡ false;
   stays : Stays (state g.S.Store l.fn.conn) (state g.S.Store l.conn);
-  all : HasCleanDisk (state g.S.Store l.conn) → IsTrue (state g.S.Store l.conn).is_open → (i : ℕ) (d : List ℕ) → i < l.at → IsUnderstood (state g.S.Store l.fn.conn).now.schema (get_or (map (λ t. t.now) READ_ROWS) i d);
+  all : HasCleanDisk (state g.S.Store l.conn) → IsTrue (state g.S.Store l.conn).is_open → (i : ℕ) (d : List ℕ) → i < l.at → IsUnderstood (state g.S.Store l.fn.conn).now.schema (get_or (rows_read l.fn.version) i d);
 }

@@ -1,15 +1,16 @@
 use Rattle.std.proofs.Common.{rules, refl, ◌≡◌, ◌∙◌, sym, ap, not, subst, IsTrue, Err}
 use Rattle.sqlite.specs.Held.{Held, state}
 use Rattle.sqlite.proofs.StateLemmas.{clean_if_open}
-use Rattle.review_statements.specs.Desk.{schema_0, desk_schema}
+use Rattle.review_statements.specs.Desk.{schema_0}
 use Rattle.review_tables.specs.Made.{Grows}
 use Rattle.review_statements.specs.Ran.{Transacts}
+use Rattle.review_tables.specs.Versions.{schema_at}
 use Rattle.review_tables.proofs.Sequences.{failed, ended}
 use Rattle.review_tables.proofs.creating.create_all.Goals as goal
 
 pub returns-in_err-create_tables-clause-acts : goal.returns-in_err-create_tables-clause-acts
 returns-in_err-create_tables-clause-acts g c =
-    let R = Grows schema_0 desk_schema in
+    let R = Grows schema_0 (schema_at c.args.version) in
     let last = c.drop-tx.new.self.0 in
     let same : last ≡ c.conn-1.given.0 = search rules in
     let s0 = state g.S.Store c.args.conn.now in
@@ -22,7 +23,7 @@ returns-in_err-create_tables-clause-acts g c =
 
 pub returns-clause-acts : goal.returns-clause-acts
 returns-clause-acts g c =
-    let R = Grows schema_0 desk_schema in
+    let R = Grows schema_0 (schema_at c.args.version) in
     let last = c.commit.new.self.0 in
     let same : last ≡ c.conn-2-1.given.0 = search rules in
     let s0 = state g.S.Store c.args.conn.now in

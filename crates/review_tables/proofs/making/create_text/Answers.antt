@@ -1,5 +1,5 @@
 use Rattle.std.proofs.Common.{◌≡◌, ◌<◌, ℕ, zero, suc, refl, arith}
-use Rattle.review_tables.proofs.creating.create_text.Goals as goal
+use Rattle.review_tables.proofs.making.create_text.Goals as goal
 
 each : {P : Type 0} (n : ℕ) → n < 12 → (n ≡ 0 → P) → (n ≡ 1 → P) → (n ≡ 2 → P) → (n ≡ 3 → P) → (n ≡ 4 → P) → (n ≡ 5 → P) → (n ≡ 6 → P) → (n ≡ 7 → P) → (n ≡ 8 → P) → (n ≡ 9 → P) → (n ≡ 10 → P) → (n ≡ 11 → P) → P
 each zero low a b c d f g h i j k l m = a refl

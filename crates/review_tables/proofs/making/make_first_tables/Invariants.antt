@@ -1,14 +1,14 @@
 use Rattle.std.proofs.Common.{◌≡◌, ◌≤◌, take, Ok}
 use Rattle.sqlite.specs.Held.{state}
-use Rattle.review_statements.specs.Desk.{desk_tables, schema_0, schema_of}
+use Rattle.review_statements.specs.Desk.{tables_1, schema_0, schema_of}
 use Rattle.review_statements.specs.Ran.{Within, Opens}
 use Rattle.review_tables.specs.Made.{Grows}
-use Rattle.review_tables.proofs.creating.create_tables.Given as goal
+use Rattle.review_tables.proofs.making.make_first_tables.Given as goal
 
 abbrev pub invariant-loop-at : goal.invariant-loop-at
 invariant-loop-at g l = record {
   within : l.at ≤ 12;
   reference : l.tx.conn.ghost_name ≡ l.fn.tx.conn.ghost_name;
-  ran : Within {X = Unit {0}} (Grows schema_0 (schema_of (take l.at desk_tables))) (state g.S.Store l.fn.tx.conn.now) (state g.S.Store l.tx.conn.now) (Ok (tt {0}));
+  ran : Within {X = Unit {0}} (Grows schema_0 (schema_of (take l.at tables_1))) (state g.S.Store l.fn.tx.conn.now) (state g.S.Store l.tx.conn.now) (Ok (tt {0}));
   opens : Opens {X = Unit {0}} (state g.S.Store l.fn.tx.conn.now) (state g.S.Store l.tx.conn.now) (Ok (tt {0}));
 }

@@ -1,0 +1,171 @@
+-- Tables of version 1 that are made those of a desk, in one transaction.
+use Rattle.std.proofs.Common.{◌≡◌, ◌≢◌, ◌∙◌, ◌⊎◌, inl, inr, ℕ, Bool, true, false, Some, Ok, Err, Result, OnOk, OnErr, IfOk, IfErr, IsTrue, refl, sym, ap, subst}
+use Rattle.std.specs.Bool.{Decides}
+use Rattle.sqlite_trees.specs.Tree.{Trees}
+use Rattle.sqlite_trees.specs.declared.store.Store.{Ghosts}
+use Rattle.sqlite.specs.Effect.{Database}
+use Rattle.sqlite.specs.Held.{Held, state}
+use Rattle.sqlite.specs.State.{State, HasCleanDisk}
+use Rattle.sqlite.specs.declared.error.Error.{Error}
+use Rattle.sqlite.proofs.StateLemmas.{survives_then, survives_weaker}
+use Rattle.review_statements.specs.Desk.{desk_schema, schema_1}
+use Rattle.review_statements.specs.Ran.{Inside, Looks, OnDesk, Transacts, Within}
+use Rattle.review_tables.specs.Migrated.{Migrates}
+use Rattle.review_tables.proofs.Migrated.{apart_after}
+use Rattle.review_tables.proofs.Sequences.{Next, follow, settled_as}
+use Rattle.review_tables.specs.Versions.{schema_at}
+use Rattle.review_tables.specs.declared.creating.TablesVersion.{TablesVersion}
+use Rattle.review_tables.specs.declared.creating.TablesVersion.TheVariants.{First, Second}
+use Rattle.review_sql.specs.declared.faults.DeskFault.{DeskFault}
+use Rattle.review_sql.specs.declared.faults.DeskFault.TheVariants.{NotADesk, WrongVersion, NotEmpty, NotOurs}
+use Rattle.review_sql.specs.declared.seen.Seen.{Seen}
+use Rattle.review_sql.specs.Changes.{SetsDesk}
+use Rattle.review_lookups.specs.Tables.{tables_at}
+use Rattle.review_sql.specs.Migrated.{IsBrought, IsNotMigrated, IsOpenedAsIs, IsRaised, IsUnfit, IsUpgraded, Upgrades, if_whole}
+use Rattle.review_sql.specs.Opened.{AreAllApart, AreApartIn, IsLacking, IsSeen}
+use Rattle.review_sql.specs.Said.{IsThere}
+use Rattle.review_sql.specs.Shelf.{Holds, Stays}
+use Rattle.review_sql.proofs.Again.{goes_on}
+use Rattle.review_sql.proofs.Made.{holds_opened, is_opened}
+use Rattle.review_sql.proofs.Saying.{first_of_ours}
+use Rattle.review_sql.proofs.Staying.{stays_then}
+use Rattle.review_sql.proofs.Upgraded.{Looked, upgrades, upgrades_others}
+
+-- what was looked at, as a step that changes nothing
+looked : {X : Type 0} (Found : Trees → X → Type 0) (a b : State) (x : X) → Looks Found a b (Ok x) → Within {X = X} (λ old new. old.schema ≡ desk_schema → (new ≡ old) × Found old.trees x) a b (Ok x)
+looked Found a b x it = record { ran = λ clean on has. (let f = it.found clean on (λ _. has) in (f.0, f.2)); kept = it.kept; survives = it.survives }
+
+module _ {X : Type 0} (requests : ℕ) (s0 s1 s2 s3 : State) (x : X) (migrates : Within Migrates s0 s1 (Ok x)) where
+  module _ (is : Bool) (looks : Looks (λ db is. Decides is (AreAllApart db)) s1 s2 (Ok is)) where
+    both : Within {X = Bool} (Next Migrates (λ old new. old.schema ≡ desk_schema → (new ≡ old) × Decides is (AreAllApart old.trees))) s0 s2 (Ok is)
+    both = follow _ _ s0 s1 s2 x (Ok is) migrates (looked (λ db is. Decides is (AreAllApart db)) s1 s2 is looks)
+
+    -- rowids are apart, and the version is put
+    pub raised_ours : {Z : Type 0} (z : Z) → is ≡ true → Inside (SetsDesk requests) s2 s3 (Ok z) → Within (Upgrades true requests) s0 s3 (if_whole (Ok true))
+    raised_ours z apart puts =
+        let two = subst (λ b. Within {X = Bool} (Next Migrates (λ old new. old.schema ≡ desk_schema → (new ≡ old) × Decides b (AreAllApart old.trees))) s0 s2 (Ok is)) apart both in
+        settled_as (Next (Next Migrates Looked) (OnDesk (SetsDesk requests))) (Upgrades true requests) s0 s3 z (tt {0}) (upgrades requests) (follow _ _ s0 s2 s3 is (Ok z) two puts)
+
+    -- they are not
+    pub undone_ours : Within (Upgrades true requests) s0 s2 (if_whole (Ok false))
+    undone_ours = record { ran = λ _ _. tt; kept = λ clean on. ((both.kept clean on).0, tt); survives = both.survives }
+
+    pub hindered_ours : is ≡ false → HasCleanDisk s2 → IsTrue s0.in_transaction → s0.now.schema ≡ schema_1 → AreApartIn First s0.now.trees → ⊥
+    hindered_ours others clean on has apart =
+        let it = both.ran clean on in
+        let found = it.2 (it.1.schema has) in
+        let all = found.1.1 (apart_after s0.now it.0 it.1 has apart) in
+        let e : false ≡ true = sym others ∙ all in cc
+
+  -- of tables of others nothing is said
+  pub raised_others : {Z : Type 0} (z : Z) → Inside (SetsDesk requests) s1 s3 (Ok z) → Within (Upgrades false requests) s0 s3 (if_whole (Ok true))
+  raised_others z puts = settled_as _ (Upgrades false requests) s0 s3 z (tt {0}) (λ old new h. upgrades_others requests old new) (follow _ _ s0 s1 s3 x (Ok z) migrates puts)
+
+-- nothing was done before
+pub stays_acts : {X : Type 0} (R : Database → Database → Type 0) (s0 s1 s2 : State) (r : Result X Error) → Stays s0 s1 → Transacts R s1 s2 r → Transacts R s0 s2 r
+stays_acts {X} R s0 s1 s2 r stays acts = record {
+  done = λ clean. by_done r (acts.done clean);
+  undone = λ is_open. by_undone r (acts.undone is_open);
+  survives = survives_then s0 s1 s2 _ _ _ (λ _ db h. absurd h) (λ clean db h. let was = stays.kept h.0 in (was.0, (h.1.0, h.1.1, subst (λ (d : Database). R d h.1.0) was.1 h.1.2))) stays.survives acts.survives;
+}
+  where
+    by_done : (r : Result X Error) → OnOk r (IsTrue s1.is_open × IsTrue s2.is_open × R s1.now s2.now) → OnOk r (IsTrue s0.is_open × IsTrue s2.is_open × R s0.now s2.now)
+    by_done (Ok x) h = let was = stays.kept h.0 in (was.0, h.1, subst (λ (d : Database). R d s2.now) was.1 h.2)
+    by_done (Err e) h = tt
+
+    by_undone : (r : Result X Error) → OnErr r (IsTrue s1.is_open × (s2.now ≡ s1.now)) → OnErr r (IsTrue s0.is_open × (s2.now ≡ s0.now))
+    by_undone (Ok x) h = tt
+    by_undone (Err e) h = let was = stays.kept h.0 in (was.0, h.1 ∙ was.1)
+
+-- ---- refusals
+
+-- nothing was done
+pub not_migrated : (is_ours : Bool) (s t : State) → Stays s t → IsNotMigrated is_ours s t
+not_migrated is_ours s t stays = record { undone = stays.kept; survives = survives_weaker s t (λ _. ⊥) _ (λ _ db h. absurd h) stays.survives }
+
+-- it was taken back
+pub taken_back : {X : Type 0} (is_ours : Bool) (requests : ℕ) (s t : State) (e : Error) → Transacts {X = X} (Upgrades is_ours requests) s t (Err e) → IsNotMigrated is_ours s t
+taken_back is_ours requests s t e acts = record {
+  undone = acts.undone;
+  survives = survives_weaker s t _ _ (λ _ db h. (h.0, (requests, h.1.0, h.1.1, h.1.2))) acts.survives;
+}
+
+pub unmigrated_then : (is_ours : Bool) (s0 s1 s2 : State) → Stays s0 s1 → IsNotMigrated is_ours s1 s2 → IsNotMigrated is_ours s0 s2
+unmigrated_then is_ours s0 s1 s2 stays it = record {
+  undone = λ is_open. let u = it.undone is_open in let was = stays.kept u.0 in (was.0, u.1 ∙ was.1);
+  survives = survives_then s0 s1 s2 _ _ _ (λ _ db h. absurd h)
+      (λ clean db h. let was = stays.kept h.0 in (was.0, (h.1.0, h.1.1, h.1.2, subst (λ (d : Database). Upgrades is_ours h.1.0 d h.1.1) was.1 h.1.3))) stays.survives it.survives;
+}
+
+-- want of memory or a fault of the store says nothing of tables
+pub unfit_plainly : (db : Database) (fault : DeskFault) → (fault ≢ NotADesk) × (fault ≢ WrongVersion) × (fault ≢ NotEmpty) × (fault ≢ NotOurs) → IsUnfit db fault
+unfit_plainly db fault plain = record { no_desk = λ is. absurd (plain.0 is); other_version = λ is. absurd (plain.1 is); not_ours = λ is. absurd (plain.3 is); not_empty = plain.2 }
+
+-- they lack something of a desk
+pub unfit_lacking : (s : State) (version : TablesVersion) (fault : DeskFault) → IsLacking version s fault → IsUnfit s.now fault
+unfit_lacking s version fault it = record { no_desk = λ is. (version, it.no_desk is); other_version = λ is. absurd (it.no_other.0 is); not_ours = λ is. absurd (it.no_other.2 is); not_empty = it.no_other.1 }
+
+-- they are of another form, or two rows have one rowid
+pub unfit_others : (db : Database) (version : TablesVersion) (requests : ℕ) → IsThere version db requests → (db.schema ≡ schema_at version → AreApartIn version db.trees → ⊥) → IsUnfit db NotOurs
+unfit_others db version requests there other = record { no_desk = λ is. absurd (cc); other_version = λ is. absurd (cc); not_ours = λ is. (version, (requests, there), other); not_empty = λ is. cc }
+
+-- tables of version 2 that are not ours
+pub unfit_seen : (s : State) (seen : Seen) → seen.is_ours ≡ false → IsSeen s seen → IsUnfit s.now NotOurs
+unfit_seen s seen not it = unfit_others s.now Second seen.requests it.there (λ has all. let e = sym not ∙ it.ours has all in cc)
+
+-- ---- after the table `desk` was asked
+
+if_err : {X E : Type 0} (P : Type 0) (r : Result X E) → P → IfErr r (λ e. P)
+if_err P (Ok x) p = tt
+if_err P (Err e) p = p
+
+module _ {S : Type 0} (g : Ghosts S) (is_ours : Bool) (c0 c1 c2 : Held S) (stays : Stays (state g c0) (state g c1)) where
+  -- tables of version 1 were made those of version 2
+  pub brought_first : (r : Result ℕ DeskFault) → IfOk r (IsRaised g is_ours c1 c2) → IfOk r (IsBrought g is_ours c0 c2)
+  brought_first (Err e) it = tt
+  brought_first (Ok requests) it = inl (record {
+    form = λ clean ours. sym (ap (λ (d : Database). d.schema) (same clean)) ∙ it.form clean ours;
+    there = λ clean. subst (λ (d : Database). IsThere First d requests) (same clean) (it.there clean);
+    acts = stays_acts (Upgrades is_ours requests) (state g c0) (state g c1) (state g c2) (Ok (tt {0})) stays it.acts;
+  })
+    where
+      same : HasCleanDisk (state g c2) → (state g c1).now ≡ (state g c0).now
+      same clean = (stays.kept (it.acts.done clean).0).1
+
+  pub unmigrated_first : (r : Result ℕ DeskFault) → IfErr r (λ e. IsNotMigrated is_ours (state g c1) (state g c2)) → IfErr r (λ e. IsNotMigrated is_ours (state g c0) (state g c2))
+  unmigrated_first (Ok requests) it = tt
+  unmigrated_first (Err e) it = unmigrated_then is_ours (state g c0) (state g c1) (state g c2) stays it
+
+  pub unfit_first : (r : Result ℕ DeskFault) → IfErr r (λ e. IsNotMigrated is_ours (state g c1) (state g c2)) → IfErr r (IsUnfit (state g c1).now) → IsTrue (state g c2).is_open → IfErr r (IsUnfit (state g c0).now)
+  unfit_first (Ok requests) left it is_open = tt
+  unfit_first (Err e) left it is_open = subst (λ (d : Database). IsUnfit d e) (stays.kept (left.undone is_open).0).1 it
+
+  -- tables of version 2 stay
+  pub unmigrated_second : (r : Result ℕ DeskFault) → Stays (state g c1) (state g c2) → IfErr r (λ e. IsNotMigrated is_ours (state g c0) (state g c2))
+  unmigrated_second r more = if_err _ r (not_migrated is_ours (state g c0) (state g c2) (stays_then (state g c0) (state g c1) (state g c2) stays more))
+
+  pub unfit_second : (r : Result ℕ DeskFault) → Stays (state g c1) (state g c2) → IfErr r (IsUnfit (state g c1).now) → IsTrue (state g c2).is_open → IfErr r (IsUnfit (state g c0).now)
+  unfit_second r more it is_open = subst (λ (d : Database). IfErr r (IsUnfit d)) (stays.kept (more.kept is_open).0).1 it
+
+-- ---- the shelf
+
+module _ {S : Type 0} (g : Ghosts S) (is_ours : Bool) (c0 c1 : Held S) (requests : ℕ) where
+  pub holds_brought : c1.in_transaction ≡ false → (IsTrue (state g c1).is_open → HasCleanDisk (state g c1)) → IsBrought g is_ours c0 c1 requests → Holds g c1 is_ours requests
+  holds_brought mode clean (inl it) = record { autocommit = mode; ready = λ ours is_open. (it.acts.done (clean is_open)).2.ready ours (it.form (clean is_open) ours) }
+  holds_brought mode clean (inr it) = holds_opened g c0 c1 (record { is_ours = it.has_form; requests = requests }) is_ours it.ours mode it.stays it.seen
+
+  pub migrated : (IsTrue (state g c1).is_open → (state g c1).now ≡ (state g c1).committed) → ((db : Trees) → IsTrue (state g c1).is_open → (state g c1).may_leave db → db ≡ (state g c1).committed.trees)
+      → IsBrought g is_ours c0 c1 requests → IsUpgraded g is_ours c0 (record { conn = c1; requests = requests; faults = 0 }) ⊎ IsOpenedAsIs g is_ours c0 (record { conn = c1; requests = requests; faults = 0 })
+  migrated settled law (inl it) = inl (record {
+    faults = refl;
+    form = it.form;
+    there = λ clean. ((it.acts.done clean).1, it.there clean);
+    view = λ clean ours h was. (it.acts.done clean).2.view ours (it.form clean ours) (first_of_ours (state g c0).now (it.form clean ours) requests (it.there clean)) h was;
+    alone = λ clean t left.
+        let d = it.acts.done clean in
+        rw d.1 (ap (λ (t : Trees). Some (tables_at t)) (ap (λ (d : Database). d.trees) (settled d.1) ∙ sym (law left.0 d.1 left.1)) ∙ ap Some (sym left.2));
+    survives = it.acts.survives;
+  })
+  migrated settled law (inr it) =
+      let opened = is_opened g c0 c1 (record { is_ours = it.has_form; requests = requests }) it.stays in
+      inr (record { opened = opened; there = λ is_open. (it.seen is_open).there; goes_on = goes_on g is_ours c0 _ opened })

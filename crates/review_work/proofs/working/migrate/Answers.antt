@@ -1,0 +1,26 @@
+use Rattle.std.proofs.Common.{rules, refl, Err, IsTrue, ap, inl, inr, subst}
+use Rattle.sqlite.specs.Held.{state}
+use Rattle.review_sql.specs.declared.faults.DeskFault.{DeskFault}
+use Rattle.review_sql.specs.Migrated.{IsUnfit}
+use Rattle.review_work.proofs.working.migrate.Goals as goal
+
+pub returns-in-Ok-clause-migrated : goal.returns-in-Ok-clause-migrated
+returns-in-Ok-clause-migrated g c = inl (inl (refl, (c.in-Ok.shelf, c.in-Ok.ensures.migrated, c.close.ensures.closed), refl))
+
+pub returns-in-Err-clause-migrated : goal.returns-in-Err-clause-migrated
+returns-in-Err-clause-migrated g c = inl (inr (
+  record {
+    fault = c.in-Err.fault;
+    ends = ap Err c.from.ensures;
+    lacking = λ same. search rules;
+    left = c.in-Err.ensures.refused;
+    cause = c.in-Err.ensures.cause;
+  },
+  refl,
+))
+
+pub returns-in-Err-default-NotOurs-clause-migrated : goal.returns-in-Err-default-NotOurs-clause-migrated
+returns-in-Err-default-NotOurs-clause-migrated g c =
+    let it = c.in-Err-default-NotOurs in
+    let cause = subst (λ (f : DeskFault). IsTrue (state g.S.Store it.conn).is_open → IsUnfit (state g.S.Store c.args.conn).now f) it.field-0-1-is it.ensures.cause in
+    inr (it.conn, record { left = it.ensures.refused; cause = cause }, c.migrate_others.ensures.migrated)
