@@ -44,7 +44,7 @@ fault_above text parent above read.Pattern is = (is.0, (suc is.1.0, omega (arith
 fault_above text parent above (read.File fault) is = λ f effective. is effective.1 effective.3
 
 -- a line above is its first part and the rest
-rest_texts : (parts : List LinePart) (p : LinePart) → 1 ≤ length parts → p ≡ get_or parts 0 p → map (λ q. q.text.now) parts ≡ p.text.now ∷ map (λ q. q.text.now) (take (length parts - 1) (drop 1 parts))
+pub rest_texts : (parts : List LinePart) (p : LinePart) → 1 ≤ length parts → p ≡ get_or parts 0 p → map (λ q. q.text.now) parts ≡ p.text.now ∷ map (λ q. q.text.now) (take (length parts - 1) (drop 1 parts))
 rest_texts parts p some is = grind (arith, common_steps)
 
 fault_rest : (text : List ℕ) (parts : List LinePart) (p : LinePart) (e : ReadFault) → 1 ≤ length parts → p ≡ get_or parts 0 p → IsLineFault (p.text.now ∷ map (λ q. q.text.now) (take (length parts - 1) (drop 1 parts))) e →

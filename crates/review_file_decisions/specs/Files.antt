@@ -1,16 +1,26 @@
 -- What is done with the files of projects.
-use Rattle.std.specs.Prelude.{ℕ, ◌≡◌, List, [], Option, Some, None, Bool, true, false, if◌then◌else◌}
+use Rattle.std.specs.Prelude.{ℕ, ◌≡◌, List, [], ◌∷◌, Option, Some, None, Bool, true, false, is_some, length, nat_lt, not, ◌||◌, MatchOption, option_map, if◌then◌else◌}
+use Rattle.std.specs.Bool.{MatchBool}
+use Rattle.std.specs.Option.{option_map_or}
+use Rattle.review_words.specs.declared.faults.FileFault.TheVariants.{UnknownLabel}
 use Rattle.review_words.specs.declared.reply.Reply.{Reply}
 use Rattle.review_words.specs.declared.reply.Reply.TheVariants.{Done, Refused}
 use Rattle.review_words.specs.declared.reply.Answer.TheVariants.{Nothing}
 use Rattle.review_words.specs.declared.reply.Refusal.{Refusal}
-use Rattle.review_words.specs.declared.reply.Refusal.TheVariants.{LabelNarrowed, Limit}
+use Rattle.review_words.specs.declared.reply.Refusal.TheVariants.{BadFile, LabelNarrowed, Limit, NoParent, ParentDepth, ParentFixed}
 use Rattle.review_words.specs.declared.reply.NotTaken.{NotTaken as Cause}
 use Rattle.review_words.specs.declared.reply.NotTaken.TheVariants.{Memory, Pattern, Damaged}
+use Rattle.review_project.specs.Inherited.{inherit, inherits_unknown_label}
+use Rattle.review_project.specs.Rights.{covers}
 use Rattle.review_project.specs.declared.fault.ReadFault.{ReadFault}
 use Rattle.review_project.specs.declared.fault.ReadFault.TheVariants as read
+use Rattle.review_rows.specs.Answer.{first_refusal, is_same_parent}
+use Rattle.review_rows.specs.Files.{File}
+use Rattle.review_rows.specs.Lines.{most_depth}
+use Rattle.review_rows.specs.Steps.{HasFile, own_in, texts_in}
 use Rattle.review_rows.specs.declared.rows.Delta.{Delta}
 use Rattle.review_rows.specs.declared.rows.Rows.{Rows}
+use Rattle.review_rows.specs.declared.rows.StoredFile.{StoredFile}
 use Rattle.review_rows.specs.declared.rows.Want.TheVariants as want
 use Rattle.review_rows.specs.declared.rows.Counted.TheVariants as counted
 use Rattle.review_rows.specs.Known.{known, is_so}
@@ -20,7 +30,7 @@ use Rattle.review_account_decisions.specs.Decisions.{IsEmpty}
 abbrev pub room_in : Rows → Bool
 room_in rows = is_so (known rows (want.Room counted.Projects))
 
--- Why a stored text, which should spell a file, is not read: for a pattern that the engine refuses, or for a fault of the text, which no file's text has.
+-- Why a stored line, which should spell a file, is not read: for a pattern that the engine refuses, or for a fault of a text, which no file's text has.
 abbrev pub unread_cause : ReadFault → Cause
 unread_cause read.Memory = Memory
 unread_cause read.Pattern = Pattern
@@ -33,12 +43,28 @@ IsReadCause fault Pattern = fault ≡ read.Pattern
 IsReadCause fault _ = ⊥
 
 -- the file of this project is put, and nothing else is done
-pub record PutsFile (project text : List ℕ) (delta : Delta) : Type 0 where
+pub record PutsFile (project : List ℕ) (file : StoredFile) (delta : Delta) : Type 0 where
   pub accounts : delta.accounts.items ≡ []
   pub members : delta.members.items ≡ []
-  pub file : delta.file ≡ Some (record { key = project; row = text })
+  pub file_is : delta.file ≡ Some (record { key = project; row = file })
   pub base : delta.base ≡ None
   pub changes : delta.changes.items ≡ []
+
+-- whether a project has this parent, as rows know its file: one that has no file yet may have any
+abbrev pub keeps_parent : Option StoredFile → Option (List ℕ) → Bool
+keeps_parent had parent = option_map_or (λ f. is_same_parent f.parent parent) had true
+
+-- what refuses a parent, by whether one is named, and how many texts its line has
+abbrev pub parent_refused : Bool → ℕ → Option Refusal
+parent_refused named depth = first_refusal ((not named || nat_lt 0 depth, NoParent) ∷ (nat_lt depth most_depth, ParentDepth) ∷ [])
+
+-- the effective file of a project that gets this own file, by that of its parent, if it has one
+abbrev pub heir : Option File → File → File
+heir above own = option_map_or (λ parent. inherit parent own) above own
+
+-- whether an own requirement names a label that isn't among the effective ones; of a file without a parent its text was asked that
+abbrev pub has_unknown : Option File → File → Bool
+has_unknown above own = option_map_or (λ parent. inherits_unknown_label parent own) above false
 
 -- what refuses a file, by whether it covers the one that the project has, and whether there is room for one more project
 abbrev pub file_refused : Option Bool → Bool → Option Refusal
@@ -46,7 +72,23 @@ file_refused (Some true) room = None
 file_refused (Some false) room = Some LabelNarrowed
 file_refused None room = if room then None else Some Limit
 
+-- what refuses a file that keeps the parent, by the effective files of its parent and of the project as it was
+abbrev pub heir_refused : Option File → File → Option File → Bool → Option Refusal
+heir_refused above own had room = if has_unknown above own then Some (BadFile UnknownLabel) else file_refused (option_map (λ f. covers f (heir above own)) had) room
+
 -- the file is put, or refused
-abbrev pub IsFilePut : Option Refusal → List ℕ → List ℕ → Delta → Reply → Type 0
-IsFilePut None project text delta reply = (reply ≡ Done Nothing) × PutsFile project text delta
-IsFilePut (Some refusal) project text delta reply = (reply ≡ Refused refusal) × IsEmpty delta
+abbrev pub IsFilePut : Option Refusal → List ℕ → StoredFile → Delta → Reply → Type 0
+IsFilePut None project file delta reply = (reply ≡ Done Nothing) × PutsFile project file delta
+IsFilePut (Some refusal) project file delta reply = (reply ≡ Refused refusal) × IsEmpty delta
+
+-- a file with this parent is put or refused, by the line of the parent as rows know it
+abbrev pub IsPutBelow : Rows → Option File → List ℕ → StoredFile → File → Delta → Reply → Type 0
+IsPutBelow rows had project file own delta reply =
+    MatchOption (parent_refused (is_some file.parent) (length (texts_in rows file.parent)))
+    ((above : Option File) × HasFile (texts_in rows file.parent) above × IsFilePut (heir_refused above own had (room_in rows)) project file delta reply)
+    (λ refusal. IsFilePut (Some refusal) project file delta reply)
+
+-- a file is put or refused, by what rows know
+abbrev pub IsPut : Rows → Option File → List ℕ → StoredFile → File → Delta → Reply → Type 0
+IsPut rows had project file own delta reply =
+    MatchBool (keeps_parent (own_in rows project) file.parent) (IsPutBelow rows had project file own delta reply) (IsFilePut (Some ParentFixed) project file delta reply)

@@ -1,11 +1,12 @@
 //! Decisions on the files of projects.
-ghost use Rattle.std.specs.Prelude.{◌≡◌, List, IfOk, IfErr, IfSome, Some, option_copied, option_map, true};
+ghost use Rattle.std.specs.Prelude.{◌≡◌, ◌≢◌, ◌⊎◌, [], List, IfOk, IfErr, IfSome, Some, is_some, length, option_copied, option_map, true, false};
+ghost use Rattle.std.specs.Option.{option_map_or};
 ghost use Rattle.review_words.specs.Texts.{IsStored};
 ghost use Rattle.review_words.specs.History.{Entry, is_account};
 ghost use Rattle.review_words.specs.declared.command.Command.TheVariants.{PutProject};
 ghost use Rattle.review_rows.specs.Rows.{HasNoEffect};
 ghost use Rattle.review_rows.specs.Changes.{Reading};
-ghost use Rattle.review_rows.specs.Steps.{OfCommand};
+ghost use Rattle.review_rows.specs.Steps.{OfCommand, own_in, texts_in};
 ghost use Rattle.review_rows.specs.View.{AreEnough, IsDecided};
 ghost use Rattle.review_words.specs.declared.reply.NotTaken.TheVariants.{Memory};
 ghost use Rattle.review_words.specs.declared.reply.Reply.TheVariants.{Done, Refused};
@@ -13,18 +14,22 @@ ghost use Rattle.review_words.specs.declared.reply.Answer.TheVariants.{Nothing};
 ghost use Rattle.review_words.specs.declared.reply.Refusal.TheVariants.{BadFile};
 ghost use Rattle.review_project.specs.Rights.{covers};
 ghost use Rattle.review_project.specs.declared.fault.ReadFault.TheVariants.{File};
-ghost use Rattle.review_rows.specs.Decisions.{IsUndecided, NamesEachOnce};
+ghost use Rattle.review_rows.specs.Answer.{is_same_parent};
+ghost use Rattle.review_rows.specs.Decisions.{IsUndecided, IsUnread, NamesEachOnce};
 ghost use Rattle.review_account_decisions.specs.Decisions.{IsEmpty};
-ghost use Rattle.review_file_decisions.specs.Files.{room_in, file_refused, IsReadCause, PutsFile, IsFilePut};
+ghost use Rattle.review_file_decisions.specs.Files.{file_refused, has_unknown, heir, keeps_parent, parent_refused, room_in, IsFilePut, IsPut, IsPutBelow, IsReadCause, PutsFile};
 
+use crate::reading::read_line;
 use review_account_decisions::{is_admin, nothing, refused};
-use review_file::{FileMemo, ProjectFile, ReadFault, ReadText, covers};
-use review_project_laws::one_file;
-use review_rows::{Delta, Put, Rows};
+use review_file::{
+    FileMemo, InheritFault, MOST_DEPTH, ProjectFile, ReadFault, ReadLine, ReadText, covers,
+};
+use review_inheritance::one_effective_file;
+use review_rows::{Delta, Put, Rows, StoredFile};
 use review_words::{AccountNo, Answer, FileFault, FileText, NotTaken, ProjectName, Refusal, Reply};
 use std::alloc::{AllocError, Global};
 
-/// Puts the file of a project, which had this one, if any. The file that is put is remembered, where there is memory for it.
+/// Puts the file of a project, which had this effective file, if any. The file that is put is remembered, where there is memory for it.
 pub fn put_project(
     alloc: Global,
     memo: &mut FileMemo,
@@ -40,13 +45,13 @@ pub fn put_project(
     ensures refused { IfOk result (λ r. HasNoEffect r.1 r.0) }
     ensures once { IfOk result (λ r. NamesEachOnce r.0) }
 {
-    one_file();
+    one_effective_file();
     let admin = is_admin(alloc, rows, caller)?;
     if !admin {
         return Ok(refused(alloc, Refusal::NotAdmin));
     }
     match ReadText::read(alloc, file) {
-        Ok(new) => put_file(alloc, memo, had, rows, project, file, new),
+        Ok(new) => put_file(alloc, memo, had, rows, project, new),
         Err(fault) => refuse_file(alloc, fault),
     }
 }
@@ -64,29 +69,150 @@ fn refuse_file(alloc: Global, fault: ReadFault) -> Result<(Delta, Reply), NotTak
     }
 }
 
-// Puts a file in place of the one that the project has.
+// Puts a file in place of the one that the project has, whose parent it keeps.
 fn put_file(
     alloc: Global,
     memo: &mut FileMemo,
     had: Option<&ProjectFile>,
     rows: &Rows,
     project: &ProjectName,
-    file: &FileText,
     new: ReadText,
 ) -> Result<(Delta, Reply), NotTaken>
-    ensures put { IfOk result (λ r. IsFilePut (file_refused (option_map (λ f. covers f new.file) (option_copied had.entry)) (room_in rows.now)) project.now file.now r.0 r.1) }
+    ensures put { IfOk result (λ r. IsPut rows.now (option_copied had.entry) project.now (record { text = new.text; parent = new.file.parent }) new.file r.0 r.1) }
+    ensures cause { IfErr result (λ cause. (cause ≡ Memory) ⊎ ((keeps_parent (own_in rows.now project.now) new.file.parent ≡ true) × IsUnread (texts_in rows.now new.file.parent) cause)) }
+    ensures stored { IfOk result (λ r. IsStored r.1) }
+    ensures refused { IfOk result (λ r. HasNoEffect r.1 r.0) }
+    ensures once { IfOk result (λ r. NamesEachOnce r.0) }
+{
+    let put = row_put(alloc, project, &new)?;
+    if !keeps_parent(rows, &put) {
+        return Ok(refused(alloc, Refusal::ParentFixed));
+    }
+    put_below(alloc, memo, had, rows, put, new)
+}
+
+// The row of a project that gets this file.
+fn row_put(
+    alloc: Global,
+    project: &ProjectName,
+    new: &ReadText,
+) -> Result<Put<ProjectName, StoredFile>, AllocError>
+    ensures { IfOk result (λ put. put ≡ record { key = project.now; row = record { text = new.now.text; parent = new.now.file.parent } }) }
+{
+    let key = project.copy(alloc)?;
+    let text = new.text().copy(alloc)?;
+    let parent = new.file().copied_parent(alloc)?;
+    let row = StoredFile { text, parent };
+    Ok(Put { key, row })
+}
+
+// Whether a project keeps its parent, if it is there.
+fn keeps_parent(rows: &Rows, put: &Put<ProjectName, StoredFile>) -> bool
+    ensures { result ≡ keeps_parent (own_in rows.now put.now.key) put.now.row.parent }
+{
+    match rows.file(&put.key) {
+        Some(was) => is_same_parent(was.parent.as_ref(), put.row.parent.as_ref()),
+        None => true,
+    }
+}
+
+// Whether two projects, or none, are the same.
+fn is_same_parent(was: Option<&ProjectName>, now: Option<&ProjectName>) -> bool
+    ensures { result ≡ is_same_parent (option_copied was.entry) (option_copied now.entry) }
+{
+    match (was, now) {
+        (None, None) => true,
+        (Some(was), Some(now)) => *was == *now,
+        _ => false,
+    }
+}
+
+// Puts a file below the line of its parent, if it has one.
+fn put_below(
+    alloc: Global,
+    memo: &mut FileMemo,
+    had: Option<&ProjectFile>,
+    rows: &Rows,
+    put: Put<ProjectName, StoredFile>,
+    new: ReadText,
+) -> Result<(Delta, Reply), NotTaken>
+    ensures put { IfOk result (λ r. IsPutBelow rows.now (option_copied had.entry) put.key put.row new.file r.0 r.1) }
+    ensures cause { IfErr result (IsUnread (texts_in rows.now put.row.parent)) }
+    ensures stored { IfOk result (λ r. IsStored r.1) }
+    ensures refused { IfOk result (λ r. HasNoEffect r.1 r.0) }
+    ensures once { IfOk result (λ r. NamesEachOnce r.0) }
+{
+    let above = read_line(alloc, memo, rows, put.row.parent.as_ref())?;
+    let depth = depth_of(above.as_ref());
+    if let Some(refusal) = parent_refused(put.row.parent.is_some(), depth) {
+        return Ok(refused(alloc, refusal));
+    }
+    match line_put(alloc, above, new) {
+        Ok(line) => put_line(alloc, memo, had, rows, put, line),
+        Err(InheritFault::UnknownLabel) => {
+            Ok(refused(alloc, Refusal::BadFile(FileFault::UnknownLabel)))
+        }
+        Err(InheritFault::Memory) => Err(NotTaken::Memory),
+    }
+}
+
+// How many projects a line has.
+fn depth_of(line: Option<&ReadLine>) -> usize
+    ensures { result ≡ length (option_map_or (λ l. l.texts) (option_copied line.entry) []) }
+{
+    match line {
+        Some(line) => line.depth(),
+        None => 0,
+    }
+}
+
+// What refuses a parent, by whether one is named, and how many projects its line has.
+fn parent_refused(is_named: bool, depth: usize) -> Option<Refusal>
+    ensures refusal { result ≡ parent_refused is_named depth }
+    ensures stored { IfSome result (λ r. IsStored (Refused r)) }
+{
+    if is_named && depth == 0 {
+        return Some(Refusal::NoParent);
+    }
+    if depth >= MOST_DEPTH {
+        return Some(Refusal::ParentDepth);
+    }
+    None
+}
+
+// The line of a project that gets this file, below the line of its parent, if it has one.
+fn line_put(alloc: Global, above: Option<ReadLine>, new: ReadText) -> Result<ReadLine, InheritFault>
+    ensures file { IfOk result (λ l. l.file ≡ heir (option_map (λ a. a.file) above) new.file) }
+    ensures known { IfOk result (λ l. has_unknown (option_map (λ a. a.file) above) new.file ≡ false) }
+    ensures fault { IfErr result (λ e. e ≢ InheritFault.Memory → has_unknown (option_map (λ a. a.file) above) new.file ≡ true) }
+{
+    match above {
+        Some(above) => above.inherit(alloc, new),
+        None => Ok(ReadLine::first(alloc, new)?),
+    }
+}
+
+// Puts a row, whose project gets this line, in place of the one that it has.
+fn put_line(
+    alloc: Global,
+    memo: &mut FileMemo,
+    had: Option<&ProjectFile>,
+    rows: &Rows,
+    put: Put<ProjectName, StoredFile>,
+    line: ReadLine,
+) -> Result<(Delta, Reply), NotTaken>
+    ensures put { IfOk result (λ r. IsFilePut (file_refused (option_map (λ f. covers f line.file) (option_copied had.entry)) (room_in rows.now)) put.key put.row r.0 r.1) }
     ensures cause { IfErr result (λ cause. cause ≡ Memory) }
     ensures stored { IfOk result (λ r. IsStored r.1) }
     ensures refused { IfOk result (λ r. HasNoEffect r.1 r.0) }
     ensures once { IfOk result (λ r. NamesEachOnce r.0) }
 {
-    let covered = is_covered(had, new.file());
+    let covered = is_covered(had, line.file());
     if let Some(refusal) = refusal_by(covered, rows.has_room_for_projects()) {
         return Ok(refused(alloc, refusal));
     }
-    let put = put_text(alloc, project, file)?;
-    let _ = memo.keep(alloc, project, new);
-    Ok(put)
+    let _ = memo.keep(alloc, &put.key, line);
+    Ok(put_row(alloc, put))
 }
 
 // Whether the file that a project has, if any, is covered by a new one.
@@ -111,19 +237,13 @@ fn refusal_by(covered: Option<bool>, has_room: bool) -> Option<Refusal>
     }
 }
 
-// The change that puts the file of a project.
-fn put_text(
-    alloc: Global,
-    project: &ProjectName,
-    file: &FileText,
-) -> Result<(Delta, Reply), AllocError>
-    ensures reply { IfOk result (λ r. r.1 ≡ Done Nothing) }
-    ensures delta { IfOk result (λ r. PutsFile project.now file.now r.0) }
-    ensures once { IfOk result (λ r. NamesEachOnce r.0) }
+// The change that puts the row of a project.
+fn put_row(alloc: Global, put: Put<ProjectName, StoredFile>) -> (Delta, Reply)
+    ensures reply { result.1 ≡ Done Nothing }
+    ensures delta { PutsFile put.key put.row result.0 }
+    ensures once { NamesEachOnce result.0 }
 {
-    let key = project.copy(alloc)?;
-    let row = file.copy(alloc)?;
     let mut delta = nothing(alloc);
-    delta.file = Some(Put { key, row });
-    Ok((delta, Reply::Done(Answer::Nothing)))
+    delta.file = Some(put);
+    (delta, Reply::Done(Answer::Nothing))
 }
