@@ -29,7 +29,10 @@ use review_rows::{Delta, Put, Rows, StoredFile};
 use review_words::{AccountNo, Answer, FileFault, FileText, NotTaken, ProjectName, Refusal, Reply};
 use std::alloc::{AllocError, Global};
 
-/// Puts the file of a project, which had this effective file, if any. The file that is put is remembered, where there is memory for it.
+/// Puts the file of a project, which had this effective file, if any. Refused: a caller that is no administrator, a text that is no file, a parent
+/// that isn't the project's, one that isn't there, or has the greatest depth, a requirement that names a label that isn't among the effective ones, a
+/// label or a value that goes from the effective file, or one project more than the most, in this order. The file that is put is remembered, where
+/// there is memory for it.
 pub fn put_project(
     alloc: Global,
     memo: &mut FileMemo,
