@@ -57,9 +57,13 @@ joined = with_rule (with_rule (with_rule (new_app (codes "joined")) file) projec
 abbrev pub top : App
 top = record (new_app (codes "review_desk")) { top = record (new_app (codes "review_desk")).top { no_binary_name = true; subcommand_required = true } }
 
+-- the program with the commands that make a desk
+abbrev pub making : App
+making = with_subcommand (with_subcommand top init.top) migrate.top
+
 -- the program with the commands that may change a desk
 abbrev pub changing : App
-changing = with_subcommand (with_subcommand (with_subcommand (with_subcommand top init.top) migrate.top) apply.top) serve.top
+changing = with_subcommand (with_subcommand making apply.top) serve.top
 
 -- the program with all its commands
 abbrev pub desk : App

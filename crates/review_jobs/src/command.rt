@@ -1,7 +1,7 @@
 //! The command line of the program. Each call fails for want of memory alone.
 ghost use Rattle.std.specs.Prelude.{◌≡◌, IfOk, false};
 ghost use Rattle.clap.specs.Words.{app_of, rule_of};
-ghost use Rattle.review_jobs.specs.CommandLine.{IsLocal, apply, branch, change, changing, count, desk, file, init, joined, migrate, port, project, serve, show, top};
+ghost use Rattle.review_jobs.specs.CommandLine.{IsLocal, apply, branch, change, changing, count, desk, file, init, joined, making, migrate, port, project, serve, show, top};
 
 use clap::{Arg, ArgAction, Command};
 use std::alloc::{AllocError, Global};
@@ -121,14 +121,21 @@ fn top_command<'a>(alloc: Global) -> Command<'a>
         .subcommand_required(true)
 }
 
+/// The program with the commands that make a desk.
+fn making_command<'a>(alloc: Global) -> Result<Command<'a>, AllocError>
+    ensures shape { IfOk result (λ c. app_of c ≡ making) }
+    ensures local { IfOk result IsLocal }
+{
+    let with_init = top_command(alloc).subcommand(init_command(alloc)?)?;
+    with_init.subcommand(migrate_command(alloc)?)
+}
+
 /// The program with the commands that may change a desk.
 fn changing_command<'a>(alloc: Global) -> Result<Command<'a>, AllocError>
     ensures shape { IfOk result (λ c. app_of c ≡ changing) }
     ensures local { IfOk result IsLocal }
 {
-    let with_init = top_command(alloc).subcommand(init_command(alloc)?)?;
-    let with_migrate = with_init.subcommand(migrate_command(alloc)?)?;
-    let with_apply = with_migrate.subcommand(apply_command(alloc)?)?;
+    let with_apply = making_command(alloc)?.subcommand(apply_command(alloc)?)?;
     with_apply.subcommand(serve_command(alloc)?)
 }
 
