@@ -20,10 +20,10 @@ use review_submit_decisions::submit;
 use review_words::{AccountNo, Command, NotTaken, Refusal, Reply};
 use std::alloc::Global;
 
-/// The reply to a command and what it changes, by this file of its project: the first check that fails refuses, in the order of
+/// The reply to a command and what it changes, by this effective file of its project: the first check that fails refuses, in the order of
 /// the command's checks; a refusal changes nothing, and each key is named once. An error is want of memory; Pattern, where the engine refuses a
-/// pattern in the file that is put; or Damaged, where the rows are those of no history. A file that is put is remembered; no answer depends on which
-/// files are.
+/// pattern in the file that is put or in one that it goes on from; or Damaged, where the rows are those of no history. Files that are read are
+/// remembered; no answer depends on which are.
 pub fn decide(
     alloc: Global,
     memo: &mut FileMemo,
