@@ -39,7 +39,7 @@ pub use file::{Access, Label, LabelValue, ProjectFile, Requirement};
 pub use inheriting::{InheritFault, inherit, inherit_stored};
 pub use lines::{LinePart, MOST_DEPTH, ReadLine};
 pub use memo::FileMemo;
-pub use read::{named_parent, read_file};
+pub use read::read_file;
 pub use review_document::limits::{MOST_BYTES, MOST_DESCRIPTION, MOST_PARTS, MOST_TEXT};
 pub use review_project::{Grant, ReadFault, Right};
 pub use review_words::FileFault;

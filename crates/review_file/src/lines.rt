@@ -8,6 +8,7 @@ use crate::texts::ReadText;
 use review_words::{FileText, ProjectName};
 use std::alloc::{AllocError, Global};
 use std::marker::Model;
+use std::rc::Rc;
 
 /// The greatest depth of a project: so many projects a line has at most.
 pub const MOST_DEPTH: usize = 8;
@@ -19,10 +20,10 @@ pub struct LinePart<'a> {
     pub text: &'a FileText,
 }
 
-/// The texts of a line, the own one first and the parent's next, with the effective file that they spell.
+/// The texts of a line, the own one first and the parent's next, with the effective file that they spell. Its copies share both.
 #[derive(Drop)]
 pub struct ReadLine {
-    texts: Vec<FileText>,
+    texts: Rc<Vec<FileText>>,
     file: ProjectFile,
 }
 
@@ -36,9 +37,9 @@ impl Model for ReadLine {
 
     ghost coded = { Prim.hlevel (codes, expr.the_row.coded) };
 
-    ghost view = { λ l. record { texts = l.texts.items; file = l.file } };
+    ghost view = { λ l. record { texts = l.texts.value.items; file = l.file } };
 
-    ghost invariant = { λ l. IsEffective l.texts.items l.file };
+    ghost invariant = { λ l. IsEffective l.texts.value.items l.file };
 }
 
 impl ReadLine {
@@ -50,6 +51,7 @@ impl ReadLine {
         let file = own.file().copy(alloc)?;
         let mut texts = Vec::new(alloc);
         texts.push(own.into_text())?;
+        let texts = Rc::new(alloc, texts)?;
         Ok(ReadLine { texts, file })
     }
 
@@ -76,22 +78,28 @@ impl ReadLine {
     }
 
     // The texts after an own one.
-    fn texts_after(&self, alloc: Global, own: ReadText) -> Result<Vec<FileText>, AllocError>
-        ensures { IfOk result (λ texts. texts.items ≡ own.text ∷ self.now.texts) }
+    fn texts_after(&self, alloc: Global, own: ReadText) -> Result<Rc<Vec<FileText>>, AllocError>
+        ensures { IfOk result (λ texts. texts.value.items ≡ own.text ∷ self.now.texts) }
     {
         let mut texts = Vec::new(alloc);
         texts.push(own.into_text())?;
-        push_texts(alloc, &mut texts, &self.texts)?;
-        Ok(texts)
+        push_texts(alloc, &mut texts, self.texts())?;
+        Ok(Rc::new(alloc, texts)?)
     }
 
-    /// The same line once more, with the same texts and the same file.
+    // The texts.
+    fn texts(&self) -> &[FileText]
+        ensures { result.now ≡ self.now.texts }
+    {
+        self.texts.as_ref().as_slice()
+    }
+
+    /// The same line once more, which takes no memory. An error where there are as many copies as can be counted.
     pub fn copy(&self, alloc: Global) -> Result<ReadLine, AllocError>
         ensures { IfOk result (λ l. l ≡ self.now) }
     {
         let file = self.file.copy(alloc)?;
-        let mut texts = Vec::new(alloc);
-        push_texts(alloc, &mut texts, &self.texts)?;
+        let texts = self.texts.clone()?;
         Ok(ReadLine { texts, file })
     }
 
@@ -114,14 +122,14 @@ impl ReadLine {
     pub fn depth(&self) -> usize
         ensures { result ≡ length self.now.texts }
     {
-        self.texts.len()
+        self.texts().len()
     }
 
     /// Whether the texts are those of a project and its ancestors, byte for byte.
     pub fn is_of(&self, own: &LinePart<'_>, above: &[LinePart<'_>]) -> bool
         ensures { IsTrue result ↔ (self.now.texts ≡ own.now.text.now ∷ map (λ p. p.text.now) above.now) }
     {
-        match self.texts.as_slice() {
+        match self.texts() {
             [first, others @ ..] => is_same(first, own.text) && are_of(others, above),
             [] => false,
         }
@@ -138,7 +146,7 @@ fn push_texts(alloc: Global, texts: &mut Vec<FileText>, more: &[FileText]) -> Re
 }
 
 // Whether two texts are the same.
-fn is_same(text: &FileText, other: &FileText) -> bool
+pub(crate) fn is_same(text: &FileText, other: &FileText) -> bool
     ensures { IsTrue result ↔ (text.now ≡ other.now) }
 {
     text.as_str() == other.as_str()

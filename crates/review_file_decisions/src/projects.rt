@@ -53,7 +53,7 @@ pub fn put_project(
     if !admin {
         return Ok(refused(alloc, Refusal::NotAdmin));
     }
-    match ReadText::read(alloc, file) {
+    match memo.read_text(alloc, file) {
         Ok(new) => put_file(alloc, memo, had, rows, project, new),
         Err(fault) => refuse_file(alloc, fault),
     }

@@ -34,7 +34,7 @@ impl Rules for DeskRules {
         matter: Matter<'_>,
         walked: &mut Option<Walked>,
     ) -> Result<Option<Need>, AllocError> {
-        next_need(alloc, read, rows, caller, matter, walked)
+        next_need(alloc, &mut self.memo, read, rows, caller, matter, walked)
     }
 
     fn read(

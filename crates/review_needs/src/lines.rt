@@ -5,30 +5,36 @@ ghost use Rattle.review_rows.specs.Lines.{most_depth};
 ghost use Rattle.review_rows.specs.Steps.{line_steps, next_of, own_in, parent_in, parent_of, parent_or, topic_of};
 
 use crate::judging::project_of;
-use review_file::{MOST_DEPTH, named_parent};
+use review_file::{FileMemo, MOST_DEPTH};
 use review_rows::{Matter, Rows, StoredFile, Want};
 use review_words::{Command, FileText, ProjectName};
 use std::alloc::{AllocError, Global};
 
 /// What is left of the steps of the line that a command or a question is judged by, after the first project: the file of the first one of its
 /// ancestors whose file isn't known.
-pub fn wants_above(alloc: Global, rows: &Rows, matter: Matter<'_>) -> Result<Vec<Want>, AllocError>
+pub fn wants_above(
+    alloc: Global,
+    memo: &mut FileMemo,
+    rows: &Rows,
+    matter: Matter<'_>,
+) -> Result<Vec<Want>, AllocError>
     ensures { IfOk result (λ wants. wants.items ≡ next_of rows.now (line_steps rows.now most_depth (parent_of rows.now (topic_of matter.entry)))) }
 {
-    let parent = parent_of(alloc, rows, matter)?;
+    let parent = parent_of(alloc, memo, rows, matter)?;
     line_wants(alloc, rows, parent.as_ref())
 }
 
 // The parent of the project by whose file a command or a question is judged; of a project that gets its first file the one that this names.
 fn parent_of(
     alloc: Global,
+    memo: &mut FileMemo,
     rows: &Rows,
     matter: Matter<'_>,
 ) -> Result<Option<ProjectName>, AllocError>
     ensures { IfOk result (λ parent. parent ≡ parent_of rows.now (topic_of matter.entry)) }
 {
     if let Matter::Command(Command::PutProject { project, file }) = matter {
-        return parent_put(alloc, rows, project, file);
+        return parent_put(alloc, memo, rows, project, file);
     }
     match project_of(rows, matter) {
         Some(project) => parent_known(alloc, rows, project),
@@ -39,6 +45,7 @@ fn parent_of(
 // The parent of a project that gets a file: that of the one that it has, or else the one that the new one names.
 fn parent_put(
     alloc: Global,
+    memo: &mut FileMemo,
     rows: &Rows,
     project: &ProjectName,
     file: &FileText,
@@ -47,7 +54,7 @@ fn parent_put(
 {
     match rows.file(project) {
         Some(stored) => parent_in(alloc, stored),
-        None => named_parent(alloc, file),
+        None => memo.named_parent(alloc, file),
     }
 }
 

@@ -1,0 +1,14 @@
+-- The parent of a file.
+use Rattle.std.proofs.Common.{◌≡◌, ◌∙◌, ℕ, List, Option, None, cond, sym, ap}
+use Rattle.std.specs.Prelude.{option_and_then}
+use Rattle.toml.specs.Data.{table}
+use Rattle.toml.specs.Parse.{parse_document}
+use Rattle.review_expr.specs.declared.expr.Expr.{Expr}
+use Rattle.review_project.specs.Reading.{IsRead, named_parent}
+use Rattle.review_project.specs.Spelled.{parent_in}
+use Rattle.review_project.specs.View.{FileView}
+
+-- the parent of a file is the one that its text names
+pub parent_named : (text : List ℕ) (f : FileView Expr) → IsRead text f → f.parent ≡ named_parent text
+parent_named text f (short, (ms, parsed, good)) =
+    good.0.1.4 ∙ sym (ap (λ o. option_and_then (λ xs. parent_in (table xs)) o) parsed) ∙ sym (ap (λ b. cond b None (option_and_then (λ xs. parent_in (table xs)) (parse_document text))) short)
