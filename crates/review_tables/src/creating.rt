@@ -17,7 +17,9 @@ use std::alloc::Global;
 /// A version of the tables.
 #[derive(Clone, Copy, Debug, PartialEq, Eq)]
 pub enum TablesVersion {
+    /// No project has a parent.
     First,
+    /// Each project has a parent or none.
     Second,
 }
 

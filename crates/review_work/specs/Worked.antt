@@ -111,7 +111,7 @@ IsDoneOn {S} g Did Refuses old new =
 pub record Worked {S : Type 0} (g : Ghosts S) (task : Task) (before after : Known) (ended : Result Outcome ProgramFault) (old new : Held S) : Type 0 where
   pub how : IsDoneOn g (Does task before after ended) (λ (s t : Held S). IsRefusedDesk g before after s t ended) old new
 
--- Why no desk was made: never as no desk or another version; where it was for a table of one of the twelve names, one is there, and nothing was touched; and
+-- Why no desk was made: never as no desk or another version; where it was for a table of one of the names that tables of a desk have, one is there, and nothing was touched; and
 -- not as not ours but where one of ours was to be made, in a store with tables.
 abbrev pub IsCauseOf : {S : Type 0} → Ghosts S → Bool → Held S → Held S → DeskFault → Type 0
 IsCauseOf g is_ours old new cause =

@@ -1,6 +1,5 @@
 use Rattle.std.proofs.Common.{◌∙◌}
 use Rattle.review_sql.specs.Shelf.{shown}
-use Rattle.review_work.specs.Worked.{known}
 use Rattle.review_work.proofs.Warned.{done_before}
 use Rattle.review_work.proofs.working.work_on_shelf.Goals as goal
 
