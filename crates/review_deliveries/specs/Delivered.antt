@@ -30,7 +30,7 @@ pub record WasRun (ds : List Delivery) (replies : List Reply) (old new : Shown) 
   pub acts_once : new.is_honest → (h : List Entry) → IsHistory h → Views h old.tables → IsRun h ds replies old new
   -- of the history that it leaves: each change joined its branch once, at its place, after what it stands on, and was ready just before
   pub branches : new.is_honest → (h : List Entry) → IsHistory h → Views h old.tables → AreSoundBranches (history_after h ds replies)
-  -- and each line of projects ends, no effective file has lost a label or a value, and each vote is on a label of one
+  -- and each line of projects ends, no effective file has lost a label or a value, its requirements name its labels, and each vote is on one, with a value of it
   pub projects : new.is_honest → (h : List Entry) → IsHistory h → Views h old.tables → AreSoundProjects (history_after h ds replies)
   -- on any tables whatever, made of steps, one a delivery
   pub steps : new.is_honest → AreSteps ds replies old.tables new.tables

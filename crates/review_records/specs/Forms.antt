@@ -65,7 +65,7 @@ group_members = record { tree = table.members.tree; keyed = member_keyed; at = �
 abbrev pub orphan : List ℕ → StoredFile
 orphan text = record { text = text; parent = None }
 
--- the parent that a text names: none where it is empty
+-- the parent that a column tells: none where it is empty; a text that is no name of a project doesn't read
 abbrev pub parent_in : Option (List ℕ) → Option (Option (List ℕ))
 parent_in None = None
 parent_in (Some []) = Some None

@@ -25,7 +25,7 @@ use Rattle.review_rows.specs.declared.rows.StoredFile.{StoredFile}
 use Rattle.review_rows.specs.Limits.{most_projects, most_bases}
 use Rattle.review_rows.specs.Rows.{Key, AccountKey, MemberKey, FileKey, BaseKey, PartKey, APart, Row, AccountRow, MemberRow, FileRow, BaseRow, Count, Projects, BasesOf, Tables, member_cmp, branch_cmp, base_cmp, member_row}
 
--- what a look-up finds, by its kind: a number, an account's name, the account or the change that was looked for, whether something is so, the members of a group, a project's text, the bases of a branch, a change, what a commit is to a branch, the changes that joined a branch
+-- what a look-up finds, by its kind: a number, an account's name, the account or the change that was looked for, whether something is so, the members of a group, the file of a project with its parent, the bases of a branch, a change, what a commit is to a branch, the changes that joined a branch
 pub data Found : Type 0 where
   Number : ℕ → Found
   Name : Option (List ℕ) → Found

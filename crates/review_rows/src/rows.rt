@@ -148,7 +148,7 @@ pub enum Want {
     Member(MemberKey),
     /// All members of a group.
     Group(GroupName),
-    /// The file of a project.
+    /// The file that a project has of its own, with the parent that it names.
     File(ProjectName),
     /// Whether a project is there, without its file.
     Project(ProjectName),

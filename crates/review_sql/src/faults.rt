@@ -14,7 +14,7 @@ pub enum DeskFault {
     Store,
     /// A table of one of the names that tables of a desk have is there.
     NotEmpty,
-    /// The tables are not those that `create` makes, or not these alone.
+    /// The tables are not those that `create` makes, or for `migrate` those of an earlier version; or not these alone; or two rows of one have the same rowid.
     NotOurs,
     /// There was no memory for it.
     Memory,

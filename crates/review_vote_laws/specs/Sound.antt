@@ -17,12 +17,12 @@ AreOfLabels file c = (n : ℕ) (l : List ℕ) (a : ℕ) → voted (c.vote n l a)
 
 -- Every project of the history is sound, and so are the votes by its file.
 pub record AreSoundProjects (h : List Entry) : Type 0 where
-  -- one parent after the other is a project, and the last has none
+  -- one parent after the other is a project, within the greatest depth, and the last has none
   pub lines : (project : List ℕ) → is_project h project ≡ true → ends (own_of h) most_depth project ≡ true
   -- no effective file has lost a label or a value that it had after some first requests
   pub labels : (reading : Reading) → Reads reading h → (later before : List Entry) → h ≡ later ++ before → (project : List ℕ) → is_project before project ≡ true →
       covers (file_of reading before project) (file_of reading h project) ≡ true
   -- the requirements of each effective file name its labels alone
   pub known : (reading : Reading) → Reads reading h → (project : List ℕ) → is_project h project ≡ true → names_unknown_label (file_of reading h project) ≡ false
-  -- each vote on a change is on a label of its project's effective file
+  -- each vote on a change is on a label of its project's effective file, with a value of it
   pub votes : (reading : Reading) → Reads reading h → (n : ℕ) (c : Change) → change reading h n ≡ Some c → AreOfLabels (file_of reading h c.project) c
