@@ -368,8 +368,8 @@ line_stays rows more both (suc n) p x added = (
   refl,
   line_length rows both n (option_and_then (parent_in rows) p) (option_and_then (parent_in both) p) x,
   λ none.
-  subst (λ q. AreSteps rows (line_steps rows n (option_and_then (parent_in rows) p) ++ x ∷ []) (line_steps both n q ++ x ∷ [])) (sym (above_stays rows more both p added none))
-  (line_stays rows more both n (option_and_then (parent_in rows) p) x added),
+      subst (λ q. AreSteps rows (line_steps rows n (option_and_then (parent_in rows) p) ++ x ∷ []) (line_steps both n q ++ x ∷ [])) (sym (above_stays rows more both p added none))
+      (line_stays rows more both n (option_and_then (parent_in rows) p) x added),
 )
 
 -- the parent of a project that is judged by stays, where the project's file is known
@@ -442,8 +442,8 @@ steps_stay file rows more both caller topic added = (
     sym (same_wants rows more both caller topic added none),
     line_length rows both most_depth (parent_of rows topic) (parent_of both topic) (file_wants file caller topic),
     λ made.
-    subst (λ p. AreSteps rows (line_steps rows most_depth (parent_of rows topic) ++ file_wants file caller topic ∷ []) (line_steps both most_depth p ++ file_wants file caller topic ∷ []))
-    (sym (parents_stay rows more both caller topic added none made)) (line_stays rows more both most_depth (parent_of rows topic) (file_wants file caller topic) added),
+        subst (λ p. AreSteps rows (line_steps rows most_depth (parent_of rows topic) ++ file_wants file caller topic ∷ []) (line_steps both most_depth p ++ file_wants file caller topic ∷ []))
+        (sym (parents_stay rows more both caller topic added none made)) (line_stays rows more both most_depth (parent_of rows topic) (file_wants file caller topic) added),
   ),
 )
 

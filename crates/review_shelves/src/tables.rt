@@ -20,8 +20,7 @@ use review_kept_changes::{KeptChanges, Prepared};
 use review_rows::{Delta, Kept, MemberKey, PlaceKey, Put, Recalled, StoredFile};
 use review_table::{Key, Table};
 use review_words::{
-    AccountName, AccountNo, CommitName, ProjectName, RequestId, admin_name,
-    administrators,
+    AccountName, AccountNo, CommitName, ProjectName, RequestId, admin_name, administrators,
 };
 use std::alloc::{AllocError, Global};
 
@@ -359,7 +358,10 @@ fn first_members(alloc: Global) -> Result<Table<MemberKey, ()>, AllocError>
 }
 
 // Drops the place of a project's file, where it holds none.
-fn release_file(files: &mut Table<ProjectName, StoredFile>, file: &Option<Put<ProjectName, StoredFile>>)
+fn release_file(
+    files: &mut Table<ProjectName, StoredFile>,
+    file: &Option<Put<ProjectName, StoredFile>>,
+)
     ensures same { rows_of files.new ≡ rows_of files.old }
     ensures filled { HasEmptyOnly (slice_cmp nat_cmp) (is_named (slice_cmp nat_cmp) (file_changes file.now)) files.old → HasNoEmptyPlace (slice_cmp nat_cmp) files.new }
 {
