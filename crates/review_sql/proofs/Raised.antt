@@ -1,13 +1,17 @@
 -- Tables of version 1 that are made those of a desk, in one transaction.
-use Rattle.std.proofs.Common.{◌≡◌, ◌≢◌, ◌∙◌, ◌⊎◌, inl, inr, ℕ, Bool, true, false, Some, Ok, Err, Result, OnOk, OnErr, IfOk, IfErr, IsTrue, refl, sym, ap, subst}
+use Rattle.std.proofs.Common.{◌≡◌, ◌≢◌, ◌∙◌, ◌⊎◌, inl, inr, ℕ, Bool, true, false, Some, Ok, Err, Result, OnOk, OnErr, IfOk, IfErr, IsTrue, refl, sym, ap, subst, arith}
 use Rattle.std.specs.Bool.{Decides}
+use Rattle.std.specs.Result.{is_ok}
+use Rattle.sqlite_tied.specs.Compute.{everything}
 use Rattle.sqlite_trees.specs.Tree.{Trees}
 use Rattle.sqlite_trees.specs.declared.store.Store.{Ghosts}
 use Rattle.sqlite.specs.Effect.{Database}
 use Rattle.sqlite.specs.Held.{Held, state}
-use Rattle.sqlite.specs.State.{State, HasCleanDisk}
+use Rattle.sqlite.specs.Listing.{listing_schema, understood}
+use Rattle.sqlite.specs.State.{State, HasCleanDisk, Survives}
 use Rattle.sqlite.specs.declared.error.Error.{Error}
 use Rattle.sqlite.proofs.StateLemmas.{survives_then, survives_weaker}
+use Rattle.review_statements.specs.declared.texts.TheConstants.{FIND_PROJECT}
 use Rattle.review_statements.specs.Desk.{desk_schema, schema_1}
 use Rattle.review_statements.specs.Ran.{Inside, Looks, OnDesk, Transacts, Within}
 use Rattle.review_tables.specs.Migrated.{Migrates}
@@ -21,13 +25,13 @@ use Rattle.review_sql.specs.declared.faults.DeskFault.TheVariants.{NotADesk, Wro
 use Rattle.review_sql.specs.declared.seen.Seen.{Seen}
 use Rattle.review_sql.specs.Changes.{SetsDesk}
 use Rattle.review_lookups.specs.Tables.{tables_at}
-use Rattle.review_sql.specs.Migrated.{IsBrought, IsNotMigrated, IsOpenedAsIs, IsRaised, IsUnfit, IsUpgraded, Upgrades, if_whole}
+use Rattle.review_sql.specs.Migrated.{IsBrought, IsNotMigrated, IsOpenedAsIs, IsRaised, IsUnfit, IsUpgraded, LeavesUpgraded, Upgrades, if_whole}
 use Rattle.review_sql.specs.Opened.{AreAllApart, AreApartIn, IsLacking, IsSeen}
 use Rattle.review_sql.specs.Said.{IsThere}
 use Rattle.review_sql.specs.Shelf.{Holds, Stays}
 use Rattle.review_sql.proofs.Again.{goes_on}
 use Rattle.review_sql.proofs.Made.{holds_opened, is_opened}
-use Rattle.review_sql.proofs.Saying.{first_of_ours}
+use Rattle.review_sql.proofs.Saying.{eleven, first_of_ours, not_ok}
 use Rattle.review_sql.proofs.Staying.{stays_then}
 use Rattle.review_sql.proofs.Upgraded.{Looked, upgrades, upgrades_others}
 
@@ -79,23 +83,56 @@ stays_acts {X} R s0 s1 s2 r stays acts = record {
 
 -- ---- refusals
 
+-- in tables of our form of version 1 no desk of version 2 is there
+unread : is_ok (understood schema_1 FIND_PROJECT.now) ≡ false
+unfolding understood everything listing_schema
+unread = refl
+
+pub no_second : (db : Database) (requests : ℕ) → db.schema ≡ schema_1 → IsThere Second db requests → ⊥
+no_second db requests has there =
+    let reads = there.tables.each FIND_PROJECT.now (2, (let l = eleven Second in omega (arith, l)), refl) in
+    not_ok _ reads.0 unread (sym (ap (λ s. understood s FIND_PROJECT.now) has) ∙ reads.1)
+
+-- what a refusal leaves, where a stop leaves so much
+unmigrated : (is_ours : Bool) (fault : DeskFault) (s t : State) → (IsTrue t.is_open → IsTrue s.is_open × (t.now ≡ s.now)) → Survives s t (LeavesUpgraded is_ours s) → ((fault ≡ NotADesk) ⊎ (fault ≡ WrongVersion) → Stays s t) → IsNotMigrated is_ours fault s t
+unmigrated is_ours fault s t undone survives stays = record {
+  undone = undone;
+  survives = survives;
+  no_first = stays;
+  second = λ ours requests there. record { kept = undone; survives = survives_weaker s t (LeavesUpgraded is_ours s) (λ _. ⊥) (λ _ db h. no_second s.now requests (h.form ours) there) survives };
+}
+
 -- nothing was done
-pub not_migrated : (is_ours : Bool) (s t : State) → Stays s t → IsNotMigrated is_ours s t
-not_migrated is_ours s t stays = record { undone = stays.kept; survives = survives_weaker s t (λ _. ⊥) _ (λ _ db h. absurd h) stays.survives }
+pub not_migrated : (is_ours : Bool) (fault : DeskFault) (s t : State) → Stays s t → IsNotMigrated is_ours fault s t
+not_migrated is_ours fault s t stays = unmigrated is_ours fault s t stays.kept (survives_weaker s t (λ _. ⊥) _ (λ _ db h. absurd h) stays.survives) (λ _. stays)
 
--- it was taken back
-pub taken_back : {X : Type 0} (is_ours : Bool) (requests : ℕ) (s t : State) (e : Error) → Transacts {X = X} (Upgrades is_ours requests) s t (Err e) → IsNotMigrated is_ours s t
-taken_back is_ours requests s t e acts = record {
-  undone = acts.undone;
-  survives = survives_weaker s t _ _ (λ _ db h. (h.0, (requests, h.1.0, h.1.1, h.1.2))) acts.survives;
-}
+pub not_migrated_if : {X : Type 0} (is_ours : Bool) (r : Result X DeskFault) (s t : State) → Stays s t → IfErr r (λ e. IsNotMigrated is_ours e s t)
+not_migrated_if is_ours (Ok x) s t stays = tt
+not_migrated_if is_ours (Err e) s t stays = not_migrated is_ours e s t stays
 
-pub unmigrated_then : (is_ours : Bool) (s0 s1 s2 : State) → Stays s0 s1 → IsNotMigrated is_ours s1 s2 → IsNotMigrated is_ours s0 s2
-unmigrated_then is_ours s0 s1 s2 stays it = record {
-  undone = λ is_open. let u = it.undone is_open in let was = stays.kept u.0 in (was.0, u.1 ∙ was.1);
-  survives = survives_then s0 s1 s2 _ _ _ (λ _ db h. absurd h)
-      (λ clean db h. let was = stays.kept h.0 in (was.0, (h.1.0, h.1.1, h.1.2, subst (λ (d : Database). Upgrades is_ours h.1.0 d h.1.1) was.1 h.1.3))) stays.survives it.survives;
-}
+-- it was taken back, after a desk of version 1 was seen, as ours where it is to be
+pub taken_back : {X : Type 0} (is_ours : Bool) (requests : ℕ) (fault : DeskFault) (r s t : State) (e : Error) → (fault ≢ NotADesk) × (fault ≢ WrongVersion) → Stays r s
+    → (IsTrue s.is_open → IsThere First r.now requests) → (IsTrue is_ours → r.now.schema ≡ schema_1) → Transacts {X = X} (Upgrades is_ours requests) s t (Err e) → IsNotMigrated is_ours fault r t
+taken_back is_ours requests fault r s t e plain stays there form acts = unmigrated is_ours fault r t
+    (λ is_open. let u = acts.undone is_open in let was = stays.kept u.0 in (was.0, u.1 ∙ was.1))
+    (survives_then r s t _ _ _ (λ _ db h. absurd h)
+    (λ clean db h. let was = stays.kept h.0 in record { is_open = was.0; requests = requests; there = there h.0; form = form; after = h.1.0; left = h.1.1; upgrades = subst (λ (d : Database). Upgrades is_ours requests d h.1.0) was.1 h.1.2 }) stays.survives acts.survives)
+    (λ is. absurd (elim is [ inl no_desk ↦ plain.0 no_desk | inr other ↦ plain.1 other ]))
+
+pub unmigrated_then : (is_ours : Bool) (fault : DeskFault) (s0 s1 s2 : State) → Stays s0 s1 → IsNotMigrated is_ours fault s1 s2 → IsNotMigrated is_ours fault s0 s2
+unmigrated_then is_ours fault s0 s1 s2 stays it = unmigrated is_ours fault s0 s2
+    (λ is_open. let u = it.undone is_open in let was = stays.kept u.0 in (was.0, u.1 ∙ was.1))
+    (survives_then s0 s1 s2 _ _ _ (λ _ db h. absurd h)
+    (λ clean db h. let was = stays.kept h.is_open in record {
+      is_open = was.0;
+      requests = h.requests;
+      there = subst (λ (d : Database). IsThere First d h.requests) was.1 h.there;
+      form = λ ours. sym (ap (λ (d : Database). d.schema) was.1) ∙ h.form ours;
+      after = h.after;
+      left = h.left;
+      upgrades = subst (λ (d : Database). Upgrades is_ours h.requests d h.after) was.1 h.upgrades;
+    }) stays.survives it.survives)
+    (λ is. stays_then s0 s1 s2 stays (it.no_first is))
 
 -- want of memory or a fault of the store says nothing of tables
 pub unfit_plainly : (db : Database) (fault : DeskFault) → (fault ≢ NotADesk) × (fault ≢ WrongVersion) × (fault ≢ NotEmpty) × (fault ≢ NotOurs) → IsUnfit db fault
@@ -115,10 +152,6 @@ unfit_seen s seen not it = unfit_others s.now Second seen.requests it.there (λ 
 
 -- ---- after the table `desk` was asked
 
-if_err : {X E : Type 0} (P : Type 0) (r : Result X E) → P → IfErr r (λ e. P)
-if_err P (Ok x) p = tt
-if_err P (Err e) p = p
-
 module _ {S : Type 0} (g : Ghosts S) (is_ours : Bool) (c0 c1 c2 : Held S) (stays : Stays (state g c0) (state g c1)) where
   -- tables of version 1 were made those of version 2
   pub brought_first : (r : Result ℕ DeskFault) → IfOk r (IsRaised g is_ours c1 c2) → IfOk r (IsBrought g is_ours c0 c2)
@@ -132,17 +165,17 @@ module _ {S : Type 0} (g : Ghosts S) (is_ours : Bool) (c0 c1 c2 : Held S) (stays
       same : HasCleanDisk (state g c2) → (state g c1).now ≡ (state g c0).now
       same clean = (stays.kept (it.acts.done clean).0).1
 
-  pub unmigrated_first : (r : Result ℕ DeskFault) → IfErr r (λ e. IsNotMigrated is_ours (state g c1) (state g c2)) → IfErr r (λ e. IsNotMigrated is_ours (state g c0) (state g c2))
+  pub unmigrated_first : (r : Result ℕ DeskFault) → IfErr r (λ e. IsNotMigrated is_ours e (state g c1) (state g c2)) → IfErr r (λ e. IsNotMigrated is_ours e (state g c0) (state g c2))
   unmigrated_first (Ok requests) it = tt
-  unmigrated_first (Err e) it = unmigrated_then is_ours (state g c0) (state g c1) (state g c2) stays it
+  unmigrated_first (Err e) it = unmigrated_then is_ours e (state g c0) (state g c1) (state g c2) stays it
 
-  pub unfit_first : (r : Result ℕ DeskFault) → IfErr r (λ e. IsNotMigrated is_ours (state g c1) (state g c2)) → IfErr r (IsUnfit (state g c1).now) → IsTrue (state g c2).is_open → IfErr r (IsUnfit (state g c0).now)
+  pub unfit_first : (r : Result ℕ DeskFault) → IfErr r (λ e. IsNotMigrated is_ours e (state g c1) (state g c2)) → IfErr r (IsUnfit (state g c1).now) → IsTrue (state g c2).is_open → IfErr r (IsUnfit (state g c0).now)
   unfit_first (Ok requests) left it is_open = tt
   unfit_first (Err e) left it is_open = subst (λ (d : Database). IsUnfit d e) (stays.kept (left.undone is_open).0).1 it
 
   -- tables of version 2 stay
-  pub unmigrated_second : (r : Result ℕ DeskFault) → Stays (state g c1) (state g c2) → IfErr r (λ e. IsNotMigrated is_ours (state g c0) (state g c2))
-  unmigrated_second r more = if_err _ r (not_migrated is_ours (state g c0) (state g c2) (stays_then (state g c0) (state g c1) (state g c2) stays more))
+  pub unmigrated_second : (r : Result ℕ DeskFault) → Stays (state g c1) (state g c2) → IfErr r (λ e. IsNotMigrated is_ours e (state g c0) (state g c2))
+  unmigrated_second r more = not_migrated_if is_ours r (state g c0) (state g c2) (stays_then (state g c0) (state g c1) (state g c2) stays more)
 
   pub unfit_second : (r : Result ℕ DeskFault) → Stays (state g c1) (state g c2) → IfErr r (IsUnfit (state g c1).now) → IsTrue (state g c2).is_open → IfErr r (IsUnfit (state g c0).now)
   unfit_second r more it is_open = subst (λ (d : Database). IfErr r (IsUnfit d)) (stays.kept (more.kept is_open).0).1 it

@@ -62,7 +62,7 @@ if_ok : (r : Checked Compiled) → is_ok r ≡ true → (c : Compiled) × (r ≡
 if_ok (Ok c) is = (c, refl)
 if_ok (Err e) is = absurd (cc)
 
-not_ok : (r : Checked Compiled) (c : Compiled) → is_ok r ≡ false → r ≡ Ok c → ⊥
+pub not_ok : (r : Checked Compiled) (c : Compiled) → is_ok r ≡ false → r ≡ Ok c → ⊥
 not_ok (Ok d) c fails is = cc
 not_ok (Err e) c fails is = cc
 

@@ -1,6 +1,7 @@
 -- What `migrate` does.
 use Rattle.std.specs.Prelude.{ℕ, ◌≡◌, ◌≢◌, ◌⊎◌, [], ◌∷◌, List, Bool, true, false, Result, Ok, Err, IsTrue, IfOk}
 use Rattle.sqlite_trees.specs.declared.store.Store.{Ghosts}
+use Rattle.sqlite_trees.specs.Tree.{Trees}
 use Rattle.sqlite.specs.Effect.{Database}
 use Rattle.sqlite.specs.State.{State, HasCleanDisk, Survives}
 use Rattle.sqlite.specs.Held.{Held, state}
@@ -24,7 +25,8 @@ use Rattle.review_sql.specs.Reopened.{ReopensLast}
 use Rattle.review_sql.specs.Said.{IsNone, IsThere, SaysOther}
 use Rattle.review_sql.specs.Shelf.{ShelfView, Stays, shown}
 
--- The tables of a history as version 1 keeps them: but for the version, which is 1, they have just what the history says.
+-- The tables of a history as version 1 keeps them: but for the version, which is 1, they have just what the history says. Tables of version 1 of a history whose entries are all of version 1
+-- meet it, since in such a history no project has a parent (`first_version_has_no_parents`).
 abbrev pub IsFirstView : List Entry → Tables → Type 0
 IsFirstView h t = (t.version ≡ 1) × IsView h (record t { version = tables_version })
 
@@ -56,11 +58,11 @@ pub record IsKept (is_ours : Bool) (old new : State) (requests : ℕ) : Type 0 w
   pub stays : Stays old new
   pub seen : IsTrue new.is_open → IsSeen old (record { is_ours = has_form; requests = requests })
 
--- tables of version 1 were made those of version 2, or were those
+-- tables of version 1 were made those of version 2, or tables of version 2 were kept
 abbrev pub IsBrought : {S : Type 0} → Ghosts S → Bool → Held S → Held S → ℕ → Type 0
 IsBrought g is_ours old new requests = IsRaised g is_ours old new requests ⊎ IsKept is_ours (state g old) (state g new) requests
 
--- Of tables of version 1 those of version 2 were made. Where they are ours, they have the same history, and a stop within it leaves what one could leave before, or
+-- Of tables of version 1 those of version 2 were made. Where they are ours, these view the same history, if the old ones view it as version 1 keeps it; and a stop within it leaves what one could leave before, or
 -- these, and one after it these alone.
 pub record IsUpgraded {S : Type 0} (g : Ghosts S) (is_ours : Bool) (conn : Held S) (shelf : ShelfView S) : Type 0 where
   pub faults : shelf.faults ≡ 0
@@ -76,10 +78,23 @@ pub record IsOpenedAsIs {S : Type 0} (g : Ghosts S) (is_ours : Bool) (conn : Hel
   pub there : IsTrue (state g shelf.conn).is_open → IsThere Second (state g conn).now shelf.requests
   pub goes_on : ReopensLast g is_ours conn shelf
 
--- A refusal leaves what was. A stop within it leaves that or, of tables of version 1, those of version 2 with the same history.
-pub record IsNotMigrated (is_ours : Bool) (old new : State) : Type 0 where
+-- What a stop within `migrate` may leave beside what was, where a desk of version 1 is there: of tables of ours, which have our form, those of version 2 with the same history; of those of others nothing is said.
+pub record LeavesUpgraded (is_ours : Bool) (old : State) (db : Trees) : Type 0 where
+  pub is_open : IsTrue old.is_open
+  pub requests : ℕ
+  pub there : IsThere First old.now requests
+  pub form : IsTrue is_ours → old.now.schema ≡ schema_1
+  pub after : Database
+  pub left : db ≡ after.trees
+  pub upgrades : Upgrades is_ours requests old.now after
+
+-- A refusal leaves what was. A stop within it leaves that or, of a desk of version 1 alone, what it becomes; and nothing but what was where it is refused as no desk or as another version,
+-- or where a desk of version 2 is there that is to be ours.
+pub record IsNotMigrated (is_ours : Bool) (fault : DeskFault) (old new : State) : Type 0 where
   pub undone : IsTrue new.is_open → IsTrue old.is_open × (new.now ≡ old.now)
-  pub survives : Survives old new (λ db. IsTrue old.is_open × ((requests : ℕ) × (after : Database) × (db ≡ after.trees) × Upgrades is_ours requests old.now after))
+  pub survives : Survives old new (LeavesUpgraded is_ours old)
+  pub no_first : (fault ≡ NotADesk) ⊎ (fault ≡ WrongVersion) → Stays old new
+  pub second : IsTrue is_ours → (requests : ℕ) → IsThere Second old.now requests → Stays old new
 
 -- Why tables are not migrated: as no desk only where they are none, or lack something of one of the version that they say; as another version only where they say neither version 1 nor 2; and as not ours only
 -- where a desk of one of these versions is there whose tables are of another form than was made here, or have two rows with one rowid.

@@ -76,7 +76,7 @@ pub record IsUnmade (old new : State) : Type 0 where
   pub undone : IsTrue new.is_open → IsTrue old.is_open × (new.now ≡ old.now)
   pub survives : Survives old new (λ db. IsTrue old.is_open × ((after : Database) × (db ≡ after.trees) × MakesDesk old.now after))
 
--- a text that reads no column of a table of one of the names that tables of a desk have is understood
+-- a text that reads no column of a table of one of the names that tables of a desk have in any version is understood
 abbrev pub IsAnyThere : Schema → Type 0
 IsAnyThere schema = (sql : List ℕ) × Contains (map (λ t. t.now) ANY_ROW) sql × IsUnderstood schema sql
 

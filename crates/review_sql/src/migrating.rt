@@ -127,7 +127,7 @@ fn upgrade<S: Alter>(
     requires says { IsTrue (state S.Store conn.old).is_open → SaysVersion TablesVersion.First (state S.Store conn.old).now said }
     ensures mode { conn.new.in_transaction ≡ false }
     ensures raised { IfOk result (IsRaised S.Store is_ours conn.old conn.new) }
-    ensures refused { IfErr result (λ e. IsNotMigrated is_ours (state S.Store conn.old) (state S.Store conn.new)) }
+    ensures refused { IfErr result (λ e. IsNotMigrated is_ours e (state S.Store conn.old) (state S.Store conn.new)) }
     ensures unfit { IsTrue (state S.Store conn.new).is_open → IfErr result (IsUnfit (state S.Store conn.old).now) }
     ensures ours { IfErr result (λ e. e ≡ DeskFault.NotOurs → IsTrue is_ours) }
 {
@@ -173,7 +173,7 @@ pub fn bring<S: Alter>(
     requires mode { conn.old.in_transaction ≡ false }
     ensures mode { conn.new.in_transaction ≡ false }
     ensures brought { IfOk result (IsBrought S.Store is_ours conn.old conn.new) }
-    ensures refused { IfErr result (λ e. IsNotMigrated is_ours (state S.Store conn.old) (state S.Store conn.new)) }
+    ensures refused { IfErr result (λ e. IsNotMigrated is_ours e (state S.Store conn.old) (state S.Store conn.new)) }
     ensures unfit { IsTrue (state S.Store conn.new).is_open → IfErr result (IsUnfit (state S.Store conn.old).now) }
     ensures ours { IfErr result (λ e. e ≡ DeskFault.NotOurs → IsTrue is_ours) }
 {

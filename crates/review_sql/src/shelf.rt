@@ -200,7 +200,7 @@ impl<S: Alter + Drop, O: Origin> SqlShelf<S, O> {
     /// Opens a desk whose tables are of version 2, as `open` does, or makes tables of version 1 those of version 2, in one transaction: the projects move to the
     /// table of version 2, where none has a parent, and the table `desk` says version 2. Of tables of ours that are those of a history, as version 1 keeps
     /// them, the shelf shows those of the same history. A refusal hands the connection back with its tables as they were; a stop
-    /// leaves the tables as they were, or those of version 2.
+    /// leaves the tables as they were, or, of a desk of version 1 alone, those of version 2.
     ///
     /// It is NotADesk where the row of the table `desk` is missing or says no version, or says no requests, or a table of records of its version is missing;
     /// WrongVersion where it says neither version 1 nor 2; and NotOurs where the shelf is to be ours and the tables
@@ -212,7 +212,7 @@ impl<S: Alter + Drop, O: Origin> SqlShelf<S, O> {
         requires mode { conn.in_transaction ≡ false }
         ensures migrated { IfOk result (λ s. IsUpgraded S.Store O.IS_OURS conn s ⊎ IsOpenedAsIs S.Store O.IS_OURS conn s) }
         ensures mode { IfErr result (λ e. e.0.in_transaction ≡ false) }
-        ensures refused { IfErr result (λ e. IsNotMigrated O.IS_OURS (state S.Store conn) (state S.Store e.0)) }
+        ensures refused { IfErr result (λ e. IsNotMigrated O.IS_OURS e.1 (state S.Store conn) (state S.Store e.0)) }
         ensures cause { IfErr result (λ e. IsTrue (state S.Store e.0).is_open → IsUnfit (state S.Store conn).now e.1) }
         ensures ours { IfErr result (λ e. e.1 ≡ DeskFault.NotOurs → IsTrue O.IS_OURS) }
     {
