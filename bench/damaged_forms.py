@@ -86,8 +86,12 @@ def texts_of(conn):
     return [(name, sql) for name, sql in conn.execute("SELECT name, sql FROM sqlite_schema WHERE type = 'table' AND sql IS NOT NULL ORDER BY rowid")]
 
 
+# A table of version 1, whose place among the others a desk of version 2 leaves free.
+PROJECTS_1 = "CREATE TABLE projects (name TEXT NOT NULL, file TEXT NOT NULL, PRIMARY KEY (name))"
+
+
 def made_anew(file, begin, of_text=None, journal="delete"):
-    """Makes the desk anew with SQLite alone: with these settings, and with each table's text changed."""
+    """Makes the desk anew with SQLite alone: with these settings, and with each table's text changed. The tables get the places in SQLite's list that `init` gives them."""
     made = file + "-made"
     with contextlib.closing(sqlite3.connect(file)) as old, contextlib.closing(sqlite3.connect(made, isolation_level=None)) as new:
         new.executescript(begin)
@@ -95,9 +99,12 @@ def made_anew(file, begin, of_text=None, journal="delete"):
         new.execute("BEGIN")
         for name, sql in texts_of(old):
             new.execute(re.sub(of_text[0], of_text[1], sql, *of_text[2:]) if of_text else sql)
+            if name == "members":
+                new.execute(PROJECTS_1)
             columns = [row[1] for row in old.execute(f"PRAGMA table_info({name})")]
             for row in old.execute(f"SELECT * FROM {name}"):
                 new.execute(f"INSERT INTO {name} ({', '.join(columns)}) VALUES ({', '.join('?' * len(row))})", row)
+        new.execute("DROP TABLE projects")
         new.execute("COMMIT")
     for end in ("", "-wal", "-shm"):
         if os.path.exists(file + end):
