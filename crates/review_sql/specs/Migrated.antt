@@ -25,8 +25,8 @@ use Rattle.review_sql.specs.Reopened.{ReopensLast}
 use Rattle.review_sql.specs.Said.{IsNone, IsThere, SaysOther}
 use Rattle.review_sql.specs.Shelf.{ShelfView, Stays, shown}
 
--- The tables of a history as version 1 keeps them: but for the version, which is 1, they have just what the history says. Tables of version 1 of a history whose entries are all of version 1
--- meet it, since in such a history no project has a parent (`first_version_has_no_parents`).
+-- The tables of a history as version 1 keeps them: but for the version, which is 1, they have just what the history says. Tables of version 1, which tell of no
+-- parents, can be so for a history whose entries are all of version 1, since no project has a parent there (`first_version_has_no_parents`).
 abbrev pub IsFirstView : List Entry → Tables → Type 0
 IsFirstView h t = (t.version ≡ 1) × IsView h (record t { version = tables_version })
 

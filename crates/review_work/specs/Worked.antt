@@ -111,7 +111,7 @@ IsDoneOn {S} g Did Refuses old new =
 pub record Worked {S : Type 0} (g : Ghosts S) (task : Task) (before after : Known) (ended : Result Outcome ProgramFault) (old new : Held S) : Type 0 where
   pub how : IsDoneOn g (Does task before after ended) (λ (s t : Held S). IsRefusedDesk g before after s t ended) old new
 
--- Why no desk was made: never as no desk or another version; where it was for a table of one of the names that tables of a desk have, one is there, and nothing was touched; and
+-- Why no desk was made: never as no desk or another version; where it was for a table of one of the names that tables of a desk have in any version, one is there, and nothing was touched; and
 -- not as not ours but where one of ours was to be made, in a store with tables.
 abbrev pub IsCauseOf : {S : Type 0} → Ghosts S → Bool → Held S → Held S → DeskFault → Type 0
 IsCauseOf g is_ours old new cause =
@@ -140,7 +140,7 @@ pub record IsUnmigrated {S X : Type 0} (g : Ghosts S) (is_ours : Bool) (ended : 
   pub fault : DeskFault
   pub ends : ended ≡ Err (desk_fault fault)
   pub lacking : fault ≢ NotOurs
-  pub left : IsNotMigrated is_ours (state g old) (state g new)
+  pub left : IsNotMigrated is_ours fault (state g old) (state g new)
   pub cause : IsTrue (state g new).is_open → IsUnfit (state g old).now fault
 
 -- Tables were migrated as ours or not, or none were. It was told that they are not ours where they were migrated so, and only there.
@@ -150,7 +150,7 @@ IsMigratedOrNot g is_ours before after ended old new =
 
 -- tables were not migrated as ours, since they are not
 pub record AreOthers {S : Type 0} (g : Ghosts S) (old new : Held S) : Type 0 where
-  pub left : IsNotMigrated true (state g old) (state g new)
+  pub left : IsNotMigrated true NotOurs (state g old) (state g new)
   pub cause : IsTrue (state g new).is_open → IsUnfit (state g old).now NotOurs
 
 -- Tables were migrated as ours, or none were; where they are not ours, they were migrated as those of others, or none were.

@@ -1,7 +1,7 @@
-use Rattle.std.proofs.Common.{rules, refl, Err, IsTrue, ap, inl, inr, subst}
+use Rattle.std.proofs.Common.{rules, refl, Err, IsTrue, true, ap, inl, inr, subst}
 use Rattle.sqlite.specs.Held.{state}
 use Rattle.review_sql.specs.declared.faults.DeskFault.{DeskFault}
-use Rattle.review_sql.specs.Migrated.{IsUnfit}
+use Rattle.review_sql.specs.Migrated.{IsNotMigrated, IsUnfit}
 use Rattle.review_work.proofs.working.migrate.Goals as goal
 
 pub returns-in-Ok-clause-migrated : goal.returns-in-Ok-clause-migrated
@@ -23,4 +23,5 @@ pub returns-in-Err-default-NotOurs-clause-migrated : goal.returns-in-Err-default
 returns-in-Err-default-NotOurs-clause-migrated g c =
     let it = c.in-Err-default-NotOurs in
     let cause = subst (λ (f : DeskFault). IsTrue (state g.S.Store it.conn).is_open → IsUnfit (state g.S.Store c.args.conn).now f) it.field-0-1-is it.ensures.cause in
-    inr (it.conn, record { left = it.ensures.refused; cause = cause }, c.migrate_others.ensures.migrated)
+    let left = subst (λ (f : DeskFault). IsNotMigrated true f (state g.S.Store c.args.conn) (state g.S.Store it.conn)) it.field-0-1-is it.ensures.refused in
+    inr (it.conn, record { left = left; cause = cause }, c.migrate_others.ensures.migrated)
