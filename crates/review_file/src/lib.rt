@@ -14,10 +14,10 @@
 //! [`read_file`] gives the file that a text spells, or the first of its faults in the order of
 //! [`FileFault`]; its contract says which. A file, a [`Label`] and a [`Requirement`] are shared: a copy has the same parts and takes no memory.
 //! What is true of every file [`ProjectFile::facts`] tells. [`covers`] holds one file against another and takes no
-//! memory. [`inherit`] gives the effective file of a project whose file goes on from its parent's, and
-//! [`named_parent`] the parent that a text names. A [`ReadLine`] is an effective file with the texts of the project
-//! and its ancestors, which spell it; a [`FileMemo`] remembers those that were read, by project, each held to its
-//! texts, and hands out copies. What a file gives an account `review_ranges` says; what an expression is, and when it
+//! memory. [`inherit`] gives the effective file of a project whose file goes on from its parent's. A [`ReadLine`] is
+//! an effective file with the texts of the project and its ancestors, which spell it; a [`FileMemo`] remembers those
+//! that were read, by project, each held to its texts, and hands out copies; and it tells the parent that a text
+//! names. What a file gives an account `review_ranges` says; what an expression is, and when it
 //! holds, `review_expr`.
 #![tactic(auto)]
 
