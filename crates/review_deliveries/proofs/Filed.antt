@@ -24,7 +24,7 @@ use Rattle.review_rows.specs.Known.{Found, Number, Name, Holder, IsSo, Members, 
 use Rattle.review_rows.specs.Lines.{line_of, most_depth, with_above}
 use Rattle.review_rows.specs.Rows.{APart, Tables}
 use Rattle.review_rows.specs.Shelf.{Shows, IsDamaged}
-use Rattle.review_rows.specs.Steps.{Topic, OfCommand, OfQuery, HasFile, asks_file, line_steps, line_wants, needs_file, next, own_in, parent_in, parent_of, parent_or, project_for, project_of, texts_for, texts_in, unknown}
+use Rattle.review_rows.specs.Steps.{Topic, OfCommand, OfQuery, HasFile, asks_file, line_steps, line_wants, needs_file, next, own_in, known_parent, parent_of, parent_or, project_for, project_of, texts_for, texts_in, unknown}
 use Rattle.review_rows.specs.View.{view}
 use Rattle.review_rows.proofs.Asked.{each_known, line_asked}
 use Rattle.review_rows.proofs.Lined.{own_told, texts_told, there_is}
@@ -99,18 +99,18 @@ topic_judged reading h rows (OfQuery (asked.OnChange n query)) project agree the
 parent_is : (rows : Rows) (topic : Topic) (project : List ℕ) (f : StoredFile) → project_of rows topic ≡ Some project → own_in rows project ≡ Some f → parent_of rows topic ≡ f.parent
 parent_is rows topic project f is has = by topic is ∙ ap (option_and_then (λ (x : StoredFile). x.parent)) has
   where
-    by : (topic : Topic) → project_of rows topic ≡ Some project → parent_of rows topic ≡ parent_in rows project
+    by : (topic : Topic) → project_of rows topic ≡ Some project → parent_of rows topic ≡ known_parent rows project
     by (OfQuery (asked.Branch given branch)) is = absurd (cc)
-    by (OfQuery (asked.OnChange n query)) is = ap (option_and_then (parent_in rows)) is
+    by (OfQuery (asked.OnChange n query)) is = ap (option_and_then (known_parent rows)) is
     by (OfCommand (CreateAccount name)) is = absurd (cc)
     by (OfCommand (PutGroup group members)) is = absurd (cc)
     by (OfCommand (PutProject given text)) is =
         let same : given ≡ project = cc in
         ap (λ q. parent_or (named_parent text) (own_in rows q)) same ∙ ap (parent_or (named_parent text)) has ∙ sym (ap (option_and_then (λ (x : StoredFile). x.parent)) has)
     by (OfCommand (RecordBase given branch commit)) is = absurd (cc)
-    by (OfCommand (CreateChange new)) is = ap (option_and_then (parent_in rows)) is
-    by (OfCommand (OnChange n command)) is = ap (option_and_then (parent_in rows)) is
-    by (OfCommand (Submit n)) is = ap (option_and_then (parent_in rows)) is
+    by (OfCommand (CreateChange new)) is = ap (option_and_then (known_parent rows)) is
+    by (OfCommand (OnChange n command)) is = ap (option_and_then (known_parent rows)) is
+    by (OfCommand (Submit n)) is = ap (option_and_then (known_parent rows)) is
 
 -- the project whose line has texts, with what it has of its own
 record HasTexts (rows : Rows) (topic : Topic) : Type 0 where
@@ -149,7 +149,7 @@ pub are_of : (reading : Reading) (h : List Entry) (rows : Rows) (caller : ℕ) (
     texts_for rows topic ≡ text ∷ above → AreOf reading h topic (text ∷ above)
 are_of reading h rows caller topic text above agree left are =
     let t = has_texts rows caller topic text above left are in
-    let above_is : parent_in rows t.project ≡ t.file.parent = ap (option_and_then (λ (x : StoredFile). x.parent)) t.has in
+    let above_is : known_parent rows t.project ≡ t.file.parent = ap (option_and_then (λ (x : StoredFile). x.parent)) t.has in
     let told =
     texts_told reading h rows agree t.project t.asked (subst (λ p. AllByRecursion (λ s. unknown rows s ≡ []) (line_steps rows most_depth p)) (sym above_is) t.steps) in
     let there : is_project h t.project ≡ true = there_is h t.project ∙ (ap is_some (sym (own_told reading h rows t.project agree t.asked)) ∙ ap is_some t.has) in
@@ -184,7 +184,7 @@ project_stays first rows (OfCommand (Submit n)) project stays is = change_stays 
 -- fewer steps ask for less
 fewer : (rows : Rows) (n : ℕ) (p : Option (List ℕ)) → AllByRecursion (λ s. unknown rows s ≡ []) (line_steps rows (suc n) p) → AllByRecursion (λ s. unknown rows s ≡ []) (line_steps rows n p)
 fewer rows zero p all = tt
-fewer rows (suc n) p all = (all.0, fewer rows n (option_and_then (parent_in rows) p) all.1)
+fewer rows (suc n) p all = (all.0, fewer rows n (option_and_then (known_parent rows) p) all.1)
 
 module _ (first rows : Rows) (stays : StaysKnown first rows) where
   -- a line that was asked for is the same in more rows

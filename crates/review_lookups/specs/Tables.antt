@@ -6,6 +6,7 @@ use Rattle.sqlite_value.specs.declared.value.Value.TheVariants.{Text}
 use Rattle.sqlite_trees.specs.Tree.{Trees}
 use Rattle.review_words.specs.History.{Identity}
 use Rattle.review_changes.specs.Parts.{Part, TheHeader, PatchOf, VoteOf, RoleOf, CommentOf, AttentionOf, AHeader, APatch, ARole, AComment, ACall}
+use Rattle.review_rows.specs.View.{tables_version}
 use Rattle.review_rows.specs.Rows.{Key, AccountKey, MemberKey, FileKey, BaseKey, PartKey, OddKey, Row, AccountRow, MemberRow, FileRow, BaseRow, APart, OddRow, vote_row, Count, Projects, BasesOf, Stored, Answered, OddAnswer, Tables}
 use Rattle.review_statements.specs.Search.{rows_at, row_at}
 use Rattle.review_records.specs.declared.rows.DeskRow.{DeskRow}
@@ -87,4 +88,4 @@ tables_at db = record {
 
 -- the row of the desk says version 2 and so many requests
 abbrev pub IsDesk : ℕ → Trees → Type 0
-IsDesk requests db = row_at desk db tt ≡ Some (Some (record { version = 2; requests = requests }))
+IsDesk requests db = row_at desk db tt ≡ Some (Some (record { version = tables_version; requests = requests }))

@@ -1,9 +1,10 @@
 //! What is asked of a project and its ancestors.
-ghost use Rattle.std.specs.Prelude.{◌≡◌, IfOk, option_copied};
+ghost use Rattle.std.specs.Prelude.{◌≡◌, IfOk, option_and_then, option_copied};
 ghost use Rattle.review_project.specs.Reading.{named_parent};
 ghost use Rattle.review_rows.specs.Lines.{most_depth};
-ghost use Rattle.review_rows.specs.Steps.{line_steps, next_of, own_in, parent_in, parent_of, parent_or, topic_of};
+ghost use Rattle.review_rows.specs.Steps.{line_steps, next_of, own_in, known_parent, parent_of, parent_or, topic_of};
 
+use crate::changes::file_want;
 use crate::judging::project_of;
 use review_file::{FileMemo, MOST_DEPTH};
 use review_rows::{Matter, Rows, StoredFile, Want};
@@ -20,70 +21,34 @@ pub fn wants_above(
 ) -> Result<Vec<Want>, AllocError>
     ensures { IfOk result (λ wants. wants.items ≡ next_of rows.now (line_steps rows.now most_depth (parent_of rows.now (topic_of matter.entry)))) }
 {
-    let parent = parent_of(alloc, memo, rows, matter)?;
-    line_wants(alloc, rows, parent.as_ref())
-}
-
-// The parent of the project by whose file a command or a question is judged; of a project that gets its first file the one that this names.
-fn parent_of(
-    alloc: Global,
-    memo: &mut FileMemo,
-    rows: &Rows,
-    matter: Matter<'_>,
-) -> Result<Option<ProjectName>, AllocError>
-    ensures { IfOk result (λ parent. parent ≡ parent_of rows.now (topic_of matter.entry)) }
-{
     if let Matter::Command(Command::PutProject { project, file }) = matter {
-        return parent_put(alloc, memo, rows, project, file);
+        return wants_above_put(alloc, memo, rows, project, file);
     }
     match project_of(rows, matter) {
-        Some(project) => parent_known(alloc, rows, project),
-        None => Ok(None),
+        Some(project) => line_wants(alloc, rows, parent_known(rows, project)),
+        None => line_wants(alloc, rows, None),
     }
 }
 
-// The parent of a project that gets a file: that of the one that it has, or else the one that the new one names.
-fn parent_put(
+// The same of a project that gets a file: above the one that it has, or else above the new one.
+fn wants_above_put(
     alloc: Global,
     memo: &mut FileMemo,
     rows: &Rows,
     project: &ProjectName,
     file: &FileText,
-) -> Result<Option<ProjectName>, AllocError>
-    ensures { IfOk result (λ parent. parent ≡ parent_or (named_parent file.now) (own_in rows.now project.now)) }
+) -> Result<Vec<Want>, AllocError>
+    ensures { IfOk result (λ wants. wants.items ≡ next_of rows.now (line_steps rows.now most_depth (parent_or (named_parent file.now) (own_in rows.now project.now)))) }
 {
     match rows.file(project) {
-        Some(stored) => parent_in(alloc, stored),
-        None => memo.named_parent(alloc, file),
+        Some(stored) => line_wants(alloc, rows, stored.parent.as_ref()),
+        None => line_wants(alloc, rows, memo.named_parent(alloc, file)?.as_ref()),
     }
 }
 
 // The parent that a project is known to have.
-fn parent_known(
-    alloc: Global,
-    rows: &Rows,
-    project: &ProjectName,
-) -> Result<Option<ProjectName>, AllocError>
-    ensures { IfOk result (λ parent. parent ≡ parent_in rows.now project.now) }
-{
-    match rows.file(project) {
-        Some(stored) => parent_in(alloc, stored),
-        None => Ok(None),
-    }
-}
-
-fn parent_in(alloc: Global, stored: &StoredFile) -> Result<Option<ProjectName>, AllocError>
-    ensures { IfOk result (λ parent. parent ≡ stored.now.parent) }
-{
-    match &stored.parent {
-        Some(name) => Ok(Some(name.copy(alloc)?)),
-        None => Ok(None),
-    }
-}
-
-// The parent that a project of a line is known to have.
-fn next_parent<'r>(rows: &'r Rows, project: &ProjectName) -> Option<&'r ProjectName>
-    ensures { option_copied result ≡ parent_in rows.now project.now }
+fn parent_known<'r>(rows: &'r Rows, project: &ProjectName) -> Option<&'r ProjectName>
+    ensures { option_copied result ≡ known_parent rows.now project.now }
 {
     match rows.file(project) {
         Some(file) => file.parent.as_ref(),
@@ -91,8 +56,18 @@ fn next_parent<'r>(rows: &'r Rows, project: &ProjectName) -> Option<&'r ProjectN
     }
 }
 
+// The parent that a file names, where there is a file.
+fn parent_in(found: &Option<StoredFile>) -> Option<&ProjectName>
+    ensures { option_copied result ≡ option_and_then (λ f. f.parent) found.now }
+{
+    match found {
+        Some(file) => file.parent.as_ref(),
+        None => None,
+    }
+}
+
 // What is left of the first step of a line that has some left: the file of the first project of it whose file isn't known.
-#[tactic(auto, using(crate::proofs::Lined::line_known_at, crate::proofs::Lined::line_unknown_at, crate::proofs::Lined::no_line))]
+#[tactic(auto, using(crate::proofs::Lined::line_found, crate::proofs::Lined::line_unknown_at, crate::proofs::Lined::no_line))]
 fn line_wants<'r>(
     alloc: Global,
     rows: &'r Rows,
@@ -106,13 +81,10 @@ fn line_wants<'r>(
         let Some(name) = project else {
             return Ok(Vec::new(alloc));
         };
-        let want = Want::File(name.copy(alloc)?);
-        if !rows.knows(&want) {
-            let mut wants = Vec::new(alloc);
-            wants.push(want)?;
-            return Ok(wants);
-        }
-        project = next_parent(rows, name);
+        let Some(found) = rows.found_file(name) else {
+            return file_want(alloc, name);
+        };
+        project = parent_in(found);
         left -= 1;
     }
     Ok(Vec::new(alloc))

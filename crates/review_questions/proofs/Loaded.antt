@@ -23,7 +23,7 @@ use Rattle.std.specs.Option.{option_map_or}
 use Rattle.review_rows.specs.Decisions.{IsUnshown}
 use Rattle.review_rows.specs.Files.{File}
 use Rattle.review_rows.specs.Known.{IsKnown, change_in, known}
-use Rattle.review_rows.specs.Steps.{HasFile, OfQuery, line_steps, parent_in, project_for, question_wants, texts_in, unknown, wants_by}
+use Rattle.review_rows.specs.Steps.{HasFile, OfQuery, line_steps, known_parent, project_for, question_wants, texts_in, unknown, wants_by}
 use Rattle.review_rows.specs.View.{AreEnough, view}
 use Rattle.review_rows.specs.declared.rows.Rows.{Rows}
 use Rattle.review_rows.specs.declared.rows.Want.TheVariants as want
@@ -69,7 +69,7 @@ has_file reading h caller n had rows c found l =
     let line = line_asked had rows caller (OfQuery (asked.OnChange n Requirements)) l.nothing_left in
     subst (λ t. HasFile t had)
     (ap (texts_in rows) start
-    ∙ texts_told reading h rows l.agree c.project there (subst (λ o. AllByRecursion (λ s. unknown rows s ≡ []) (line_steps rows most_depth (option_and_then (parent_in rows) o))) start line)) l.file_is
+    ∙ texts_told reading h rows l.agree c.project there (subst (λ o. AllByRecursion (λ s. unknown rows s ≡ []) (line_steps rows most_depth (option_and_then (known_parent rows) o))) start line)) l.file_is
 
 -- a project that is there has texts
 some_texts : (h : List Entry) (project : List ℕ) → is_project h project ≡ true → texts_of h project ≡ [] → ⊥

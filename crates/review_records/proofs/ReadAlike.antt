@@ -17,7 +17,7 @@ use Rattle.review_statements.specs.Moved.{AreMoved, columns_of, without_parent}
 use Rattle.review_statements.specs.Search.{only, reads, rows_at}
 use Rattle.review_tables.specs.Columns.{text_in}
 use Rattle.review_records.specs.Keyed.{is_text, project_keyed}
-use Rattle.review_records.specs.Forms.{file_in, first_projects, orphan, parent_in, projects}
+use Rattle.review_records.specs.Forms.{stored_file, first_projects, file_without_parent, stored_parent, projects}
 use Rattle.review_rows.specs.declared.rows.StoredFile.{StoredFile}
 use Rattle.review_records.specs.Laws.{no_text}
 
@@ -79,12 +79,12 @@ module _ (old new : List Raw) (moved : AreMoved without_parent old new) (keyed :
   reads_on : (r s : Raw) (f : StoredFile) → columns_of s ≡ without_parent r → reads first_projects r ≡ Some f → reads projects s ≡ Some f
   reads_on r s f same is = by (text_in (column r 2)) refl is
     where
-      by : (o : Option (List ℕ)) → text_in (column r 2) ≡ o → option_map orphan o ≡ Some f → reads projects s ≡ Some f
+      by : (o : Option (List ℕ)) → text_in (column r 2) ≡ o → option_map file_without_parent o ≡ Some f → reads projects s ≡ Some f
       by None e h = absurd (cc)
       by (Some t) e h =
           let file : column s 2 ≡ column r 2 = sym (behind s 1) ∙ ap (λ c. column c 1) same ∙ reads_text (column r 2) t e in
           let parent : column s 3 ≡ Text [] = sym (behind s 2) ∙ ap (λ c. column c 2) same in
-          (λ i. file_in (text_in (file i)) (parent_in (text_in (parent i)))) ∙ rw (e, no_text) h
+          (λ i. stored_file (text_in (file i)) (stored_parent (text_in (parent i)))) ∙ rw (e, no_text) h
 
   only_on : (xs ys : List Raw) → IsPermutation (map without_parent xs) (map columns_of ys) → (file : Option StoredFile) → only (reads first_projects) xs ≡ option_map Some file → only (reads projects) ys ≡ option_map Some file
   only_on [] [] same file is = is

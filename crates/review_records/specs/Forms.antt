@@ -62,19 +62,19 @@ group_members = record { tree = table.members.tree; keyed = member_keyed; at = �
 -- ---- projects
 
 -- the file of a project that has no parent
-abbrev pub orphan : List ℕ → StoredFile
-orphan text = record { text = text; parent = None }
+abbrev pub file_without_parent : List ℕ → StoredFile
+file_without_parent text = record { text = text; parent = None }
 
 -- the parent that a column tells: none where it is empty; a text that is no name of a project doesn't read
-abbrev pub parent_in : Option (List ℕ) → Option (Option (List ℕ))
-parent_in None = None
-parent_in (Some []) = Some None
-parent_in (Some (b ∷ name)) = option_map Some (where_is is_slashed_name (Some (b ∷ name)))
+abbrev pub stored_parent : Option (List ℕ) → Option (Option (List ℕ))
+stored_parent None = None
+stored_parent (Some []) = Some None
+stored_parent (Some (b ∷ name)) = option_map Some (where_is is_slashed_name (Some (b ∷ name)))
 
 -- the file of a project, where its parts are there
-abbrev pub file_in : Option (List ℕ) → Option (Option (List ℕ)) → Option StoredFile
-file_in (Some text) (Some parent) = Some (record { text = text; parent = parent })
-file_in _ _ = None
+abbrev pub stored_file : Option (List ℕ) → Option (Option (List ℕ)) → Option StoredFile
+stored_file (Some text) (Some parent) = Some (record { text = text; parent = parent })
+stored_file _ _ = None
 
 -- the file of a project
 abbrev pub projects : Search (List ℕ) StoredFile
@@ -83,7 +83,7 @@ projects = record {
   keyed = project_keyed;
   at = λ project. (1, Text project) ∷ [];
   columns = 2 ∷ 3 ∷ [];
-  read = λ r. file_in (text_in (column r 0)) (parent_in (text_in (column r 1)));
+  read = λ r. stored_file (text_in (column r 0)) (stored_parent (text_in (column r 1)));
 }
 
 -- a parent as it is stored: the empty text for none
@@ -105,7 +105,7 @@ project_names = record { tree = table.projects_2.tree; keyed = project_keyed; at
 
 -- the file of a project as version 1 keeps it, where no project has a parent
 abbrev pub first_projects : Search (List ℕ) StoredFile
-first_projects = record { tree = table.projects.tree; keyed = project_keyed; at = λ project. (1, Text project) ∷ []; columns = 2 ∷ []; read = λ r. option_map orphan (text_in (column r 0)) }
+first_projects = record { tree = table.projects.tree; keyed = project_keyed; at = λ project. (1, Text project) ∷ []; columns = 2 ∷ []; read = λ r. option_map file_without_parent (text_in (column r 0)) }
 
 -- ---- bases
 

@@ -18,7 +18,7 @@ use Rattle.review_statements.specs.Search.{IsLawful}
 use Rattle.review_statements.specs.Content.{is_value}
 use Rattle.review_tables.proofs.Keys.{equal_is, int_is, itself, same_int, same_text, text_is}
 use Rattle.review_records.specs.Keyed.{is_number, is_small, is_text}
-use Rattle.review_records.specs.Forms.{where_is, alone, both, member_parts, group_members, base_parts, branch_bases, accounts, account_form, members, member_form, projects, project_form, parent_in, parent_text, is_parent, file_in, bases, base_form, answers, answer_form, desk, desk_form}
+use Rattle.review_records.specs.Forms.{where_is, alone, both, member_parts, group_members, base_parts, branch_bases, accounts, account_form, members, member_form, projects, project_form, stored_parent, parent_text, is_parent, stored_file, bases, base_form, answers, answer_form, desk, desk_form}
 use Rattle.review_names.specs.Forms.{is_commit, is_slashed_name, is_step}
 
 -- a value that has a number of a kind is one of that kind
@@ -69,8 +69,8 @@ unfolding is_slashed_name is_step
 never_empty is = cc
 
 -- a parent reads as itself
-pub reads_parent : (parent : Option (List ℕ)) → is_parent parent ≡ true → parent_in (text_in (Text (parent_text parent))) ≡ Some parent
-reads_parent None good = ap parent_in no_text
+pub reads_parent : (parent : Option (List ℕ)) → is_parent parent ≡ true → stored_parent (text_in (Text (parent_text parent))) ≡ Some parent
+reads_parent None good = ap stored_parent no_text
 reads_parent (Some []) good = absurd (never_empty (and_parts (is_utf8 []) (is_slashed_name []) good).1)
 reads_parent (Some (b ∷ name)) good = let parts = and_parts (is_utf8 (b ∷ name)) (is_slashed_name (b ∷ name)) good in rw (parts.0, parts.1) refl
 
@@ -79,7 +79,7 @@ project_lawful = record {
   keyed = λ project file id. ap (λ b. b && true) (itself (Text project));
   reads_back = λ project file id good.
       let parts = and_parts (is_utf8 file.text) (is_parent file.parent) good in
-      (λ i. file_in (reads_plain file.text parts.0 i) (reads_parent file.parent parts.1 i));
+      (λ i. stored_file (reads_plain file.text parts.0 i) (reads_parent file.parent parts.1 i));
   exact = λ a b r p q. same_text (column r 1) a b (and_parts _ _ p).0 (and_parts _ _ q).0;
   known = λ a r formed has. keyed_text (column r 1) a (and_parts _ _ has).0;
 }

@@ -7,7 +7,7 @@ ghost use Rattle.review_statements.specs.Greatest.{ShowsBeyond};
 ghost use Rattle.review_statements.specs.Ran.{Looks};
 ghost use Rattle.review_statements.specs.Search.{rows_at};
 ghost use Rattle.review_tables.specs.Columns.{text_in};
-ghost use Rattle.review_records.specs.Forms.{is_parent, parent_in, parent_text};
+ghost use Rattle.review_records.specs.Forms.{is_parent, stored_parent, parent_text};
 
 use crate::names::name_at;
 use review_rows::StoredFile;
@@ -24,7 +24,7 @@ pub struct Projects;
 
 // The parent that a column names; none where it is no text, or one that is no name of a project.
 fn parent_at(alloc: Global, row: &Row, at: usize) -> Result<Option<Option<ProjectName>>, AllocError>
-    ensures { IfOk result (λ parent. parent ≡ parent_in (text_in (column row.now at))) }
+    ensures { IfOk result (λ parent. parent ≡ stored_parent (text_in (column row.now at))) }
 {
     let Some(text) = text_at(row, at) else {
         return Ok(None);

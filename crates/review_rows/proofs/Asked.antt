@@ -33,7 +33,7 @@ use Rattle.review_chain.specs.Steps.{wanted, left as left_in_chain}
 use Rattle.review_chain.proofs.LookingUp.{fewer_left, most_left}
 use Rattle.review_chain.proofs.Wanting.{Says, still_wanted, walked_kept, wanted_says}
 use Rattle.review_rows.specs.Links.{link_for, links_in}
-use Rattle.review_rows.specs.Steps.{Topic, OfCommand, OfQuery, first_wants, change_wants, file_wants, given_wants, has_some, question_wants, request_wants, submit_wants, wants_by, own_in, parent_in, parent_or, needs_file, project_for, asks_file, parent_of, line_wants, line_steps, wanted_for, chain_wants, chain_left, last_of, last_wants, look_up, steps, unknown, or_next, next, next_of, left, left_before, left_if, left_of, left_where, AskingLowers, HasComeTo, IsWalkTo}
+use Rattle.review_rows.specs.Steps.{Topic, OfCommand, OfQuery, first_wants, change_wants, file_wants, given_wants, has_some, question_wants, request_wants, submit_wants, wants_by, own_in, known_parent, parent_or, needs_file, project_for, asks_file, parent_of, line_wants, line_steps, wanted_for, chain_wants, chain_left, last_of, last_wants, look_up, steps, unknown, or_next, next, next_of, left, left_before, left_if, left_of, left_where, AskingLowers, HasComeTo, IsWalkTo}
 
 -- what a look-up that was made found in tables that agree
 pub found_of : (t : Tables) (rows : Rows) (w : Want) → Agrees t rows → IsKnown rows w → (f : Found) × (known rows w ≡ Some f) × IsFound t w f
@@ -349,32 +349,32 @@ before_less (suc a) (suc b) last later less below = omega arith
 own_stays : (rows more both : Rows) (project : List ℕ) → AreAdded rows more both → IsKnown rows (want.File project) → own_in both project ≡ own_in rows project
 own_stays rows more both project added there = ap file_in (known_stays rows more both (want.File project) added there)
 
-parent_stays : (rows more both : Rows) (project : List ℕ) → AreAdded rows more both → IsKnown rows (want.File project) → parent_in both project ≡ parent_in rows project
+parent_stays : (rows more both : Rows) (project : List ℕ) → AreAdded rows more both → IsKnown rows (want.File project) → known_parent both project ≡ known_parent rows project
 parent_stays rows more both project added there = ap (option_and_then (λ f. f.parent)) (own_stays rows more both project added there)
 
 -- the next one of a line stays, once its file is known
-above_stays : (rows more both : Rows) (p : Option (List ℕ)) → AreAdded rows more both → unknown rows (line_wants p) ≡ [] → option_and_then (parent_in both) p ≡ option_and_then (parent_in rows) p
+above_stays : (rows more both : Rows) (p : Option (List ℕ)) → AreAdded rows more both → unknown rows (line_wants p) ≡ [] → option_and_then (known_parent both) p ≡ option_and_then (known_parent rows) p
 above_stays rows more both None added none = refl
 above_stays rows more both (Some project) added none = parent_stays rows more both project added (each_known rows (want.File project ∷ []) none).0
 
 -- as many steps ask for a line, whatever is known of it
 line_length : (rows both : Rows) (n : ℕ) (p q : Option (List ℕ)) (x : List Want) → length (line_steps rows n p ++ x ∷ []) ≡ length (line_steps both n q ++ x ∷ [])
 line_length rows both zero p q x = refl
-line_length rows both (suc n) p q x = let same = line_length rows both n (option_and_then (parent_in rows) p) (option_and_then (parent_in both) q) x in omega arith
+line_length rows both (suc n) p q x = let same = line_length rows both n (option_and_then (known_parent rows) p) (option_and_then (known_parent both) q) x in omega arith
 
 line_stays : (rows more both : Rows) (n : ℕ) (p : Option (List ℕ)) (x : List Want) → AreAdded rows more both → AreSteps rows (line_steps rows n p ++ x ∷ []) (line_steps both n p ++ x ∷ [])
 line_stays rows more both zero p x added = (refl, refl, λ none. tt)
 line_stays rows more both (suc n) p x added = (
   refl,
-  line_length rows both n (option_and_then (parent_in rows) p) (option_and_then (parent_in both) p) x,
+  line_length rows both n (option_and_then (known_parent rows) p) (option_and_then (known_parent both) p) x,
   λ none.
-      subst (λ q. AreSteps rows (line_steps rows n (option_and_then (parent_in rows) p) ++ x ∷ []) (line_steps both n q ++ x ∷ [])) (sym (above_stays rows more both p added none))
-      (line_stays rows more both n (option_and_then (parent_in rows) p) x added),
+      subst (λ q. AreSteps rows (line_steps rows n (option_and_then (known_parent rows) p) ++ x ∷ []) (line_steps both n q ++ x ∷ [])) (sym (above_stays rows more both p added none))
+      (line_stays rows more both n (option_and_then (known_parent rows) p) x added),
 )
 
 -- the parent of a project that is judged by stays, where the project's file is known
 judged_stays : (rows more both : Rows) (is : Bool) (o : Option Change) → AreAdded rows more both → ((c : Change) → o ≡ Some c → is ≡ true → IsKnown rows (want.File c.project)) →
-    option_and_then (parent_in both) (project_for is o) ≡ option_and_then (parent_in rows) (project_for is o)
+    option_and_then (known_parent both) (project_for is o) ≡ option_and_then (known_parent rows) (project_for is o)
 judged_stays rows more both false o added there = refl
 judged_stays rows more both true None added there = refl
 judged_stays rows more both true (Some c) added there = parent_stays rows more both c.project added (there c refl refl)
@@ -412,7 +412,7 @@ parents_stay : (rows more both : Rows) (caller : ℕ) (topic : Topic) → AreAdd
 parents_stay rows more both caller (OfQuery (asked.Branch project branch)) added first then = refl
 parents_stay rows more both caller (OfQuery (asked.OnChange n query)) added first then =
     let found = change_in (known rows (want.Change n)) in
-    ap (λ k. option_and_then (parent_in both) (project_for (asks_file query) (change_in k))) (known_stays rows more both (want.Change n) added (each_known rows (first_wants caller (OfQuery (asked.OnChange n query))) first).1.0)
+    ap (λ k. option_and_then (known_parent both) (project_for (asks_file query) (change_in k))) (known_stays rows more both (want.Change n) added (each_known rows (first_wants caller (OfQuery (asked.OnChange n query))) first).1.0)
     ∙ judged_stays rows more both (asks_file query) found added
     (λ c is judged. answered_asked rows query c (by_found rows (question_wants query) found c is (each_known rows (change_wants rows (OfQuery (asked.OnChange n query))) then)) judged)
 parents_stay rows more both caller (OfCommand (CreateAccount name)) added first then = refl
@@ -424,12 +424,12 @@ parents_stay rows more both caller (OfCommand (CreateChange new)) added first th
     parent_stays rows more both new.project added (each_known rows (first_wants caller (OfCommand (CreateChange new))) first).1.1.1.1.1.0
 parents_stay rows more both caller (OfCommand (OnChange n command)) added first then =
     let found = change_in (known rows (want.Change n)) in
-    ap (λ k. option_and_then (parent_in both) (project_for (needs_file command) (change_in k))) (known_stays rows more both (want.Change n) added (each_known rows (first_wants caller (OfCommand (OnChange n command))) first).1.1.1.0)
+    ap (λ k. option_and_then (known_parent both) (project_for (needs_file command) (change_in k))) (known_stays rows more both (want.Change n) added (each_known rows (first_wants caller (OfCommand (OnChange n command))) first).1.1.1.0)
     ∙ judged_stays rows more both (needs_file command) found added
     (λ c is judged. judged_asked rows command c (by_found rows (request_wants command) found c is (each_known rows (change_wants rows (OfCommand (OnChange n command))) then)) judged)
 parents_stay rows more both caller (OfCommand (Submit n)) added first then =
     let found = change_in (known rows (want.Change n)) in
-    ap (λ k. option_and_then (parent_in both) (project_for true (change_in k))) (known_stays rows more both (want.Change n) added (submit_known rows caller n first))
+    ap (λ k. option_and_then (known_parent both) (project_for true (change_in k))) (known_stays rows more both (want.Change n) added (submit_known rows caller n first))
     ∙ judged_stays rows more both true found added
     (λ c is judged. (by_found rows submit_wants found c is (each_known rows (change_wants rows (OfCommand (Submit n))) then)).0)
 

@@ -192,8 +192,8 @@ abbrev pub own_in : Rows → List ℕ → Option StoredFile
 own_in rows project = file_in (known rows (want.File project))
 
 -- the parent that a project is known to have
-abbrev pub parent_in : Rows → List ℕ → Option (List ℕ)
-parent_in rows project = option_and_then (λ f. f.parent) (own_in rows project)
+abbrev pub known_parent : Rows → List ℕ → Option (List ℕ)
+known_parent rows project = option_and_then (λ f. f.parent) (own_in rows project)
 
 -- the parent of a file that is there, or else this one
 abbrev pub parent_or : Option (List ℕ) → Option StoredFile → Option (List ℕ)
@@ -203,7 +203,7 @@ parent_or named (Some f) = f.parent
 -- the parent of the project by whose file a command or a question is judged; of a project that gets its first file the one that this names
 abbrev pub parent_of : Rows → Topic → Option (List ℕ)
 parent_of rows (OfCommand (PutProject project text)) = parent_or (named_parent text) (own_in rows project)
-parent_of rows topic = option_and_then (parent_in rows) (project_of rows topic)
+parent_of rows topic = option_and_then (known_parent rows) (project_of rows topic)
 
 -- the file of a project, where there is one to ask for
 abbrev pub line_wants : Option (List ℕ) → List Want
@@ -213,7 +213,7 @@ line_wants (Some project) = want.File project ∷ []
 -- what is asked of a project and its ancestors: one file in each step
 abbrev pub line_steps : Rows → ℕ → Option (List ℕ) → List (List Want)
 line_steps rows zero project = []
-line_steps rows (suc n) project = line_wants project ∷ line_steps rows n (option_and_then (parent_in rows) project)
+line_steps rows (suc n) project = line_wants project ∷ line_steps rows n (option_and_then (known_parent rows) project)
 
 -- The look-ups of a command or a question, step by step, where this file was read: what a step asks may depend on what the steps before it found.
 abbrev pub steps : Option File → Rows → ℕ → Topic → List (List Want)

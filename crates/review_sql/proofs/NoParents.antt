@@ -21,7 +21,7 @@ use Rattle.review_words.specs.declared.reply.Reply.TheVariants.{Done, Refused, I
 use Rattle.review_rows.specs.Answer.{IsAnswerIn, IsAnswerWithoutParents, IsHistory, refused_by}
 use Rattle.review_rows.specs.Changes.{own_of, placed}
 use Rattle.review_rows.proofs.Readings.{reading_of}
-use Rattle.review_records.specs.Forms.{orphan}
+use Rattle.review_records.specs.Forms.{file_without_parent}
 
 -- a document without the key names no parent
 unnamed : (d : Data) → is_some (get (codes "parent") d) ≡ false → parent_in d ≡ None
@@ -45,15 +45,15 @@ not_done None a e = absurd (cc)
 not_done (Some r) a e = absurd (cc)
 
 -- a project whose text is put, and one whose text stays
-stays_alone : (given text project : List ℕ) (before : Option (List ℕ)) → has_parent_key text ≡ false → placed before ≡ option_map orphan before
-    → placed (cond (bytes_eq given project) (Some text) before) ≡ option_map orphan (cond (bytes_eq given project) (Some text) before)
+stays_alone : (given text project : List ℕ) (before : Option (List ℕ)) → has_parent_key text ≡ false → placed before ≡ option_map file_without_parent before
+    → placed (cond (bytes_eq given project) (Some text) before) ≡ option_map file_without_parent (cond (bytes_eq given project) (Some text) before)
 stays_alone given text project before none was = by (bytes_eq given project)
   where
-    by : (b : Bool) → placed (cond b (Some text) before) ≡ option_map orphan (cond b (Some text) before)
+    by : (b : Bool) → placed (cond b (Some text) before) ≡ option_map file_without_parent (cond b (Some text) before)
     by true = ap (λ p. Some (record { text = text; parent = p })) (no_parent text none)
     by false = was
 
-module _ (h : List Entry) (e : Entry) (first : e.version ≡ 1) (history : IsHistory (e ∷ h)) (project : List ℕ) (was : placed (file_text h project) ≡ option_map orphan (file_text h project)) where
+module _ (h : List Entry) (e : Entry) (first : e.version ≡ 1) (history : IsHistory (e ∷ h)) (project : List ℕ) (was : placed (file_text h project) ≡ option_map file_without_parent (file_text h project)) where
   abbrev before : Option (List ℕ)
   before = file_text h project
 
@@ -67,7 +67,7 @@ module _ (h : List Entry) (e : Entry) (first : e.version ≡ 1) (history : IsHis
           let read = reading_of h history.3 in
           absurd (not_done (refused_by read.0 h e.identity.caller (PutProject given text)) a (it read.0 read.1))
 
-  next : (reply : Reply) (command : Command) → IsAnswerIn h (asking_of e) command reply → placed (text_put (if_done reply command) project before) ≡ option_map orphan (text_put (if_done reply command) project before)
+  next : (reply : Reply) (command : Command) → IsAnswerIn h (asking_of e) command reply → placed (text_put (if_done reply command) project before) ≡ option_map file_without_parent (text_put (if_done reply command) project before)
   next (Done a) (CreateAccount name) answer = was
   next (Done a) (PutGroup group members) answer = was
   next (Done a) (PutProject given text) answer = stays_alone given text project before (keyless given text a answer) was
@@ -79,6 +79,6 @@ module _ (h : List Entry) (e : Entry) (first : e.version ≡ 1) (history : IsHis
   next IdentityReused command answer = was
   next (NotTaken cause) command answer = was
 
-pub no_parents : (h : List Entry) → IsHistory h → AllByRecursion (λ e. e.version ≡ 1) h → (project : List ℕ) → own_of h project ≡ option_map orphan (file_text h project)
+pub no_parents : (h : List Entry) → IsHistory h → AllByRecursion (λ e. e.version ≡ 1) h → (project : List ℕ) → own_of h project ≡ option_map file_without_parent (file_text h project)
 no_parents [] history first project = refl
 no_parents (e ∷ h) history first project = next h e first.0 history project (no_parents h history.3 first.1 project) e.reply e.command history.1

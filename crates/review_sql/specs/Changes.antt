@@ -6,6 +6,7 @@ use Rattle.review_rows.specs.declared.rows.ChangeEdit.{ChangeEdit}
 use Rattle.review_rows.specs.declared.rows.Delta.{Delta}
 use Rattle.review_rows.specs.declared.rows.Kept.{Kept}
 use Rattle.review_rows.specs.declared.rows.Put.{Put}
+use Rattle.review_rows.specs.View.{tables_version}
 use Rattle.std.specs.Prelude.{string_bytes}
 use Rattle.review_statements.specs.Content.{Then}
 use Rattle.review_tables.specs.Fronts.{SetsParts}
@@ -53,4 +54,4 @@ SetsKept kept = SetsRow answers (record { caller = kept.caller; id = kept.id }) 
 
 -- the desk has version 2 and so many requests
 abbrev pub SetsDesk : ℕ → Trees → Trees → Type 0
-SetsDesk requests = SetsRow desk tt (Some (record { version = 2; requests = requests }))
+SetsDesk requests = SetsRow desk tt (Some (record { version = tables_version; requests = requests }))
