@@ -1,5 +1,6 @@
 -- A shelf over a connection that one which was closed has left.
-use Rattle.std.proofs.Common.{◌≡◌, ◌≢◌, ◌⊎◌, inl, inr, ℕ, Bool, IsTrue, refl, subst, arith}
+use Rattle.std.proofs.Common.{◌≡◌, ◌≢◌, ◌⊎◌, inl, inr, ℕ, ◌∙◌, Bool, IsTrue, refl, sym, subst, arith}
+use Rattle.std.proofs.lemmas.Option.{same_Some}
 use Rattle.sqlite_trees.specs.declared.store.Store.{Ghosts}
 use Rattle.sqlite.specs.Effect.{Database}
 use Rattle.sqlite.specs.State.{State}
@@ -7,11 +8,16 @@ use Rattle.sqlite.specs.Held.{Held, state}
 use Rattle.review_statements.specs.Ran.{IsReady}
 use Rattle.review_sql.specs.declared.faults.DeskFault.{DeskFault}
 use Rattle.review_sql.specs.declared.faults.DeskFault.TheVariants.{NotADesk, WrongVersion, Store, NotEmpty, NotOurs, Memory}
-use Rattle.review_sql.specs.Opened.{AreAllApart, IsOpened, IsRefused}
+use Rattle.review_sql.specs.Migrated.{IsNotMigrated, IsUnfit}
+use Rattle.review_sql.specs.Opened.{AreAllApart, AreApartIn, IsOpened, IsRefused}
 use Rattle.review_sql.specs.Reopened.{ReopensLast, IsRefusedAgain, IsReopened}
+use Rattle.review_sql.specs.Said.{IsNone, IsThere}
 use Rattle.review_sql.specs.Shelf.{Holds, ShelfView, Stays}
+use Rattle.review_tables.specs.Versions.{schema_at}
+use Rattle.review_tables.specs.declared.creating.TablesVersion.{TablesVersion}
+use Rattle.review_tables.specs.declared.creating.TablesVersion.TheVariants.{First, Second}
 use Rattle.review_lookups.specs.Tables.{IsDesk}
-use Rattle.review_sql.proofs.Saying.{never_no_desk, never_other_version}
+use Rattle.review_sql.proofs.Saying.{desk_says, never_first, never_no_desk, never_other_version, never_there_first}
 use Rattle.review_sql.proofs.Shown.{stays}
 
 -- the rows of each table of a desk have rowids of their own
@@ -32,6 +38,20 @@ cause_left s requests fault ready is refused =
     store_or_memory fault (λ none. never_no_desk s.now ready.schema requests is (refused.no_desk none)) (λ other. never_other_version s.now ready.schema requests is (refused.other_version other)) refused.not_empty
     (λ not. (refused.not_ours not).1 ready.schema (all_apart s.now ready))
 
+-- the same of what is not migrated
+unfit_left : (db : Database) (requests : ℕ) (fault : DeskFault) → IsReady db → IsDesk requests db.trees → IsUnfit db fault → (fault ≡ Memory) ⊎ (fault ≡ Store)
+unfit_left db requests fault ready is unfit =
+    store_or_memory fault (λ none. let it = unfit.no_desk none in no_desk it.0 it.1) (λ other. let it = unfit.other_version other in it.2.2.1.0 (same_Some _ _ (sym it.2.1 ∙ (desk_says Second db ready.schema it.0 it.1 requests is).0))) unfit.not_empty
+    (λ not. let it = unfit.not_ours not in not_ours it.0 it.1.0 it.1.1 it.2)
+  where
+    no_desk : (version : TablesVersion) → IsNone version db → ⊥
+    no_desk First none = never_first db ready.schema requests is none
+    no_desk Second none = never_no_desk db ready.schema requests is none
+
+    not_ours : (version : TablesVersion) (n : ℕ) → IsThere version db n → (db.schema ≡ schema_at version → AreApartIn version db.trees → ⊥) → ⊥
+    not_ours First n there other = never_there_first db ready.schema requests is n there
+    not_ours Second n there other = other ready.schema (all_apart db ready)
+
 module _ {S : Type 0} (g : Ghosts S) (is_ours : Bool) (old : ShelfView S) (holds : Holds g old.conn is_ours old.requests) where
   reopened : (new : ShelfView S) → IsOpened g old.conn new → IsReopened g is_ours old new
   reopened new it = record {
@@ -45,6 +65,11 @@ module _ {S : Type 0} (g : Ghosts S) (is_ours : Bool) (old : ShelfView S) (holds
       let it = holds.ready ours (same.kept is_open).0 in
       cause_left (state g old.conn) old.requests fault it.0 it.1 (why is_open)
 
+  unfit_again : (conn : Held S) (fault : DeskFault) → (IsTrue (state g conn).is_open → IsTrue (state g old.conn).is_open) → (IsTrue (state g conn).is_open → IsUnfit (state g old.conn).now fault) → IsTrue is_ours → IsTrue (state g conn).is_open → (fault ≡ Memory) ⊎ (fault ≡ Store)
+  unfit_again conn fault was why ours is_open =
+      let it = holds.ready ours (was is_open) in
+      unfit_left (state g old.conn).now old.requests fault it.0 it.1 (why is_open)
+
 module _ {S : Type 0} (g : Ghosts S) (is_ours : Bool) (conn : Held S) where
   pub goes_on : (new : ShelfView S) → IsOpened g conn new → ReopensLast g is_ours conn new
   goes_on new it old closed = reopened g is_ours old closed.1 new (subst (λ (h : Held S). IsOpened g h new) closed.0 it)
@@ -52,3 +77,7 @@ module _ {S : Type 0} (g : Ghosts S) (is_ours : Bool) (conn : Held S) where
   pub refused_again : (last : Held S) (fault : DeskFault) → Stays (state g conn) (state g last) → (IsTrue (state g last).is_open → IsRefused (state g conn) fault) → IsRefusedAgain g is_ours conn last fault
   refused_again last fault same why old closed =
       cause_again g is_ours old closed.1 last fault (subst (λ (h : Held S). Stays (state g h) (state g last)) closed.0 same) (λ is_open. subst (λ (h : Held S). IsRefused (state g h) fault) closed.0 (why is_open))
+
+  pub unfit_closed : (last : Held S) (fault : DeskFault) → IsNotMigrated is_ours fault (state g conn) (state g last) → (IsTrue (state g last).is_open → IsUnfit (state g conn).now fault) → IsRefusedAgain g is_ours conn last fault
+  unfit_closed last fault left why old closed =
+      unfit_again g is_ours old closed.1 last fault (λ is_open. subst (λ (h : Held S). IsTrue (state g h).is_open) closed.0 (left.undone is_open).0) (λ is_open. subst (λ (h : Held S). IsUnfit (state g h).now fault) closed.0 (why is_open))

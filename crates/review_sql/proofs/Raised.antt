@@ -193,6 +193,7 @@ module _ {S : Type 0} (g : Ghosts S) (is_ours : Bool) (c0 c1 : Held S) (requests
     faults = refl;
     form = it.form;
     there = λ clean. ((it.acts.done clean).1, it.there clean);
+    keeps = λ clean ours. (it.acts.done clean).2.keeps ours (it.form clean ours);
     view = λ clean ours h was. (it.acts.done clean).2.view ours (it.form clean ours) (first_of_ours (state g c0).now (it.form clean ours) requests (it.there clean)) h was;
     alone = λ clean t left.
         let d = it.acts.done clean in

@@ -30,7 +30,7 @@ use Rattle.review_tables.specs.declared.creating.TablesVersion.{TablesVersion}
 use Rattle.review_tables.specs.declared.creating.TablesVersion.TheVariants.{First, Second}
 use Rattle.review_lookups.specs.FirstTables.{IsFirstDesk}
 use Rattle.review_lookups.specs.Tables.{IsDesk}
-use Rattle.review_sql.specs.Said.{number_of_one, version_in, requests_in, ShowsDesk, IsDeskThere, IsThere, IsNoDesk, IsOtherVersion, LacksDesk}
+use Rattle.review_sql.specs.Said.{number_of_one, version_in, requests_in, ShowsDesk, IsDeskThere, IsThere, IsNoDesk, IsNone, IsOtherVersion, LacksDesk}
 use Rattle.review_sql.specs.Shelf.{AreAllRead, IsUnderstood, rows_read}
 
 -- ---- the texts over our form
@@ -150,6 +150,20 @@ never_no_desk db has requests is (inr odd) = let it = desk_says Second db has od
     lacks rows v n (inl none) = no_some _ _ v none
     lacks rows v n (inr (_, inl none)) = no_some _ _ n none
     lacks rows v n (inr (_, inr missing)) = missing (subst (AreAllRead Second) (sym has) reads_all)
+
+-- nor is it none of version 1, which it doesn't say
+pub never_first : (db : Database) → db.schema ≡ desk_schema → (requests : ℕ) → IsDesk requests db.trees → IsNone First db → ⊥
+never_first db has requests is (inl missing) = missing (subst (λ s. IsUnderstood s FIND_DESK.now) (sym has) understands)
+never_first db has requests is (inr odd) = lacks odd.0 (desk_says Second db has odd.0 odd.1 requests is).0 odd.2
+  where
+    lacks : (rows : List Row) → version_in rows ≡ Some 2 → LacksDesk First db rows → ⊥
+    lacks rows v (inl none) = no_some _ _ v none
+    lacks rows v (inr (first, _)) = let e = same_Some _ _ (sym first ∙ v) in omega (arith, e)
+
+-- nor is it there as one of version 1
+pub never_there_first : (db : Database) → db.schema ≡ desk_schema → (requests : ℕ) → IsDesk requests db.trees → (n : ℕ) → IsThere First db n → ⊥
+never_there_first db has requests is n there =
+    let e = same_Some _ _ (sym there.version_is ∙ (desk_says Second db has there.rows there.shown requests is).0) in omega (arith, e)
 
 pub never_other_version : (db : Database) → db.schema ≡ desk_schema → (requests : ℕ) → IsDesk requests db.trees → IsOtherVersion db → ⊥
 never_other_version db has requests is other =

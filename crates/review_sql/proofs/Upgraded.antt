@@ -27,7 +27,7 @@ use Rattle.review_records.proofs.ReadAlike.{count_moved, file_moved, still_keyed
 use Rattle.review_lookups.specs.FirstTables.{first_keyed_tables, first_tables_at, IsFirstDesk}
 use Rattle.review_lookups.specs.Tables.{has_unkeyed, keyed_tables, number_of, row_in, count_in, stored_as, tables_at, told}
 use Rattle.review_sql.specs.Changes.{SetsDesk}
-use Rattle.review_sql.specs.Migrated.{Upgrades}
+use Rattle.review_sql.specs.Migrated.{KeepsRows, Upgrades}
 use Rattle.review_sql.specs.Opened.{AreAllApart}
 use Rattle.review_sql.proofs.Edits.{part_same}
 use Rattle.review_sql.proofs.Peeking.{at_tree}
@@ -72,6 +72,16 @@ module _ (requests : ℕ) (old mid new : Trees) (others : (t : ℕ) → is_tree 
 
   kept : (t : ℕ) (keyed : Raw → Bool) → new t ≡ old t → list_any (λ r. not (keyed r)) (new t) ≡ list_any (λ r. not (keyed r)) (old t)
   kept t keyed is = ap (list_any (λ r. not (keyed r))) is
+
+  -- whatever rows there are
+  rows_kept : KeepsRows old new
+  rows_kept = record {
+    moved = subst (AreMoved without_parent (old 4)) (sym projects_stay) moved;
+    others = (stays 0 refl, (stays 2 refl, (stays 6 refl, (stays 9 refl, (stays 11 refl, (stays 14 refl, (stays 16 refl, (stays 18 refl, (stays 20 refl, (stays 22 refl, (stays 25 refl, (stays 26 refl, tt))))))))))));
+  }
+    where
+      stays : (t : ℕ) → is_tree t ≡ true → t ≢ 26 → t ≢ 25 → new t ≡ old t
+      stays t is q p = same t is p q
 
   module _ (reading : Reading) (h : List Entry) (was : IsViewBy reading h (record (first_tables_at old) { version = tables_version })) where
     none_odd : has_unkeyed first_keyed_tables old ≡ false
@@ -131,8 +141,9 @@ Looked old new = old.schema ≡ desk_schema → (new ≡ old) × Decides true (A
 pub upgrades : (requests : ℕ) (old new : Database) → Next (Next Migrates Looked) (OnDesk (SetsDesk requests)) old new → Upgrades true requests old new
 upgrades requests old new h = record {
   ready = λ ours has. (h.2.ready (ready has), (h.2.changes (ready has)).here);
+  keeps = λ ours has. rows_kept requests old.trees mid.trees new.trees (others has) (moved has) (h.2.changes (ready has));
   view = λ ours has first history was reading right.
-      shows requests old.trees mid.trees new.trees (others has) (subst (λ (d : Database). AreMoved without_parent (old.trees 4) (d.trees 26)) (sym (looked has).0) (migrated.moved has)) (h.2.changes (ready has)) reading history (was.1 reading right) first;
+      shows requests old.trees mid.trees new.trees (others has) (moved has) (h.2.changes (ready has)) reading history (was.1 reading right) first;
 }
   where
     mid : Database
@@ -150,9 +161,12 @@ upgrades requests old new h = record {
     others : old.schema ≡ schema_1 → (t : ℕ) → is_tree t ≡ true → t ≢ 26 → mid.trees t ≡ old.trees t
     others has t is p = ap (λ (d : Database). d.trees t) (looked has).0 ∙ at_tree (λ n. n ≢ 26 → between.trees n ≡ old.trees n) desk_schema.tables (migrated.others has) t is p
 
+    moved : old.schema ≡ schema_1 → AreMoved without_parent (old.trees 4) (mid.trees 26)
+    moved has = subst (λ (d : Database). AreMoved without_parent (old.trees 4) (d.trees 26)) (sym (looked has).0) (migrated.moved has)
+
     ready : old.schema ≡ schema_1 → IsReady mid
     ready has = subst IsReady (sym (looked has).0) (record { schema = migrated.schema has; apart = λ t is. at_tree (λ n. AreApart (between.trees n)) desk_schema.tables ((looked has).1.0 refl) t is })
 
 -- of tables that are not ours nothing is said
 pub upgrades_others : (requests : ℕ) (old new : Database) → Upgrades false requests old new
-upgrades_others requests old new = record { ready = λ ours has. absurd (cc); view = λ ours has first h was. absurd (cc) }
+upgrades_others requests old new = record { ready = λ ours has. absurd (cc); keeps = λ ours has. absurd (cc); view = λ ours has first h was. absurd (cc) }

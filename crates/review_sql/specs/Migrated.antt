@@ -1,5 +1,6 @@
 -- What `migrate` does.
 use Rattle.std.specs.Prelude.{ℕ, ◌≡◌, ◌≢◌, ◌⊎◌, [], ◌∷◌, List, Bool, true, false, Result, Ok, Err, IsTrue, IfOk}
+use Rattle.std.specs.List.{AllByRecursion}
 use Rattle.sqlite_trees.specs.declared.store.Store.{Ghosts}
 use Rattle.sqlite_trees.specs.Tree.{Trees}
 use Rattle.sqlite.specs.Effect.{Database}
@@ -11,7 +12,9 @@ use Rattle.review_words.specs.History.{Entry}
 use Rattle.review_rows.specs.Rows.{Tables}
 use Rattle.review_rows.specs.Shelf.{StopLeavesOwnTables}
 use Rattle.review_rows.specs.View.{IsView, tables_version}
+use Rattle.review_statements.specs.Desk as table
 use Rattle.review_statements.specs.Desk.{schema_1}
+use Rattle.review_statements.specs.Moved.{AreMoved, without_parent}
 use Rattle.review_statements.specs.Ran.{IsReady, Transacts}
 use Rattle.review_tables.specs.Versions.{schema_at}
 use Rattle.review_tables.specs.declared.creating.TablesVersion.{TablesVersion}
@@ -30,9 +33,15 @@ use Rattle.review_sql.specs.Shelf.{ShelfView, Stays, shown}
 abbrev pub IsFirstView : List Entry → Tables → Type 0
 IsFirstView h t = (t.version ≡ 1) × IsView h (record t { version = tables_version })
 
+-- Whatever rows the tables of version 1 have: each project moves to the table of version 2, where it has no parent, and all other tables keep their rows, but for the row that says the version.
+pub record KeepsRows (old new : Trees) : Type 0 where
+  pub moved : AreMoved without_parent (old table.projects.tree) (new table.projects_2.tree)
+  pub others : AllByRecursion (λ t. t.tree ≢ table.projects_2.tree → t.tree ≢ table.desk.tree → new t.tree ≡ old t.tree) table.desk_tables
+
 -- Tables of version 1, where they are ours, become those of a desk of version 2 with so many requests, of the same history.
 pub record Upgrades (is_ours : Bool) (requests : ℕ) (old new : Database) : Type 0 where
   pub ready : IsTrue is_ours → old.schema ≡ schema_1 → IsReady new × IsDesk requests new.trees
+  pub keeps : IsTrue is_ours → old.schema ≡ schema_1 → KeepsRows old.trees new.trees
   pub view : IsTrue is_ours → old.schema ≡ schema_1 → IsFirstDesk requests old.trees → (h : List Entry) → IsFirstView h (first_tables_at old.trees) → IsView h (tables_at new.trees)
 
 -- how a transaction ended that was to be taken back where this is false, which is told as a failure
@@ -62,12 +71,13 @@ pub record IsKept (is_ours : Bool) (old new : State) (requests : ℕ) : Type 0 w
 abbrev pub IsBrought : {S : Type 0} → Ghosts S → Bool → Held S → Held S → ℕ → Type 0
 IsBrought g is_ours old new requests = IsRaised g is_ours old new requests ⊎ IsKept is_ours (state g old) (state g new) requests
 
--- Of tables of version 1 those of version 2 were made. Where they are ours, these view the same history, if the old ones view it as version 1 keeps it; and a stop within it leaves what one could leave before, or
+-- Of tables of version 1 those of version 2 were made. Where they are ours, these keep the rows, and view the same history, if the old ones view it as version 1 keeps it; and a stop within it leaves what one could leave before, or
 -- these, and one after it these alone.
 pub record IsUpgraded {S : Type 0} (g : Ghosts S) (is_ours : Bool) (conn : Held S) (shelf : ShelfView S) : Type 0 where
   pub faults : shelf.faults ≡ 0
   pub form : HasCleanDisk (state g shelf.conn) → IsTrue is_ours → conn.schema ≡ schema_1
   pub there : HasCleanDisk (state g shelf.conn) → IsTrue (state g shelf.conn).is_open × IsThere First (state g conn).now shelf.requests
+  pub keeps : HasCleanDisk (state g shelf.conn) → IsTrue is_ours → KeepsRows (state g conn).now.trees (state g shelf.conn).now.trees
   pub view : HasCleanDisk (state g shelf.conn) → IsTrue is_ours → (h : List Entry) → IsFirstView h (first_tables_at (state g conn).now.trees) → IsView h (tables_at (state g shelf.conn).now.trees)
   pub alone : HasCleanDisk (state g shelf.conn) → StopLeavesOwnTables (shown g is_ours shelf)
   pub survives : Survives (state g conn) (state g shelf.conn) (λ db. IsTrue (state g conn).is_open × ((after : Database) × (db ≡ after.trees) × Upgrades is_ours shelf.requests (state g conn).now after))

@@ -215,6 +215,7 @@ impl<S: Alter + Drop, O: Origin> SqlShelf<S, O> {
         ensures refused { IfErr result (λ e. IsNotMigrated O.IS_OURS e.1 (state S.Store conn) (state S.Store e.0)) }
         ensures cause { IfErr result (λ e. IsTrue (state S.Store e.0).is_open → IsUnfit (state S.Store conn).now e.1) }
         ensures ours { IfErr result (λ e. e.1 ≡ DeskFault.NotOurs → IsTrue O.IS_OURS) }
+        ensures again { IfErr result (λ e. IsRefusedAgain S.Store O.IS_OURS conn e.0 e.1) }
     {
         let mut conn = conn;
         match bring(&mut conn, alloc, O::IS_OURS) {

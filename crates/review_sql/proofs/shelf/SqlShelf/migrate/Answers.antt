@@ -1,6 +1,8 @@
 use Rattle.std.proofs.Common.{rules, ◌≡◌, ◌∙◌, ap, not, subst, IsTrue}
 use Rattle.sqlite.proofs.StateLemmas.{clean_if_open}
-use Rattle.review_sql.specs.Migrated.{IsBrought}
+use Rattle.sqlite.specs.Held.{state}
+use Rattle.review_sql.specs.Migrated.{IsBrought, IsNotMigrated}
+use Rattle.review_sql.proofs.Again.{unfit_closed}
 use Rattle.review_sql.proofs.Raised.{holds_brought, migrated}
 use Rattle.review_sql.proofs.shelf.SqlShelf.migrate.Goals as goal
 
@@ -18,3 +20,9 @@ returns-in-Ok-clause-migrated g c =
     let brought = subst (λ b. IsBrought g.S.Store b c.args.conn last c.in-Ok.requests) same c.in-Ok.ensures.brought in
     let auto : IsTrue c.is_autocommit-settled.result = c.is_autocommit-settled.ensures.value ∙ ap not c.bring.ensures.mode in
     migrated g.S.Store g.O.Origin.IS_OURS c.args.conn last _ (λ is_open. c.is_autocommit-settled.ensures.settled auto is_open) (g.met.S.Store.settled last.store) brought
+
+pub returns-in-Err-clause-again : goal.returns-in-Err-clause-again
+returns-in-Err-clause-again g c =
+    let same : c.IS_OURS.result ≡ g.O.Origin.IS_OURS = search rules in
+    let left = subst (λ b. IsNotMigrated b c.in-Err.fault (state g.S.Store c.args.conn) (state g.S.Store c.bring.new.conn)) same c.in-Err.ensures.refused in
+    unfit_closed g.S.Store g.O.Origin.IS_OURS c.args.conn c.bring.new.conn c.in-Err.fault left c.in-Err.ensures.unfit
