@@ -1,6 +1,6 @@
 -- What the loaded rows tell of the history, and what a command's reply and delta make of it.
 use Rattle.std.proofs.Common.{◌≡◌, ℕ, ◌+◌, ◌==◌, List, [], ◌∷◌, ◌++◌, Option, Some, None, Bool, true, false, cond, not, ◌&&◌, refl, sym, ap, ◌∙◌, subst, ⊎_elim, length, map, arith}
-use Rattle.std.specs.Prelude.{is_some, nat_lt, option_map, MatchOption}
+use Rattle.std.specs.Prelude.{is_some, nat_lt, option_map, unwrap_or, MatchOption}
 use Rattle.std.specs.List.{AllByRecursion, list_all}
 use Rattle.std.specs.Str.{bytes_eq}
 use Rattle.std.specs.Cmp.Lexicographic.{slice_cmp}
@@ -20,12 +20,24 @@ use Rattle.review_words.specs.declared.reply.Reply.TheVariants.{Done, Refused}
 use Rattle.review_words.specs.declared.reply.Answer.TheVariants as made
 use Rattle.review_words.specs.declared.reply.Refusal.{Refusal}
 use Rattle.review_words.specs.declared.reply.Refusal.TheVariants.{UnknownCaller, NotAdmin, NoProject, NoAccount, CommitKnown, NameTaken, Limit}
+<<<<<<< ours
 use Rattle.review_words.specs.History.{Entry, entry_of, account_count, name_of, name_taken, is_account, is_admin, is_listed, listed_members, file_text, is_project, project_count, bases, base_count}
+||||||| base
+use Rattle.review_words.specs.History.{Entry, account_count, name_of, name_taken, is_account, is_admin, is_listed, listed_members, file_text, is_project, project_count, bases, base_count}
+=======
+use Rattle.review_words.specs.History.{Entry, account_count, name_of, name_taken, is_account, is_admin, is_listed, listed_members, file_text, is_project, project_count, bases, base_count, least_open}
+>>>>>>> epochs
 use Rattle.review_rows.specs.declared.rows.Rows.{Rows}
 use Rattle.review_rows.specs.declared.rows.Delta.{Delta}
+<<<<<<< ours
 use Rattle.review_rows.specs.declared.rows.PlaceKey.{PlaceKey}
 use Rattle.review_rows.specs.Rows.{Key, AccountKey, MemberKey, FileKey, BaseKey, PartKey, OddKey, Row, AccountRow, FileRow, BaseRow, APart, Count, Projects, BasesOf, member_cmp, account_change, member_change, edited, after, count_after, after_put, count_put, place_cmp, ChangesNothing}
 use Rattle.review_rows.proofs.Puts.{at_place_of, no_base, no_base_more, no_file, no_project}
+||||||| base
+use Rattle.review_rows.specs.Rows.{Key, AccountKey, MemberKey, FileKey, BaseKey, PartKey, OddKey, Row, AccountRow, FileRow, BaseRow, APart, Count, Projects, BasesOf, member_cmp, account_change, member_change, file_after, base_after, edited, projects_after, bases_after, after, count_after, ChangesNothing}
+=======
+use Rattle.review_rows.specs.Rows.{Key, AccountKey, MemberKey, FileKey, BaseKey, PartKey, OddKey, Row, AccountRow, FileRow, BaseRow, APart, Count, Projects, BasesOf, ClosedEpochs, member_cmp, account_change, member_change, file_after, base_after, edited, projects_after, bases_after, after, count_after, ChangesNothing}
+>>>>>>> epochs
 use Rattle.review_rows.specs.declared.rows.Want.TheVariants as want
 use Rattle.review_rows.specs.Known.{known, Agrees, IsKnown, is_so, is_there, members_of, at_place}
 use Rattle.review_rows.specs.Steps.{OfCommand, command_wants}
@@ -118,7 +130,7 @@ project_refused reading h caller project file a b p q = λ i. project_refusal (p
 
 -- a delta without rows
 pub empty_changes : (delta : Delta) → IsEmpty delta → ChangesNothing delta
-empty_changes delta e = record { rows = rows; counts = counts }
+empty_changes delta e = record { answers = e.epoch; rows = rows; counts = counts }
   where
     rows : (k : Key) (was : Option Row) → after delta k was ≡ was
     rows (AccountKey number) was = ap (λ l. after_change (account_change (change_of nat_cmp l number)) was) e.accounts
@@ -129,6 +141,7 @@ empty_changes delta e = record { rows = rows; counts = counts }
     rows (OddKey o) was = refl
 
     counts : (row : Key → Option Row) (c : Count) (n : ℕ) → count_after delta row c n ≡ n
+<<<<<<< ours
     counts row Projects n = no_project delta e.file row n
     counts row (BasesOf project) n = no_base_more delta e.base row project n
 
@@ -145,6 +158,43 @@ refused_count : (h : List Entry) (caller : ℕ) (id : List ℕ) (command : Comma
     counted (entry_of caller id command (Refused refusal) ∷ h) c ≡ counted h c
 refused_count h caller id command refusal Projects = refl
 refused_count h caller id command refusal (BasesOf project) = refl
+||||||| base
+    counts row Projects n = ap (λ o. projects_after o row n) e.file
+    counts row (BasesOf project) n = ap (λ o. bases_after o row project n) e.base
+
+refused_same : (reading : Reading) (h : List Entry) (caller : ℕ) (id : List ℕ) (command : Command) (refusal : Refusal) (k : Key) →
+    fact reading (record { identity = record { caller = caller; id = id }; command = command; reply = Refused refusal } ∷ h) k ≡ fact reading h k
+refused_same reading h caller id command refusal (AccountKey number) = refl
+refused_same reading h caller id command refusal (MemberKey group account) = refl
+refused_same reading h caller id command refusal (FileKey project) = refl
+refused_same reading h caller id command refusal (BaseKey project branch place) = refl
+refused_same reading h caller id command refusal (PartKey n part) = refl
+refused_same reading h caller id command refusal (OddKey o) = refl
+
+refused_count : (h : List Entry) (caller : ℕ) (id : List ℕ) (command : Command) (refusal : Refusal) (c : Count) →
+    counted (record { identity = record { caller = caller; id = id }; command = command; reply = Refused refusal } ∷ h) c ≡ counted h c
+refused_count h caller id command refusal Projects = refl
+refused_count h caller id command refusal (BasesOf project) = refl
+=======
+    counts row Projects n = ap (λ o. projects_after o row n) e.file
+    counts row (BasesOf project) n = ap (λ o. bases_after o row project n) e.base
+    counts row ClosedEpochs n = ap (λ o. unwrap_or o n) e.epoch
+
+pub refused_same : (reading : Reading) (h : List Entry) (caller epoch : ℕ) (id : List ℕ) (command : Command) (refusal : Refusal) (k : Key) →
+    fact reading (record { identity = record { caller = caller; epoch = epoch; id = id }; command = command; reply = Refused refusal } ∷ h) k ≡ fact reading h k
+refused_same reading h caller epoch id command refusal (AccountKey number) = refl
+refused_same reading h caller epoch id command refusal (MemberKey group account) = refl
+refused_same reading h caller epoch id command refusal (FileKey project) = refl
+refused_same reading h caller epoch id command refusal (BaseKey project branch place) = refl
+refused_same reading h caller epoch id command refusal (PartKey n part) = refl
+refused_same reading h caller epoch id command refusal (OddKey o) = refl
+
+pub refused_count : (h : List Entry) (caller epoch : ℕ) (id : List ℕ) (command : Command) (refusal : Refusal) (c : Count) →
+    counted (record { identity = record { caller = caller; epoch = epoch; id = id }; command = command; reply = Refused refusal } ∷ h) c ≡ counted h c
+refused_count h caller epoch id command refusal Projects = refl
+refused_count h caller epoch id command refusal (BasesOf project) = refl
+refused_count h caller epoch id command refusal ClosedEpochs = refl
+>>>>>>> epochs
 
 -- a refusal changes nothing
 pub refused_decided : {reading : Reading} (h : List Entry) (caller : ℕ) (command : Command) (delta : Delta) (refusal : Refusal) →
@@ -153,8 +203,8 @@ refused_decided {reading = reading} h caller command delta refusal e is =
     let none = empty_changes delta e in
     record {
       reply_is = is;
-      row_is = λ id k. refused_same reading h caller id command refusal k ∙ sym (none.rows k (fact reading h k));
-      count_is = λ id c. refused_count h caller id command refusal c ∙ sym (none.counts (fact reading h) c (counted h c));
+      row_is = λ epoch id k. refused_same reading h caller epoch id command refusal k ∙ sym (none.rows k (fact reading h k));
+      count_is = λ epoch id c. refused_count h caller epoch id command refusal c ∙ sym (none.counts (fact reading h) c (counted h c));
     }
 
 pub refused_pair : {reading : Reading} (h : List Entry) (caller : ℕ) (command : Command) (r : Delta × Reply) (refusal : Refusal) →
@@ -173,22 +223,39 @@ eq_sym m n = grind (arith, nat_tests)
 -- the new account is the only new row
 pub create_decided : {reading : Reading} (h : List Entry) (caller : ℕ) (name : List ℕ) (delta : Delta) (number : ℕ) →
     is_account h caller ≡ true → is_admin h caller ≡ true → name_taken h name ≡ false → nat_lt (account_count h) 1000000 ≡ true → number ≡ account_count h + 1 →
-    delta.accounts.items ≡ record { key = number; row = Some name } ∷ [] → delta.members.items ≡ [] → delta.file ≡ None → delta.base ≡ None → delta.changes.items ≡ [] →
+    delta.accounts.items ≡ record { key = number; row = Some name } ∷ [] → delta.members.items ≡ [] → delta.file ≡ None → delta.base ≡ None → delta.changes.items ≡ [] → delta.epoch ≡ None →
     IsDecided reading h caller (CreateAccount name) delta (Done (made.Account number))
-create_decided {reading = reading} h caller name delta number a b c d n da dm df db dc = record {
+create_decided {reading = reading} h caller name delta number a b c d n da dm df db dc de = record {
   reply_is = outcome_answer reading h caller (CreateAccount name) (Done (made.Account number)) (create_refused reading h caller name true true false true a b c d) (ap (λ x. Done (made.Account x)) n);
-  row_is = λ id k. rows k;
-  count_is = λ id k. counts k;
+  row_is = λ epoch id k. rows k;
+  count_is = λ epoch id k. counts k;
 }
   where
+<<<<<<< ours
     counts : (k : Count) → counted (entry_of caller [] (CreateAccount name) (Done (made.Account number)) ∷ h) k ≡ count_after delta (fact reading h) k (counted h k)
     counts Projects = sym (no_project delta df (fact reading h) (project_count h))
     counts (BasesOf project) = sym (no_base_more delta db (fact reading h) project (base_count h project))
+||||||| base
+    counts : (k : Count) → counted (record { identity = record { caller = caller; id = [] }; command = CreateAccount name; reply = Done (made.Account number) } ∷ h) k ≡ count_after delta (fact reading h) k (counted h k)
+    counts Projects = sym (ap (λ o. projects_after o (fact reading h) (project_count h)) df)
+    counts (BasesOf project) = sym (ap (λ o. bases_after o (fact reading h) project (base_count h project)) db)
+=======
+    counts : (k : Count) → counted (record { identity = record { caller = caller; epoch = 0; id = [] }; command = CreateAccount name; reply = Done (made.Account number) } ∷ h) k ≡ count_after delta (fact reading h) k (counted h k)
+    counts Projects = sym (ap (λ o. projects_after o (fact reading h) (project_count h)) df)
+    counts (BasesOf project) = sym (ap (λ o. bases_after o (fact reading h) project (base_count h project)) db)
+    counts ClosedEpochs = sym (ap (λ o. unwrap_or o (least_open h)) de)
+>>>>>>> epochs
 
     here : (m : ℕ) → is_at (nat_cmp number) m ≡ (m == account_count h + 1)
     here m = unsigned_tied number m ∙ (eq_sym number m ∙ ap (λ x. m == x) n)
 
+<<<<<<< ours
     rows : (k : Key) → fact reading (entry_of caller [] (CreateAccount name) (Done (made.Account number)) ∷ h) k ≡ after delta k (fact reading h k)
+||||||| base
+    rows : (k : Key) → fact reading (record { identity = record { caller = caller; id = [] }; command = CreateAccount name; reply = Done (made.Account number) } ∷ h) k ≡ after delta k (fact reading h k)
+=======
+    rows : (k : Key) → fact reading (record { identity = record { caller = caller; epoch = 0; id = [] }; command = CreateAccount name; reply = Done (made.Account number) } ∷ h) k ≡ after delta k (fact reading h k)
+>>>>>>> epochs
     rows (AccountKey m) =
         account_row_after (m == account_count h + 1) name (name_of h m)
         ∙ sym (ap (λ l. after_change (account_change (change_of nat_cmp l m)) (fact reading h (AccountKey m))) da
@@ -202,19 +269,36 @@ create_decided {reading = reading} h caller name delta number a b c d n da dm df
 -- the rows of the group become those of its new members
 pub put_decided : {reading : Reading} {file : Option File} (h : List Entry) (caller : ℕ) (group members : List ℕ) (rows : Rows) (delta : Delta) → AreEnough reading h caller (OfCommand (PutGroup group members)) file rows →
     is_account h caller ≡ true → is_admin h caller ≡ true → bytes_eq group registered_users ≡ false → list_all (is_account h) members ≡ true →
-    delta.accounts.items ≡ [] → delta.members.items ≡ added group (members_of (known rows (want.Group group))) members ++ dropped group (members_of (known rows (want.Group group))) members → delta.file ≡ None → delta.base ≡ None → delta.changes.items ≡ [] →
+    delta.accounts.items ≡ [] → delta.members.items ≡ added group (members_of (known rows (want.Group group))) members ++ dropped group (members_of (known rows (want.Group group))) members → delta.file ≡ None → delta.base ≡ None → delta.changes.items ≡ [] → delta.epoch ≡ None →
     IsDecided reading h caller (PutGroup group members) delta (Done made.Nothing)
-put_decided {reading = reading} h caller group members rows delta l a b c d da dm df db dc = record {
+put_decided {reading = reading} h caller group members rows delta l a b c d da dm df db dc de = record {
   reply_is = outcome_answer reading h caller (PutGroup group members) (Done made.Nothing) (put_refused reading h caller group members true true false true a b c d) refl;
-  row_is = λ id k. each k;
-  count_is = λ id k. counts k;
+  row_is = λ epoch id k. each k;
+  count_is = λ epoch id k. counts k;
 }
   where
+<<<<<<< ours
     counts : (k : Count) → counted (entry_of caller [] (PutGroup group members) (Done made.Nothing) ∷ h) k ≡ count_after delta (fact reading h) k (counted h k)
     counts Projects = sym (no_project delta df (fact reading h) (project_count h))
     counts (BasesOf project) = sym (no_base_more delta db (fact reading h) project (base_count h project))
+||||||| base
+    counts : (k : Count) → counted (record { identity = record { caller = caller; id = [] }; command = PutGroup group members; reply = Done made.Nothing } ∷ h) k ≡ count_after delta (fact reading h) k (counted h k)
+    counts Projects = sym (ap (λ o. projects_after o (fact reading h) (project_count h)) df)
+    counts (BasesOf project) = sym (ap (λ o. bases_after o (fact reading h) project (base_count h project)) db)
+=======
+    counts : (k : Count) → counted (record { identity = record { caller = caller; epoch = 0; id = [] }; command = PutGroup group members; reply = Done made.Nothing } ∷ h) k ≡ count_after delta (fact reading h) k (counted h k)
+    counts Projects = sym (ap (λ o. projects_after o (fact reading h) (project_count h)) df)
+    counts (BasesOf project) = sym (ap (λ o. bases_after o (fact reading h) project (base_count h project)) db)
+    counts ClosedEpochs = sym (ap (λ o. unwrap_or o (least_open h)) de)
+>>>>>>> epochs
 
+<<<<<<< ours
     each : (k : Key) → fact reading (entry_of caller [] (PutGroup group members) (Done made.Nothing) ∷ h) k ≡ after delta k (fact reading h k)
+||||||| base
+    each : (k : Key) → fact reading (record { identity = record { caller = caller; id = [] }; command = PutGroup group members; reply = Done made.Nothing } ∷ h) k ≡ after delta k (fact reading h k)
+=======
+    each : (k : Key) → fact reading (record { identity = record { caller = caller; epoch = 0; id = [] }; command = PutGroup group members; reply = Done made.Nothing } ∷ h) k ≡ after delta k (fact reading h k)
+>>>>>>> epochs
     each (AccountKey m) = sym (ap (λ l. after_change (account_change (change_of nat_cmp l m)) (fact reading h (AccountKey m))) da)
     each (MemberKey g m) =
         members_after group members (listed_members h g) (members_of (known rows (want.Group group))) g m (held_before h caller group members rows l g m)
@@ -263,24 +347,51 @@ base_rows h project branch commit place p b n is =
 -- the base is the last of its branch
 pub base_decided : {reading : Reading} (h : List Entry) (caller : ℕ) (project branch commit : List ℕ) (place : ℕ) (delta : Delta) → place ≡ length (bases h project branch) + 1 →
     is_account h caller ≡ true → is_admin h caller ≡ true → is_project h project ≡ true → is_known reading h project branch commit ≡ false → nat_lt (base_count h project) 100000 ≡ true →
+<<<<<<< ours
     delta.accounts.items ≡ [] → delta.members.items ≡ [] → delta.file ≡ None → delta.base ≡ Some (record { key = record { project = project; branch = branch; place = place }; row = commit }) → delta.changes.items ≡ [] →
+||||||| base
+    delta.accounts.items ≡ [] → delta.members.items ≡ [] → delta.file ≡ None → delta.base ≡ Some (record { project = project; branch = branch; place = place; commit = commit }) → delta.changes.items ≡ [] →
+=======
+    delta.accounts.items ≡ [] → delta.members.items ≡ [] → delta.file ≡ None → delta.base ≡ Some (record { project = project; branch = branch; place = place; commit = commit }) → delta.changes.items ≡ [] → delta.epoch ≡ None →
+>>>>>>> epochs
     IsDecided reading h caller (RecordBase project branch commit) delta (Done made.Nothing)
-base_decided {reading = reading} h caller project branch commit place delta is a b c d e da dm df db dc = record {
+base_decided {reading = reading} h caller project branch commit place delta is a b c d e da dm df db dc de = record {
   reply_is = outcome_answer reading h caller (RecordBase project branch commit) (Done made.Nothing) (base_refused reading h caller project branch commit true true true false true a b c d e) refl;
-  row_is = λ id k. rows k;
-  count_is = λ id k. counts k;
+  row_is = λ epoch id k. rows k;
+  count_is = λ epoch id k. counts k;
 }
   where
     free : is_some (fact reading h (BaseKey project branch place)) ≡ false
     free = ap (λ n. is_some (option_map BaseRow (at_place (bases h project branch) n))) is ∙ ap (λ o. is_some (option_map BaseRow o)) (place_is_free (bases h project branch))
 
+<<<<<<< ours
     counts : (k : Count) → counted (entry_of caller [] (RecordBase project branch commit) (Done made.Nothing) ∷ h) k ≡ count_after delta (fact reading h) k (counted h k)
     counts Projects = sym (no_project delta df (fact reading h) (project_count h))
+||||||| base
+    counts : (k : Count) → counted (record { identity = record { caller = caller; id = [] }; command = RecordBase project branch commit; reply = Done made.Nothing } ∷ h) k ≡ count_after delta (fact reading h) k (counted h k)
+    counts Projects = sym (ap (λ o. projects_after o (fact reading h) (project_count h)) df)
+=======
+    counts : (k : Count) → counted (record { identity = record { caller = caller; epoch = 0; id = [] }; command = RecordBase project branch commit; reply = Done made.Nothing } ∷ h) k ≡ count_after delta (fact reading h) k (counted h k)
+    counts Projects = sym (ap (λ o. projects_after o (fact reading h) (project_count h)) df)
+>>>>>>> epochs
     counts (BasesOf p) =
         sym (ap (λ t. cond (bytes_eq project p) (cond t (base_count h p) (base_count h p + 1)) (base_count h p)) free)
+<<<<<<< ours
         ∙ sym (ap (λ o. count_put (λ (k : PlaceKey). bytes_eq k.project p) o (λ (k : PlaceKey). fact reading h (BaseKey k.project k.branch k.place)) (base_count h p)) db)
+||||||| base
+        ∙ sym (ap (λ o. bases_after o (fact reading h) p (base_count h p)) db)
+=======
+        ∙ sym (ap (λ o. bases_after o (fact reading h) p (base_count h p)) db)
+    counts ClosedEpochs = sym (ap (λ o. unwrap_or o (least_open h)) de)
+>>>>>>> epochs
 
+<<<<<<< ours
     rows : (k : Key) → fact reading (entry_of caller [] (RecordBase project branch commit) (Done made.Nothing) ∷ h) k ≡ after delta k (fact reading h k)
+||||||| base
+    rows : (k : Key) → fact reading (record { identity = record { caller = caller; id = [] }; command = RecordBase project branch commit; reply = Done made.Nothing } ∷ h) k ≡ after delta k (fact reading h k)
+=======
+    rows : (k : Key) → fact reading (record { identity = record { caller = caller; epoch = 0; id = [] }; command = RecordBase project branch commit; reply = Done made.Nothing } ∷ h) k ≡ after delta k (fact reading h k)
+>>>>>>> epochs
     rows (AccountKey m) = sym (ap (λ l. after_change (account_change (change_of nat_cmp l m)) (fact reading h (AccountKey m))) da)
     rows (MemberKey g m) = sym (ap (λ l. after_change (member_change (change_of member_cmp l (member_of g m))) (fact reading h (MemberKey g m))) dm)
     rows (FileKey p) = sym (no_file delta df p (fact reading h (FileKey p)))
@@ -294,23 +405,46 @@ base_decided {reading = reading} h caller project branch commit place delta is a
 -- the project has the file that is put
 pub file_decided : {reading : Reading} (h : List Entry) (caller : ℕ) (project text : List ℕ) (delta : Delta) →
     IsAnswerBy reading h caller (PutProject project text) (Done made.Nothing) →
+<<<<<<< ours
     delta.accounts.items ≡ [] → delta.members.items ≡ [] → delta.file ≡ Some (record { key = project; row = record { text = text; parent = named_parent text } }) → delta.base ≡ None → delta.changes.items ≡ [] →
+||||||| base
+    delta.accounts.items ≡ [] → delta.members.items ≡ [] → delta.file ≡ Some (record { project = project; file = text }) → delta.base ≡ None → delta.changes.items ≡ [] →
+=======
+    delta.accounts.items ≡ [] → delta.members.items ≡ [] → delta.file ≡ Some (record { project = project; file = text }) → delta.base ≡ None → delta.changes.items ≡ [] → delta.epoch ≡ None →
+>>>>>>> epochs
     IsDecided reading h caller (PutProject project text) delta (Done made.Nothing)
-file_decided {reading = reading} h caller project text delta is da dm df db dc = record {
+file_decided {reading = reading} h caller project text delta is da dm df db dc de = record {
   reply_is = is;
-  row_is = λ id k. rows k;
-  count_is = λ id k. counts k;
+  row_is = λ epoch id k. rows k;
+  count_is = λ epoch id k. counts k;
 }
   where
+<<<<<<< ours
     counts : (k : Count) → counted (entry_of caller [] (PutProject project text) (Done made.Nothing) ∷ h) k ≡ count_after delta (fact reading h) k (counted h k)
     counts Projects = ap (λ b. cond b (project_count h) (project_count h + 1)) (sym (project_is reading h project)) ∙ sym (ap (λ o. count_put (λ p. true) o (λ p. fact reading h (FileKey p)) (project_count h)) df)
     counts (BasesOf p) = sym (no_base_more delta db (fact reading h) p (base_count h p))
+||||||| base
+    counts : (k : Count) → counted (record { identity = record { caller = caller; id = [] }; command = PutProject project text; reply = Done made.Nothing } ∷ h) k ≡ count_after delta (fact reading h) k (counted h k)
+    counts Projects = ap (λ b. cond b (project_count h) (project_count h + 1)) (sym (project_is reading h project)) ∙ sym (ap (λ o. projects_after o (fact reading h) (project_count h)) df)
+    counts (BasesOf p) = sym (ap (λ o. bases_after o (fact reading h) p (base_count h p)) db)
+=======
+    counts : (k : Count) → counted (record { identity = record { caller = caller; epoch = 0; id = [] }; command = PutProject project text; reply = Done made.Nothing } ∷ h) k ≡ count_after delta (fact reading h) k (counted h k)
+    counts Projects = ap (λ b. cond b (project_count h) (project_count h + 1)) (sym (project_is reading h project)) ∙ sym (ap (λ o. projects_after o (fact reading h) (project_count h)) df)
+    counts (BasesOf p) = sym (ap (λ o. bases_after o (fact reading h) p (base_count h p)) db)
+    counts ClosedEpochs = sym (ap (λ o. unwrap_or o (least_open h)) de)
+>>>>>>> epochs
 
     file_where : (b : Bool) (o : Option (List ℕ)) → option_map FileRow (placed (cond b (Some text) o)) ≡ cond b (Some (FileRow (record { text = text; parent = named_parent text }))) (option_map FileRow (placed o))
     file_where true o = refl
     file_where false o = refl
 
+<<<<<<< ours
     rows : (k : Key) → fact reading (entry_of caller [] (PutProject project text) (Done made.Nothing) ∷ h) k ≡ after delta k (fact reading h k)
+||||||| base
+    rows : (k : Key) → fact reading (record { identity = record { caller = caller; id = [] }; command = PutProject project text; reply = Done made.Nothing } ∷ h) k ≡ after delta k (fact reading h k)
+=======
+    rows : (k : Key) → fact reading (record { identity = record { caller = caller; epoch = 0; id = [] }; command = PutProject project text; reply = Done made.Nothing } ∷ h) k ≡ after delta k (fact reading h k)
+>>>>>>> epochs
     rows (AccountKey m) = sym (ap (λ l. after_change (account_change (change_of nat_cmp l m)) (fact reading h (AccountKey m))) da)
     rows (MemberKey g m) = sym (ap (λ l. after_change (member_change (change_of member_cmp l (member_of g m))) (fact reading h (MemberKey g m))) dm)
     rows (FileKey p) =

@@ -1,5 +1,5 @@
 //! Decisions on branches.
-ghost use Rattle.std.specs.Prelude.{◌≡◌, List, Option, IfOk, IfErr, true};
+ghost use Rattle.std.specs.Prelude.{◌≡◌, List, Option, IfOk, IfErr, true, None};
 ghost use Rattle.review_words.specs.Texts.{IsStored};
 ghost use Rattle.review_words.specs.History.{Entry, is_account};
 ghost use Rattle.review_words.specs.declared.command.Command.TheVariants.{RecordBase};
@@ -34,6 +34,7 @@ pub fn record_base(
     ensures cause { IfErr result (λ e. e ≡ Memory) }
     ensures stored { IfOk result (λ r. IsStored r.1) }
     ensures refused { IfOk result (λ r. HasNoEffect r.1 r.0) }
+    ensures epoch { IfOk result (λ r. r.0.epoch ≡ None) }
     ensures once { IfOk result (λ r. NamesEachOnce r.0) }
 {
     let admin = is_admin(alloc, rows, caller)?;

@@ -6,15 +6,16 @@ use Rattle.std.proofs.lemmas.Bool.{cases_Bool, and_parts}
 use Rattle.std.proofs.lemmas.Slice.Eq.{bytes_eq-Decides}
 use Rattle.review_words.specs.History.{Entry, accepted, bases, if_done, is_account, is_base, with_base}
 use Rattle.review_words.specs.declared.command.Command.{Command}
-use Rattle.review_words.specs.declared.command.Command.TheVariants.{CreateAccount, PutGroup, PutProject, RecordBase, CreateChange, OnChange, Submit}
+use Rattle.review_words.specs.declared.command.Command.TheVariants.{CreateAccount, PutGroup, PutProject, RecordBase, CreateChange, OnChange, Submit, CloseEpoch}
 use Rattle.review_words.specs.declared.reply.Answer.{Answer}
 use Rattle.review_words.specs.declared.reply.Refusal.TheVariants.{UnknownCaller}
 use Rattle.review_words.specs.declared.reply.Reply.{Reply}
-use Rattle.review_words.specs.declared.reply.Reply.TheVariants.{Done, Refused, IdentityReused, NotTaken}
+use Rattle.review_words.specs.declared.reply.Reply.TheVariants.{Done, Refused, IdentityReused, EpochClosed, NotTaken}
 use Rattle.review_changes.specs.declared.rows.PatchRow.{PatchRow}
 use Rattle.review_rows.proofs.Readings.{IsDoneBy, done_of}
 use Rattle.review_rows.specs.Answer.{IsAnswerBy, IsHistory, checks}
 use Rattle.review_rows.specs.Changes.{Reading, Reads, change, is_known, is_sent}
+use Rattle.review_rows.proofs.Epochs.{IsDoneBy, done_by}
 use Rattle.review_change_laws.proofs.Sound.{all_pass, done_passes}
 use Rattle.review_branch_facts.specs.Patches.{HasPatch}
 use Rattle.review_branch_facts.proofs.Passing.{or_true}
@@ -68,6 +69,7 @@ base_done reading h caller project branch x (PutProject named text) a answer is 
 base_done reading h caller project branch x (CreateChange new) a answer is = inl is
 base_done reading h caller project branch x (OnChange m command) a answer is = inl is
 base_done reading h caller project branch x (Submit m) a answer is = inl is
+base_done reading h caller project branch x (CloseEpoch least) a answer is = inl is
 base_done reading h caller project branch x (RecordBase named in_branch commit) a answer is =
     by (known_parts (is_base h project branch x) ((bytes_eq named project && bytes_eq in_branch branch) && bytes_eq commit x)
     (sym (one_more_base (bytes_eq named project && bytes_eq in_branch branch) (bases h project branch) commit x) ∙ is))
@@ -89,6 +91,7 @@ base_step : (reading : Reading) (h : List Entry) (caller : ℕ) (project branch 
 base_step reading h caller project branch x command (Done a) answer is = base_done reading h caller project branch x command a answer is
 base_step reading h caller project branch x command (Refused r) answer is = inl is
 base_step reading h caller project branch x command IdentityReused answer is = inl is
+base_step reading h caller project branch x command EpochClosed answer is = inl is
 base_step reading h caller project branch x command (NotTaken cause) answer is = inl is
 
 based_known : (a b : Bool) → (a || b) ≡ false → a ≡ true → ⊥
@@ -105,7 +108,13 @@ pub base_not_sent : (reading : Reading) (h : List Entry) (project branch : List 
 base_not_sent reading [] project branch n k p history reads has is = let bad : None ≡ Some has.of = has.is in absurd (cc)
 base_not_sent reading (e ∷ h) project branch n k p history reads has is =
     by (λ was based. base_not_sent reading h project branch n k p history.3 reads.1 was based) (came reading e h project branch n k p history reads has)
+<<<<<<< ours
     (base_step reading h e.identity.caller project branch p.commit e.command e.reply (done_of e h history reading reads.1) is)
+||||||| base
+    (base_step reading h e.identity.caller project branch p.commit e.command e.reply (history.1 reading reads.1) is)
+=======
+    (base_step reading h e.identity.caller project branch p.commit e.command e.reply (done_by reading h e.identity.caller e.identity.epoch e.command e.reply (history.1 reading reads.1)) is)
+>>>>>>> epochs
   where
     by : (HasPatch project branch k p (change reading h n) → is_base h project branch p.commit ≡ true → ⊥) → Came reading h (accepted e) project branch n k p →
         BaseCame reading h (accepted e) project branch p.commit → ⊥

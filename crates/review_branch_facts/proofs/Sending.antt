@@ -9,17 +9,18 @@ use Rattle.review_words.specs.History.{Entry, accepted, if_done, is_account}
 use Rattle.review_words.specs.declared.command.ChangeCommand.{ChangeCommand}
 use Rattle.review_words.specs.declared.command.ChangeCommand.TheVariants as on
 use Rattle.review_words.specs.declared.command.Command.{Command}
-use Rattle.review_words.specs.declared.command.Command.TheVariants.{CreateAccount, PutGroup, PutProject, RecordBase, CreateChange, OnChange, Submit}
+use Rattle.review_words.specs.declared.command.Command.TheVariants.{CreateAccount, PutGroup, PutProject, RecordBase, CloseEpoch, CreateChange, OnChange, Submit}
 use Rattle.review_words.specs.declared.reply.Answer.{Answer}
 use Rattle.review_words.specs.declared.reply.Refusal.TheVariants.{UnknownCaller}
 use Rattle.review_words.specs.declared.reply.Reply.{Reply}
-use Rattle.review_words.specs.declared.reply.Reply.TheVariants.{Done, Refused, IdentityReused, NotTaken}
+use Rattle.review_words.specs.declared.reply.Reply.TheVariants.{Done, Refused, IdentityReused, EpochClosed, NotTaken}
 use Rattle.review_names.specs.declared.kinds.ChangeKind.TheVariants.{Rework}
 use Rattle.review_changes.specs.Change.{Change, after, begun, current, of_number, patches_by}
 use Rattle.review_changes.specs.declared.rows.PatchRow.{PatchRow}
 use Rattle.review_rows.proofs.Readings.{IsDoneBy, done_of}
 use Rattle.review_rows.specs.Answer.{IsAnswerBy, IsHistory, checks, request_checks}
 use Rattle.review_rows.specs.Changes.{Reading, Reads, change, change_by, change_count, is_for, is_known, setting_of, submitted}
+use Rattle.review_rows.proofs.Epochs.{IsDoneBy, done_by}
 use Rattle.review_change_laws.proofs.Joining.{joining_keeps}
 use Rattle.review_change_laws.proofs.Sound.{Passes, all_pass, checks_pass, done_passes}
 use Rattle.review_branch_facts.specs.Patches.{HasPatch}
@@ -91,6 +92,7 @@ done_came reading h caller project branch n k p c (CreateAccount name) a answer 
 done_came reading h caller project branch n k p c (PutGroup group members) a answer is for sent = inl (record { of = c; is = is; is_for_it = for; sent = sent })
 done_came reading h caller project branch n k p c (PutProject named text) a answer is for sent = inl (record { of = c; is = is; is_for_it = for; sent = sent })
 done_came reading h caller project branch n k p c (RecordBase named in_branch commit) a answer is for sent = inl (record { of = c; is = is; is_for_it = for; sent = sent })
+done_came reading h caller project branch n k p c (CloseEpoch epoch) a answer is for sent = inl (record { of = c; is = is; is_for_it = for; sent = sent })
 done_came reading h caller project branch n k p c (Submit m) a answer is for sent = inl (record { of = c; is = is; is_for_it = for; sent = sent })
 done_came reading h caller project branch n k p c (CreateChange new) a answer is for sent = by (change_count h + 1 == n) refl is
   where
@@ -128,6 +130,7 @@ step_came : (reading : Reading) (h : List Entry) (caller : ℕ) (project branch 
 step_came reading h caller project branch n k p c command (Done a) answer is for sent = done_came reading h caller project branch n k p c command a answer is for sent
 step_came reading h caller project branch n k p c command (Refused r) answer is for sent = inl (record { of = c; is = is; is_for_it = for; sent = sent })
 step_came reading h caller project branch n k p c command IdentityReused answer is for sent = inl (record { of = c; is = is; is_for_it = for; sent = sent })
+step_came reading h caller project branch n k p c command EpochClosed answer is for sent = inl (record { of = c; is = is; is_for_it = for; sent = sent })
 step_came reading h caller project branch n k p c command (NotTaken cause) answer is for sent = inl (record { of = c; is = is; is_for_it = for; sent = sent })
 
 -- a patch set after one entry more was there before, or the entry's command sends it
@@ -136,4 +139,10 @@ pub came : (reading : Reading) (e : Entry) (h : List Entry) (project branch : Li
 came reading e h project branch n k p history reads has =
     joining_keeps (λ c. is_for project branch c ≡ true → of_number c.patches k ≡ Some p → Came reading h (accepted e) project branch n k p) (λ place request x holds. holds)
     h (submitted (accepted e) e.reply) n (change_by reading h e.identity.caller (accepted e) n (change reading h n)) has.of
+<<<<<<< ours
     (λ x there. step_came reading h e.identity.caller project branch n k p x e.command e.reply (done_of e h history reading reads.1) there) has.is has.is_for_it has.sent
+||||||| base
+    (λ x there. step_came reading h e.identity.caller project branch n k p x e.command e.reply (history.1 reading reads.1) there) has.is has.is_for_it has.sent
+=======
+    (λ x there. step_came reading h e.identity.caller project branch n k p x e.command e.reply (done_by reading h e.identity.caller e.identity.epoch e.command e.reply (history.1 reading reads.1)) there) has.is has.is_for_it has.sent
+>>>>>>> epochs

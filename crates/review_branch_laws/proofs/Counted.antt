@@ -4,16 +4,17 @@ use Rattle.std.specs.Prelude.{is_some, nat_le}
 use Rattle.std.proofs.lemmas.Bool.{and_parts, ltb-true, leb-true}
 use Rattle.review_names.specs.Forms.{most_changes}
 use Rattle.review_words.specs.declared.command.Command.{Command}
-use Rattle.review_words.specs.declared.command.Command.TheVariants.{CreateAccount, PutGroup, PutProject, RecordBase, CreateChange, OnChange, Submit}
+use Rattle.review_words.specs.declared.command.Command.TheVariants.{CreateAccount, PutGroup, PutProject, RecordBase, CloseEpoch, CreateChange, OnChange, Submit}
 use Rattle.review_words.specs.declared.reply.Answer.{Answer}
 use Rattle.review_words.specs.declared.reply.Refusal.TheVariants.{UnknownCaller}
 use Rattle.review_words.specs.declared.reply.Reply.{Reply}
-use Rattle.review_words.specs.declared.reply.Reply.TheVariants.{Done, Refused, IdentityReused, NotTaken}
+use Rattle.review_words.specs.declared.reply.Reply.TheVariants.{Done, Refused, IdentityReused, EpochClosed, NotTaken}
 use Rattle.review_words.specs.History.{Entry, if_done, is_account}
 use Rattle.review_changes.specs.Change.{Change}
 use Rattle.review_rows.proofs.Readings.{IsDoneBy, done_of}
 use Rattle.review_rows.specs.Answer.{IsAnswerBy, IsHistory, checks}
 use Rattle.review_rows.specs.Changes.{Reading, Reads, change, change_count, change_counted}
+use Rattle.review_rows.proofs.Epochs.{IsDoneBy, done_by}
 use Rattle.review_change_laws.proofs.Sound.{all_pass, done_passes}
 use Rattle.review_change_laws.proofs.There.{change_there}
 
@@ -23,6 +24,7 @@ made reading h caller (CreateAccount name) a answer before = before
 made reading h caller (PutGroup group members) a answer before = before
 made reading h caller (PutProject project text) a answer before = before
 made reading h caller (RecordBase project branch commit) a answer before = before
+made reading h caller (CloseEpoch epoch) a answer before = before
 made reading h caller (CreateChange new) a answer before =
     let all = (all_pass ((is_account h caller, UnknownCaller) ∷ checks reading h caller (CreateChange new)) (done_passes reading h caller (CreateChange new) a answer)).1 in
     let below : change_count h < most_changes = ltb-true (change_count h) most_changes all.1.1.1.1.1.0 in
@@ -35,12 +37,19 @@ made_by : (reading : Reading) (h : List Entry) (caller : ℕ) (command : Command
 made_by reading h caller command (Done a) answer before = made reading h caller command a answer before
 made_by reading h caller command (Refused r) answer before = before
 made_by reading h caller command IdentityReused answer before = before
+made_by reading h caller command EpochClosed answer before = before
 made_by reading h caller command (NotTaken cause) answer before = before
 
 -- a history has at most so many changes
 pub changes_bound : (reading : Reading) (h : List Entry) → Reads reading h → IsHistory h → change_count h ≤ most_changes
 changes_bound reading [] reads history = omega arith
+<<<<<<< ours
 changes_bound reading (e ∷ h) reads history = made_by reading h e.identity.caller e.command e.reply (done_of e h history reading reads.1) (changes_bound reading h reads.1 history.3)
+||||||| base
+changes_bound reading (e ∷ h) reads history = made_by reading h e.identity.caller e.command e.reply (history.1 reading reads.1) (changes_bound reading h reads.1 history.3)
+=======
+changes_bound reading (e ∷ h) reads history = made_by reading h e.identity.caller e.command e.reply (done_by reading h e.identity.caller e.identity.epoch e.command e.reply (history.1 reading reads.1)) (changes_bound reading h reads.1 history.3)
+>>>>>>> epochs
 
 -- the number of a change that is there
 pub change_bound : (reading : Reading) (h : List Entry) (n : ℕ) (c : Change) → Reads reading h → IsHistory h → change reading h n ≡ Some c → (1 ≤ n) × (n ≤ most_changes)

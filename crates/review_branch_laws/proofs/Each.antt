@@ -6,15 +6,16 @@ use Rattle.review_words.specs.History.{Entry, accepted, if_done}
 use Rattle.review_words.specs.declared.changes.NewChange.{NewChange}
 use Rattle.review_words.specs.declared.command.ChangeCommand.{ChangeCommand}
 use Rattle.review_words.specs.declared.command.Command.{Command}
-use Rattle.review_words.specs.declared.command.Command.TheVariants.{CreateAccount, PutGroup, PutProject, RecordBase, CreateChange, OnChange, Submit}
+use Rattle.review_words.specs.declared.command.Command.TheVariants.{CreateAccount, PutGroup, PutProject, RecordBase, CloseEpoch, CreateChange, OnChange, Submit}
 use Rattle.review_words.specs.declared.reply.Answer.{Answer}
 use Rattle.review_words.specs.declared.reply.Reply.{Reply}
-use Rattle.review_words.specs.declared.reply.Reply.TheVariants.{Done, Refused, IdentityReused, NotTaken}
+use Rattle.review_words.specs.declared.reply.Reply.TheVariants.{Done, Refused, IdentityReused, EpochClosed, NotTaken}
 use Rattle.review_changes.specs.Change.{Change, after, begun, joined_at}
 use Rattle.review_rows.proofs.Readings.{IsDoneBy, done_of}
 use Rattle.review_rows.specs.Answer.{IsAnswerBy, IsHistory, request_checks}
 use Rattle.review_rows.specs.Changes.{Reading, Reads, change, change_by, change_count, setting_of, submitted}
 use Rattle.review_rows.specs.Submits.{is_merged}
+use Rattle.review_rows.proofs.Epochs.{IsDoneBy, done_by}
 use Rattle.review_change_laws.proofs.Joining.{joining_keeps}
 use Rattle.review_change_laws.proofs.Sound.{Passes, checks_pass, done_passes}
 use Rattle.review_branch_laws.proofs.Placed.{merged_stays}
@@ -42,6 +43,7 @@ done_holds P reading s h caller n c (CreateAccount name) a answer before is = be
 done_holds P reading s h caller n c (PutGroup group members) a answer before is = before c is
 done_holds P reading s h caller n c (PutProject project text) a answer before is = before c is
 done_holds P reading s h caller n c (RecordBase project branch commit) a answer before is = before c is
+done_holds P reading s h caller n c (CloseEpoch epoch) a answer before is = before c is
 done_holds P reading s h caller n c (CreateChange new) a answer before is =
     made_holds P (change_count h + 1 == n) (change reading h n) (begun new caller (length h + 1)) c before (s.begins new caller (length h + 1)) is
 done_holds P reading s h caller n c (OnChange m command) a answer before is =
@@ -57,6 +59,7 @@ step_holds : (P : Change → Type 0) (reading : Reading) → Stays P reading →
 step_holds P reading s h caller n c command (Done a) answer before is = done_holds P reading s h caller n c command a answer before is
 step_holds P reading s h caller n c command (Refused r) answer before is = before c is
 step_holds P reading s h caller n c command IdentityReused answer before is = before c is
+step_holds P reading s h caller n c command EpochClosed answer before is = before c is
 step_holds P reading s h caller n c command (NotTaken cause) answer before is = before c is
 
 -- what stays holds of every change of a history
@@ -64,7 +67,13 @@ pub of_each : (P : Change → Type 0) (reading : Reading) → Stays P reading �
 of_each P reading s [] n c history reads is = absurd (cc)
 of_each P reading s (e ∷ h) n c history reads is =
     joining_keeps P s.joins h (submitted (accepted e) e.reply) n (change_by reading h e.identity.caller (accepted e) n (change reading h n)) c
+<<<<<<< ours
     (λ x there. step_holds P reading s h e.identity.caller n x e.command e.reply (done_of e h history reading reads.1) (λ y was. of_each P reading s h n y history.3 reads.1 was) there) is
+||||||| base
+    (λ x there. step_holds P reading s h e.identity.caller n x e.command e.reply (history.1 reading reads.1) (λ y was. of_each P reading s h n y history.3 reads.1 was) there) is
+=======
+    (λ x there. step_holds P reading s h e.identity.caller n x e.command e.reply (done_by reading h e.identity.caller e.identity.epoch e.command e.reply (history.1 reading reads.1)) (λ y was. of_each P reading s h n y history.3 reads.1 was) there) is
+>>>>>>> epochs
 
 -- a change that is not merged is at place 0
 abbrev IsUnplaced : Change → Type 0

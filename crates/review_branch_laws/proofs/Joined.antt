@@ -10,10 +10,10 @@ use Rattle.std.proofs.lemmas.Map.Keys.{IsDistinct-cons}
 use Rattle.std.proofs.lemmas.Map.Steps.{length-le_from_distinct_below}
 use Rattle.review_words.specs.History.{Entry, accepted, if_done}
 use Rattle.review_words.specs.declared.command.Command.{Command}
-use Rattle.review_words.specs.declared.command.Command.TheVariants.{CreateAccount, PutGroup, PutProject, RecordBase, CreateChange, OnChange, Submit}
+use Rattle.review_words.specs.declared.command.Command.TheVariants.{CreateAccount, PutGroup, PutProject, RecordBase, CloseEpoch, CreateChange, OnChange, Submit}
 use Rattle.review_words.specs.declared.reply.Answer.{Answer}
 use Rattle.review_words.specs.declared.reply.Reply.{Reply}
-use Rattle.review_words.specs.declared.reply.Reply.TheVariants.{Done, Refused, IdentityReused, NotTaken}
+use Rattle.review_words.specs.declared.reply.Reply.TheVariants.{Done, Refused, IdentityReused, EpochClosed, NotTaken}
 use Rattle.review_words.specs.declared.shown.State.{State}
 use Rattle.review_words.specs.declared.shown.State.TheVariants.{New, Merged, Abandoned}
 use Rattle.review_chain.proofs.Fronts.{chain_distinct}
@@ -22,6 +22,7 @@ use Rattle.review_rows.proofs.Readings.{IsDoneBy, done_of}
 use Rattle.review_rows.specs.Answer.{IsHistory}
 use Rattle.review_rows.specs.Changes.{Reading, Reads, change, change_count, is_for, is_made_for, joined, joined_by, joined_in, place_in}
 use Rattle.review_rows.specs.Submits.{branch_after, is_merged}
+use Rattle.review_rows.proofs.Epochs.{IsDoneBy, done_by}
 use Rattle.review_change_laws.proofs.There.{change_there, is_up_to}
 use Rattle.review_branch_laws.specs.Accepted.{IsAccepted}
 use Rattle.review_branch_laws.specs.Joined.{HasJoined}
@@ -54,11 +55,13 @@ pub gains : (reading : Reading) (h : List Entry) (caller : ℕ) (command : Comma
     (joined_by h (if_done reply command) reply project branch ≡ []) ⊎ Gains reading h (if_done reply command) project branch (joined_by h (if_done reply command) reply project branch)
 gains reading h caller command (Refused r) project branch answer = inl refl
 gains reading h caller command IdentityReused project branch answer = inl refl
+gains reading h caller command EpochClosed project branch answer = inl refl
 gains reading h caller command (NotTaken cause) project branch answer = inl refl
 gains reading h caller (CreateAccount name) (Done a) project branch answer = inl refl
 gains reading h caller (PutGroup group members) (Done a) project branch answer = inl refl
 gains reading h caller (PutProject named text) (Done a) project branch answer = inl refl
 gains reading h caller (RecordBase named on commit) (Done a) project branch answer = inl refl
+gains reading h caller (CloseEpoch epoch) (Done a) project branch answer = inl refl
 gains reading h caller (CreateChange new) (Done a) project branch answer = inl refl
 gains reading h caller (OnChange m command) (Done a) project branch answer = inl refl
 gains reading h caller (Submit m) (Done a) project branch answer = by (is_made_for h project branch m) refl
@@ -100,7 +103,13 @@ pub joined_distinct : (reading : Reading) (h : List Entry) (project branch : Lis
 joined_distinct reading [] project branch history reads = none_distinct
 joined_distinct reading (e ∷ h) project branch history reads =
     more_distinct reading h (accepted e) project branch (joined_by h (accepted e) e.reply project branch) history.3 reads.1 (joined_distinct reading h project branch history.3 reads.1)
+<<<<<<< ours
     (gains reading h e.identity.caller e.command e.reply project branch (done_of e h history reading reads.1))
+||||||| base
+    (gains reading h e.identity.caller e.command e.reply project branch (history.1 reading reads.1))
+=======
+    (gains reading h e.identity.caller e.command e.reply project branch (done_by reading h e.identity.caller e.identity.epoch e.command e.reply (history.1 reading reads.1)))
+>>>>>>> epochs
 
 -- ---- those that are merged
 

@@ -9,10 +9,10 @@ use Rattle.review_words.specs.History.{Entry, accepted, bases, if_done, is_base,
 use Rattle.review_words.specs.declared.command.ChangeCommand.{ChangeCommand}
 use Rattle.review_words.specs.declared.command.ChangeCommand.TheVariants as on
 use Rattle.review_words.specs.declared.command.Command.{Command}
-use Rattle.review_words.specs.declared.command.Command.TheVariants.{CreateAccount, PutGroup, PutProject, RecordBase, CreateChange, OnChange, Submit}
+use Rattle.review_words.specs.declared.command.Command.TheVariants.{CreateAccount, PutGroup, PutProject, RecordBase, CloseEpoch, CreateChange, OnChange, Submit}
 use Rattle.review_words.specs.declared.reply.Answer.{Answer}
 use Rattle.review_words.specs.declared.reply.Reply.{Reply}
-use Rattle.review_words.specs.declared.reply.Reply.TheVariants.{Done, Refused, IdentityReused, NotTaken}
+use Rattle.review_words.specs.declared.reply.Reply.TheVariants.{Done, Refused, IdentityReused, EpochClosed, NotTaken}
 use Rattle.review_words.specs.declared.shown.State.{State}
 use Rattle.review_words.specs.declared.shown.State.TheVariants.{New, Merged, Abandoned}
 use Rattle.review_changes.specs.Change.{Change, after, begun, commit, is_open, of_number, parent, patches_by}
@@ -20,6 +20,7 @@ use Rattle.review_changes.specs.declared.rows.PatchRow.{PatchRow}
 use Rattle.review_rows.proofs.Readings.{IsDoneBy, done_of}
 use Rattle.review_rows.specs.Answer.{IsAnswerBy, IsHistory, request_checks}
 use Rattle.review_rows.specs.Changes.{Reading, Reads, change, change_by, change_count, joining_at, place_in, setting_of, submitted}
+use Rattle.review_rows.proofs.Epochs.{IsDoneBy, done_by}
 use Rattle.review_change_laws.proofs.Sound.{Passes, checks_pass, done_passes}
 use Rattle.review_branch_laws.proofs.Placed.{none_next}
 
@@ -38,6 +39,7 @@ base_stays (Some (RecordBase named on commit)) project branch x xs is = one_more
 base_stays (Some (CreateChange new)) project branch x xs is = is
 base_stays (Some (OnChange m command)) project branch x xs is = is
 base_stays (Some (Submit m)) project branch x xs is = is
+base_stays (Some (CloseEpoch least)) project branch x xs is = is
 
 -- a base of a branch stays one
 pub base_kept : (e : Entry) (h : List Entry) (project branch x : List ℕ) → is_base h project branch x ≡ true → is_base (e ∷ h) project branch x ≡ true
@@ -93,6 +95,7 @@ done_patches reading h caller n c (CreateAccount name) a answer there merged = r
 done_patches reading h caller n c (PutGroup group members) a answer there merged = record { of = c; there = there; patches = refl }
 done_patches reading h caller n c (PutProject project text) a answer there merged = record { of = c; there = there; patches = refl }
 done_patches reading h caller n c (RecordBase project branch commit) a answer there merged = record { of = c; there = there; patches = refl }
+done_patches reading h caller n c (CloseEpoch epoch) a answer there merged = record { of = c; there = there; patches = refl }
 done_patches reading h caller n c (CreateChange new) a answer there merged =
     made_patches (change_count h + 1 == n) (change reading h n) (begun new caller (length h + 1)) c there (none_next reading h n)
 done_patches reading h caller n c (OnChange m command) a answer there merged =
@@ -107,13 +110,20 @@ step_patches : (reading : Reading) (h : List Entry) (caller n : ℕ) (c : Change
 step_patches reading h caller n c command (Done a) answer there merged = done_patches reading h caller n c command a answer there merged
 step_patches reading h caller n c command (Refused r) answer there merged = record { of = c; there = there; patches = refl }
 step_patches reading h caller n c command IdentityReused answer there merged = record { of = c; there = there; patches = refl }
+step_patches reading h caller n c command EpochClosed answer there merged = record { of = c; there = there; patches = refl }
 step_patches reading h caller n c command (NotTaken cause) answer there merged = record { of = c; there = there; patches = refl }
 
 -- an entry keeps the patch sets of a merged change
 pub merged_keeps : (reading : Reading) (e : Entry) (h : List Entry) (n : ℕ) (c : Change) → IsHistory (e ∷ h) → Reads reading h → change reading h n ≡ Some c → c.state ≡ Merged → KeepsPatches c (change reading (e ∷ h) n)
 merged_keeps reading e h n c history reads there merged =
     joining_patches h (place_in (submitted (accepted e) e.reply) n) (change_by reading h e.identity.caller (accepted e) n (change reading h n)) c
+<<<<<<< ours
     (step_patches reading h e.identity.caller n c e.command e.reply (done_of e h history reading reads) there merged)
+||||||| base
+    (step_patches reading h e.identity.caller n c e.command e.reply (history.1 reading reads) there merged)
+=======
+    (step_patches reading h e.identity.caller n c e.command e.reply (done_by reading h e.identity.caller e.identity.epoch e.command e.reply (history.1 reading reads)) there merged)
+>>>>>>> epochs
 
 -- a submit keeps those of every change
 pub submit_keeps : (reading : Reading) (e : Entry) (h : List Entry) (m n : ℕ) (c : Change) → accepted e ≡ Some (Submit m) → change reading h n ≡ Some c → KeepsPatches c (change reading (e ∷ h) n)

@@ -11,10 +11,10 @@ use Rattle.review_words.specs.History.{Entry, if_done}
 use Rattle.review_words.specs.declared.command.ChangeCommand.{ChangeCommand}
 use Rattle.review_words.specs.declared.command.ChangeCommand.TheVariants as on
 use Rattle.review_words.specs.declared.command.Command.{Command}
-use Rattle.review_words.specs.declared.command.Command.TheVariants.{CreateAccount, PutGroup, PutProject, RecordBase, CreateChange, OnChange, Submit}
+use Rattle.review_words.specs.declared.command.Command.TheVariants.{CreateAccount, PutGroup, PutProject, RecordBase, CloseEpoch, CreateChange, OnChange, Submit}
 use Rattle.review_words.specs.declared.reply.Answer.{Answer}
 use Rattle.review_words.specs.declared.reply.Reply.{Reply}
-use Rattle.review_words.specs.declared.reply.Reply.TheVariants.{Done, Refused, IdentityReused, NotTaken}
+use Rattle.review_words.specs.declared.reply.Reply.TheVariants.{Done, Refused, IdentityReused, EpochClosed, NotTaken}
 use Rattle.review_words.specs.declared.shown.State.{State}
 use Rattle.review_words.specs.declared.shown.State.TheVariants.{New, Merged, Abandoned}
 use Rattle.review_chain.specs.declared.links.Link.{Link}
@@ -25,6 +25,7 @@ use Rattle.review_rows.proofs.Readings.{IsDoneBy, done_of}
 use Rattle.review_rows.specs.Answer.{IsAnswerBy, IsHistory, request_checks}
 use Rattle.review_rows.specs.Changes.{Reading, Reads, change, change_by, change_count, is_for, is_made_for, joined, joined_by, joined_in, joining, joining_at, place_in, setting_of, submitted}
 use Rattle.review_rows.specs.Submits.{branch_after, is_merged}
+use Rattle.review_rows.proofs.Epochs.{IsDoneBy, done_by}
 use Rattle.review_change_laws.proofs.Sound.{Passes, checks_pass, done_passes}
 use Rattle.review_change_laws.proofs.There.{change_there, is_up_to}
 use Rattle.review_branch_laws.specs.Accepted.{IsAccepted}
@@ -87,6 +88,7 @@ place_stays reading h caller (CreateAccount name) a project branch n answer = re
 place_stays reading h caller (PutGroup group members) a project branch n answer = refl
 place_stays reading h caller (PutProject named text) a project branch n answer = refl
 place_stays reading h caller (RecordBase named on commit) a project branch n answer = refl
+place_stays reading h caller (CloseEpoch epoch) a project branch n answer = refl
 place_stays reading h caller (CreateChange new) a project branch n answer =
     made_place project branch (change_count h + 1 == n) (change reading h n) (begun new caller (length h + 1)) refl (none_next reading h n)
 place_stays reading h caller (OnChange m command) a project branch n answer =
@@ -177,6 +179,7 @@ step : (reading : Reading) (h : List Entry) (caller : ℕ) (command : Command) (
     ≡ place_of project branch (joining h (submitted (if_done reply command) reply) n (change_by reading h caller (if_done reply command) n (change reading h n)))
 step reading h caller command (Refused r) project branch n answer before = ap (λ l. place_in l n) (append-nil (joined h project branch)) ∙ before
 step reading h caller command IdentityReused project branch n answer before = ap (λ l. place_in l n) (append-nil (joined h project branch)) ∙ before
+step reading h caller command EpochClosed project branch n answer before = ap (λ l. place_in l n) (append-nil (joined h project branch)) ∙ before
 step reading h caller command (NotTaken cause) project branch n answer before = ap (λ l. place_in l n) (append-nil (joined h project branch)) ∙ before
 step reading h caller (Submit m) (Done a) project branch n answer before =
     let s = submit_accepted reading h caller m a answer in
@@ -187,6 +190,7 @@ step reading h caller (CreateAccount name) (Done a) project branch n answer befo
 step reading h caller (PutGroup group members) (Done a) project branch n answer before = ap (λ l. place_in l n) (append-nil (joined h project branch)) ∙ before
 step reading h caller (PutProject named text) (Done a) project branch n answer before = ap (λ l. place_in l n) (append-nil (joined h project branch)) ∙ before
 step reading h caller (RecordBase named on commit) (Done a) project branch n answer before = ap (λ l. place_in l n) (append-nil (joined h project branch)) ∙ before
+step reading h caller (CloseEpoch epoch) (Done a) project branch n answer before = ap (λ l. place_in l n) (append-nil (joined h project branch)) ∙ before
 step reading h caller (CreateChange new) (Done a) project branch n answer before =
     ap (λ l. place_in l n) (append-nil (joined h project branch)) ∙ (before ∙ sym (place_stays reading h caller (CreateChange new) a project branch n answer))
 step reading h caller (OnChange m command) (Done a) project branch n answer before =
@@ -196,4 +200,10 @@ step reading h caller (OnChange m command) (Done a) project branch n answer befo
 pub placed : (reading : Reading) (h : List Entry) (project branch : List ℕ) (n : ℕ) → IsHistory h → Reads reading h → place_in (joined h project branch) n ≡ place_of project branch (change reading h n)
 placed reading [] project branch n history reads = refl
 placed reading (e ∷ h) project branch n history reads =
+<<<<<<< ours
     step reading h e.identity.caller e.command e.reply project branch n (done_of e h history reading reads.1) (placed reading h project branch n history.3 reads.1)
+||||||| base
+    step reading h e.identity.caller e.command e.reply project branch n (history.1 reading reads.1) (placed reading h project branch n history.3 reads.1)
+=======
+    step reading h e.identity.caller e.command e.reply project branch n (done_by reading h e.identity.caller e.identity.epoch e.command e.reply (history.1 reading reads.1)) (placed reading h project branch n history.3 reads.1)
+>>>>>>> epochs

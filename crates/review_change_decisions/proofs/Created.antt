@@ -1,12 +1,18 @@
 -- A new change.
 use Rattle.std.proofs.Common.{◌≡◌, ℕ, ◌+◌, ◌==◌, List, [], ◌∷◌, length, Option, Some, None, Bool, true, false, cond, not, refl, sym, ap, ◌∙◌, subst, eqb-true, arith}
-use Rattle.std.specs.Prelude.{is_some, nat_le, nat_lt, option_map}
+use Rattle.std.specs.Prelude.{is_some, nat_le, nat_lt, option_map, unwrap_or}
 use Rattle.std.specs.List.{AllByRecursion}
 use Rattle.std.specs.Ordering.{nat_cmp}
 use Rattle.std.proofs.lemmas.Bool.Decides.{nat_tests}
 use Rattle.review_names.specs.Forms.{most_changes}
 use Rattle.review_table.specs.Rows.{after_change, change_of}
+<<<<<<< ours
 use Rattle.review_words.specs.History.{Entry, entry_of, base_count, is_account, is_branch, is_project, project_count}
+||||||| base
+use Rattle.review_words.specs.History.{Entry, base_count, file_text, is_account, is_branch, is_project, project_count}
+=======
+use Rattle.review_words.specs.History.{Entry, base_count, file_text, is_account, is_branch, is_project, least_open, project_count}
+>>>>>>> epochs
 use Rattle.review_words.specs.declared.changes.NewChange.{NewChange}
 use Rattle.review_words.specs.declared.command.Command.TheVariants.{CreateChange}
 use Rattle.review_words.specs.declared.reply.Answer.TheVariants as made
@@ -20,8 +26,14 @@ use Rattle.review_rows.specs.Answer.{first_refusal, has_right, refused_by}
 use Rattle.review_rows.specs.Changes.{Reading, change, change_count, is_known, own_of, texts_of}
 use Rattle.review_rows.specs.Files.{File}
 use Rattle.review_rows.specs.Known.{known, IsKnown, number_of, part_of}
+<<<<<<< ours
 use Rattle.review_rows.specs.Rows.{Key, AccountKey, MemberKey, FileKey, BaseKey, PartKey, OddKey, APart, Count, Projects, BasesOf, account_change, member_change, edited, after, count_after, part_change, member_cmp}
 use Rattle.review_rows.proofs.Puts.{no_base, no_base_more, no_file, no_project}
+||||||| base
+use Rattle.review_rows.specs.Rows.{Key, AccountKey, MemberKey, FileKey, BaseKey, PartKey, OddKey, APart, Count, Projects, BasesOf, account_change, member_change, file_after, base_after, edited, projects_after, bases_after, after, count_after, part_change, member_cmp}
+=======
+use Rattle.review_rows.specs.Rows.{Key, AccountKey, MemberKey, FileKey, BaseKey, PartKey, OddKey, APart, Count, Projects, BasesOf, ClosedEpochs, account_change, member_change, file_after, base_after, edited, projects_after, bases_after, after, count_after, part_change, member_cmp}
+>>>>>>> epochs
 use Rattle.review_rows.specs.Steps.{HasFile, OfCommand, command_wants, file_wants}
 use Rattle.review_rows.specs.View.{AreEnough, IsDecided, counted, fact}
 use Rattle.review_rows.specs.declared.rows.ChangeEdit.{ChangeEdit}
@@ -122,22 +134,39 @@ none_yet reading h = at (change reading h (change_count h + 1)) (change_there re
 -- the change is made
 pub create_decided : (reading : Reading) (h : List Entry) (caller : ℕ) (new : NewChange) (number patch : ℕ) (c : Change) (e : ChangeEdit) (delta : Delta) → refused_by reading h caller (CreateChange new) ≡ None →
     number ≡ change_count h + 1 → patch ≡ 1 → c ≡ begun new caller (length h + 1) → e.change ≡ number → ((part : Part) → after_change (part_change e part) None ≡ part_row c part) →
-    delta.accounts.items ≡ [] → delta.members.items ≡ [] → delta.file ≡ None → delta.base ≡ None → delta.changes.items ≡ e ∷ [] →
+    delta.accounts.items ≡ [] → delta.members.items ≡ [] → delta.file ≡ None → delta.base ≡ None → delta.changes.items ≡ e ∷ [] → delta.epoch ≡ None →
     IsDecided reading h caller (CreateChange new) delta (Done (made.Change number patch))
-create_decided reading h caller new number patch c e delta passes n p made_is of turns da dm df db dc = record {
+create_decided reading h caller new number patch c e delta passes n p made_is of turns da dm df db dc de = record {
   reply_is = outcome_answer reading h caller (CreateChange new) (Done (made.Change number patch)) passes (λ i. Done (made.Change (n i) (p i)));
-  row_is = λ id k. rows k;
-  count_is = λ id k. counts k;
+  row_is = λ epoch id k. rows k;
+  count_is = λ epoch id k. counts k;
 }
   where
+<<<<<<< ours
     counts : (k : Count) → counted (entry_of caller [] (CreateChange new) (Done (made.Change number patch)) ∷ h) k ≡ count_after delta (fact reading h) k (counted h k)
     counts Projects = sym (no_project delta df (fact reading h) (project_count h))
     counts (BasesOf q) = sym (no_base_more delta db (fact reading h) q (base_count h q))
+||||||| base
+    counts : (k : Count) → counted (record { identity = record { caller = caller; id = [] }; command = CreateChange new; reply = Done (made.Change number patch) } ∷ h) k ≡ count_after delta (fact reading h) k (counted h k)
+    counts Projects = sym (ap (λ o. projects_after o (fact reading h) (project_count h)) df)
+    counts (BasesOf q) = sym (ap (λ o. bases_after o (fact reading h) q (base_count h q)) db)
+=======
+    counts : (k : Count) → counted (record { identity = record { caller = caller; epoch = 0; id = [] }; command = CreateChange new; reply = Done (made.Change number patch) } ∷ h) k ≡ count_after delta (fact reading h) k (counted h k)
+    counts Projects = sym (ap (λ o. projects_after o (fact reading h) (project_count h)) df)
+    counts (BasesOf q) = sym (ap (λ o. bases_after o (fact reading h) q (base_count h q)) db)
+    counts ClosedEpochs = sym (ap (λ o. unwrap_or o (least_open h)) de)
+>>>>>>> epochs
 
     here : (m : ℕ) → (e.change == m) ≡ (change_count h + 1 == m)
     here m = ap (λ x. x == m) (of ∙ n)
 
+<<<<<<< ours
     rows : (k : Key) → fact reading (entry_of caller [] (CreateChange new) (Done (made.Change number patch)) ∷ h) k ≡ after delta k (fact reading h k)
+||||||| base
+    rows : (k : Key) → fact reading (record { identity = record { caller = caller; id = [] }; command = CreateChange new; reply = Done (made.Change number patch) } ∷ h) k ≡ after delta k (fact reading h k)
+=======
+    rows : (k : Key) → fact reading (record { identity = record { caller = caller; epoch = 0; id = [] }; command = CreateChange new; reply = Done (made.Change number patch) } ∷ h) k ≡ after delta k (fact reading h k)
+>>>>>>> epochs
     rows (AccountKey m) = sym (ap (λ l. after_change (account_change (change_of nat_cmp l m)) (fact reading h (AccountKey m))) da)
     rows (MemberKey g m) = sym (ap (λ l. after_change (member_change (change_of member_cmp l (record { group = g; account = m }))) (fact reading h (MemberKey g m))) dm)
     rows (FileKey q) = sym (no_file delta df q (fact reading h (FileKey q)))

@@ -1,9 +1,15 @@
 -- A command on a change that is done.
 use Rattle.std.proofs.Common.{◌≡◌, ℕ, ◌+◌, ◌<◌, ◌==◌, min, List, [], ◌∷◌, length, Option, Some, None, Bool, true, false, cond, refl, sym, ap, ◌∙◌, subst, eqb-true, arith}
-use Rattle.std.specs.Prelude.{option_map}
+use Rattle.std.specs.Prelude.{option_map, unwrap_or}
 use Rattle.std.specs.Ordering.{nat_cmp}
 use Rattle.review_table.specs.Rows.{after_change, change_of}
+<<<<<<< ours
 use Rattle.review_words.specs.History.{Entry, entry_of, base_count, project_count}
+||||||| base
+use Rattle.review_words.specs.History.{Entry, base_count, project_count}
+=======
+use Rattle.review_words.specs.History.{Entry, base_count, least_open, project_count}
+>>>>>>> epochs
 use Rattle.review_words.specs.declared.changes.Review.{Review as ReviewOf}
 use Rattle.review_words.specs.declared.changes.NewPatch.{NewPatch}
 use Rattle.review_words.specs.declared.command.Command.{Command}
@@ -21,8 +27,14 @@ use Rattle.review_rows.specs.Answer.{IsAnswerBy, IsOf, IsUploadAnswer, comment_n
 use Rattle.review_rows.specs.Changes.{Reading, change, setting_of}
 use Rattle.review_rows.specs.Files.{File}
 use Rattle.review_rows.specs.Known.{known, number_of, part_of}
+<<<<<<< ours
 use Rattle.review_rows.specs.Rows.{Key, Row, AccountKey, MemberKey, FileKey, BaseKey, PartKey, OddKey, APart, Count, Projects, BasesOf, account_change, member_change, edited, after, count_after, part_change, member_cmp}
 use Rattle.review_rows.proofs.Puts.{no_base, no_base_more, no_file, no_project}
+||||||| base
+use Rattle.review_rows.specs.Rows.{Key, Row, AccountKey, MemberKey, FileKey, BaseKey, PartKey, OddKey, APart, Count, Projects, BasesOf, account_change, member_change, file_after, base_after, edited, projects_after, bases_after, after, count_after, part_change, member_cmp}
+=======
+use Rattle.review_rows.specs.Rows.{Key, Row, AccountKey, MemberKey, FileKey, BaseKey, PartKey, OddKey, APart, Count, Projects, BasesOf, ClosedEpochs, account_change, member_change, file_after, base_after, edited, projects_after, bases_after, after, count_after, part_change, member_cmp}
+>>>>>>> epochs
 use Rattle.review_rows.specs.Steps.{OfCommand}
 use Rattle.review_rows.specs.View.{AreEnough, IsDecided, counted, fact, view}
 use Rattle.review_rows.specs.declared.rows.Delta.{Delta}
@@ -51,6 +63,18 @@ abbrev fact_with : Reading → List Entry → ℕ → Change → Key → Option 
 fact_with reading h n new (PartKey k part) = option_map APart (part_of (cond (n == k) (Some new) (change reading h k)) part)
 fact_with reading h n new key = fact reading h key
 
+<<<<<<< ours
+||||||| base
+-- the entry of a command that is done
+abbrev entry_of : ℕ → List ℕ → Command → Answer → Entry
+entry_of caller id command a = record { identity = record { caller = caller; id = id }; command = command; reply = Done a }
+
+=======
+-- the entry of a command that is done
+abbrev entry_of : ℕ → List ℕ → Command → Answer → Entry
+entry_of caller id command a = record { identity = record { caller = caller; epoch = 0; id = id }; command = command; reply = Done a }
+
+>>>>>>> epochs
 -- the change of a number is there where it is looked for
 here : (reading : Reading) (h : List Entry) (n k : ℕ) (c : Change) → change reading h n ≡ Some c → (n == k) ≡ true → change reading h k ≡ Some c
 here reading h n k c told t = ap (change reading h) (sym (eqb-true n k t)) ∙ told
@@ -68,8 +92,17 @@ rows_made reading h n c new delta told m (PartKey k part) =
 rows_made reading h n c new delta told m (OddKey o) = refl
 
 counts_made : (reading : Reading) (h : List Entry) (n : ℕ) (c new : Change) (delta : Delta) → MakesChange n c new delta → (k : Count) → counted h k ≡ count_after delta (fact reading h) k (counted h k)
+<<<<<<< ours
 counts_made reading h n c new delta m Projects = sym (no_project delta m.edits.file (fact reading h) (project_count h))
 counts_made reading h n c new delta m (BasesOf q) = sym (no_base_more delta m.edits.base (fact reading h) q (base_count h q))
+||||||| base
+counts_made reading h n c new delta m Projects = sym (ap (λ o. projects_after o (fact reading h) (project_count h)) m.edits.file)
+counts_made reading h n c new delta m (BasesOf q) = sym (ap (λ o. bases_after o (fact reading h) q (base_count h q)) m.edits.base)
+=======
+counts_made reading h n c new delta m Projects = sym (ap (λ o. projects_after o (fact reading h) (project_count h)) m.edits.file)
+counts_made reading h n c new delta m (BasesOf q) = sym (ap (λ o. bases_after o (fact reading h) q (base_count h q)) m.edits.base)
+counts_made reading h n c new delta m ClosedEpochs = sym (ap (λ o. unwrap_or o (least_open h)) m.edits.epoch)
+>>>>>>> epochs
 
 -- a command that makes of a change another is decided
 change_decided : (reading : Reading) (h : List Entry) (caller n : ℕ) (command : Command) (a : Answer) (c new : Change) (delta : Delta) → change reading h n ≡ Some c → MakesChange n c new delta →
@@ -77,8 +110,8 @@ change_decided : (reading : Reading) (h : List Entry) (caller n : ℕ) (command 
     ((k : Count) → counted (entry_of caller [] command (Done a) ∷ h) k ≡ counted h k) → IsDecided reading h caller command delta (Done a)
 change_decided reading h caller n command a c new delta told m answer turned same = record {
   reply_is = answer;
-  row_is = λ id k. turned k ∙ rows_made reading h n c new delta told m k;
-  count_is = λ id k. same k ∙ counts_made reading h n c new delta m k;
+  row_is = λ epoch id k. turned k ∙ rows_made reading h n c new delta told m k;
+  count_is = λ epoch id k. same k ∙ counts_made reading h n c new delta m k;
 }
 
 -- the change of a number becomes another, where it is there
@@ -101,6 +134,7 @@ request_turns reading h caller n request a c told (OddKey o) = refl
 request_counts : (h : List Entry) (caller n : ℕ) (request : ChangeCommand) (a : Answer) (k : Count) → counted (entry_of caller [] (OnChange n request) (Done a) ∷ h) k ≡ counted h k
 request_counts h caller n request a Projects = refl
 request_counts h caller n request a (BasesOf q) = refl
+request_counts h caller n request a ClosedEpochs = refl
 
 -- a request that makes of a change what the history says is decided
 pub request_decided : (reading : Reading) (h : List Entry) (caller n : ℕ) (request : ChangeCommand) (a : Answer) (c : Change) (delta : Delta) → change reading h n ≡ Some c →

@@ -4,15 +4,16 @@ use Rattle.std.specs.Prelude.{is_some, option_map}
 use Rattle.std.specs.Str.{bytes_eq}
 use Rattle.review_words.specs.History.{Entry, accepted, file_text, if_done, is_account, is_project, text_put}
 use Rattle.review_words.specs.declared.command.Command.{Command}
-use Rattle.review_words.specs.declared.command.Command.TheVariants.{CreateAccount, PutGroup, PutProject, RecordBase, CreateChange, OnChange, Submit}
+use Rattle.review_words.specs.declared.command.Command.TheVariants.{CreateAccount, PutGroup, PutProject, RecordBase, CloseEpoch, CreateChange, OnChange, Submit}
 use Rattle.review_words.specs.declared.reply.Answer.{Answer}
 use Rattle.review_words.specs.declared.reply.Refusal.TheVariants.{UnknownCaller}
 use Rattle.review_words.specs.declared.reply.Reply.{Reply}
-use Rattle.review_words.specs.declared.reply.Reply.TheVariants.{Done, Refused, IdentityReused, NotTaken}
+use Rattle.review_words.specs.declared.reply.Reply.TheVariants.{Done, Refused, IdentityReused, EpochClosed, NotTaken}
 use Rattle.review_changes.specs.Change.{Change, after, begun}
 use Rattle.review_rows.proofs.Readings.{IsDoneBy, done_of}
 use Rattle.review_rows.specs.Answer.{IsAnswerBy, IsHistory, checks}
 use Rattle.review_rows.specs.Changes.{Reading, Reads, change, change_by, change_count, setting_of, submitted}
+use Rattle.review_rows.proofs.Epochs.{IsDoneBy, done_by}
 use Rattle.review_change_laws.proofs.Joining.{joining_keeps}
 use Rattle.review_change_laws.proofs.Sound.{all_pass, done_passes}
 
@@ -27,6 +28,7 @@ text_stays (Some (CreateAccount name)) project before some = some
 text_stays (Some (PutGroup group members)) project before some = some
 text_stays (Some (PutProject given text)) project before some = some_put (bytes_eq given project) text before some
 text_stays (Some (RecordBase in_project branch commit)) project before some = some
+text_stays (Some (CloseEpoch epoch)) project before some = some
 text_stays (Some (CreateChange new)) project before some = some
 text_stays (Some (OnChange n command)) project before some = some
 text_stays (Some (Submit n)) project before some = some
@@ -47,6 +49,7 @@ project_by reading h caller n c (CreateAccount name) a answer before is = before
 project_by reading h caller n c (PutGroup group members) a answer before is = before c is
 project_by reading h caller n c (PutProject project text) a answer before is = before c is
 project_by reading h caller n c (RecordBase project branch commit) a answer before is = before c is
+project_by reading h caller n c (CloseEpoch epoch) a answer before is = before c is
 project_by reading h caller n c (CreateChange new) a answer before is =
     let pass = all_pass ((is_account h caller, UnknownCaller) ∷ checks reading h caller (CreateChange new)) (done_passes reading h caller (CreateChange new) a answer) in
     made (λ p. is_project h p ≡ true) (change_count h + 1 == n) (change reading h n) (begun new caller (length h + 1)) c before pass.1.0 is
@@ -54,13 +57,32 @@ project_by reading h caller n c (OnChange m command) a answer before is =
     named (λ p. is_project h p ≡ true) (m == n) (change reading h n) (λ x. after (setting_of reading h x.project) command caller (length h + 1) x) c before (λ x. refl) is
 project_by reading h caller n c (Submit m) a answer before is = before c is
 
+<<<<<<< ours
 -- the project of a change is there, also after what was done
 pub project_stays : (reading : Reading) (h : List Entry) (caller n : ℕ) (c : Change) (command : Command) (reply : Reply) → IsDoneBy reading h caller command reply →
+||||||| base
+step : (reading : Reading) (h : List Entry) (caller n : ℕ) (c : Change) (command : Command) (reply : Reply) → IsAnswerBy reading h caller command reply →
+=======
+step : (reading : Reading) (h : List Entry) (caller n : ℕ) (c : Change) (command : Command) (reply : Reply) → IsDoneBy reading h caller command reply →
+>>>>>>> epochs
     ((x : Change) → change reading h n ≡ Some x → is_project h x.project ≡ true) → change_by reading h caller (if_done reply command) n (change reading h n) ≡ Some c → is_project h c.project ≡ true
+<<<<<<< ours
 project_stays reading h caller n c command (Done a) answer before is = project_by reading h caller n c command a answer before is
 project_stays reading h caller n c command (Refused r) answer before is = before c is
 project_stays reading h caller n c command IdentityReused answer before is = before c is
 project_stays reading h caller n c command (NotTaken cause) answer before is = before c is
+||||||| base
+step reading h caller n c command (Done a) answer before is = project_by reading h caller n c command a answer before is
+step reading h caller n c command (Refused r) answer before is = before c is
+step reading h caller n c command IdentityReused answer before is = before c is
+step reading h caller n c command (NotTaken cause) answer before is = before c is
+=======
+step reading h caller n c command (Done a) answer before is = project_by reading h caller n c command a answer before is
+step reading h caller n c command (Refused r) answer before is = before c is
+step reading h caller n c command IdentityReused answer before is = before c is
+step reading h caller n c command EpochClosed answer before is = before c is
+step reading h caller n c command (NotTaken cause) answer before is = before c is
+>>>>>>> epochs
 
 pub has_project : (reading : Reading) (h : List Entry) (n : ℕ) (c : Change) → IsHistory h → Reads reading h → change reading h n ≡ Some c → is_project h c.project ≡ true
 has_project reading [] n c history reads is = absurd (cc)
@@ -68,4 +90,10 @@ has_project reading (e ∷ h) n c history reads is =
     text_stays (accepted e) c.project (file_text h c.project)
     (joining_keeps (λ x. is_project h x.project ≡ true) (λ place request x holds. holds) h (submitted (accepted e) e.reply) n
     (change_by reading h e.identity.caller (accepted e) n (change reading h n)) c
+<<<<<<< ours
     (λ x there. project_stays reading h e.identity.caller n x e.command e.reply (done_of e h history reading reads.1) (λ y was. has_project reading h n y history.3 reads.1 was) there) is)
+||||||| base
+    (λ x there. step reading h e.identity.caller n x e.command e.reply (history.1 reading reads.1) (λ y was. has_project reading h n y history.3 reads.1 was) there) is)
+=======
+    (λ x there. step reading h e.identity.caller n x e.command e.reply (done_by reading h e.identity.caller e.identity.epoch e.command e.reply (history.1 reading reads.1)) (λ y was. has_project reading h n y history.3 reads.1 was) there) is)
+>>>>>>> epochs

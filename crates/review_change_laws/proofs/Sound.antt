@@ -8,12 +8,12 @@ use Rattle.review_words.specs.History.{Entry, accepted, if_done, is_account}
 use Rattle.review_words.specs.declared.changes.NewChange.{NewChange}
 use Rattle.review_words.specs.declared.changes.Review.{Review as ReviewOf}
 use Rattle.review_words.specs.declared.command.Command.{Command}
-use Rattle.review_words.specs.declared.command.Command.TheVariants.{CreateAccount, PutGroup, PutProject, RecordBase, CreateChange, OnChange, Submit}
+use Rattle.review_words.specs.declared.command.Command.TheVariants.{CreateAccount, PutGroup, PutProject, RecordBase, CloseEpoch, CreateChange, OnChange, Submit}
 use Rattle.review_words.specs.declared.reply.Answer.{Answer}
 use Rattle.review_words.specs.declared.reply.Refusal.{Refusal}
 use Rattle.review_words.specs.declared.reply.Refusal.TheVariants.{UnknownCaller, NoComment, Limit}
 use Rattle.review_words.specs.declared.reply.Reply.{Reply}
-use Rattle.review_words.specs.declared.reply.Reply.TheVariants.{Done, Refused, IdentityReused, NotTaken}
+use Rattle.review_words.specs.declared.reply.Reply.TheVariants.{Done, Refused, IdentityReused, EpochClosed, NotTaken}
 use Rattle.review_changes.specs.Change.{Change, Copying, Setting, after, after_copying, begun, copying, current, joined_at, reviewed, said}
 use Rattle.review_changes.specs.Sound.{IsSound, answer_stored, fits}
 use Rattle.review_words.specs.declared.command.ChangeCommand.{ChangeCommand}
@@ -21,6 +21,7 @@ use Rattle.review_words.specs.declared.command.ChangeCommand.TheVariants as on
 use Rattle.review_rows.proofs.Readings.{IsDoneBy, done_of}
 use Rattle.review_rows.specs.Answer.{IsAnswerBy, IsHistory, IsOutcome, first_refusal, given_checks, of_change, refused_by, request_checks}
 use Rattle.review_rows.specs.Changes.{Reading, Reads, change, change_by, change_count, setting_of, submitted}
+use Rattle.review_rows.proofs.Epochs.{IsDoneBy, done_by}
 use Rattle.review_change_laws.proofs.Joining.{joining_keeps}
 
 -- a new change is sound, and stays so
@@ -100,6 +101,7 @@ done_sound begins stays reading h caller n c (CreateAccount name) a answer befor
 done_sound begins stays reading h caller n c (PutGroup group members) a answer before is = before c is
 done_sound begins stays reading h caller n c (PutProject project text) a answer before is = before c is
 done_sound begins stays reading h caller n c (RecordBase project branch commit) a answer before is = before c is
+done_sound begins stays reading h caller n c (CloseEpoch epoch) a answer before is = before c is
 done_sound begins stays reading h caller n c (CreateChange new) a answer before is =
     made_sound (change_count h + 1 == n) (change reading h n) (begun new caller (length h + 1)) c before (begins new caller (length h + 1)) is
 done_sound begins stays reading h caller n c (OnChange m command) a answer before is =
@@ -126,10 +128,17 @@ step_sound : BeginsSound → StaysSound → (reading : Reading) (h : List Entry)
 step_sound begins stays reading h caller n c command (Done a) answer before is = done_sound begins stays reading h caller n c command a answer before is
 step_sound begins stays reading h caller n c command (Refused r) answer before is = before c is
 step_sound begins stays reading h caller n c command IdentityReused answer before is = before c is
+step_sound begins stays reading h caller n c command EpochClosed answer before is = before c is
 step_sound begins stays reading h caller n c command (NotTaken cause) answer before is = before c is
 
 pub are_sound : BeginsSound → StaysSound → (reading : Reading) (h : List Entry) (n : ℕ) (c : Change) → IsHistory h → Reads reading h → change reading h n ≡ Some c → IsSound c
 are_sound begins stays reading [] n c history reads is = absurd (cc)
 are_sound begins stays reading (e ∷ h) n c history reads is =
     joining_keeps IsSound joined_sound h (submitted (accepted e) e.reply) n (change_by reading h e.identity.caller (accepted e) n (change reading h n)) c
+<<<<<<< ours
     (λ x there. step_sound begins stays reading h e.identity.caller n x e.command e.reply (done_of e h history reading reads.1) (λ y was. are_sound begins stays reading h n y history.3 reads.1 was) there) is
+||||||| base
+    (λ x there. step_sound begins stays reading h e.identity.caller n x e.command e.reply (history.1 reading reads.1) (λ y was. are_sound begins stays reading h n y history.3 reads.1 was) there) is
+=======
+    (λ x there. step_sound begins stays reading h e.identity.caller n x e.command e.reply (done_by reading h e.identity.caller e.identity.epoch e.command e.reply (history.1 reading reads.1)) (λ y was. are_sound begins stays reading h n y history.3 reads.1 was) there) is
+>>>>>>> epochs

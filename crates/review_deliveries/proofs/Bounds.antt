@@ -14,12 +14,20 @@ use Rattle.review_names.specs.Forms.{is_label}
 use Rattle.review_words.specs.declared.changes.Given.{Given}
 use Rattle.review_words.specs.declared.changes.NewPatch.{NewPatch}
 use Rattle.review_words.specs.declared.command.Command.{Command}
-use Rattle.review_words.specs.declared.command.Command.TheVariants.{CreateAccount, PutGroup, PutProject, RecordBase, CreateChange, OnChange, Submit}
+use Rattle.review_words.specs.declared.command.Command.TheVariants.{CreateAccount, PutGroup, PutProject, RecordBase, CloseEpoch, CreateChange, OnChange, Submit}
 use Rattle.review_words.specs.declared.reply.Answer.{Answer}
 use Rattle.review_words.specs.declared.reply.Refusal.TheVariants.{UnknownCaller}
 use Rattle.review_words.specs.declared.reply.Reply.{Reply}
+<<<<<<< ours
 use Rattle.review_words.specs.declared.reply.Reply.TheVariants.{Done, Refused, IdentityReused, NotTaken}
 use Rattle.review_words.specs.History.{Entry, if_done, account_count, counted, is_account}
+||||||| base
+use Rattle.review_words.specs.declared.reply.Reply.TheVariants.{Done, Refused, IdentityReused, NotTaken}
+use Rattle.review_words.specs.History.{Entry, if_done, account_count, counted, file_text, is_account, is_project}
+=======
+use Rattle.review_words.specs.declared.reply.Reply.TheVariants.{Done, Refused, IdentityReused, EpochClosed, NotTaken}
+use Rattle.review_words.specs.History.{Entry, if_done, account_count, counted, file_text, is_account, is_project}
+>>>>>>> epochs
 use Rattle.review_document.specs.Document.{members_at}
 use Rattle.review_document.specs.Limits.{most_parts}
 use Rattle.review_expr.specs.declared.expr.Expr.{Expr}
@@ -38,11 +46,18 @@ use Rattle.review_ancestors.proofs.Effective.{line_read}
 use Rattle.review_rows.specs.declared.rows.StoredFile.{StoredFile}
 use Rattle.review_rows.specs.Changes.{Reading, Reads, change, effective_of, file_of, own_of, setting_of, texts_of}
 use Rattle.review_rows.specs.Files.{IsRead}
+<<<<<<< ours
 use Rattle.review_rows.specs.Lines.{line_of, most_depth, with_above}
 use Rattle.review_rows.proofs.Readings.{IsDoneBy, done_of}
 use Rattle.review_vote_laws.proofs.Standing.{votes_stand}
 use Rattle.review_deliveries.proofs.Named.{AreReadRight}
 use Rattle.review_deliveries.proofs.OneFile.{spelled_once}
+||||||| base
+use Rattle.review_rows.proofs.Readings.{read_of}
+=======
+use Rattle.review_rows.proofs.Readings.{read_of}
+use Rattle.review_rows.proofs.Epochs.{IsDoneBy, done_by}
+>>>>>>> epochs
 use Rattle.review_deliveries.proofs.Voted.{have_voters}
 use Rattle.review_deliveries.proofs.Votes.{no_more}
 
@@ -214,6 +229,7 @@ account_made reading h caller (CreateAccount name) a answer before =
 account_made reading h caller (PutGroup group members) a answer before = before
 account_made reading h caller (PutProject project text) a answer before = before
 account_made reading h caller (RecordBase project branch commit) a answer before = before
+account_made reading h caller (CloseEpoch epoch) a answer before = before
 account_made reading h caller (CreateChange new) a answer before = before
 account_made reading h caller (OnChange n command) a answer before = before
 account_made reading h caller (Submit n) a answer before = before
@@ -223,12 +239,35 @@ account_by : (reading : Reading) (h : List Entry) (caller : ℕ) (command : Comm
 account_by reading h caller command (Done a) answer before = account_made reading h caller command a answer before
 account_by reading h caller command (Refused r) answer before = before
 account_by reading h caller command IdentityReused answer before = before
+account_by reading h caller command EpochClosed answer before = before
 account_by reading h caller command (NotTaken cause) answer before = before
 
 -- a history has at most so many accounts
 accounts_bound : (reading : Reading) (h : List Entry) → Reads reading h → IsHistory h → account_count h ≤ 1000000
 accounts_bound reading [] reads history = omega arith
+<<<<<<< ours
 accounts_bound reading (e ∷ h) reads history = account_by reading h e.identity.caller e.command e.reply (done_of e h history reading reads.1) (accounts_bound reading h reads.1 history.3)
+||||||| base
+accounts_bound reading (e ∷ h) reads history = account_by reading h e.identity.caller e.command e.reply (history.1 reading reads.1) (accounts_bound reading h reads.1 history.3)
+
+-- the file of a project that has one is read
+project_read : (reading : Reading) (h : List Entry) (project : List ℕ) → Reads reading h → is_project h project ≡ true → (text : List ℕ) × IsRead text (file_of reading h project)
+project_read reading h project reads there = at (file_text h project) refl there
+  where
+    at : (o : Option (List ℕ)) → file_text h project ≡ o → is_some o ≡ true → (text : List ℕ) × IsRead text (file_of reading h project)
+    at None is there = absurd (cc)
+    at (Some text) is there = (text, subst (λ o. IsRead text (reading (unwrap_or o []))) (sym is) (read_of reading h project text reads is))
+=======
+accounts_bound reading (e ∷ h) reads history = account_by reading h e.identity.caller e.command e.reply (done_by reading h e.identity.caller e.identity.epoch e.command e.reply (history.1 reading reads.1)) (accounts_bound reading h reads.1 history.3)
+
+-- the file of a project that has one is read
+project_read : (reading : Reading) (h : List Entry) (project : List ℕ) → Reads reading h → is_project h project ≡ true → (text : List ℕ) × IsRead text (file_of reading h project)
+project_read reading h project reads there = at (file_text h project) refl there
+  where
+    at : (o : Option (List ℕ)) → file_text h project ≡ o → is_some o ≡ true → (text : List ℕ) × IsRead text (file_of reading h project)
+    at None is there = absurd (cc)
+    at (Some text) is there = (text, subst (λ o. IsRead text (reading (unwrap_or o []))) (sym is) (read_of reading h project text reads is))
+>>>>>>> epochs
 
 -- a vote that is carried was there
 carried_vote : (b : Bool) (v : ℤ) → voted (cond b v (pos 0)) ≡ true → voted v ≡ true

@@ -6,7 +6,7 @@ use Rattle.std.specs.Option.{option_map_or}
 use Rattle.std.specs.Result.{IsErr, IsErrAnd}
 use Rattle.review_words.specs.History.{Entry, is_project}
 use Rattle.review_words.specs.declared.command.Command.{Command}
-use Rattle.review_words.specs.declared.command.Command.TheVariants.{CreateAccount, PutGroup, PutProject, RecordBase, CreateChange, OnChange, Submit}
+use Rattle.review_words.specs.declared.command.Command.TheVariants.{CreateAccount, PutGroup, PutProject, RecordBase, CloseEpoch, CreateChange, OnChange, Submit}
 use Rattle.review_words.specs.declared.command.Query.TheVariants as asked
 use Rattle.review_words.specs.declared.reply.NotTaken.{NotTaken as Cause}
 use Rattle.review_words.specs.declared.reply.NotTaken.TheVariants.{Memory, Store, Damaged, Pattern, Full}
@@ -75,6 +75,7 @@ judged_by_change true reading h rows n project agree is =
 -- a project that is there is that by whose file the command is judged, where rows know it as such
 judged_by : (reading : Reading) (h : List Entry) (rows : Rows) (command : Command) (project : List ℕ) → Agrees (view reading h) rows → is_project h project ≡ true →
     project_of rows (OfCommand command) ≡ Some project → judging_project reading h command ≡ Some project
+<<<<<<< ours
 judged_by reading h rows (CreateAccount name) project agree there is = absurd (cc)
 judged_by reading h rows (PutGroup group members) project agree there is = absurd (cc)
 judged_by reading h rows (PutProject given text) project agree there is =
@@ -85,6 +86,24 @@ judged_by reading h rows (RecordBase given branch commit) project agree there is
 judged_by reading h rows (CreateChange new) project agree there is = is
 judged_by reading h rows (OnChange n command) project agree there is = judged_by_change (needs_file command) reading h rows n project agree is
 judged_by reading h rows (Submit n) project agree there is = judged_by_change true reading h rows n project agree is
+||||||| base
+judged_by reading h rows (CreateAccount name) project agree is = absurd (cc)
+judged_by reading h rows (PutGroup group members) project agree is = absurd (cc)
+judged_by reading h rows (PutProject given text) project agree is = is
+judged_by reading h rows (RecordBase given branch commit) project agree is = absurd (cc)
+judged_by reading h rows (CreateChange new) project agree is = is
+judged_by reading h rows (OnChange n command) project agree is = judged_by_change reading h rows n project agree is
+judged_by reading h rows (Submit n) project agree is = judged_by_change reading h rows n project agree is
+=======
+judged_by reading h rows (CreateAccount name) project agree is = absurd (cc)
+judged_by reading h rows (PutGroup group members) project agree is = absurd (cc)
+judged_by reading h rows (PutProject given text) project agree is = is
+judged_by reading h rows (RecordBase given branch commit) project agree is = absurd (cc)
+judged_by reading h rows (CloseEpoch epoch) project agree is = absurd (cc)
+judged_by reading h rows (CreateChange new) project agree is = is
+judged_by reading h rows (OnChange n command) project agree is = judged_by_change reading h rows n project agree is
+judged_by reading h rows (Submit n) project agree is = judged_by_change reading h rows n project agree is
+>>>>>>> epochs
 
 -- and that by whose file a question is answered
 topic_judged : (reading : Reading) (h : List Entry) (rows : Rows) (topic : Topic) (project : List ℕ) → Agrees (view reading h) rows → is_project h project ≡ true →
@@ -177,6 +196,7 @@ project_stays first rows (OfCommand (CreateAccount name)) project stays is = abs
 project_stays first rows (OfCommand (PutGroup group members)) project stays is = absurd (cc)
 project_stays first rows (OfCommand (PutProject given text)) project stays is = is
 project_stays first rows (OfCommand (RecordBase given branch commit)) project stays is = absurd (cc)
+project_stays first rows (OfCommand (CloseEpoch epoch)) project stays is = absurd (cc)
 project_stays first rows (OfCommand (CreateChange new)) project stays is = is
 project_stays first rows (OfCommand (OnChange n command)) project stays is = change_stays (needs_file command) first rows n project stays is
 project_stays first rows (OfCommand (Submit n)) project stays is = change_stays true first rows n project stays is

@@ -7,23 +7,33 @@ use Rattle.std.proofs.Math.Seq.{take-append-add}
 use Rattle.review_words.specs.declared.command.Delivery.{Delivery}
 use Rattle.review_words.specs.declared.command.Delivery.TheVariants.{Write, Read}
 use Rattle.review_words.specs.declared.reply.Reply.{Reply}
+<<<<<<< ours
 use Rattle.review_words.specs.declared.reply.Reply.TheVariants.{Done, Refused, IdentityReused, NotTaken}
 use Rattle.review_words.specs.History.{Entry, Identity, stored, is_same, entry_of}
+||||||| base
+use Rattle.review_words.specs.declared.reply.Reply.TheVariants.{Done, Refused, IdentityReused, NotTaken}
+use Rattle.review_words.specs.History.{Entry, Identity, stored, is_same}
+=======
+use Rattle.review_words.specs.declared.reply.Reply.TheVariants.{Done, Refused, IdentityReused, EpochClosed, NotTaken}
+use Rattle.review_words.specs.History.{Entry, Identity, stored, is_same, is_closed}
+>>>>>>> epochs
 use Rattle.review_rows.specs.Answer.{IsHistory}
 use Rattle.review_deliveries.specs.Replies.{taken, with_taken, with_write, StopGoesOnFrom, first_arrivals as first, arrivals_after as first_after, has_identity, history_after, with_entries as hist, IsRight, AreRight, CountsFollow, IsServed, IsRun, StopsWithin, HasEffect}
 use Rattle.review_rows.specs.Shelf.{Shown, Views}
 use Rattle.review_rows.specs.Rows.{Tables}
-use Rattle.review_deliveries.proofs.Histories.{same_from, stored_here, stored_there}
+use Rattle.review_deliveries.proofs.Histories.{passed_over, same_from, stored_here, stored_there}
+use Rattle.review_rows.proofs.Epochs.{open_before}
 use Rattle.review_deliveries.proofs.Served.{leaves_since}
 
 with_write-append : (r : Reply) (e : Entry) (es fs : List Entry) → with_write r e (es ++ fs) ≡ with_write r e es ++ fs
 with_write-append (Done a) e es fs = refl
 with_write-append (Refused a) e es fs = refl
 with_write-append IdentityReused e es fs = refl
+with_write-append EpochClosed e es fs = refl
 with_write-append (NotTaken c) e es fs = refl
 
 pub with_taken-append : (d : Delivery) (r : Reply) (es fs : List Entry) → with_taken d r (es ++ fs) ≡ with_taken d r es ++ fs
-with_taken-append (Write caller id command) r es fs = with_write-append r (entry_of caller id command r) es fs
+with_taken-append (Write caller epoch id command) r es fs = with_write-append r (entry_of caller epoch id command r) es fs
 with_taken-append (Read caller query) r es fs = refl
 
 taken-append : (ds es : List Delivery) (rs ss : List Reply) → length rs ≡ length ds → taken (ds ++ es) (rs ++ ss) ≡ taken ds rs ++ taken es ss
@@ -33,76 +43,107 @@ taken-append (d ∷ ds) es [] ss same = absurd (omega arith)
 taken-append (d ∷ ds) es (r ∷ rs) ss same =
     ap (with_taken d r) (taken-append ds es rs ss (omega arith)) ∙ with_taken-append d r (taken ds rs) (taken es ss)
 
--- an identity is in the history exactly where it was at the start or came since
+-- an identity of an open epoch is in the history exactly where it was at the start or came since
 abbrev pub HasSince : List Entry → List Entry → List Entry → Type 0
-HasSince now h0 earlier = (i : Identity) → is_some (stored now i) ≡ (is_some (stored h0 i) || is_some (stored earlier i))
+HasSince now h0 earlier = (i : Identity) → is_closed now i.epoch ≡ false → is_some (stored now i) ≡ (is_some (stored h0 i) || is_some (stored earlier i))
 
 or_true : (b : Bool) → (b || true) ≡ true
 or_true true = refl
 or_true false = refl
 
+pub or_false : (b : Bool) → (b || false) ≡ b
+or_false true = refl
+or_false false = refl
+
+pub since_start : (h : List Entry) → HasSince h h []
+since_start h i opened = sym (or_false (is_some (stored h i)))
+
 pub since_old : (now h0 earlier : List Entry) (e : Entry) → HasSince now h0 earlier → has_identity now e ≡ true → HasSince now h0 (e ∷ earlier)
-since_old now h0 earlier e since old i =
+since_old now h0 earlier e since old i opened =
     ⊎_elim
     (λ (t : is_same e.identity i ≡ true).
     let there : is_some (stored now i) ≡ true = subst (λ (j : Identity). is_some (stored now j) ≡ true) (same_from e.identity i t) old in
     there ∙ sym (ap (λ o. is_some (stored h0 i) || is_some o) (stored_here e earlier i t) ∙ or_true (is_some (stored h0 i))))
     (λ (f : is_same e.identity i ≡ false).
-    since i ∙ ap (λ o. is_some (stored h0 i) || is_some o) (sym (stored_there e earlier i f)))
+    since i opened ∙ ap (λ o. is_some (stored h0 i) || is_some o) (sym (stored_there e earlier i f)))
     (cases_Bool (is_same e.identity i))
 
 pub since_new : (now h0 earlier : List Entry) (e : Entry) → HasSince now h0 earlier → HasSince (e ∷ now) h0 (e ∷ earlier)
-since_new now h0 earlier e since i =
+since_new now h0 earlier e since i opened =
     ⊎_elim
     (λ (t : is_same e.identity i ≡ true).
     ap is_some (stored_here e now i t) ∙ sym (ap (λ o. is_some (stored h0 i) || is_some o) (stored_here e earlier i t) ∙ or_true (is_some (stored h0 i))))
     (λ (f : is_same e.identity i ≡ false).
-    ap is_some (stored_there e now i f) ∙ since i ∙ ap (λ o. is_some (stored h0 i) || is_some o) (sym (stored_there e earlier i f)))
+    ap is_some (stored_there e now i f) ∙ since i (open_before e now i.epoch opened) ∙ ap (λ o. is_some (stored h0 i) || is_some o) (sym (stored_there e earlier i f)))
     (cases_Bool (is_same e.identity i))
 
-pub or_false : (b : Bool) → (b || false) ≡ b
-or_false true = refl
-or_false false = refl
+-- what came of a closed epoch says nothing of the open ones
+pub since_closed : (now h0 earlier : List Entry) (e : Entry) → HasSince now h0 earlier → is_closed now e.identity.epoch ≡ true → HasSince now h0 (e ∷ earlier)
+since_closed now h0 earlier e since closed i opened =
+    ⊎_elim
+    (λ (t : is_same e.identity i ≡ true).
+    let here : is_closed now i.epoch ≡ true = subst (λ (j : Identity). is_closed now j.epoch ≡ true) (same_from e.identity i t) closed in
+    absurd (cc))
+    (λ (f : is_same e.identity i ≡ false).
+    since i opened ∙ ap (λ o. is_some (stored h0 i) || is_some o) (sym (stored_there e earlier i f)))
+    (cases_Bool (is_same e.identity i))
 
--- entries of an identity that is there are dropped, and others added, whichever of the two lists tells it
+-- one that came before is dropped
+pub dropped : (now h0 earlier : List Entry) (e : Entry) (es : List Entry) → HasSince now h0 earlier → is_closed now e.identity.epoch ≡ false → has_identity now e ≡ true →
+    hist now (cond (has_identity h0 e || has_identity earlier e) es (e ∷ es)) ≡ hist now es
+dropped now h0 earlier e es since opened old = ap (λ b. hist now (cond b es (e ∷ es))) (sym (since e.identity opened) ∙ old)
+
+-- and a new one is added
+pub added : (now h0 earlier : List Entry) (e : Entry) (es : List Entry) → HasSince now h0 earlier → is_closed now e.identity.epoch ≡ false → has_identity now e ≡ false →
+    hist now (cond (has_identity h0 e || has_identity earlier e) es (e ∷ es)) ≡ hist (e ∷ now) es
+added now h0 earlier e es since opened new =
+    ap (λ b. hist now (cond b es (e ∷ es))) (sym (since e.identity opened) ∙ new) ∙ ap (λ c. cond c (hist now es) (hist (e ∷ now) es)) opened
+
+-- the three things that may come of an entry
+pub each_way : (now : List Entry) (e : Entry) {P : Type 0} → (is_closed now e.identity.epoch ≡ true → P) → (is_closed now e.identity.epoch ≡ false → has_identity now e ≡ true → P) →
+    (is_closed now e.identity.epoch ≡ false → has_identity now e ≡ false → P) → P
+each_way now e closed old new =
+    ⊎_elim closed (λ (opened : is_closed now e.identity.epoch ≡ false). ⊎_elim (old opened) (new opened) (cases_Bool (has_identity now e))) (cases_Bool (is_closed now e.identity.epoch))
+
+-- Entries of an identity that is there are dropped, those of closed epochs passed over, and others added, whichever of the two lists tells it.
+one_by_one : (h0 now earlier now' later fs : List Entry) → HasSince now' h0 earlier → HasSince now' now later →
+    hist now' (first_after h0 earlier fs) ≡ hist now' (first_after now later fs)
+one_by_one h0 now earlier now' later [] since both = refl
+one_by_one h0 now earlier now' later (f ∷ fs) since both =
+    let one = first_after h0 (f ∷ earlier) fs in
+    let two = first_after now (f ∷ later) fs in
+    each_way now' f
+    (λ closed. passed_over now' (has_identity h0 f || has_identity earlier f) f one closed
+    ∙ one_by_one h0 now (f ∷ earlier) now' (f ∷ later) fs (since_closed now' h0 earlier f since closed) (since_closed now' now later f both closed)
+    ∙ sym (passed_over now' (has_identity now f || has_identity later f) f two closed))
+    (λ opened old. dropped now' h0 earlier f one since opened old
+    ∙ one_by_one h0 now (f ∷ earlier) now' (f ∷ later) fs (since_old now' h0 earlier f since old) (since_old now' now later f both old)
+    ∙ sym (dropped now' now later f two both opened old))
+    (λ opened new. added now' h0 earlier f one since opened new
+    ∙ one_by_one h0 now (f ∷ earlier) (f ∷ now') (f ∷ later) fs (since_new now' h0 earlier f since) (since_new now' now later f both)
+    ∙ sym (added now' now later f two both opened new))
+
 goes_on : (h0 earlier now es fs : List Entry) → HasSince now h0 earlier →
     hist now (first_after h0 earlier (es ++ fs)) ≡ hist (hist now (first_after h0 earlier es)) (first (hist now (first_after h0 earlier es)) fs)
-goes_on h0 earlier now [] fs since = one_by_one earlier now [] fs since (λ i. sym (or_false (is_some (stored now i))))
-  where
-    one_by_one : (earlier now' later fs : List Entry) → HasSince now' h0 earlier → HasSince now' now later →
-        hist now' (first_after h0 earlier fs) ≡ hist now' (first_after now later fs)
-    one_by_one earlier now' later [] since both = refl
-    one_by_one earlier now' later (f ∷ fs) since both =
-        ⊎_elim
-        (λ (t : has_identity now' f ≡ true).
-        ap (λ b. hist now' (cond b (first_after h0 (f ∷ earlier) fs) (f ∷ first_after h0 (f ∷ earlier) fs))) (sym (since f.identity) ∙ t)
-        ∙ one_by_one (f ∷ earlier) now' (f ∷ later) fs (since_old now' h0 earlier f since t) (since_old now' now later f both t)
-        ∙ sym (ap (λ b. hist now' (cond b (first_after now (f ∷ later) fs) (f ∷ first_after now (f ∷ later) fs))) (sym (both f.identity) ∙ t)))
-        (λ (n : has_identity now' f ≡ false).
-        ap (λ b. hist now' (cond b (first_after h0 (f ∷ earlier) fs) (f ∷ first_after h0 (f ∷ earlier) fs))) (sym (since f.identity) ∙ n)
-        ∙ one_by_one (f ∷ earlier) (f ∷ now') (f ∷ later) fs (since_new now' h0 earlier f since) (since_new now' now later f both)
-        ∙ sym (ap (λ b. hist now' (cond b (first_after now (f ∷ later) fs) (f ∷ first_after now (f ∷ later) fs))) (sym (both f.identity) ∙ n)))
-        (cases_Bool (has_identity now' f))
+goes_on h0 earlier now [] fs since = one_by_one h0 now earlier now [] fs since (since_start now)
 goes_on h0 earlier now (e ∷ es) fs since =
-    let rest = λ (l : List Entry). hist now l in
-    ⊎_elim
-    (λ (t : has_identity now e ≡ true).
-    let w = sym (since e.identity) ∙ t in
-    let left = λ (xs : List Entry). ap (λ b. cond b (first_after h0 (e ∷ earlier) xs) (e ∷ first_after h0 (e ∷ earlier) xs)) w in
-    ap (hist now) (left (es ++ fs))
-    ∙ goes_on h0 (e ∷ earlier) now es fs (since_old now h0 earlier e since t)
-    ∙ sym (ap (λ l. hist (hist now l) (first (hist now l) fs)) (left es)))
-    (λ (n : has_identity now e ≡ false).
-    let w = sym (since e.identity) ∙ n in
-    let left = λ (xs : List Entry). ap (λ b. cond b (first_after h0 (e ∷ earlier) xs) (e ∷ first_after h0 (e ∷ earlier) xs)) w in
-    ap (hist now) (left (es ++ fs))
+    let one = first_after h0 (e ∷ earlier) (es ++ fs) in
+    let two = first_after h0 (e ∷ earlier) es in
+    let rest = λ (h : List Entry). hist h (first h fs) in
+    each_way now e
+    (λ closed. passed_over now (has_identity h0 e || has_identity earlier e) e one closed
+    ∙ goes_on h0 (e ∷ earlier) now es fs (since_closed now h0 earlier e since closed)
+    ∙ sym (ap rest (passed_over now (has_identity h0 e || has_identity earlier e) e two closed)))
+    (λ opened old. dropped now h0 earlier e one since opened old
+    ∙ goes_on h0 (e ∷ earlier) now es fs (since_old now h0 earlier e since old)
+    ∙ sym (ap rest (dropped now h0 earlier e two since opened old)))
+    (λ opened new. added now h0 earlier e one since opened new
     ∙ goes_on h0 (e ∷ earlier) (e ∷ now) es fs (since_new now h0 earlier e since)
-    ∙ sym (ap (λ l. hist (hist now l) (first (hist now l) fs)) (left es)))
-    (cases_Bool (has_identity now e))
+    ∙ sym (ap rest (added now h0 earlier e two since opened new)))
 
 -- histories of a list in two parts
 pub first-append : (h0 es fs : List Entry) → hist h0 (first h0 (es ++ fs)) ≡ hist (hist h0 (first h0 es)) (first (hist h0 (first h0 es)) fs)
-first-append h0 es fs = goes_on h0 [] h0 es fs (λ i. sym (or_false (is_some (stored h0 i))))
+first-append h0 es fs = goes_on h0 [] h0 es fs (since_start h0)
 
 pub history_after-append : (h0 : List Entry) (ds es : List Delivery) (rs ss : List Reply) → length rs ≡ length ds →
     history_after h0 (ds ++ es) (rs ++ ss) ≡ history_after (history_after h0 ds rs) es ss

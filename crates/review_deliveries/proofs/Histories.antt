@@ -1,51 +1,84 @@
 -- Identities in histories, and the tables of a history with one more entry.
+<<<<<<< ours
 use Rattle.std.proofs.Common.{◌≡◌, ℕ, ◌+◌, ◌≤◌, List, [], ◌∷◌, ◌++◌, length, Option, Some, None, true, false, cond, refl, sym, ap, ◌∙◌, subst, ⊎_elim, inl, inr, arith, eqb-true, eq-eqb, ◌==◌}
 use Rattle.std.specs.Prelude.{MatchOption, nat_le}
+||||||| base
+use Rattle.std.proofs.Common.{◌≡◌, ℕ, ◌+◌, ◌≤◌, List, [], ◌∷◌, ◌++◌, length, Option, Some, None, true, false, cond, refl, sym, ap, ◌∙◌, subst, ⊎_elim, inl, inr, arith, eqb-true, eq-eqb, ◌==◌}
+use Rattle.std.specs.Prelude.{MatchOption, option_map}
+=======
+use Rattle.std.proofs.Common.{◌≡◌, ℕ, ◌+◌, ◌≤◌, List, [], ◌∷◌, ◌++◌, length, Option, Some, None, true, false, cond, refl, sym, ap, ◌∙◌, subst, ⊎_elim, inl, inr, arith, eqb-true, eq-eqb, ◌==◌, ◌&&◌, ◌||◌, Bool}
+use Rattle.std.specs.Prelude.{MatchOption, is_some, nat_lt, option_map, unwrap_or}
+>>>>>>> epochs
 use Rattle.std.specs.Str.{bytes_eq}
 use Rattle.std.proofs.lemmas.Bool.{and_parts, and_from, cases_Bool}
 use Rattle.std.proofs.lemmas.Slice.Eq.{bytes_eq-Decides}
 use Rattle.review_words.specs.Texts.{content_text, reply_text, IsStored}
 use Rattle.review_words.specs.declared.command.Command.{Command}
+<<<<<<< ours
 use Rattle.review_words.specs.declared.command.Command.TheVariants.{CreateAccount, PutGroup, PutProject, RecordBase, CreateChange, OnChange, Submit}
 use Rattle.review_words.specs.declared.command.Delivery.TheVariants.{Write}
+||||||| base
+use Rattle.review_words.specs.declared.command.Command.TheVariants.{CreateAccount, PutGroup, PutProject, RecordBase, CreateChange, OnChange, Submit}
+=======
+use Rattle.review_words.specs.declared.command.Command.TheVariants.{CreateAccount, PutGroup, PutProject, RecordBase, CloseEpoch, CreateChange, OnChange, Submit}
+>>>>>>> epochs
 use Rattle.review_words.specs.declared.command.ChangeCommand.{ChangeCommand}
 use Rattle.review_words.specs.declared.command.ChangeCommand.TheVariants as on
 use Rattle.review_words.specs.declared.changes.NewPatch.{NewPatch}
 use Rattle.review_words.specs.declared.reply.Reply.{Reply}
-use Rattle.review_words.specs.declared.reply.Reply.TheVariants.{Done, Refused, IdentityReused, NotTaken}
+use Rattle.review_words.specs.declared.reply.Reply.TheVariants.{Done, Refused, IdentityReused, EpochClosed, NotTaken}
 use Rattle.review_words.specs.declared.reply.Answer.TheVariants.{Nothing}
 use Rattle.review_words.specs.declared.reply.Refusal.{Refusal}
+<<<<<<< ours
 use Rattle.review_words.specs.History.{Entry, Identity, IsFirst, stored, is_same, entry_of, latest, may_follow, version_of}
+||||||| base
+use Rattle.review_words.specs.History.{Entry, Identity, stored, is_same, file_text}
+=======
+use Rattle.review_words.specs.History.{Entry, Identity, stored, is_same, is_closed, least_open, raised, if_done, file_text}
+>>>>>>> epochs
 use Rattle.review_changes.specs.Change.{Change}
 use Rattle.review_rows.specs.declared.rows.Delta.{Delta}
 use Rattle.review_rows.specs.declared.rows.Rows.{Rows}
-use Rattle.review_rows.specs.Rows.{AnswerRow, Answered, Tables, after, count_after}
+use Rattle.review_rows.specs.Rows.{AnswerRow, Stored, Answered, Tables, ClosedEpochs, after, count_after, is_below}
 use Rattle.review_rows.specs.declared.rows.Want.TheVariants.{Requests}
 use Rattle.review_rows.specs.Known.{Agrees, known, number_of}
 use Rattle.review_rows.specs.Steps.{Topic, OfCommand}
 use Rattle.review_rows.specs.Changes.{Reading, Reads, change}
 use Rattle.review_rows.specs.Decisions.{IsDoneOrRefused}
 use Rattle.review_rows.specs.Files.{File}
-use Rattle.review_rows.specs.Answer.{IsHistory, IsAnswer, IsAnswerBy, IsOf, IsOutcome, IsRequestOutcome, IsUploadAnswer, file_checks, first_refusal, refused_by, refused_or, most_requests}
+use Rattle.review_rows.specs.Answer.{IsHistory, IsFirst, IsAnswer, IsAnswerBy, IsAnswerIn, epoch_checks, IsOf, IsOutcome, IsRequestOutcome, IsUploadAnswer, file_checks, first_refusal, refused_by, refused_or, most_requests}
 use Rattle.review_rows.specs.Submits.{IsSubmitAnswer, checked_reply}
-use Rattle.review_rows.specs.View.{AreEnough, IsView, IsViewBy, IsDecided, view, fact, stored_answer, answer_row}
-use Rattle.review_rows.specs.Shelf.{IsCommitted, Shows, Views}
+use Rattle.review_rows.specs.View.{AreEnough, IsView, IsViewBy, IsDecidedIn, view, fact, stored_answer, kept_answer, answer_row}
+use Rattle.review_rows.specs.Shelf.{IsCommitted, Answers, Shows, Views}
 use Rattle.review_rows.proofs.Asked.{requests_are}
+use Rattle.review_rows.proofs.Epochs.{closed_stays, own_open}
 use Rattle.review_rows.proofs.Readings.{reading_of}
 use Rattle.review_rows.proofs.Requested.{IsToldDone, sent_or_done}
+use Rattle.review_words.specs.declared.command.Delivery.TheVariants.{Write}
 use Rattle.review_deliveries.specs.Gathered.{IsAllAsked}
+<<<<<<< ours
 use Rattle.review_deliveries.specs.Replies.{IsTold, IsToldWhere}
 use Rattle.review_deliveries.proofs.Stored.{entry_stored}
+||||||| base
+use Rattle.review_deliveries.proofs.Stored.{answer_stored}
+=======
+use Rattle.review_deliveries.specs.Replies.{IsTold, IsToldWhere, IsToldOfStored, with_entries as hist}
+use Rattle.review_deliveries.proofs.Stored.{answer_stored}
+>>>>>>> epochs
 
 pub same_from : (a b : Identity) → is_same a b ≡ true → a ≡ b
 same_from a b t =
-    let p = and_parts (a.caller == b.caller) (bytes_eq a.id b.id) t in
+    let p = and_parts (a.caller == b.caller) ((a.epoch == b.epoch) && bytes_eq a.id b.id) t in
+    let q = and_parts (a.epoch == b.epoch) (bytes_eq a.id b.id) p.1 in
     let c = eqb-true a.caller b.caller p.0 in
-    let d = (bytes_eq-Decides a.id b.id).0 p.1 in
-    λ k. record { caller = c k; id = d k }
+    let n = eqb-true a.epoch b.epoch q.0 in
+    let d = (bytes_eq-Decides a.id b.id).0 q.1 in
+    λ k. record { caller = c k; epoch = n k; id = d k }
 
 pub same_to : (a b : Identity) → a ≡ b → is_same a b ≡ true
-same_to a b e = and_from (a.caller == b.caller) (bytes_eq a.id b.id) (eq-eqb a.caller b.caller (λ k. (e k).caller)) ((bytes_eq-Decides a.id b.id).1 (λ k. (e k).id))
+same_to a b e =
+    and_from (a.caller == b.caller) ((a.epoch == b.epoch) && bytes_eq a.id b.id) (eq-eqb a.caller b.caller (λ k. (e k).caller))
+    (and_from (a.epoch == b.epoch) (bytes_eq a.id b.id) (eq-eqb a.epoch b.epoch (λ k. (e k).epoch)) ((bytes_eq-Decides a.id b.id).1 (λ k. (e k).id)))
 
 pub stored_here : (e : Entry) (h : List Entry) (i : Identity) → is_same e.identity i ≡ true → stored (e ∷ h) i ≡ Some e
 stored_here e h i t = ap (λ b. cond b (Some e) (stored h i)) t
@@ -83,6 +116,7 @@ outcome_given : (reading : Reading) (h : List Entry) (caller : ℕ) (command : C
 outcome_given reading h caller (CreateAccount name) reply is = subst IsDoneOrRefused (sym is) tt
 outcome_given reading h caller (PutGroup group members) reply is = subst IsDoneOrRefused (sym is) tt
 outcome_given reading h caller (RecordBase project branch commit) reply is = subst IsDoneOrRefused (sym is) tt
+outcome_given reading h caller (CloseEpoch epoch) reply is = subst IsDoneOrRefused (sym is) tt
 outcome_given reading h caller (PutProject project text) reply (inl f) = subst IsDoneOrRefused (sym f.2) tt
 outcome_given reading h caller (PutProject project text) reply (inr f) =
     subst IsDoneOrRefused (sym f.2) (file_given (first_refusal (file_checks reading h project f.0)))
@@ -97,9 +131,26 @@ answer_given_by reading h caller command reply is = at (refused_by reading h cal
     at None is = outcome_given reading h caller command reply is
     at (Some r) is = subst IsDoneOrRefused (sym is) tt
 
-pub answer_given : (h : List Entry) (caller : ℕ) (command : Command) (reply : Reply) → IsHistory h → IsAnswer h caller command reply → IsDoneOrRefused reply
-answer_given h caller command reply history is =
-    let r = reading_of h history in answer_given_by r.0 h caller command reply (is r.0 r.1)
+closing_given : (reading : Reading) (h : List Entry) (caller epoch least : ℕ) (reply : Reply) → IsAnswerIn reading h caller epoch (CloseEpoch least) reply → IsDoneOrRefused reply
+closing_given reading h caller epoch least reply is = at (refused_by reading h caller (CloseEpoch least)) is
+  where
+    at : (o : Option Refusal) → MatchOption o (reply ≡ refused_or (first_refusal (epoch_checks h epoch least)) Nothing) (λ refusal. reply ≡ Refused refusal) → IsDoneOrRefused reply
+    at None is = subst IsDoneOrRefused (sym is) (file_given (first_refusal (epoch_checks h epoch least)))
+    at (Some r) is = subst IsDoneOrRefused (sym is) tt
+
+pub answer_given_in : (reading : Reading) (h : List Entry) (caller epoch : ℕ) (command : Command) (reply : Reply) → IsAnswerIn reading h caller epoch command reply → IsDoneOrRefused reply
+answer_given_in reading h caller epoch (CreateAccount name) reply is = answer_given_by reading h caller (CreateAccount name) reply is
+answer_given_in reading h caller epoch (PutGroup group members) reply is = answer_given_by reading h caller (PutGroup group members) reply is
+answer_given_in reading h caller epoch (PutProject project text) reply is = answer_given_by reading h caller (PutProject project text) reply is
+answer_given_in reading h caller epoch (RecordBase project branch commit) reply is = answer_given_by reading h caller (RecordBase project branch commit) reply is
+answer_given_in reading h caller epoch (CreateChange new) reply is = answer_given_by reading h caller (CreateChange new) reply is
+answer_given_in reading h caller epoch (OnChange n command) reply is = answer_given_by reading h caller (OnChange n command) reply is
+answer_given_in reading h caller epoch (Submit n) reply is = answer_given_by reading h caller (Submit n) reply is
+answer_given_in reading h caller epoch (CloseEpoch least) reply is = closing_given reading h caller epoch least reply is
+
+pub answer_given : (h : List Entry) (caller epoch : ℕ) (command : Command) (reply : Reply) → IsHistory h → IsAnswer h caller epoch command reply → IsDoneOrRefused reply
+answer_given h caller epoch command reply history is =
+    let r = reading_of h history in answer_given_in r.0 h caller epoch command reply (is r.0 r.1)
 
 -- what a write is told, by the entry of its identity or by none, and back
 pub told_where : (h : List Entry) (caller : ℕ) (id : List ℕ) (command : Command) (reply : Reply) (o : Option Entry) → stored h (record { caller = caller; id = id }) ≡ o →
@@ -115,6 +166,7 @@ pub stored_given : (reply : Reply) → IsStored reply → IsDoneOrRefused reply
 stored_given (Done a) stored = tt
 stored_given (Refused r) stored = tt
 stored_given IdentityReused stored = absurd stored
+stored_given EpochClosed stored = absurd stored
 stored_given (NotTaken cause) stored = absurd stored
 
 -- the latest version may follow each history
@@ -140,7 +192,13 @@ recalled (e ∷ h) a i hist there =
       stored_here e h i t,
       sym (ap (λ (r : AnswerRow). r.content) row),
       sym (ap (λ (r : AnswerRow). r.reply) row),
+<<<<<<< ours
       entry_stored e h hist,
+||||||| base
+      answer_stored h e.identity.caller e.command e.reply hist.3 hist.1,
+=======
+      answer_stored h e.identity.caller e.identity.epoch e.command e.reply hist.3 hist.1,
+>>>>>>> epochs
     ))
     (λ (f : is_same e.identity i ≡ false).
     let r = recalled h a i hist.3 (sym (ap (λ b. cond b (Some (Answered (answer_row e (length h + 1)))) (stored_answer h i)) f) ∙ there) in
@@ -165,7 +223,13 @@ stored_stays (m ∷ more) h i e hist some =
     let there = stored_stays more h i e hist.3 some in
     ⊎_elim
     (λ (t : is_same m.identity i ≡ true).
+<<<<<<< ours
     let none : IsFirst (more ++ h) i = subst (IsFirst (more ++ h)) (same_from m.identity i t) hist.0 in
+||||||| base
+    let none : stored (more ++ h) i ≡ None = subst (λ (j : Identity). stored (more ++ h) j ≡ None) (same_from m.identity i t) hist.0 in
+=======
+    let none : stored (more ++ h) i ≡ None = subst (λ (j : Identity). stored (more ++ h) j ≡ None) (same_from m.identity i t) hist.0.0 in
+>>>>>>> epochs
     absurd (cc))
     (λ (f : is_same m.identity i ≡ false). stored_there m (more ++ h) i f ∙ there)
     (cases_Bool (is_same m.identity i))
@@ -175,22 +239,98 @@ pub earlier : (more h : List Entry) → IsHistory (more ++ h) → IsHistory h
 earlier [] h history = history
 earlier (e ∷ more) h history = earlier more h history.3
 
+<<<<<<< ours
 -- a commit of what was decided gives the tables of the history with the entry
 pub view_grows : (h : List Entry) (t new : Tables) (delta : Delta) (row : AnswerRow) (caller : ℕ) (id : List ℕ) (command : Command) (reply : Reply) →
     IsView h t → ((reading : Reading) → Reads reading h → IsDecided reading h caller command delta reply) → IsCommitted t delta row new →
     row ≡ answer_row (entry_of caller id command reply) (length h + 1) →
     IsView (entry_of caller id command reply ∷ h) new
 view_grows h t new delta row caller id command reply view decided c is reading reads =
+||||||| base
+-- a commit of what was decided gives the tables of the history with the entry
+pub view_grows : (h : List Entry) (t new : Tables) (delta : Delta) (row : AnswerRow) (caller : ℕ) (id : List ℕ) (command : Command) (reply : Reply) →
+    IsView h t → ((reading : Reading) → Reads reading h → IsDecided reading h caller command delta reply) → IsCommitted t delta row new →
+    row ≡ answer_row (record { identity = record { caller = caller; id = id }; command = command; reply = reply }) (length h + 1) →
+    IsView (record { identity = record { caller = caller; id = id }; command = command; reply = reply } ∷ h) new
+view_grows h t new delta row caller id command reply view decided c is reading reads =
+=======
+-- what is kept under an identity whose epoch is open is what is stored under it
+pub kept_open : (h : List Entry) (i : Identity) → is_closed h i.epoch ≡ false → kept_answer h i ≡ stored_answer h i
+kept_open h i opened = ap (λ b. cond b None (stored_answer h i)) opened
+
+-- an entry whose epoch is closed is passed over, whether or not it came before
+pub passed_over : (now : List Entry) (b : Bool) (e : Entry) (es : List Entry) → is_closed now e.identity.epoch ≡ true → hist now (cond b es (e ∷ es)) ≡ hist now es
+passed_over now true e es closed = refl
+passed_over now false e es closed = ap (λ c. cond c (hist now es) (hist (e ∷ now) es)) closed
+
+-- what a write is told, where it is known whether its epoch is closed and what is stored under its identity
+pub told_where : (h : List Entry) (caller epoch : ℕ) (id : List ℕ) (command : Command) (reply : Reply) (b : Bool) (o : Option Entry) → is_closed h epoch ≡ b →
+    stored h (record { caller = caller; epoch = epoch; id = id }) ≡ o → IsTold h (Write caller epoch id command) reply → IsToldWhere b o h caller epoch command reply
+told_where h caller epoch id command reply b o closed is told = subst (λ (x : Bool × Option Entry). IsToldWhere x.0 x.1 h caller epoch command reply) (λ k. (closed k, is k)) told
+
+pub where_told : (h : List Entry) (caller epoch : ℕ) (id : List ℕ) (command : Command) (reply : Reply) (b : Bool) (o : Option Entry) → is_closed h epoch ≡ b →
+    stored h (record { caller = caller; epoch = epoch; id = id }) ≡ o → IsToldWhere b o h caller epoch command reply → IsTold h (Write caller epoch id command) reply
+where_told h caller epoch id command reply b o closed is told = subst (λ (x : Bool × Option Entry). IsToldWhere x.0 x.1 h caller epoch command reply) (λ k. (sym closed k, sym is k)) told
+
+-- what is given up is what is closed by then
+given_up : (o : Option ℕ) (n m epoch : ℕ) (x : Option Stored) → m ≡ unwrap_or o n → (nat_lt epoch n ≡ true → nat_lt epoch m ≡ true) →
+    cond (is_below o epoch) None (cond (nat_lt epoch n) None x) ≡ cond (nat_lt epoch m) None x
+given_up None n m epoch x is more = ap (λ k. cond (nat_lt epoch k) None x) (sym is)
+given_up (Some least) n m epoch x is more =
+    ap (λ k. cond (nat_lt epoch k) None (cond (nat_lt epoch n) None x)) (sym is) ∙ at (nat_lt epoch m) (nat_lt epoch n) more
+  where
+    at : (b c : Bool) → (c ≡ true → b ≡ true) → cond b None (cond c None x) ≡ cond b None x
+    at true c up = refl
+    at false false up = refl
+    at false true up = absurd (let e = up refl in cc)
+
+not_below : (o : Option ℕ) (n m epoch : ℕ) → m ≡ unwrap_or o n → nat_lt epoch m ≡ false → is_below o epoch ≡ false
+not_below None n m epoch is opened = refl
+not_below (Some least) n m epoch is opened = ap (nat_lt epoch) (sym is) ∙ opened
+
+-- what is kept after one entry more, of an epoch that is open then
+kept_with : (e : Entry) (h : List Entry) (o : Option ℕ) (i : Identity) → least_open (e ∷ h) ≡ unwrap_or o (least_open h) → is_closed (e ∷ h) e.identity.epoch ≡ false →
+    cond (is_below o i.epoch) None (cond (is_same e.identity i) (Some (Answered (answer_row e (length h + 1)))) (kept_answer h i)) ≡ kept_answer (e ∷ h) i
+kept_with e h o i is opened =
+    ⊎_elim
+    (λ (t : is_same e.identity i ≡ true).
+    let here : is_closed (e ∷ h) i.epoch ≡ false = subst (λ (j : Identity). is_closed (e ∷ h) j.epoch ≡ false) (same_from e.identity i t) opened in
+    ap (λ b. cond b None (cond (is_same e.identity i) new (kept_answer h i))) (not_below o (least_open h) (least_open (e ∷ h)) i.epoch is here)
+    ∙ ap (λ b. cond b new (kept_answer h i)) t ∙ sym (kept_open (e ∷ h) i here ∙ ap (λ b. cond b new (stored_answer h i)) t))
+    (λ (f : is_same e.identity i ≡ false).
+    ap (λ b. cond (is_below o i.epoch) None (cond b new (kept_answer h i))) f ∙ given_up o (least_open h) (least_open (e ∷ h)) i.epoch (stored_answer h i) is (closed_stays e h i.epoch)
+    ∙ sym (ap (λ b. cond (is_closed (e ∷ h) i.epoch) None (cond b new (stored_answer h i))) f))
+    (cases_Bool (is_same e.identity i))
+  where
+    new : Option Stored
+    new = Some (Answered (answer_row e (length h + 1)))
+
+-- a commit of what was decided gives the tables of the history with the entry, where the epoch of the request was open
+pub view_grows : (h : List Entry) (t new : Tables) (delta : Delta) (row : AnswerRow) (caller epoch : ℕ) (id : List ℕ) (command : Command) (reply : Reply) →
+    IsView h t → is_closed h epoch ≡ false → ((reading : Reading) → Reads reading h → IsDecidedIn reading h caller epoch command delta reply) → IsCommitted t delta row new →
+    row ≡ answer_row (record { identity = record { caller = caller; epoch = epoch; id = id }; command = command; reply = reply }) (length h + 1) →
+    IsView (record { identity = record { caller = caller; epoch = epoch; id = id }; command = command; reply = reply } ∷ h) new
+view_grows h t new delta row caller epoch id command reply view opened decided c is reading reads =
+    let e : Entry = record { identity = record { caller = caller; epoch = epoch; id = id }; command = command; reply = reply } in
+>>>>>>> epochs
     let v : IsViewBy reading h t = view reading reads.1 in
-    let d : IsDecided reading h caller command delta reply = decided reading reads.1 in
+    let d : IsDecidedIn reading h caller epoch command delta reply = decided reading reads.1 in
     let row : t.row ≡ fact reading h = λ i k. v.row_is k i in
     record {
       row_is = λ k. c.row_is k ∙ (ap (after delta k) (v.row_is k) ∙ sym (d.row_is id k));
       count_is = λ n. c.count_is n ∙ ((λ i. count_after delta (row i) n (v.count_is n i)) ∙ sym (d.count_is id n));
-      answer_is = λ i. c.answer_is i ∙ (λ j. cond (is_same (is j).identity i) (Some (Answered (is j))) (v.answer_is i j));
+      answer_is = λ i. c.answer_is i
+          ∙ ((λ j. cond (is_below delta.epoch i.epoch) None (cond (is_same (is j).identity i) (Some (Answered (is j))) (v.answer_is i j)))
+          ∙ kept_with e h delta.epoch i (d.count_is id ClosedEpochs) (own_open reading h caller epoch command reply d.reply_is opened));
       version = c.version ∙ v.version;
       requests = let x = c.requests in let y = v.requests in omega arith;
     }
+
+-- what tables of a history say of an identity whose epoch is open in them
+pub answers_are : (reading : Reading) (h : List Entry) (t : Tables) (i : Identity) (o : Option Stored) → IsViewBy reading h t → Answers t i o → (is_closed h i.epoch ≡ false) × (stored_answer h i ≡ o)
+answers_are reading h t i o v has =
+    let opened : is_closed h i.epoch ≡ false = ap (nat_lt i.epoch) (sym (v.count_is ClosedEpochs)) ∙ has.0 in
+    (opened, sym (kept_open h i opened) ∙ sym (v.answer_is i) ∙ has.1)
 
 -- the tables that are a history's view are its view
 pub view_of : (reading : Reading) (h : List Entry) (t : Tables) → IsViewBy reading h t → t ≡ view reading h

@@ -4,7 +4,7 @@ use Rattle.std.specs.Prelude.{nat_lt, not, MatchOption}
 use Rattle.std.specs.Option.{option_map_or}
 use Rattle.review_words.specs.declared.changes.NewPatch.{NewPatch}
 use Rattle.review_words.specs.declared.command.Command.{Command}
-use Rattle.review_words.specs.declared.command.Command.TheVariants.{CreateAccount, PutGroup, PutProject, RecordBase, CreateChange, OnChange, Submit}
+use Rattle.review_words.specs.declared.command.Command.TheVariants.{CreateAccount, PutGroup, PutProject, RecordBase, CloseEpoch, CreateChange, OnChange, Submit}
 use Rattle.review_words.specs.declared.command.ChangeCommand.{ChangeCommand}
 use Rattle.review_words.specs.declared.reply.Reply.{Reply}
 use Rattle.review_words.specs.declared.reply.Reply.TheVariants.{Done, Refused}
@@ -22,11 +22,21 @@ use Rattle.review_inheritance.proofs.Alike.{covers_alike, inherit_alike, inherit
 use Rattle.review_changes.specs.Change.{Change, carried, copying, current, is_lost}
 use Rattle.review_words.specs.declared.command.ChangeCommand.TheVariants as change_asked
 use Rattle.review_changes.specs.Votes.{voted}
+<<<<<<< ours
 use Rattle.review_rows.specs.Changes.{Reading, change, depth, file_of, setting_of}
 use Rattle.review_rows.specs.Files.{File, covers, HasDeepPattern}
 use Rattle.review_rows.specs.Answer.{IsAnswerBy, IsOf, IsOutcome, IsRequestOutcome, IsUploadAnswer, file_checks, file_with, first_refusal, keeps_parent, puts_unknown_label, refused_by, refused_or}
 use Rattle.review_rows.specs.Limits.{most_projects}
 use Rattle.review_rows.specs.Lines.{most_depth}
+||||||| base
+use Rattle.review_rows.specs.Changes.{Reading, change, setting_of}
+use Rattle.review_rows.specs.Files.{File, IsRead, covers, HasDeepPattern}
+use Rattle.review_rows.specs.Answer.{IsAnswerBy, IsOf, IsOutcome, IsRequestOutcome, IsUploadAnswer, first_refusal, refused_by, refused_or}
+=======
+use Rattle.review_rows.specs.Changes.{Reading, change, setting_of}
+use Rattle.review_rows.specs.Files.{File, IsRead, covers, HasDeepPattern}
+use Rattle.review_rows.specs.Answer.{IsAnswerBy, IsAnswerIn, epoch_checks, IsOf, IsOutcome, IsRequestOutcome, IsUploadAnswer, first_refusal, refused_by, refused_or}
+>>>>>>> epochs
 use Rattle.review_rows.proofs.Readings.{reading_of}
 use Rattle.review_rows.proofs.Requested.{IsToldDone, sent_or_done}
 use Rattle.review_deliveries.specs.Restart.{IsFree, RefusesBadValue, OneAnswer}
@@ -100,6 +110,7 @@ one_outcome : OneStanding → (reading : Reading) (h : List Entry) (caller : ℕ
 one_outcome one reading h caller (CreateAccount name) r s a b = inl (a ∙ sym b)
 one_outcome one reading h caller (PutGroup group members) r s a b = inl (a ∙ sym b)
 one_outcome one reading h caller (RecordBase project branch commit) r s a b = inl (a ∙ sym b)
+one_outcome one reading h caller (CloseEpoch epoch) r s a b = inl (a ∙ sym b)
 one_outcome one reading h caller (PutProject project text) r s a b = one_put reading h caller project text r s a b
 one_outcome one reading h caller (CreateChange new) r s a b = inl (a ∙ sym b)
 one_outcome one reading h caller (OnChange n command) r s a b = inl (one_request reading h caller n command r s a b)
@@ -115,6 +126,21 @@ one_answer_by one reading h caller command r s a b = at (refused_by reading h ca
     at None a b = one_outcome one reading h caller command r s a b
     at (Some x) a b = inl (a ∙ sym b)
 
+pub one_answer_in : OneStanding → (reading : Reading) (h : List Entry) (caller epoch : ℕ) (command : Command) (r s : Reply) → IsAnswerIn reading h caller epoch command r →
+    IsAnswerIn reading h caller epoch command s → (r ≡ s) ⊎ (IsFree command × (RefusesBadValue r ⊎ RefusesBadValue s))
+one_answer_in one reading h caller epoch (CreateAccount name) r s a b = one_answer_by one reading h caller (CreateAccount name) r s a b
+one_answer_in one reading h caller epoch (PutGroup group members) r s a b = one_answer_by one reading h caller (PutGroup group members) r s a b
+one_answer_in one reading h caller epoch (PutProject project text) r s a b = one_answer_by one reading h caller (PutProject project text) r s a b
+one_answer_in one reading h caller epoch (RecordBase project branch commit) r s a b = one_answer_by one reading h caller (RecordBase project branch commit) r s a b
+one_answer_in one reading h caller epoch (CreateChange new) r s a b = one_answer_by one reading h caller (CreateChange new) r s a b
+one_answer_in one reading h caller epoch (OnChange n command) r s a b = one_answer_by one reading h caller (OnChange n command) r s a b
+one_answer_in one reading h caller epoch (Submit n) r s a b = one_answer_by one reading h caller (Submit n) r s a b
+one_answer_in one reading h caller epoch (CloseEpoch least) r s a b = inl (at (refused_by reading h caller (CloseEpoch least)) (refused_or (first_refusal (epoch_checks h epoch least)) Nothing) a b)
+  where
+    at : (o : Option Refusal) (x : Reply) → MatchOption o (r ≡ x) (λ y. r ≡ Refused y) → MatchOption o (s ≡ x) (λ y. s ≡ Refused y) → r ≡ s
+    at None x a b = a ∙ sym b
+    at (Some y) x a b = a ∙ sym b
+
 pub one_answer : OneStanding → OneAnswer
-one_answer one h caller command r s history a b =
-    let reading = reading_of h history in one_answer_by one reading.0 h caller command r s (a reading.0 reading.1) (b reading.0 reading.1)
+one_answer one h caller epoch command r s history a b =
+    let reading = reading_of h history in one_answer_in one reading.0 h caller epoch command r s (a reading.0 reading.1) (b reading.0 reading.1)

@@ -1,25 +1,44 @@
 -- A list of answered entries, however long, has a reading.
-use Rattle.std.proofs.Common.{◌≡◌, ℕ, List, [], ◌∷◌, Option, Some, None, true, false, cond, refl, sym, ap, subst, ⊎_elim}
+use Rattle.std.proofs.Common.{◌≡◌, ℕ, List, [], ◌∷◌, Option, Some, None, Bool, true, false, cond, refl, sym, ap, subst, ⊎_elim}
 use Rattle.std.specs.Prelude.{MatchOption}
 use Rattle.std.specs.Str.{bytes_eq}
 use Rattle.std.proofs.lemmas.Bool.{cases_Bool}
 use Rattle.std.proofs.lemmas.Slice.Eq.{bytes_eq-Decides}
+<<<<<<< ours
 use Rattle.review_words.specs.History.{Entry, accepted, stored, entry_of}
+||||||| base
+use Rattle.review_words.specs.History.{Entry, accepted, stored}
+=======
+use Rattle.review_words.specs.History.{Entry, accepted, stored, is_closed}
+>>>>>>> epochs
 use Rattle.review_words.specs.declared.command.Command.{Command}
-use Rattle.review_words.specs.declared.command.Command.TheVariants.{CreateAccount, PutGroup, PutProject, RecordBase, CreateChange, OnChange, Submit}
+use Rattle.review_words.specs.declared.command.Command.TheVariants.{CreateAccount, PutGroup, PutProject, RecordBase, CloseEpoch, CreateChange, OnChange, Submit}
 use Rattle.review_words.specs.declared.command.Delivery.{Delivery}
 use Rattle.review_words.specs.declared.command.Delivery.TheVariants.{Write, Read}
 use Rattle.review_words.specs.declared.reply.Answer.{Answer}
 use Rattle.review_words.specs.declared.reply.Refusal.{Refusal}
 use Rattle.review_words.specs.declared.reply.Refusal.TheVariants.{BadFile}
 use Rattle.review_words.specs.declared.reply.Reply.{Reply}
-use Rattle.review_words.specs.declared.reply.Reply.TheVariants.{Done, Refused, IdentityReused, NotTaken}
+use Rattle.review_words.specs.declared.reply.Reply.TheVariants.{Done, Refused, IdentityReused, EpochClosed, NotTaken}
 use Rattle.review_rows.specs.Answer.{IsAnswer, IsAnswerBy, IsFaultAnswer, IsFileAnswer, refused_by}
 use Rattle.review_rows.specs.Changes.{Reading, Reads, IsReadRight}
 use Rattle.review_rows.specs.Files.{File, IsRead}
+<<<<<<< ours
 use Rattle.review_deliveries.specs.Replies.{IsTold, history_after}
 use Rattle.review_deliveries.proofs.Histories.{answer_given_by, told_where}
 use Rattle.review_deliveries.proofs.Served.{new_history, same_history}
+||||||| base
+use Rattle.review_deliveries.specs.Replies.{IsTold, IsToldOfStored, entry_of, history_after}
+use Rattle.review_deliveries.proofs.Histories.{answer_given_by}
+use Rattle.review_deliveries.proofs.Served.{new_history, same_history}
+use Rattle.review_deliveries.proofs.Voted.{not_fault}
+=======
+use Rattle.review_rows.proofs.Epochs.{IsDoneBy, done_by}
+use Rattle.review_deliveries.specs.Replies.{IsTold, IsToldOfStored, entry_of, history_after}
+use Rattle.review_deliveries.proofs.Histories.{answer_given_in, told_where}
+use Rattle.review_deliveries.proofs.Served.{new_history, same_history, closed_history}
+use Rattle.review_deliveries.proofs.Voted.{not_fault}
+>>>>>>> epochs
 
 -- something is read of each text that was put, which is right
 abbrev pub HasReading : List Entry → Type 0
@@ -45,6 +64,7 @@ right_there reading text file is (Some (CreateAccount name)) right = tt
 right_there reading text file is (Some (PutGroup group members)) right = tt
 right_there reading text file is (Some (PutProject project t)) right = read_there reading text file is t right
 right_there reading text file is (Some (RecordBase project branch commit)) right = tt
+right_there reading text file is (Some (CloseEpoch epoch)) right = tt
 right_there reading text file is (Some (CreateChange new)) right = tt
 right_there reading text file is (Some (OnChange n command)) right = tt
 right_there reading text file is (Some (Submit n)) right = tt
@@ -65,28 +85,45 @@ put_file reading h caller project text a answer =
     (not_fault (refused_by reading h caller (PutProject project text)) a answer)
 
 -- one answered entry more
-read_more : (h : List Entry) (caller : ℕ) (id : List ℕ) (command : Command) (reply : Reply) (reading : Reading) → Reads reading h → IsAnswerBy reading h caller command reply → HasReading (entry_of caller id command reply ∷ h)
-read_more h caller id command (Refused r) reading reads answer = (reading, (tt, reads))
-read_more h caller id command IdentityReused reading reads answer = (reading, (tt, reads))
-read_more h caller id command (NotTaken cause) reading reads answer = (reading, (tt, reads))
-read_more h caller id (CreateAccount name) (Done a) reading reads answer = (reading, (tt, reads))
-read_more h caller id (PutGroup group members) (Done a) reading reads answer = (reading, (tt, reads))
-read_more h caller id (PutProject project text) (Done a) reading reads answer =
+read_more : (h : List Entry) (caller epoch : ℕ) (id : List ℕ) (command : Command) (reply : Reply) (reading : Reading) → Reads reading h → IsDoneBy reading h caller command reply → HasReading (entry_of caller epoch id command reply ∷ h)
+read_more h caller epoch id command (Refused r) reading reads answer = (reading, (tt, reads))
+read_more h caller epoch id command IdentityReused reading reads answer = (reading, (tt, reads))
+read_more h caller epoch id command EpochClosed reading reads answer = (reading, (tt, reads))
+read_more h caller epoch id command (NotTaken cause) reading reads answer = (reading, (tt, reads))
+read_more h caller epoch id (CreateAccount name) (Done a) reading reads answer = (reading, (tt, reads))
+read_more h caller epoch id (PutGroup group members) (Done a) reading reads answer = (reading, (tt, reads))
+read_more h caller epoch id (PutProject project text) (Done a) reading reads answer =
     let put = put_file reading h caller project text a answer in
     (with_file reading text put.0, (read_here reading text put.0 put.1, reads_there reading text put.0 put.1 h reads))
-read_more h caller id (RecordBase project branch commit) (Done a) reading reads answer = (reading, (tt, reads))
-read_more h caller id (CreateChange new) (Done a) reading reads answer = (reading, (tt, reads))
-read_more h caller id (OnChange n command) (Done a) reading reads answer = (reading, (tt, reads))
-read_more h caller id (Submit n) (Done a) reading reads answer = (reading, (tt, reads))
+read_more h caller epoch id (RecordBase project branch commit) (Done a) reading reads answer = (reading, (tt, reads))
+read_more h caller epoch id (CloseEpoch least) (Done a) reading reads answer = (reading, (tt, reads))
+read_more h caller epoch id (CreateChange new) (Done a) reading reads answer = (reading, (tt, reads))
+read_more h caller epoch id (OnChange n command) (Done a) reading reads answer = (reading, (tt, reads))
+read_more h caller epoch id (Submit n) (Done a) reading reads answer = (reading, (tt, reads))
 
 -- the list after a delivery that was told what is right
 pub read_on : (h : List Entry) (d : Delivery) (reply : Reply) → HasReading h → IsTold h d reply → HasReading (history_after h (d ∷ []) (reply ∷ []))
 read_on h (Read caller query) reply reading told = reading
-read_on h (Write caller id command) reply reading told = at (stored h (record { caller = caller; id = id })) refl
+read_on h (Write caller epoch id command) reply reading told = at (is_closed h epoch) (stored h (record { caller = caller; epoch = epoch; id = id })) refl refl
   where
+<<<<<<< ours
     at : (o : Option Entry) → stored h (record { caller = caller; id = id }) ≡ o → HasReading (history_after h (Write caller id command ∷ []) (reply ∷ []))
     at (Some e) some = subst HasReading (sym (same_history h caller id command reply e some)) reading
     at None none =
         let answer : IsAnswer h caller command reply = told_where h caller id command reply None none told in
+||||||| base
+    at : (o : Option Entry) → stored h (record { caller = caller; id = id }) ≡ o → HasReading (history_after h (Write caller id command ∷ []) (reply ∷ []))
+    at (Some e) some = subst HasReading (sym (same_history h caller id command reply e some)) reading
+    at None none =
+        let answer : IsAnswer h caller command reply =
+        subst (λ o. MatchOption o (IsAnswer h caller command reply) (λ e. IsToldOfStored e command reply)) none told in
+=======
+    at : (b : Bool) (o : Option Entry) → is_closed h epoch ≡ b → stored h (record { caller = caller; epoch = epoch; id = id }) ≡ o → HasReading (history_after h (Write caller epoch id command ∷ []) (reply ∷ []))
+    at true o closed is = subst HasReading (sym (closed_history h caller epoch id command reply closed)) reading
+    at false (Some e) opened some = subst HasReading (sym (same_history h caller epoch id command reply e some)) reading
+    at false None opened none =
+        let answer : IsAnswer h caller epoch command reply = told_where h caller epoch id command reply false None opened none told in
+>>>>>>> epochs
         let by = answer reading.0 reading.1 in
-        subst HasReading (sym (new_history h caller id command reply (answer_given_by reading.0 h caller command reply by) none)) (read_more h caller id command reply reading.0 reading.1 by)
+        subst HasReading (sym (new_history h caller epoch id command reply (answer_given_in reading.0 h caller epoch command reply by) (none, opened)))
+        (read_more h caller epoch id command reply reading.0 reading.1 (done_by reading.0 h caller epoch command reply by))

@@ -1,5 +1,5 @@
 -- A run that begins again.
-use Rattle.std.proofs.Common.{◌≡◌, ◌⊎◌, ℕ, zero, suc, ◌<◌, take, drop, get_or, List, [], ◌∷◌, ◌++◌, length, Option, Some, None, true, false, cond, ◌||◌, refl, sym, ap, ◌∙◌, subst, ⊎_elim, arith}
+use Rattle.std.proofs.Common.{◌≡◌, ◌⊎◌, ℕ, zero, suc, ◌<◌, take, drop, get_or, List, [], ◌∷◌, ◌++◌, length, Option, Some, None, Bool, true, false, cond, ◌||◌, refl, sym, ap, ◌∙◌, subst, inl, inr, ⊎_elim, arith}
 use Rattle.std.specs.Prelude.{is_some, MatchOption}
 use Rattle.std.proofs.lemmas.Bool.{cases_Bool}
 use Rattle.std.proofs.lemmas.List.{length-take-le}
@@ -9,20 +9,45 @@ use Rattle.review_words.specs.declared.command.Command.{Command}
 use Rattle.review_words.specs.declared.command.Delivery.{Delivery}
 use Rattle.review_words.specs.declared.command.Delivery.TheVariants.{Write, Read}
 use Rattle.review_words.specs.declared.reply.Reply.{Reply}
+<<<<<<< ours
 use Rattle.review_words.specs.declared.reply.Reply.TheVariants.{Done, Refused, IdentityReused, NotTaken}
 use Rattle.review_words.specs.History.{Entry, Identity, IsFirst, stored, is_same, entry_of}
 use Rattle.review_rows.specs.Answer.{IsHistory, IsAnswer}
+||||||| base
+use Rattle.review_words.specs.declared.reply.Reply.TheVariants.{Done, Refused, IdentityReused, NotTaken}
+use Rattle.review_words.specs.History.{Entry, Identity, stored, is_same}
+use Rattle.review_rows.specs.Answer.{IsHistory, IsAnswer}
+=======
+use Rattle.review_words.specs.declared.reply.Reply.TheVariants.{Done, Refused, IdentityReused, EpochClosed, NotTaken}
+use Rattle.review_words.specs.History.{Entry, Identity, stored, is_same, is_closed}
+use Rattle.review_rows.specs.Answer.{IsHistory, IsFirst, IsAnswer}
+>>>>>>> epochs
 use Rattle.review_rows.specs.Rows.{Tables}
 use Rattle.review_rows.specs.View.{IsView}
+use Rattle.review_rows.proofs.Epochs.{closed_stays, open_before}
 use Rattle.review_rows.proofs.Readings.{reading_of}
 use Rattle.review_deliveries.proofs.Submits.{OneStanding}
-use Rattle.review_deliveries.proofs.Outcomes.{one_answer_by}
+use Rattle.review_deliveries.proofs.Outcomes.{one_answer_in}
 use Rattle.review_deliveries.proofs.Readable.{HasReading, read_on}
+<<<<<<< ours
 use Rattle.review_deliveries.specs.Replies.{IsTold, IsRight, AreRight, IsToldOfStored, history_after, with_entries as hist, has_identity, first_arrivals as first, arrivals_after as first_after, taken, with_taken, HasEffect}
 use Rattle.review_deliveries.specs.Restart.{IsFree, RefusesBadValue, IsSettled, AreSettled, WasTaken, WereTaken, AgreeFor, AgreeOnWrites, RunsAsFrom, RestartIsRun, RestartAfterStop, RestartCompletes, RestartKeepsHistory, RepliesFollowHistory}
 use Rattle.review_deliveries.proofs.Histories.{answer_given, earlier, told_where, where_told, stored_stays, stored_here, stored_there, same_to}
 use Rattle.review_deliveries.proofs.Served.{new_history, same_history, same_command}
 use Rattle.review_deliveries.proofs.Going.{HasSince, since_old, since_new, or_false, with_taken-append, first-append, history_after-append}
+||||||| base
+use Rattle.review_deliveries.specs.Replies.{IsTold, IsRight, AreRight, IsToldOfStored, history_after, with_entries as hist, has_identity, first_arrivals as first, arrivals_after as first_after, taken, with_taken, entry_of, HasEffect}
+use Rattle.review_deliveries.specs.Restart.{IsFree, RefusesBadValue, IsSettled, AreSettled, WasTaken, WereTaken, AgreeFor, AgreeOnWrites, RunsAsFrom, RestartIsRun, RestartAfterStop, RestartCompletes, RestartKeepsHistory, RepliesFollowHistory}
+use Rattle.review_deliveries.proofs.Histories.{answer_given, earlier, stored_stays, stored_here, stored_there, same_to}
+use Rattle.review_deliveries.proofs.Served.{new_history, same_history, same_command}
+use Rattle.review_deliveries.proofs.Going.{HasSince, since_old, since_new, or_false, with_taken-append, first-append, history_after-append}
+=======
+use Rattle.review_deliveries.specs.Replies.{IsTold, IsRight, AreRight, IsToldOfStored, history_after, with_entries as hist, has_identity, first_arrivals as first, arrivals_after as first_after, taken, with_taken, entry_of, HasEffect}
+use Rattle.review_deliveries.specs.Restart.{IsFree, RefusesBadValue, IsSettled, AreSettled, WasTaken, WereTaken, AgreeFor, AgreeOnWrites, AgreesAgain, AgreeAfter, AgreesWhereOpen, AgreeWhereOpen, RunsAsFrom, RestartIsRun, RestartAfterStop, RestartCompletes, RestartKeepsHistory, RepliesFollowHistory}
+use Rattle.review_deliveries.proofs.Histories.{answer_given, earlier, passed_over, told_where, where_told, stored_stays, stored_here, stored_there, same_to}
+use Rattle.review_deliveries.proofs.Served.{new_history, same_history, closed_history, same_command}
+use Rattle.review_deliveries.proofs.Going.{HasSince, since_start, since_old, since_new, since_closed, dropped, added, each_way, with_taken-append, first-append, history_after-append}
+>>>>>>> epochs
 
 -- each delivery is taken, and its reply is right after those before it
 abbrev pub AreTold : List Entry → List Delivery → List Reply → Type 0
@@ -41,7 +66,16 @@ grown : (h es : List Entry) → (more : List Entry) × (hist h es ≡ more ++ h)
 grown h [] = ([], refl)
 grown h (e ∷ es) =
     let g = grown (e ∷ h) es in
-    (g.0 ++ e ∷ [], g.1 ∙ sym (append_assoc g.0 (e ∷ []) h))
+    at (is_closed h e.identity.epoch) (grown h es) (g.0 ++ e ∷ [], g.1 ∙ sym (append_assoc g.0 (e ∷ []) h))
+  where
+    at : (b : Bool) → (more : List Entry) × (hist h es ≡ more ++ h) → (more : List Entry) × (hist (e ∷ h) es ≡ more ++ h) → (more : List Entry) × (cond b (hist h es) (hist (e ∷ h) es) ≡ more ++ h)
+    at true passed grew = passed
+    at false passed grew = grew
+
+-- an epoch that is open was so all the time
+open_through : (more h : List Entry) (epoch : ℕ) → is_closed (more ++ h) epoch ≡ false → is_closed h epoch ≡ false
+open_through [] h epoch opened = opened
+open_through (e ∷ more) h epoch opened = open_through more h epoch (open_before e (more ++ h) epoch opened)
 
 -- a list from which a run leaves a history is one
 began : (h : List Entry) (ds : List Delivery) (rs : List Reply) → IsHistory (history_after h ds rs) → IsHistory h
@@ -54,25 +88,38 @@ one_repeat e command r s a b =
     ⊎_elim (λ (c : command ≡ e.command). a.equal c ∙ sym (b.equal c)) (λ (n : command ≡ e.command → ⊥). a.other n ∙ sym (b.other n)) (same_command command e.command)
 
 -- one answer to each command that leaves no choice
-settled_answer : OneStanding → (h : List Entry) (caller : ℕ) (command : Command) (r s : Reply) → (IsFree command → ⊥) → HasReading h → IsAnswer h caller command r → IsAnswer h caller command s → r ≡ s
-settled_answer standing h caller command r s settled reading a b =
-    ⊎_elim (λ (same : r ≡ s). same) (λ (free : IsFree command × (RefusesBadValue r ⊎ RefusesBadValue s)). absurd (settled free.0)) (one_answer_by standing reading.0 h caller command r s (a reading.0 reading.1) (b reading.0 reading.1))
+settled_answer : OneStanding → (h : List Entry) (caller epoch : ℕ) (command : Command) (r s : Reply) → (IsFree command → ⊥) → HasReading h → IsAnswer h caller epoch command r → IsAnswer h caller epoch command s → r ≡ s
+settled_answer standing h caller epoch command r s settled reading a b =
+    ⊎_elim (λ (same : r ≡ s). same) (λ (free : IsFree command × (RefusesBadValue r ⊎ RefusesBadValue s)). absurd (settled free.0))
+    (one_answer_in standing reading.0 h caller epoch command r s (a reading.0 reading.1) (b reading.0 reading.1))
 
 -- two right replies to a write are one, and with either reply to a delivery the history goes on alike
 one_told : OneStanding → (h : List Entry) (d : Delivery) (r s : Reply) → IsSettled d → HasReading h → IsTold h d r → IsTold h d s →
     AgreeFor d r s × (history_after h (d ∷ []) (s ∷ []) ≡ history_after h (d ∷ []) (r ∷ []))
 one_told standing h (Read caller query) r s settled reading a b = (tt, refl)
-one_told standing h (Write caller id command) r s settled reading a b =
-    let same = at (stored h (record { caller = caller; id = id })) refl in
-    (same, ap (λ x. history_after h (Write caller id command ∷ []) (x ∷ [])) (sym same))
+one_told standing h (Write caller epoch id command) r s settled reading a b =
+    let same = at (is_closed h epoch) (stored h (record { caller = caller; epoch = epoch; id = id })) refl refl in
+    (same, ap (λ x. history_after h (Write caller epoch id command ∷ []) (x ∷ [])) (sym same))
   where
+<<<<<<< ours
     at : (o : Option Entry) → stored h (record { caller = caller; id = id }) ≡ o → r ≡ s
     at None is = settled_answer standing h caller command r s settled reading (told_where h caller id command r None is a) (told_where h caller id command s None is b)
     at (Some e) is = one_repeat e command r s (told_where h caller id command r (Some e) is a) (told_where h caller id command s (Some e) is b)
+||||||| base
+    at : (o : Option Entry) → stored h (record { caller = caller; id = id }) ≡ o → r ≡ s
+    at None is = settled_answer standing h caller command r s settled reading (told_at h caller id command r None is a) (told_at h caller id command s None is b)
+    at (Some e) is = one_repeat e command r s (told_at h caller id command r (Some e) is a) (told_at h caller id command s (Some e) is b)
+=======
+    at : (c : Bool) (o : Option Entry) → is_closed h epoch ≡ c → stored h (record { caller = caller; epoch = epoch; id = id }) ≡ o → r ≡ s
+    at true o closed is = told_where h caller epoch id command r true o closed is a ∙ sym (told_where h caller epoch id command s true o closed is b)
+    at false None opened is =
+        settled_answer standing h caller epoch command r s settled reading (told_where h caller epoch id command r false None opened is a) (told_where h caller epoch id command s false None opened is b)
+    at false (Some e) opened is = one_repeat e command r s (told_where h caller epoch id command r false (Some e) opened is a) (told_where h caller epoch id command s false (Some e) opened is b)
+>>>>>>> epochs
 
 agrees : (d : Delivery) (r s : Reply) → r ≡ s → AgreeFor d r s
 agrees (Read caller query) r s e = tt
-agrees (Write caller id command) r s e = e
+agrees (Write caller epoch id command) r s e = e
 
 -- from one history, everything is the same
 same_run : OneStanding → (h : List Entry) (ds : List Delivery) (rs ss : List Reply) → AreSettled ds → HasReading h → AreTold h ds rs → AreTold h ds ss → AgreeOnWrites ds rs ss × (history_after h ds ss ≡ history_after h ds rs)
@@ -88,22 +135,19 @@ same_run standing h (d ∷ ds) (r ∷ rs) (s ∷ ss) settled reading a b =
       history_cons h d ds s ss ∙ ap (λ x. history_after x ds ss) one.1 ∙ rest.1 ∙ sym (history_cons h d ds r rs),
     )
 
--- a delivery of the part that stood gets the same reply again, and changes nothing
-again : (g h more : List Entry) (d : Delivery) (r s : Reply) → IsHistory h → h ≡ more ++ history_after g (d ∷ []) (r ∷ []) → IsTold g d r → IsTold h d s →
-    AgreeFor d r s × (history_after h (d ∷ []) (s ∷ []) ≡ h)
-again g h more (Read caller query) r s hist is a b = (tt, refl)
-again g h more (Write caller id command) r s hist is a b = at (stored g i) refl
+-- a write of an epoch that was open then stands from then on, with what it was told
+stands : (g h more : List Entry) (caller epoch : ℕ) (id : List ℕ) (command : Command) (r : Reply) → IsHistory h → h ≡ more ++ history_after g (Write caller epoch id command ∷ []) (r ∷ []) →
+    is_closed g epoch ≡ false → IsTold g (Write caller epoch id command) r → (e : Entry) × (stored h (record { caller = caller; epoch = epoch; id = id }) ≡ Some e) × IsToldOfStored e command r
+stands g h more caller epoch id command r hist is opened a = at (stored g (record { caller = caller; epoch = epoch; id = id })) refl
   where
-    i : Identity
-    i = record { caller = caller; id = id }
-
-    there : (e : Entry) → stored (history_after g (Write caller id command ∷ []) (r ∷ [])) (record { caller = caller; id = id }) ≡ Some e → stored h (record { caller = caller; id = id }) ≡ Some e
+    there : (e : Entry) → stored (history_after g (Write caller epoch id command ∷ []) (r ∷ [])) (record { caller = caller; epoch = epoch; id = id }) ≡ Some e → stored h (record { caller = caller; epoch = epoch; id = id }) ≡ Some e
     there e some =
-        subst (λ x. stored x (record { caller = caller; id = id }) ≡ Some e) (sym is)
-        (stored_stays more (history_after g (Write caller id command ∷ []) (r ∷ [])) (record { caller = caller; id = id }) e (subst IsHistory is hist) some)
+        subst (λ x. stored x (record { caller = caller; epoch = epoch; id = id }) ≡ Some e) (sym is)
+        (stored_stays more (history_after g (Write caller epoch id command ∷ []) (r ∷ [])) (record { caller = caller; epoch = epoch; id = id }) e (subst IsHistory is hist) some)
 
-    at : (o : Option Entry) → stored g (record { caller = caller; id = id }) ≡ o → (r ≡ s) × (history_after h (Write caller id command ∷ []) (s ∷ []) ≡ h)
+    at : (o : Option Entry) → stored g (record { caller = caller; epoch = epoch; id = id }) ≡ o → (e : Entry) × (stored h (record { caller = caller; epoch = epoch; id = id }) ≡ Some e) × IsToldOfStored e command r
     at None none =
+<<<<<<< ours
         let e : Entry = entry_of caller id command r in
         let answered = told_where g caller id command r None none a in
         let past : IsHistory (history_after g (Write caller id command ∷ []) (r ∷ [])) = earlier more (history_after g (Write caller id command ∷ []) (r ∷ [])) (subst IsHistory is hist) in
@@ -114,10 +158,56 @@ again g h more (Write caller id command) r s hist is a b = at (stored g i) refl
     at (Some e) old =
         let some = there e (ap (λ x. stored x (record { caller = caller; id = id })) (same_history g caller id command r e old) ∙ old) in
         (one_repeat e command r s (told_where g caller id command r (Some e) old a) (told_where h caller id command s (Some e) some b), same_history h caller id command s e some)
+||||||| base
+        let e : Entry = entry_of caller id command r in
+        let answered = told_at g caller id command r None none a in
+        let past : IsHistory (history_after g (Write caller id command ∷ []) (r ∷ [])) = earlier more (history_after g (Write caller id command ∷ []) (r ∷ [])) (subst IsHistory is hist) in
+        let kept : IsDoneOrRefused r = answer_given g caller command r (began g (Write caller id command ∷ []) (r ∷ []) past) answered in
+        let some = there e (ap (λ x. stored x (record { caller = caller; id = id })) (new_history g caller id command r kept none)
+        ∙ stored_here e g (record { caller = caller; id = id }) (same_to (record { caller = caller; id = id }) (record { caller = caller; id = id }) refl)) in
+        (sym ((told_at h caller id command s (Some e) some b).equal refl), same_history h caller id command s e some)
+    at (Some e) old =
+        let some = there e (ap (λ x. stored x (record { caller = caller; id = id })) (same_history g caller id command r e old) ∙ old) in
+        (one_repeat e command r s (told_at g caller id command r (Some e) old a) (told_at h caller id command s (Some e) some b), same_history h caller id command s e some)
+=======
+        let e : Entry = entry_of caller epoch id command r in
+        let answered = told_where g caller epoch id command r false None opened none a in
+        let past : IsHistory (history_after g (Write caller epoch id command ∷ []) (r ∷ [])) = earlier more (history_after g (Write caller epoch id command ∷ []) (r ∷ [])) (subst IsHistory is hist) in
+        let kept : IsDoneOrRefused r = answer_given g caller epoch command r (began g (Write caller epoch id command ∷ []) (r ∷ []) past) answered in
+        let some = there e (ap (λ x. stored x (record { caller = caller; epoch = epoch; id = id })) (new_history g caller epoch id command r kept (none, opened)) ∙ stored_here e g (record { caller = caller; epoch = epoch; id = id }) (same_to (record { caller = caller; epoch = epoch; id = id }) (record { caller = caller; epoch = epoch; id = id }) refl)) in
+        (e, some, record { equal = λ _. refl; other = λ n. absurd (n refl) })
+    at (Some e) old = (
+      e,
+      there e (ap (λ x. stored x (record { caller = caller; epoch = epoch; id = id })) (same_history g caller epoch id command r e old) ∙ old),
+      told_where g caller epoch id command r false (Some e) opened old a,
+    )
+
+-- A delivery of the part that stood gets the same reply again, or that its epoch is closed, and changes nothing.
+again : (g h more : List Entry) (d : Delivery) (r s : Reply) → IsHistory h → h ≡ more ++ history_after g (d ∷ []) (r ∷ []) → IsTold g d r → IsTold h d s →
+    AgreesAgain h d r s × (history_after h (d ∷ []) (s ∷ []) ≡ h)
+again g h more (Read caller query) r s hist is a b = (tt, refl)
+again g h more (Write caller epoch id command) r s hist is a b = at (is_closed h epoch) refl
+  where
+    open_then : is_closed h epoch ≡ false → is_closed g epoch ≡ false
+    open_then opened =
+        let past = grown g (first g (taken (Write caller epoch id command ∷ []) (r ∷ []))) in
+        let later = open_through more (history_after g (Write caller epoch id command ∷ []) (r ∷ [])) epoch (subst (λ x. is_closed x epoch ≡ false) is opened) in
+        open_through past.0 g epoch (subst (λ x. is_closed x epoch ≡ false) past.1 later)
+
+    at : (c : Bool) → is_closed h epoch ≡ c → (s ≡ cond (is_closed h epoch) EpochClosed r) × (history_after h (Write caller epoch id command ∷ []) (s ∷ []) ≡ h)
+    at true closed = (
+      told_where h caller epoch id command s true (stored h (record { caller = caller; epoch = epoch; id = id })) closed refl b ∙ sym (ap (λ x. cond x EpochClosed r) closed),
+      closed_history h caller epoch id command s closed,
+    )
+    at false opened =
+        let e = stands g h more caller epoch id command r hist is (open_then opened) a in
+        let told = told_where h caller epoch id command s false (Some e.0) opened e.1 b in
+        (one_repeat e.0 command s r told e.2 ∙ sym (ap (λ x. cond x EpochClosed r) opened), same_history h caller epoch id command s e.0 e.1)
+>>>>>>> epochs
 
 restart_told : OneStanding → (h0 h : List Entry) (ds1 ds2 : List Delivery) (rs1 rs2 ss : List Reply) →
     IsHistory h → h ≡ history_after h0 ds1 rs1 → length rs1 ≡ length ds1 → AreSettled ds2 → AreTold h0 (ds1 ++ ds2) (rs1 ++ rs2) → AreTold h (ds1 ++ ds2) ss →
-    AgreeOnWrites (ds1 ++ ds2) (rs1 ++ rs2) ss × (history_after h (ds1 ++ ds2) ss ≡ history_after h0 (ds1 ++ ds2) (rs1 ++ rs2))
+    AgreeAfter h ds1 ds2 (rs1 ++ rs2) ss × (history_after h (ds1 ++ ds2) ss ≡ history_after h0 (ds1 ++ ds2) (rs1 ++ rs2))
 restart_told standing g h [] ds2 [] rs2 ss hist is same settled a b = same_run' g h ds2 rs2 ss settled is (reading_of h hist) a b
   where
     same_run' : (g h : List Entry) (ds : List Delivery) (rs ss : List Reply) → AreSettled ds → h ≡ g → HasReading h → AreTold g ds rs → AreTold h ds ss →
@@ -141,47 +231,64 @@ restart_told standing g h (d ∷ ds1) ds2 (r ∷ rs1) rs2 (s ∷ ss) hist is sam
 -- what is stored stays stored
 persists : (h es : List Entry) (i : Identity) → is_some (stored h i) ≡ true → is_some (stored (hist h es) i) ≡ true
 persists h [] i t = t
-persists h (e ∷ es) i t = persists (e ∷ h) es i
-    (⊎_elim (λ (y : is_same e.identity i ≡ true). ap is_some (stored_here e h i y)) (λ (n : is_same e.identity i ≡ false). ap is_some (stored_there e h i n) ∙ t) (cases_Bool (is_same e.identity i)))
+persists h (e ∷ es) i t = at (is_closed h e.identity.epoch) (persists h es i t) (persists (e ∷ h) es i there)
+  where
+    there : is_some (stored (e ∷ h) i) ≡ true
+    there = ⊎_elim (λ (y : is_same e.identity i ≡ true). ap is_some (stored_here e h i y)) (λ (n : is_same e.identity i ≡ false). ap is_some (stored_there e h i n) ∙ t) (cases_Bool (is_same e.identity i))
 
+    at : (b : Bool) → is_some (stored (hist h es) i) ≡ true → is_some (stored (hist (e ∷ h) es) i) ≡ true → is_some (stored (cond b (hist h es) (hist (e ∷ h) es)) i) ≡ true
+    at true passed grew = passed
+    at false passed grew = grew
+
+-- and what is closed stays closed
+closed_persists : (h es : List Entry) (epoch : ℕ) → is_closed h epoch ≡ true → is_closed (hist h es) epoch ≡ true
+closed_persists h [] epoch t = t
+closed_persists h (e ∷ es) epoch t = at (is_closed h e.identity.epoch) (closed_persists h es epoch t) (closed_persists (e ∷ h) es epoch (closed_stays e h epoch t))
+  where
+    at : (b : Bool) → is_closed (hist h es) epoch ≡ true → is_closed (hist (e ∷ h) es) epoch ≡ true → is_closed (cond b (hist h es) (hist (e ∷ h) es)) epoch ≡ true
+    at true passed grew = passed
+    at false passed grew = grew
+
+-- each is in the history, or its epoch is closed
 abbrev AllIn : List Entry → List Entry → Type 0
 AllIn h [] = Unit {0}
-AllIn h (e ∷ es) = (has_identity h e ≡ true) × AllIn h es
+AllIn h (e ∷ es) = ((has_identity h e ≡ true) ⊎ (is_closed h e.identity.epoch ≡ true)) × AllIn h es
 
--- all that came is in the history after it
+-- all that came is in the history after it, or its epoch is closed
 have_all : (h0 earlier now es : List Entry) → HasSince now h0 earlier → AllIn (hist now (first_after h0 earlier es)) es
 have_all h0 earlier now [] since = tt
 have_all h0 earlier now (e ∷ es) since =
-    ⊎_elim
-    (λ (t : has_identity now e ≡ true).
-    let w : first_after h0 earlier (e ∷ es) ≡ first_after h0 (e ∷ earlier) es =
-    ap (λ b. cond b (first_after h0 (e ∷ earlier) es) (e ∷ first_after h0 (e ∷ earlier) es)) (sym (since e.identity) ∙ t) in
-    subst (λ l. AllIn (hist now l) (e ∷ es)) (sym w)
-    (persists now (first_after h0 (e ∷ earlier) es) e.identity t, have_all h0 (e ∷ earlier) now es (since_old now h0 earlier e since t)))
-    (λ (n : has_identity now e ≡ false).
-    let w : first_after h0 earlier (e ∷ es) ≡ e ∷ first_after h0 (e ∷ earlier) es =
-    ap (λ b. cond b (first_after h0 (e ∷ earlier) es) (e ∷ first_after h0 (e ∷ earlier) es)) (sym (since e.identity) ∙ n) in
-    subst (λ l. AllIn (hist now l) (e ∷ es)) (sym w) (
-      persists (e ∷ now) (first_after h0 (e ∷ earlier) es) e.identity (ap is_some (stored_here e now e.identity (same_to e.identity e.identity refl))),
+    let rest = first_after h0 (e ∷ earlier) es in
+    each_way now e
+    (λ closed. subst (λ g. AllIn g (e ∷ es)) (sym (passed_over now (has_identity h0 e || has_identity earlier e) e rest closed))
+    (inr (closed_persists now rest e.identity.epoch closed), have_all h0 (e ∷ earlier) now es (since_closed now h0 earlier e since closed)))
+    (λ opened old. subst (λ g. AllIn g (e ∷ es)) (sym (dropped now h0 earlier e rest since opened old))
+    (inl (persists now rest e.identity old), have_all h0 (e ∷ earlier) now es (since_old now h0 earlier e since old)))
+    (λ opened new. subst (λ g. AllIn g (e ∷ es)) (sym (added now h0 earlier e rest since opened new)) (
+      inl (persists (e ∷ now) rest e.identity (ap is_some (stored_here e now e.identity (same_to e.identity e.identity refl)))),
       have_all h0 (e ∷ earlier) (e ∷ now) es (since_new now h0 earlier e since),
     ))
-    (cases_Bool (has_identity now e))
 
-nothing_new : (h earlier es : List Entry) → AllIn h es → first_after h earlier es ≡ []
+nothing_new : (h earlier es : List Entry) → AllIn h es → hist h (first_after h earlier es) ≡ h
 nothing_new h earlier [] all = refl
 nothing_new h earlier (e ∷ es) all =
-    ap (λ b. cond (b || has_identity earlier e) (first_after h (e ∷ earlier) es) (e ∷ first_after h (e ∷ earlier) es)) all.0 ∙ nothing_new h (e ∷ earlier) es all.1
+    let rest = first_after h (e ∷ earlier) es in
+    ⊎_elim
+    (λ (there : has_identity h e ≡ true). ap (λ b. hist h (cond (b || has_identity earlier e) rest (e ∷ rest))) there)
+    (λ (closed : is_closed h e.identity.epoch ≡ true). passed_over h (has_identity h e || has_identity earlier e) e rest closed)
+    all.0
+    ∙ nothing_new h (e ∷ earlier) es all.1
 
 pub keeps_history : RestartKeepsHistory
 keeps_history h0 es1 es2 =
     let h = hist h0 (first h0 es1) in
-    let none : hist h (first h es1) ≡ h = ap (hist h) (nothing_new h [] es1 (have_all h0 [] h0 es1 (λ i. sym (or_false (is_some (stored h0 i)))))) in
+    let none : hist h (first h es1) ≡ h = nothing_new h [] es1 (have_all h0 [] h0 es1 (since_start h0)) in
     first-append h es1 es2 ∙ ap (λ g. hist g (first g es2)) none ∙ sym (first-append h0 es1 es2)
 
--- the reply that a history has for a write
+-- the reply that a history has for a write, but where it was told that its epoch is closed
 abbrev IsToldBy : List Entry → Delivery → Reply → Type 0
 IsToldBy h (Read caller query) reply = Unit {0}
-IsToldBy h (Write caller id command) reply = MatchOption (stored h (record { caller = caller; id = id })) ⊥ (λ e. IsToldOfStored e command reply)
+IsToldBy h (Write caller epoch id command) reply = (reply ≡ EpochClosed) ⊎ MatchOption (stored h (record { caller = caller; epoch = epoch; id = id })) ⊥ (λ e. IsToldOfStored e command reply)
 
 abbrev AreToldBy : List Entry → List Delivery → List Reply → Type 0
 AreToldBy h [] rs = Unit {0}
@@ -190,8 +297,9 @@ AreToldBy h (d ∷ ds) (r ∷ rs) = IsToldBy h d r × AreToldBy h ds rs
 
 told_by : (g h more : List Entry) (d : Delivery) (r : Reply) → IsHistory h → h ≡ more ++ history_after g (d ∷ []) (r ∷ []) → IsTold g d r → IsToldBy h d r
 told_by g h more (Read caller query) r hist is a = tt
-told_by g h more (Write caller id command) r hist is a = at (stored g (record { caller = caller; id = id })) refl
+told_by g h more (Write caller epoch id command) r hist is a = at (is_closed g epoch) refl
   where
+<<<<<<< ours
     stays : (e : Entry) → stored (history_after g (Write caller id command ∷ []) (r ∷ [])) (record { caller = caller; id = id }) ≡ Some e → IsToldOfStored e command r → IsToldBy h (Write caller id command) r
     stays e some told =
         let there : stored h (record { caller = caller; id = id }) ≡ Some e =
@@ -208,6 +316,30 @@ told_by g h more (Write caller id command) r hist is a = at (stored g (record { 
         ∙ stored_here e g (record { caller = caller; id = id }) (same_to (record { caller = caller; id = id }) (record { caller = caller; id = id }) refl))
         (record { equal = λ _. refl; other = λ n. absurd (n refl) })
     at (Some e) old = stays e (ap (λ x. stored x (record { caller = caller; id = id })) (same_history g caller id command r e old) ∙ old) (told_where g caller id command r (Some e) old a)
+||||||| base
+    stays : (e : Entry) → stored (history_after g (Write caller id command ∷ []) (r ∷ [])) (record { caller = caller; id = id }) ≡ Some e → IsToldOfStored e command r → IsToldBy h (Write caller id command) r
+    stays e some told =
+        let there : stored h (record { caller = caller; id = id }) ≡ Some e =
+        subst (λ x. stored x (record { caller = caller; id = id }) ≡ Some e) (sym is)
+        (stored_stays more (history_after g (Write caller id command ∷ []) (r ∷ [])) (record { caller = caller; id = id }) e (subst IsHistory is hist) some) in
+        subst (λ o. MatchOption o ⊥ (λ e. IsToldOfStored e command r)) (sym there) told
+
+    at : (o : Option Entry) → stored g (record { caller = caller; id = id }) ≡ o → IsToldBy h (Write caller id command) r
+    at None none =
+        let e : Entry = entry_of caller id command r in
+        let past : IsHistory (history_after g (Write caller id command ∷ []) (r ∷ [])) = earlier more (history_after g (Write caller id command ∷ []) (r ∷ [])) (subst IsHistory is hist) in
+        let kept : IsDoneOrRefused r = answer_given g caller command r (began g (Write caller id command ∷ []) (r ∷ []) past) (told_at g caller id command r None none a) in
+        stays e (ap (λ x. stored x (record { caller = caller; id = id })) (new_history g caller id command r kept none)
+        ∙ stored_here e g (record { caller = caller; id = id }) (same_to (record { caller = caller; id = id }) (record { caller = caller; id = id }) refl))
+        (record { equal = λ _. refl; other = λ n. absurd (n refl) })
+    at (Some e) old = stays e (ap (λ x. stored x (record { caller = caller; id = id })) (same_history g caller id command r e old) ∙ old) (told_at g caller id command r (Some e) old a)
+=======
+    at : (c : Bool) → is_closed g epoch ≡ c → IsToldBy h (Write caller epoch id command) r
+    at true closed = inl (told_where g caller epoch id command r true (stored g (record { caller = caller; epoch = epoch; id = id })) closed refl a)
+    at false opened =
+        let e = stands g h more caller epoch id command r hist is opened a in
+        inr (subst (λ o. MatchOption o ⊥ (λ e. IsToldOfStored e command r)) (sym e.1) e.2)
+>>>>>>> epochs
 
 all_told_by : (g h : List Entry) (ds : List Delivery) (rs : List Reply) → IsHistory h → h ≡ history_after g ds rs → AreTold g ds rs → AreToldBy h ds rs
 all_told_by g h [] rs hist is a = tt
@@ -218,15 +350,17 @@ all_told_by g h (d ∷ ds) (r ∷ rs) hist is a =
     let more = grown g1 (first g1 (taken ds rs)) in
     (told_by g h more.0 d r hist (later ∙ more.1) a.1, all_told_by g1 h ds rs hist later a.2)
 
-both_told : (h : List Entry) (d : Delivery) (r s : Reply) → IsToldBy h d r → IsToldBy h d s → AgreeFor d r s
+both_told : (h : List Entry) (d : Delivery) (r s : Reply) → IsToldBy h d r → IsToldBy h d s → AgreesWhereOpen d r s
 both_told h (Read caller query) r s a b = tt
-both_told h (Write caller id command) r s a b = at (stored h (record { caller = caller; id = id })) a b
+both_told h (Write caller epoch id command) r s (inl closed) b = inr (inl closed)
+both_told h (Write caller epoch id command) r s (inr a) (inl closed) = inr (inr closed)
+both_told h (Write caller epoch id command) r s (inr a) (inr b) = inl (at (stored h (record { caller = caller; epoch = epoch; id = id })) a b)
   where
     at : (o : Option Entry) → MatchOption o ⊥ (λ e. IsToldOfStored e command r) → MatchOption o ⊥ (λ e. IsToldOfStored e command s) → r ≡ s
     at None a b = absurd a
     at (Some e) a b = one_repeat e command r s a b
 
-all_agree : (h : List Entry) (ds : List Delivery) (rs ss : List Reply) → AreToldBy h ds rs → AreToldBy h ds ss → AgreeOnWrites ds rs ss
+all_agree : (h : List Entry) (ds : List Delivery) (rs ss : List Reply) → AreToldBy h ds rs → AreToldBy h ds ss → AgreeWhereOpen ds rs ss
 all_agree h [] rs ss a b = tt
 all_agree h (d ∷ ds) [] ss a b = tt
 all_agree h (d ∷ ds) (r ∷ rs) [] a b = tt
@@ -245,6 +379,7 @@ given_told : (h : List Entry) (d : Delivery) (r : Reply) (before after : ℕ) �
 given_told h d (Done a) before after given right = right.0
 given_told h d (Refused x) before after given right = right.0
 given_told h d IdentityReused before after given right = right.0
+given_told h d EpochClosed before after given right = right.0
 given_told h d (NotTaken c) before after given right = absurd given
 
 each_told : (h : List Entry) (ds : List Delivery) (rs : List Reply) (counts : List (ℕ × ℕ)) → AreRight h ds rs counts → WereTaken rs → EachTold h ds rs
@@ -321,6 +456,7 @@ quiet_right : (h : List Entry) (d : Delivery) (r : Reply) → WasTaken r → IsT
 quiet_right h d (Done a) given told = (told, refl)
 quiet_right h d (Refused x) given told = (told, refl)
 quiet_right h d IdentityReused given told = (told, refl)
+quiet_right h d EpochClosed given told = (told, refl)
 quiet_right h d (NotTaken c) given told = absurd given
 
 right_each : (h : List Entry) (ds : List Delivery) (rs : List Reply) → AreTold h ds rs → (i : ℕ) (d : Delivery) (r : Reply) (c : ℕ × ℕ) → i < length ds →
@@ -342,7 +478,7 @@ agree_same (d ∷ ds) (r ∷ rs) = (agrees d r r refl, agree_same ds rs)
 
 -- the first part is told again what it was told, and the rest is told after it
 as_whole : (g h : List Entry) (ds1 ds2 : List Delivery) (rs1 ss : List Reply) → IsHistory h → h ≡ history_after g ds1 rs1 → AreTold g ds1 rs1 → AreTold h (ds1 ++ ds2) ss →
-    (rs2 : List Reply) × AreTold g (ds1 ++ ds2) (rs1 ++ rs2) × AgreeOnWrites (ds1 ++ ds2) (rs1 ++ rs2) ss
+    (rs2 : List Reply) × AreTold g (ds1 ++ ds2) (rs1 ++ rs2) × AgreeAfter h ds1 ds2 (rs1 ++ rs2) ss
     × (history_after h (ds1 ++ ds2) ss ≡ history_after g (ds1 ++ ds2) (rs1 ++ rs2))
 as_whole g h [] ds2 [] ss hist is a b = (ss, subst (λ x. AreTold x ds2 ss) is b, agree_same ds2 ss, ap (λ x. history_after x ds2 ss) is)
 as_whole g h [] ds2 (r ∷ rs1) ss hist is a b = absurd a
@@ -360,7 +496,7 @@ as_whole g h (d ∷ ds1) ds2 (r ∷ rs1) (s ∷ ss) hist is a b =
       history_cons h d (ds1 ++ ds2) s ss ∙ ap (λ x. history_after x (ds1 ++ ds2) ss) one.1 ∙ rest.3 ∙ sym (history_cons g d (ds1 ++ ds2) r (rs1 ++ rest.0)),
     )
 
-runs_as : (h0 h : List Entry) (ds1 ds2 : List Delivery) (rs1 : List Reply) → IsHistory h → h ≡ history_after h0 ds1 rs1 → AreTold h0 ds1 rs1 → RunsAsFrom h0 h (ds1 ++ ds2)
+runs_as : (h0 h : List Entry) (ds1 ds2 : List Delivery) (rs1 : List Reply) → IsHistory h → h ≡ history_after h0 ds1 rs1 → AreTold h0 ds1 rs1 → RunsAsFrom h0 h ds1 ds2
 runs_as h0 h ds1 ds2 rs1 hist is told = λ ss others right given.
     let whole = as_whole h0 h ds1 ds2 rs1 ss hist is told (told_right h (ds1 ++ ds2) ss others right given) in
     (rs1 ++ whole.0, quiet (ds1 ++ ds2), told_all_right h0 (ds1 ++ ds2) (rs1 ++ whole.0) whole.1, told_taken h0 (ds1 ++ ds2) (rs1 ++ whole.0) whole.1, whole.2, whole.3)
@@ -372,21 +508,37 @@ answer_taken : (r : Reply) → IsDoneOrRefused r → WasTaken r
 answer_taken (Done a) is = tt
 answer_taken (Refused x) is = tt
 answer_taken IdentityReused is = tt
+answer_taken EpochClosed is = tt
 answer_taken (NotTaken c) is = absurd is
 
 -- the whole effect of a first arrival is that of some answer to it
 effect_told : (g : List Entry) (d : Delivery) (t : Tables) → HasEffect g d t →
     (r : Reply) × WasTaken r × IsTold g d r × IsHistory (history_after g (d ∷ []) (r ∷ [])) × IsView (history_after g (d ∷ []) (r ∷ [])) t
 effect_told g (Read caller query) t effect = absurd effect
-effect_told g (Write caller id command) t effect =
+effect_told g (Write caller epoch id command) t effect =
     let r = effect.0 in
+<<<<<<< ours
     let none : IsFirst g (record { caller = caller; id = id }) = effect.1.0 in
     let answer : IsAnswer g caller command r = effect.1.1 in
     let kept : IsDoneOrRefused r = answer_given g caller command r effect.1.3 answer in
     let now : history_after g (Write caller id command ∷ []) (r ∷ []) ≡ entry_of caller id command r ∷ g = new_history g caller id command r kept none in
     let told : IsTold g (Write caller id command) r = where_told g caller id command r None none answer in
+||||||| base
+    let none : stored g (record { caller = caller; id = id }) ≡ None = effect.1.0 in
+    let answer : IsAnswer g caller command r = effect.1.1 in
+    let kept : IsDoneOrRefused r = answer_given g caller command r effect.1.3 answer in
+    let now : history_after g (Write caller id command ∷ []) (r ∷ []) ≡ entry_of caller id command r ∷ g = new_history g caller id command r kept none in
+    let told : IsTold g (Write caller id command) r =
+    subst (λ (o : Option Entry). MatchOption o (IsAnswer g caller command r) (λ e. IsToldOfStored e command r)) (sym none) answer in
+=======
+    let new : IsFirst g (record { caller = caller; epoch = epoch; id = id }) = effect.1.0 in
+    let answer : IsAnswer g caller epoch command r = effect.1.1 in
+    let kept : IsDoneOrRefused r = answer_given g caller epoch command r effect.1.3 answer in
+    let now : history_after g (Write caller epoch id command ∷ []) (r ∷ []) ≡ entry_of caller epoch id command r ∷ g = new_history g caller epoch id command r kept new in
+    let told : IsTold g (Write caller epoch id command) r = where_told g caller epoch id command r false None new.1 new.0 answer in
+>>>>>>> epochs
     let P : List Entry → Type 0 = λ h. IsHistory h × IsView h t in
-    let made : P (history_after g (Write caller id command ∷ []) (r ∷ [])) = subst P (sym now) (effect.1, effect.2) in
+    let made : P (history_after g (Write caller epoch id command ∷ []) (r ∷ [])) = subst P (sym now) (effect.1, effect.2) in
     (r, answer_taken r kept, told, made.0, made.1)
 
 pub after_stop : RestartAfterStop
@@ -405,4 +557,4 @@ after_stop h0 ds more rs counts left right given stop =
     let told : AreTold h0 ds1 rs1 = told_append h0 (take i ds) (d ∷ []) (take i rs) (r ∷ []) (told_take i h0 ds rs (told_right h0 ds rs counts right given)) (made.1, made.2, tt) in
     let whole : ds1 ++ (drop (suc i) ds ++ more) ≡ ds ++ more = sym (append_assoc ds1 (drop (suc i) ds) more) ∙ ap (λ l. l ++ more) (split_at i ds stop.1 below) in
     let h = history_after g (d ∷ []) (r ∷ []) in
-    (h, made.3, made.4, subst (λ (l : List Delivery). RunsAsFrom h0 h l) whole (runs_as h0 h ds1 (drop (suc i) ds ++ more) rs1 made.3 (sym grown_to) told))
+    (h, made.3, made.4, ds1, drop (suc i) ds ++ more, whole, runs_as h0 h ds1 (drop (suc i) ds ++ more) rs1 made.3 (sym grown_to) told)

@@ -1,6 +1,14 @@
 -- What one delivery does.
+<<<<<<< ours
 use Rattle.std.proofs.Common.{◌≡◌, ℕ, ◌+◌, ◌<◌, List, [], ◌∷◌, ◌++◌, length, Option, Some, None, true, false, cond, ◌||◌, refl, sym, ap, ◌∙◌, subst, inl, inr, ⊎_elim, ◌⊎◌, Result, Ok, Err}
 use Rattle.std.specs.Prelude.{is_some, IfOk, IfErr}
+||||||| base
+use Rattle.std.proofs.Common.{◌≡◌, ℕ, ◌+◌, ◌<◌, List, [], ◌∷◌, ◌++◌, length, Option, Some, None, true, false, cond, ◌||◌, refl, sym, ap, ◌∙◌, subst, inl, inr, ⊎_elim, ◌⊎◌, Result, Ok, Err}
+use Rattle.std.specs.Prelude.{is_some, MatchOption, IfOk, IfErr}
+=======
+use Rattle.std.proofs.Common.{◌≡◌, ℕ, ◌+◌, ◌<◌, List, [], ◌∷◌, ◌++◌, length, Option, Some, None, Bool, true, false, cond, ◌||◌, refl, sym, ap, ◌∙◌, subst, inl, inr, ⊎_elim, ◌⊎◌, Result, Ok, Err}
+use Rattle.std.specs.Prelude.{is_some, nat_lt, MatchOption, IfOk, IfErr}
+>>>>>>> epochs
 use Rattle.std.specs.Result.{IsErr, IsErrAnd}
 use Rattle.std.specs.Str.{bytes_eq}
 use Rattle.std.proofs.lemmas.Bool.{cases_Bool}
@@ -12,29 +20,50 @@ use Rattle.review_words.specs.declared.command.Delivery.{Delivery}
 use Rattle.review_words.specs.declared.command.Delivery.TheVariants.{Write, Read}
 use Rattle.review_words.specs.declared.command.Query.{Query}
 use Rattle.review_words.specs.declared.reply.Reply.{Reply}
-use Rattle.review_words.specs.declared.reply.Reply.TheVariants.{Done, Refused, IdentityReused, NotTaken}
+use Rattle.review_words.specs.declared.reply.Reply.TheVariants.{Done, Refused, IdentityReused, EpochClosed, NotTaken}
 use Rattle.review_words.specs.declared.reply.NotTaken.{NotTaken as Cause}
 use Rattle.review_words.specs.declared.reply.NotTaken.TheVariants.{Memory, Store, Damaged, Pattern, Full}
+<<<<<<< ours
 use Rattle.review_words.specs.History.{Entry, Identity, IsFirst, stored, entry_of}
+||||||| base
+use Rattle.review_words.specs.History.{Entry, Identity, stored}
+=======
+use Rattle.review_words.specs.History.{Entry, Identity, stored, is_closed}
+>>>>>>> epochs
 use Rattle.review_rows.specs.declared.shelf.ShelfFault.{ShelfFault}
 use Rattle.review_rows.specs.declared.shelf.ShelfFault.TheVariants as fault
 use Rattle.review_rows.specs.declared.rows.Delta.{Delta}
 use Rattle.review_rows.specs.declared.rows.Rows.{Rows}
-use Rattle.review_rows.specs.Rows.{AnswerRow, Answered, Tables}
+use Rattle.review_rows.specs.Rows.{AnswerRow, Answered, Tables, ClosedEpochs}
 use Rattle.review_rows.specs.Steps.{OfCommand, OfQuery}
-use Rattle.review_rows.specs.Answer.{IsHistory, IsAnswer, most_requests}
+use Rattle.review_rows.specs.Answer.{IsHistory, IsFirst, IsAnswer, most_requests}
 use Rattle.review_rows.specs.Questions.{IsQueryAnswer, IsQueryAnswerBy}
+<<<<<<< ours
 use Rattle.review_rows.specs.View.{AreEnough, IsView, IsDecided, answer_row}
 use Rattle.review_rows.specs.Shelf.{Answers, IsCommitted, Shown, Shows, Views, LeavesBy, StopLeavesOwnTables, AddsNoStop, IsCounted, Blames, cause_of}
+||||||| base
+use Rattle.review_rows.specs.View.{AreEnough, IsView, IsDecided, answer_row}
+use Rattle.review_rows.specs.Shelf.{IsCommitted, Shown, Shows, Views, LeavesBy, StopLeavesOwnTables, AddsNoStop, IsCounted, Blames, cause_of}
+=======
+use Rattle.review_rows.specs.View.{AreEnough, IsView, IsDecidedIn, answer_row}
+use Rattle.review_rows.specs.Shelf.{IsCommitted, Answers, IsClosedIn, Shown, Shows, Views, LeavesBy, StopLeavesOwnTables, AddsNoStop, IsCounted, Blames, cause_of}
+>>>>>>> epochs
 use Rattle.review_rows.specs.Decisions.{IsUndecided, IsUnshown, IsDoneOrRefused, RestsOn}
 use Rattle.review_rows.specs.Changes.{Reading, Reads}
 use Rattle.review_rows.specs.Files.{File}
 use Rattle.review_rows.specs.Known.{Agrees}
 use Rattle.review_rows.proofs.Readings.{reading_of}
 use Rattle.review_deliveries.specs.Gathered.{IsAllAsked, IsUngathered}
+<<<<<<< ours
 use Rattle.review_deliveries.specs.Replies.{history_after, with_entries as hist, IsRight, IsTold, IsToldOfStored, IsServed, IsToldAgain, IsLawful, reply_of, IsNew, HasEffect, StopGoesOnFrom, StopHasEntry, IsEntered, GoesOn, KeepsUntaken, CountsReply}
 use Rattle.review_deliveries.proofs.Patterns.{reads_pattern}
+||||||| base
+use Rattle.review_deliveries.specs.Replies.{history_after, with_entries as hist, entry_of, IsRight, IsTold, IsToldOfStored, IsServed, IsToldAgain, IsLawful, reply_of, IsNew, HasEffect, StopGoesOnFrom, StopHasEntry, IsEntered, GoesOn, KeepsUntaken, CountsReply}
+=======
+use Rattle.review_deliveries.specs.Replies.{history_after, has_identity, with_entries as hist, entry_of, IsRight, IsTold, IsToldOfStored, IsServed, IsToldAgain, IsLawful, reply_of, IsNew, HasEffect, StopGoesOnFrom, StopHasEntry, IsEntered, GoesOn, KeepsUntaken, CountsReply}
+>>>>>>> epochs
 use Rattle.review_deliveries.proofs.Resting.{rests_on}
+<<<<<<< ours
 use Rattle.review_deliveries.proofs.Histories.{told_where, where_told, latest_follows, recalled, not_recalled, view_grows, answer_given, stored_given, enough_shown, stored_stays, stored_here, same_to}
 
 -- a new identity adds its entry, and an old one nothing
@@ -53,19 +82,71 @@ pub same_history : (h : List Entry) (caller : ℕ) (id : List ℕ) (command : Co
     history_after h (Write caller id command ∷ []) (reply ∷ []) ≡ h
 same_history h caller id command (Done a) old some =
     let e : Entry = entry_of caller id command (Done a) in
-    ap (λ o. hist h (cond (is_some o || false) [] (e ∷ []))) some
-same_history h caller id command (Refused a) old some =
+||||||| base
+use Rattle.review_deliveries.proofs.Histories.{recalled, not_recalled, view_grows, answer_given, stored_given, enough_shown, stored_stays, stored_here, same_to, stored_identity}
+
+-- a new identity adds its entry, and an old one nothing
+pub new_history : (h : List Entry) (caller : ℕ) (id : List ℕ) (command : Command) (reply : Reply) → IsDoneOrRefused reply → stored h (record { caller = caller; id = id }) ≡ None →
+    history_after h (Write caller id command ∷ []) (reply ∷ []) ≡ entry_of caller id command reply ∷ h
+new_history h caller id command (Done a) s none =
+    let e : Entry = entry_of caller id command (Done a) in
+    ap (λ o. hist h (cond (is_some o || false) [] (e ∷ []))) none
+new_history h caller id command (Refused a) s none =
     let e : Entry = entry_of caller id command (Refused a) in
+    ap (λ o. hist h (cond (is_some o || false) [] (e ∷ []))) none
+new_history h caller id command IdentityReused s none = absurd s
+new_history h caller id command (NotTaken c) s none = absurd s
+
+pub same_history : (h : List Entry) (caller : ℕ) (id : List ℕ) (command : Command) (reply : Reply) (old : Entry) → stored h (record { caller = caller; id = id }) ≡ Some old →
+    history_after h (Write caller id command ∷ []) (reply ∷ []) ≡ h
+same_history h caller id command (Done a) old some =
+    let e : Entry = entry_of caller id command (Done a) in
+=======
+use Rattle.review_deliveries.proofs.Histories.{answers_are, passed_over, told_where, where_told, recalled, not_recalled, view_grows, answer_given, stored_given, enough_shown, stored_stays, stored_here, same_to, stored_identity}
+
+-- a new identity of an open epoch adds its entry, an old one nothing, and one of a closed epoch nothing
+pub new_history : (h : List Entry) (caller epoch : ℕ) (id : List ℕ) (command : Command) (reply : Reply) → IsDoneOrRefused reply → IsFirst h (record { caller = caller; epoch = epoch; id = id }) →
+    history_after h (Write caller epoch id command ∷ []) (reply ∷ []) ≡ entry_of caller epoch id command reply ∷ h
+new_history h caller epoch id command (Done a) s new =
+    let e : Entry = entry_of caller epoch id command (Done a) in
+    ap (λ o. hist h (cond (is_some o || false) [] (e ∷ []))) new.0 ∙ ap (λ b. cond b h (e ∷ h)) new.1
+new_history h caller epoch id command (Refused a) s new =
+    let e : Entry = entry_of caller epoch id command (Refused a) in
+    ap (λ o. hist h (cond (is_some o || false) [] (e ∷ []))) new.0 ∙ ap (λ b. cond b h (e ∷ h)) new.1
+new_history h caller epoch id command IdentityReused s new = absurd s
+new_history h caller epoch id command EpochClosed s new = absurd s
+new_history h caller epoch id command (NotTaken c) s new = absurd s
+
+pub same_history : (h : List Entry) (caller epoch : ℕ) (id : List ℕ) (command : Command) (reply : Reply) (old : Entry) → stored h (record { caller = caller; epoch = epoch; id = id }) ≡ Some old →
+    history_after h (Write caller epoch id command ∷ []) (reply ∷ []) ≡ h
+same_history h caller epoch id command (Done a) old some =
+    let e : Entry = entry_of caller epoch id command (Done a) in
+>>>>>>> epochs
     ap (λ o. hist h (cond (is_some o || false) [] (e ∷ []))) some
-same_history h caller id command IdentityReused old some =
-    let e : Entry = entry_of caller id command IdentityReused in
+same_history h caller epoch id command (Refused a) old some =
+    let e : Entry = entry_of caller epoch id command (Refused a) in
     ap (λ o. hist h (cond (is_some o || false) [] (e ∷ []))) some
-same_history h caller id command (NotTaken c) old some = refl
+same_history h caller epoch id command IdentityReused old some =
+    let e : Entry = entry_of caller epoch id command IdentityReused in
+    ap (λ o. hist h (cond (is_some o || false) [] (e ∷ []))) some
+same_history h caller epoch id command EpochClosed old some =
+    let e : Entry = entry_of caller epoch id command EpochClosed in
+    ap (λ o. hist h (cond (is_some o || false) [] (e ∷ []))) some
+same_history h caller epoch id command (NotTaken c) old some = refl
+
+pub closed_history : (h : List Entry) (caller epoch : ℕ) (id : List ℕ) (command : Command) (reply : Reply) → is_closed h epoch ≡ true →
+    history_after h (Write caller epoch id command ∷ []) (reply ∷ []) ≡ h
+closed_history h caller epoch id command (Done a) closed = let e : Entry = entry_of caller epoch id command (Done a) in passed_over h (has_identity h e || false) e [] closed
+closed_history h caller epoch id command (Refused a) closed = let e : Entry = entry_of caller epoch id command (Refused a) in passed_over h (has_identity h e || false) e [] closed
+closed_history h caller epoch id command IdentityReused closed = let e : Entry = entry_of caller epoch id command IdentityReused in passed_over h (has_identity h e || false) e [] closed
+closed_history h caller epoch id command EpochClosed closed = let e : Entry = entry_of caller epoch id command EpochClosed in passed_over h (has_identity h e || false) e [] closed
+closed_history h caller epoch id command (NotTaken c) closed = refl
 
 right_from_told : (h : List Entry) (d : Delivery) (reply : Reply) (before after : ℕ) → IsDoneOrRefused reply ⊎ (reply ≡ IdentityReused) → IsTold h d reply → after ≡ before → IsRight h d reply before after
 right_from_told h d (Done a) before after s told same = (told, same)
 right_from_told h d (Refused a) before after s told same = (told, same)
 right_from_told h d IdentityReused before after s told same = (told, same)
+right_from_told h d EpochClosed before after s told same = (told, same)
 right_from_told h d (NotTaken c) before after s told same =
     ⊎_elim (λ (x : IsDoneOrRefused (NotTaken c)). absurd x) (λ (x : NotTaken c ≡ IdentityReused). absurd (cc)) s
 
@@ -93,7 +174,7 @@ after_read h d reply old mid new same adds s = record {
 -- a delivery that was not taken for a lawful cause
 pub not_taken_served : (h : List Entry) (d : Delivery) (cause : Cause) (old new : Shown) →
     IsHistory h → Views h new.tables → IsLawful h d cause old.faults new.faults → ((t : Tables) → new.stops t → old.stops t ⊎ HasEffect h d t) → IsServed h d (NotTaken cause) old new
-not_taken_served h (Write caller id command) cause old new hist v lawful stops = record { right = lawful; history = hist; view = v; stops = stops; alone = λ n s. absurd s }
+not_taken_served h (Write caller epoch id command) cause old new hist v lawful stops = record { right = lawful; history = hist; view = v; stops = stops; alone = λ n s. absurd s }
 not_taken_served h (Read caller query) cause old new hist v lawful stops = record { right = lawful; history = hist; view = v; stops = stops; alone = λ n s. absurd n }
 
 -- a question that was answered
@@ -123,14 +204,31 @@ fault_served h d f old new hist v stays blame counted stops =
     not_taken_served h d (cause_of f) old new hist (views_left h f old.tables new.tables stays v) (lawful_fault h d f old.tables old.faults new.faults hist v blame counted) stops
 
 -- what a commit of what was decided leaves has the whole effect
+<<<<<<< ours
 pub effect : (h : List Entry) (tables : Option Tables) (new : Tables) (delta : Delta) (row : AnswerRow) (caller : ℕ) (id : List ℕ) (command : Command) (reply : Reply) →
     IsHistory h → Views h tables → IsFirst h (record { caller = caller; id = id }) → length h < most_requests → ((reading : Reading) → Reads reading h → IsDecided reading h caller command delta reply) →
     row ≡ answer_row (entry_of caller id command reply) (length h + 1) → Shows tables (λ was. IsCommitted was delta row new) → HasEffect h (Write caller id command) new
 effect h None new delta row caller id command reply hist v none room d is c = absurd c
 effect h (Some t) new delta row caller id command reply hist v none room d is c =
     (reply, (none, (λ reading reads. (d reading reads).reply_is), room, hist, latest_follows h hist), view_grows h t new delta row caller id command reply v d c is)
+||||||| base
+pub effect : (h : List Entry) (tables : Option Tables) (new : Tables) (delta : Delta) (row : AnswerRow) (caller : ℕ) (id : List ℕ) (command : Command) (reply : Reply) →
+    IsHistory h → Views h tables → stored h (record { caller = caller; id = id }) ≡ None → length h < most_requests → ((reading : Reading) → Reads reading h → IsDecided reading h caller command delta reply) →
+    row ≡ answer_row (entry_of caller id command reply) (length h + 1) → Shows tables (λ was. IsCommitted was delta row new) → HasEffect h (Write caller id command) new
+effect h None new delta row caller id command reply hist v none room d is c = absurd c
+effect h (Some t) new delta row caller id command reply hist v none room d is c =
+    (reply, (none, (λ reading reads. (d reading reads).reply_is), room, hist), view_grows h t new delta row caller id command reply v d c is)
+=======
+pub effect : (h : List Entry) (tables : Option Tables) (new : Tables) (delta : Delta) (row : AnswerRow) (caller epoch : ℕ) (id : List ℕ) (command : Command) (reply : Reply) →
+    IsHistory h → Views h tables → IsFirst h (record { caller = caller; epoch = epoch; id = id }) → length h < most_requests → ((reading : Reading) → Reads reading h → IsDecidedIn reading h caller epoch command delta reply) →
+    row ≡ answer_row (entry_of caller epoch id command reply) (length h + 1) → Shows tables (λ was. IsCommitted was delta row new) → HasEffect h (Write caller epoch id command) new
+effect h None new delta row caller epoch id command reply hist v first room d is c = absurd c
+effect h (Some t) new delta row caller epoch id command reply hist v first room d is c =
+    (reply, (first, (λ reading reads. (d reading reads).reply_is), room, hist), view_grows h t new delta row caller epoch id command reply v first.1 d c is)
+>>>>>>> epochs
 
 -- a first arrival that was committed
+<<<<<<< ours
 pub first_served : (h : List Entry) (delta : Delta) (row : AnswerRow) (caller : ℕ) (id : List ℕ) (command : Command) (reply : Reply) (old new : Shown) →
     IsHistory h → Views h old.tables → IsFirst h (record { caller = caller; id = id }) → length h < most_requests → ((reading : Reading) → Reads reading h → IsDecided reading h caller command delta reply) →
     row ≡ answer_row (entry_of caller id command reply) (length h + 1) → Shows old.tables (λ t. Shows new.tables (IsCommitted t delta row)) →
@@ -140,60 +238,145 @@ first_served h delta row caller id command reply old new hist v none room d is c
     let answer : IsAnswer h caller command reply = λ reading reads. (d reading reads).reply_is in
     let s : IsDoneOrRefused reply = answer_given h caller command reply hist answer in
     let grown = new_history h caller id command reply s none in
+||||||| base
+pub first_served : (h : List Entry) (delta : Delta) (row : AnswerRow) (caller : ℕ) (id : List ℕ) (command : Command) (reply : Reply) (old new : Shown) →
+    IsHistory h → Views h old.tables → stored h (record { caller = caller; id = id }) ≡ None → length h < most_requests → ((reading : Reading) → Reads reading h → IsDecided reading h caller command delta reply) →
+    row ≡ answer_row (entry_of caller id command reply) (length h + 1) → Shows old.tables (λ t. Shows new.tables (IsCommitted t delta row)) →
+    StopLeavesOwnTables new → new.faults ≡ old.faults → ((t : Tables) → new.stops t → old.stops t ⊎ HasEffect h (Write caller id command) t) →
+    IsServed h (Write caller id command) reply old new
+first_served h delta row caller id command reply old new hist v none room d is c alone same stops =
+    let answer : IsAnswer h caller command reply = λ reading reads. (d reading reads).reply_is in
+    let s : IsDoneOrRefused reply = answer_given h caller command reply hist answer in
+    let grown = new_history h caller id command reply s none in
+=======
+pub first_served : (h : List Entry) (delta : Delta) (row : AnswerRow) (caller epoch : ℕ) (id : List ℕ) (command : Command) (reply : Reply) (old new : Shown) →
+    IsHistory h → Views h old.tables → IsFirst h (record { caller = caller; epoch = epoch; id = id }) → length h < most_requests → ((reading : Reading) → Reads reading h → IsDecidedIn reading h caller epoch command delta reply) →
+    row ≡ answer_row (entry_of caller epoch id command reply) (length h + 1) → Shows old.tables (λ t. Shows new.tables (IsCommitted t delta row)) →
+    StopLeavesOwnTables new → new.faults ≡ old.faults → ((t : Tables) → new.stops t → old.stops t ⊎ HasEffect h (Write caller epoch id command) t) →
+    IsServed h (Write caller epoch id command) reply old new
+first_served h delta row caller epoch id command reply old new hist v first room d is c alone same stops =
+    let answer : IsAnswer h caller epoch command reply = λ reading reads. (d reading reads).reply_is in
+    let s : IsDoneOrRefused reply = answer_given h caller epoch command reply hist answer in
+    let grown = new_history h caller epoch id command reply s first in
+>>>>>>> epochs
     record {
+<<<<<<< ours
       right = right_from_told h (Write caller id command) reply old.faults new.faults (inl s)
           (where_told h caller id command reply None none answer) same;
       history = subst IsHistory (sym grown) (none, answer, room, hist, latest_follows h hist);
+||||||| base
+      right = right_from_told h (Write caller id command) reply old.faults new.faults (inl s)
+          (subst (λ o. MatchOption o (IsAnswer h caller command reply) (λ e. IsToldOfStored e command reply)) (sym none) answer) same;
+      history = subst IsHistory (sym grown) (none, answer, room, hist);
+=======
+      right = right_from_told h (Write caller epoch id command) reply old.faults new.faults (inl s)
+          (where_told h caller epoch id command reply false None first.1 first.0 answer) same;
+      history = subst IsHistory (sym grown) (first, answer, room, hist);
+>>>>>>> epochs
       view = subst (λ x. Views x new.tables) (sym grown) (shown old.tables new.tables v c);
       stops = stops;
       alone = λ n r. alone;
     }
   where
-    shown : (was now : Option Tables) → Views h was → Shows was (λ t. Shows now (IsCommitted t delta row)) → Views (entry_of caller id command reply ∷ h) now
+    shown : (was now : Option Tables) → Views h was → Shows was (λ t. Shows now (IsCommitted t delta row)) → Views (entry_of caller epoch id command reply ∷ h) now
     shown None now v c = absurd c
     shown (Some t) None v c = absurd c
-    shown (Some t) (Some u) v c = view_grows h t u delta row caller id command reply v d c is
+    shown (Some t) (Some u) v c = view_grows h t u delta row caller epoch id command reply v first.1 d c is
 
-old_served : (h : List Entry) (caller : ℕ) (id : List ℕ) (command : Command) (reply : Reply) (e : Entry) (old new : Shown) →
-    IsHistory h → Views h new.tables → stored h (record { caller = caller; id = id }) ≡ Some e → IsDoneOrRefused reply ⊎ (reply ≡ IdentityReused) → IsToldOfStored e command reply →
-    new.faults ≡ old.faults → AddsNoStop old new → IsServed h (Write caller id command) reply old new
-old_served h caller id command reply e old new hist v some kind told same adds =
-    let stays = same_history h caller id command reply e some in
+old_served : (h : List Entry) (caller epoch : ℕ) (id : List ℕ) (command : Command) (reply : Reply) (e : Entry) (old new : Shown) →
+    IsHistory h → Views h new.tables → is_closed h epoch ≡ false → stored h (record { caller = caller; epoch = epoch; id = id }) ≡ Some e → IsDoneOrRefused reply ⊎ (reply ≡ IdentityReused) → IsToldOfStored e command reply →
+    new.faults ≡ old.faults → AddsNoStop old new → IsServed h (Write caller epoch id command) reply old new
+old_served h caller epoch id command reply e old new hist v opened some kind told same adds =
+    let stays = same_history h caller epoch id command reply e some in
     record {
+<<<<<<< ours
       right = right_from_told h (Write caller id command) reply old.faults new.faults kind (where_told h caller id command reply (Some e) some told) same;
+||||||| base
+      right = right_from_told h (Write caller id command) reply old.faults new.faults kind
+          (subst (λ o. MatchOption o (IsAnswer h caller command reply) (λ e. IsToldOfStored e command reply)) (sym some) told) same;
+=======
+      right = right_from_told h (Write caller epoch id command) reply old.faults new.faults kind (where_told h caller epoch id command reply false (Some e) opened some told) same;
+>>>>>>> epochs
       history = subst IsHistory (sym stays) hist;
       view = subst (λ x. Views x new.tables) (sym stays) v;
       stops = λ t x. inl (adds t x);
+<<<<<<< ours
       alone = λ (n : IsFirst h (record { caller = caller; id = id })) s. absurd (cc);
+||||||| base
+      alone = λ (n : stored h (record { caller = caller; id = id }) ≡ None) s. absurd (cc);
+=======
+      alone = λ (n : IsFirst h (record { caller = caller; epoch = epoch; id = id })) s. absurd (let none = n.0 in cc);
+>>>>>>> epochs
     }
 
+-- a request whose epoch is closed
+pub closed_served : (h : List Entry) (caller epoch : ℕ) (id : List ℕ) (command : Command) (old new : Shown) → IsHistory h → Views h old.tables → Shows old.tables (λ t. IsClosedIn t epoch) →
+    new.tables ≡ old.tables → new.faults ≡ old.faults → AddsNoStop old new → IsServed h (Write caller epoch id command) EpochClosed old new
+closed_served h caller epoch id command old new hist v there stays quiet adds =
+    let closed = found old.tables v there in
+    let same = closed_history h caller epoch id command EpochClosed closed in
+    record {
+      right = (where_told h caller epoch id command EpochClosed true (stored h (record { caller = caller; epoch = epoch; id = id })) closed refl refl, quiet);
+      history = subst IsHistory (sym same) hist;
+      view = subst (λ x. Views x new.tables) (sym same) (views_stay h old.tables new.tables stays v);
+      stops = λ t x. inl (adds t x);
+      alone = λ n s. absurd s;
+    }
+  where
+    found : (tables : Option Tables) → Views h tables → Shows tables (λ t. IsClosedIn t epoch) → is_closed h epoch ≡ true
+    found None v there = absurd there
+    found (Some t) v there = let r = reading_of h hist in ap (nat_lt epoch) (sym ((v r.0 r.1).count_is ClosedEpochs)) ∙ there
+
 -- a request whose identity is stored
+<<<<<<< ours
 pub repeat_served : (h : List Entry) (row : AnswerRow) (caller : ℕ) (id : List ℕ) (command : Command) (result : Result Reply Cause) (old new : Shown) →
     IsHistory h → Views h old.tables → Shows old.tables (λ t. Answers t (record { caller = caller; id = id }) (Some (Answered row))) → IsToldAgain row (content_text command) result →
     new.tables ≡ old.tables → new.faults ≡ old.faults → AddsNoStop old new → IsServed h (Write caller id command) (reply_of result) old new
 repeat_served h row caller id command result old new hist v there told stays quiet adds =
+||||||| base
+pub repeat_served : (h : List Entry) (row : AnswerRow) (caller : ℕ) (id : List ℕ) (command : Command) (result : Result Reply Cause) (old new : Shown) →
+    IsHistory h → Views h old.tables → Shows old.tables (λ t. t.answer (record { caller = caller; id = id }) ≡ Some (Answered row)) → IsToldAgain row (content_text command) result →
+    new.tables ≡ old.tables → new.faults ≡ old.faults → AddsNoStop old new → IsServed h (Write caller id command) (reply_of result) old new
+repeat_served h row caller id command result old new hist v there told stays quiet adds =
+=======
+pub repeat_served : (h : List Entry) (row : AnswerRow) (caller epoch : ℕ) (id : List ℕ) (command : Command) (result : Result Reply Cause) (old new : Shown) →
+    IsHistory h → Views h old.tables → Shows old.tables (λ t. Answers t (record { caller = caller; epoch = epoch; id = id }) (Some (Answered row))) → IsToldAgain row (content_text command) result →
+    new.tables ≡ old.tables → new.faults ≡ old.faults → AddsNoStop old new → IsServed h (Write caller epoch id command) (reply_of result) old new
+repeat_served h row caller epoch id command result old new hist v there told stays quiet adds =
+>>>>>>> epochs
     let r = found old.tables v there in
     again result r told (views_stay h old.tables new.tables stays v)
   where
     i : Identity
-    i = record { caller = caller; id = id }
+    i = record { caller = caller; epoch = epoch; id = id }
 
+    IsFound : Type 0
+    IsFound = (e : Entry) × (stored h (record { caller = caller; epoch = epoch; id = id }) ≡ Some e) × (row.content ≡ content_text e.command) × (row.reply ≡ reply_text e.reply) × IsStored e.reply × (is_closed h epoch ≡ false)
+
+<<<<<<< ours
     found : (tables : Option Tables) → Views h tables → Shows tables (λ t. Answers t (record { caller = caller; id = id }) (Some (Answered row))) →
         (e : Entry) × (stored h (record { caller = caller; id = id }) ≡ Some e) × (row.content ≡ content_text e.command) × (row.reply ≡ reply_text e.reply) × IsStored e.reply
+||||||| base
+    found : (tables : Option Tables) → Views h tables → Shows tables (λ t. t.answer (record { caller = caller; id = id }) ≡ Some (Answered row)) →
+        (e : Entry) × (stored h (record { caller = caller; id = id }) ≡ Some e) × (row.content ≡ content_text e.command) × (row.reply ≡ reply_text e.reply) × IsStored e.reply
+=======
+    found : (tables : Option Tables) → Views h tables → Shows tables (λ t. Answers t (record { caller = caller; epoch = epoch; id = id }) (Some (Answered row))) → IsFound
+>>>>>>> epochs
     found None v there = absurd there
     found (Some t) v there =
         let r = reading_of h hist in
-        recalled h row (record { caller = caller; id = id }) hist (sym ((v r.0 r.1).answer_is (record { caller = caller; id = id })) ∙ there)
+        let are = answers_are r.0 h t (record { caller = caller; epoch = epoch; id = id }) (Some (Answered row)) (v r.0 r.1) there in
+        let x = recalled h row (record { caller = caller; epoch = epoch; id = id }) hist are.1 in
+        (x.0, x.1, x.2, x.3, x.4, are.0)
 
-    again : (result : Result Reply Cause) → (r : (e : Entry) × (stored h (record { caller = caller; id = id }) ≡ Some e) × (row.content ≡ content_text e.command) × (row.reply ≡ reply_text e.reply) × IsStored e.reply) →
-        IsToldAgain row (content_text command) result → Views h new.tables → IsServed h (Write caller id command) (reply_of result) old new
+    again : (result : Result Reply Cause) → IsFound → IsToldAgain row (content_text command) result → Views h new.tables → IsServed h (Write caller epoch id command) (reply_of result) old new
     again (Ok reply) r (inl told) v =
         let command_is : command ≡ r.0.command = content_text-injective command r.0.command (sym told.0 ∙ r.2) in
         let reply_is : reply ≡ r.0.reply = reply_text-injective reply r.0.reply told.1 r.4 (told.2 ∙ r.3) in
-        old_served h caller id command reply r.0 old new hist v r.1 (inl (stored_given reply told.1)) (record { equal = λ _. reply_is; other = λ no. absurd (no command_is) }) quiet adds
+        old_served h caller epoch id command reply r.0 old new hist v r.5 r.1 (inl (stored_given reply told.1)) (record { equal = λ _. reply_is; other = λ no. absurd (no command_is) }) quiet adds
     again (Ok reply) r (inr told) v =
-        old_served h caller id command reply r.0 old new hist v r.1 (inr told.1) (record { equal = λ e. absurd (told.0 (r.2 ∙ ap content_text (sym e))); other = λ _. told.1 }) quiet adds
-    again (Err Memory) r told v = not_taken_served h (Write caller id command) Memory old new hist v quiet (λ t x. inl (adds t x))
+        old_served h caller epoch id command reply r.0 old new hist v r.5 r.1 (inr told.1) (record { equal = λ e. absurd (told.0 (r.2 ∙ ap content_text (sym e))); other = λ _. told.1 }) quiet adds
+    again (Err Memory) r told v = not_taken_served h (Write caller epoch id command) Memory old new hist v quiet (λ t x. inl (adds t x))
     again (Err Damaged) r told v = absurd (told r.0.reply r.4 (sym r.3))
     again (Err Store) r told v = absurd told
     again (Err Pattern) r told v = absurd told
@@ -203,8 +386,9 @@ repeat_served h row caller id command result old new hist v there told stays qui
 grows_or_stays : (h : List Entry) (d : Delivery) (reply : Reply) (before after : ℕ) → IsHistory h → IsRight h d reply before after →
     (IsNew h d × IsDoneOrRefused reply) ⊎ (history_after h (d ∷ []) (reply ∷ []) ≡ h)
 grows_or_stays h (Read caller query) reply before after history right = inr refl
-grows_or_stays h (Write caller id command) reply before after history right = at (stored h (record { caller = caller; id = id })) refl reply right
+grows_or_stays h (Write caller epoch id command) reply before after history right = at (is_closed h epoch) (stored h (record { caller = caller; epoch = epoch; id = id })) refl refl reply right
   where
+<<<<<<< ours
     kept : IsFirst h (record { caller = caller; id = id }) → (reply : Reply) → IsTold h (Write caller id command) reply → IsDoneOrRefused reply
     kept none reply told =
         answer_given h caller command reply history (told_where h caller id command reply None none told)
@@ -216,10 +400,35 @@ grows_or_stays h (Write caller id command) reply before after history right = at
     at None none (Refused r) right = inl (none, kept none (Refused r) right.0)
     at None none (NotTaken c) right = inr refl
     at None none IdentityReused right = absurd (kept none IdentityReused right.0)
+||||||| base
+    kept : stored h (record { caller = caller; id = id }) ≡ None → (reply : Reply) → IsTold h (Write caller id command) reply → IsDoneOrRefused reply
+    kept none reply told =
+        answer_given h caller command reply history (subst (λ o. MatchOption o (IsAnswer h caller command reply) (λ e. IsToldOfStored e command reply)) none told)
+
+    at : (o : Option Entry) → stored h (record { caller = caller; id = id }) ≡ o → (reply : Reply) → IsRight h (Write caller id command) reply before after →
+        ((stored h (record { caller = caller; id = id }) ≡ None) × IsDoneOrRefused reply) ⊎ (history_after h (Write caller id command ∷ []) (reply ∷ []) ≡ h)
+    at (Some e) some reply right = inr (same_history h caller id command reply e some)
+    at None none (Done a) right = inl (none, kept none (Done a) right.0)
+    at None none (Refused r) right = inl (none, kept none (Refused r) right.0)
+    at None none (NotTaken c) right = inr refl
+    at None none IdentityReused right = absurd (kept none IdentityReused right.0)
+=======
+    at : (b : Bool) (o : Option Entry) → is_closed h epoch ≡ b → stored h (record { caller = caller; epoch = epoch; id = id }) ≡ o → (reply : Reply) → IsRight h (Write caller epoch id command) reply before after →
+        (IsFirst h (record { caller = caller; epoch = epoch; id = id }) × IsDoneOrRefused reply) ⊎ (history_after h (Write caller epoch id command ∷ []) (reply ∷ []) ≡ h)
+    at true o closed is reply right = inr (closed_history h caller epoch id command reply closed)
+    at false (Some e) opened some reply right = inr (same_history h caller epoch id command reply e some)
+    at false None opened none (Done a) right = inl ((none, opened), tt)
+    at false None opened none (Refused r) right = inl ((none, opened), tt)
+    at false None opened none (NotTaken c) right = inr refl
+    at false None opened none IdentityReused right =
+        absurd (answer_given h caller epoch command IdentityReused history (told_where h caller epoch id command IdentityReused false None opened none right.0))
+    at false None opened none EpochClosed right =
+        absurd (answer_given h caller epoch command EpochClosed history (told_where h caller epoch id command EpochClosed false None opened none right.0))
+>>>>>>> epochs
 
 effect_goes_on : (h : List Entry) (d : Delivery) (t : Tables) → HasEffect h d t → GoesOn h t
 effect_goes_on h (Read caller query) t e = absurd e
-effect_goes_on h (Write caller id command) t e = (entry_of caller id command e.0 ∷ [], e.1, e.2)
+effect_goes_on h (Write caller epoch id command) t e = (entry_of caller epoch id command e.0 ∷ [], e.1, e.2)
 
 -- what a stop leaves goes on from the history after the delivery
 pub leaves_since : (h : List Entry) (d : Delivery) (reply : Reply) (old new : Shown) → IsHistory h → IsServed h d reply old new → StopGoesOnFrom h old →
@@ -247,6 +456,7 @@ told_of : (h : List Entry) (d : Delivery) (reply : Reply) (before after : ℕ) �
 told_of h d (Done a) before after s right = right.0
 told_of h d (Refused r) before after s right = right.0
 told_of h d IdentityReused before after s right = absurd s
+told_of h d EpochClosed before after s right = absurd s
 told_of h d (NotTaken c) before after s right = absurd s
 
 -- what is stored under the identity of a command that was told a stored reply is that command, with that reply
@@ -260,8 +470,9 @@ repeat_is e command reply s told =
 -- after Done or Refused the write is an entry
 entered : (h : List Entry) (d : Delivery) (reply : Reply) (old new : Shown) → IsServed h d reply old new → IsDoneOrRefused reply → IsEntered d reply (history_after h (d ∷ []) (reply ∷ []))
 entered h (Read caller query) reply old new s r = tt
-entered h (Write caller id command) reply old new s r = at (stored h (record { caller = caller; id = id })) refl
+entered h (Write caller epoch id command) reply old new s r = at (is_closed h epoch) (stored h (record { caller = caller; epoch = epoch; id = id })) refl refl
   where
+<<<<<<< ours
     at : (o : Option Entry) → stored h (record { caller = caller; id = id }) ≡ o → IsEntered (Write caller id command) reply (history_after h (Write caller id command ∷ []) (reply ∷ []))
     at None none =
         subst (IsEntered (Write caller id command) reply) (sym (new_history h caller id command reply r none))
@@ -270,21 +481,50 @@ entered h (Write caller id command) reply old new s r = at (stored h (record { c
         let told = told_where h caller id command reply (Some e) some (told_of h (Write caller id command) reply old.faults new.faults r s.right) in
         subst (IsEntered (Write caller id command) reply) (sym (same_history h caller id command reply e some))
         (let same = repeat_is e command reply r told in (e, some, same.0, same.1))
+||||||| base
+    at : (o : Option Entry) → stored h (record { caller = caller; id = id }) ≡ o → IsEntered (Write caller id command) reply (history_after h (Write caller id command ∷ []) (reply ∷ []))
+    at None none =
+        subst (IsEntered (Write caller id command) reply) (sym (new_history h caller id command reply r none))
+        (stored_here (entry_of caller id command reply) h (record { caller = caller; id = id }) (same_to (record { caller = caller; id = id }) (record { caller = caller; id = id }) refl))
+    at (Some e) some =
+        let told = subst (λ o. MatchOption o (IsAnswer h caller command reply) (λ e. IsToldOfStored e command reply)) some (told_of h (Write caller id command) reply old.faults new.faults r s.right) in
+        subst (IsEntered (Write caller id command) reply) (sym (same_history h caller id command reply e some))
+        (some ∙ ap Some (repeat_is (record { caller = caller; id = id }) e command reply r (stored_identity h (record { caller = caller; id = id }) e some) told))
+=======
+    at : (b : Bool) (o : Option Entry) → is_closed h epoch ≡ b → stored h (record { caller = caller; epoch = epoch; id = id }) ≡ o → IsEntered (Write caller epoch id command) reply (history_after h (Write caller epoch id command ∷ []) (reply ∷ []))
+    at true o closed is = absurd (subst IsDoneOrRefused (told_where h caller epoch id command reply true o closed is (told_of h (Write caller epoch id command) reply old.faults new.faults r s.right)) r)
+    at false None opened none =
+        subst (IsEntered (Write caller epoch id command) reply) (sym (new_history h caller epoch id command reply r (none, opened)))
+        (stored_here (entry_of caller epoch id command reply) h (record { caller = caller; epoch = epoch; id = id }) (same_to (record { caller = caller; epoch = epoch; id = id }) (record { caller = caller; epoch = epoch; id = id }) refl))
+    at false (Some e) opened some =
+        let told = told_where h caller epoch id command reply false (Some e) opened some (told_of h (Write caller epoch id command) reply old.faults new.faults r s.right) in
+        subst (IsEntered (Write caller epoch id command) reply) (sym (same_history h caller epoch id command reply e some))
+        (some ∙ ap Some (repeat_is (record { caller = caller; epoch = epoch; id = id }) e command reply r (stored_identity h (record { caller = caller; epoch = epoch; id = id }) e some) told))
+>>>>>>> epochs
 
 entered_stays : (more h : List Entry) (d : Delivery) (reply : Reply) → IsHistory (more ++ h) → IsEntered d reply h → IsEntered d reply (more ++ h)
 entered_stays more h (Read caller query) reply hist e = tt
+<<<<<<< ours
 entered_stays more h (Write caller id command) reply hist is = (is.0, stored_stays more h (record { caller = caller; id = id }) is.0 hist is.1, is.2, is.3)
+||||||| base
+entered_stays more h (Write caller id command) reply hist e = stored_stays more h (record { caller = caller; id = id }) (entry_of caller id command reply) hist e
+=======
+entered_stays more h (Write caller epoch id command) reply hist e = stored_stays more h (record { caller = caller; epoch = epoch; id = id }) (entry_of caller epoch id command reply) hist e
+>>>>>>> epochs
 
 pub leaves_entered : (h : List Entry) (d : Delivery) (reply : Reply) (old new : Shown) → IsHistory h → IsServed h d reply old new → StopGoesOnFrom h old → StopHasEntry d reply new
 leaves_entered h d reply old new history s since r t x =
     let g = leaves_since h d reply old new history s since t x in
     (g.0 ++ history_after h (d ∷ []) (reply ∷ []), g.1, g.2, entered_stays g.0 (history_after h (d ∷ []) (reply ∷ [])) d reply g.1 (entered h d reply old new s r))
 
--- an identity with no stored row is new
+-- an identity with no stored row whose epoch is open is new
 pub unrecalled : (h : List Entry) (tables : Option Tables) (i : Identity) → IsHistory h → Views h tables →
     Shows tables (λ t. Answers t i None) → IsFirst h i
 unrecalled h None i hist v none = absurd none
-unrecalled h (Some t) i hist v none = let r = reading_of h hist in not_recalled h i (sym ((v r.0 r.1).answer_is i) ∙ none)
+unrecalled h (Some t) i hist v none =
+    let r = reading_of h hist in
+    let are = answers_are r.0 h t i None (v r.0 r.1) none in
+    (not_recalled h i are.1, are.0)
 
 -- a cause that a `?` passed on
 pub err_reply : (r : Result Reply Cause) (c : Cause) → IsErr r × IsErrAnd r (λ d. d ≡ c) → NotTaken c ≡ reply_of r
@@ -301,8 +541,9 @@ pub alone_since : (h : List Entry) (s : Shown) → IsHistory h → Views h s.tab
 alone_since h s hist v alone t x = ([], hist, subst (Views h) (alone t x) v)
 
 -- a command that was not decided
-pub undecided_lawful : (h : List Entry) (caller : ℕ) (id : List ℕ) (command : Command) (file : Option File) (rows : Rows) (cause : Cause) (before after : ℕ) → IsHistory h →
+pub undecided_lawful : (h : List Entry) (caller epoch : ℕ) (id : List ℕ) (command : Command) (file : Option File) (rows : Rows) (cause : Cause) (before after : ℕ) → IsHistory h →
     ((reading : Reading) → Reads reading h → AreEnough reading h caller (OfCommand command) file rows) →
+<<<<<<< ours
     IsFirst h (record { caller = caller; id = id }) → IsUndecided caller command file rows cause → after ≡ before → IsLawful h (Write caller id command) cause before after
 undecided_lawful h caller id command file rows Memory before after hist l none u same = same
 undecided_lawful h caller id command file rows Pattern before after hist l none u same = (none, (λ reading reads. reads_pattern reading h hist caller command file rows (l reading reads) u), same)
@@ -317,6 +558,37 @@ undecided_keeps caller id command file rows Pattern old new u same = (tt, same)
 undecided_keeps caller id command file rows Damaged old new u same = (tt, same)
 undecided_keeps caller id command file rows Store old new u same = absurd u
 undecided_keeps caller id command file rows Full old new u same = absurd u
+||||||| base
+    stored h (record { caller = caller; id = id }) ≡ None → IsUndecided caller command file rows cause → after ≡ before → IsLawful h (Write caller id command) cause before after
+undecided_lawful h caller id command file rows Memory before after hist l none u same = same
+undecided_lawful h caller id command file rows Pattern before after hist l none u same = (none, (λ reading reads. inl u), same)
+undecided_lawful h caller id command file rows Damaged before after hist l none u same = let r = reading_of h hist in absurd (u r.0 h hist (l r.0 r.1))
+undecided_lawful h caller id command file rows Store before after hist l none u same = absurd u
+undecided_lawful h caller id command file rows Full before after hist l none u same = absurd u
+
+pub undecided_keeps : (caller : ℕ) (id : List ℕ) (command : Command) (file : Option File) (rows : Rows) (cause : Cause) (old new : Option Tables) → IsUndecided caller command file rows cause → new ≡ old →
+    KeepsUntaken (Write caller id command) (NotTaken cause) old new
+undecided_keeps caller id command file rows Memory old new u same = (tt, same)
+undecided_keeps caller id command file rows Pattern old new u same = (tt, same)
+undecided_keeps caller id command file rows Damaged old new u same = (tt, same)
+undecided_keeps caller id command file rows Store old new u same = absurd u
+undecided_keeps caller id command file rows Full old new u same = absurd u
+=======
+    IsFirst h (record { caller = caller; epoch = epoch; id = id }) → IsUndecided caller command file rows cause → after ≡ before → IsLawful h (Write caller epoch id command) cause before after
+undecided_lawful h caller epoch id command file rows Memory before after hist l none u same = same
+undecided_lawful h caller epoch id command file rows Pattern before after hist l none u same = (none, (λ reading reads. inl u), same)
+undecided_lawful h caller epoch id command file rows Damaged before after hist l none u same = let r = reading_of h hist in absurd (u r.0 h hist (l r.0 r.1))
+undecided_lawful h caller epoch id command file rows Store before after hist l none u same = absurd u
+undecided_lawful h caller epoch id command file rows Full before after hist l none u same = absurd u
+
+pub undecided_keeps : (caller epoch : ℕ) (id : List ℕ) (command : Command) (file : Option File) (rows : Rows) (cause : Cause) (old new : Option Tables) → IsUndecided caller command file rows cause → new ≡ old →
+    KeepsUntaken (Write caller epoch id command) (NotTaken cause) old new
+undecided_keeps caller epoch id command file rows Memory old new u same = (tt, same)
+undecided_keeps caller epoch id command file rows Pattern old new u same = (tt, same)
+undecided_keeps caller epoch id command file rows Damaged old new u same = (tt, same)
+undecided_keeps caller epoch id command file rows Store old new u same = absurd u
+undecided_keeps caller epoch id command file rows Full old new u same = absurd u
+>>>>>>> epochs
 
 pub undecided_counts : (caller : ℕ) (command : Command) (file : Option File) (rows : Rows) (cause : Cause) (before after : ℕ) → IsUndecided caller command file rows cause → after ≡ before → CountsReply (NotTaken cause) before after
 undecided_counts caller command file rows Memory before after u same = same
@@ -326,6 +598,7 @@ undecided_counts caller command file rows Store before after u same = absurd u
 undecided_counts caller command file rows Full before after u same = absurd u
 
 -- why not all was gathered
+<<<<<<< ours
 ungathered_lawful : (h : List Entry) (caller : ℕ) (id : List ℕ) (command : Command) (tables : Option Tables) (cause : Cause) (before after : ℕ) → IsHistory h → Views h tables →
     IsFirst h (record { caller = caller; id = id }) → IsUngathered (OfCommand command) tables cause → CountsReply (NotTaken cause) before after → IsLawful h (Write caller id command) cause before after
 ungathered_lawful h caller id command tables Memory before after hist v none u counted = counted
@@ -335,6 +608,27 @@ ungathered_lawful h caller id command (Some t) Damaged before after hist v none 
 ungathered_lawful h caller id command None Pattern before after hist v none u counted = absurd u
 ungathered_lawful h caller id command (Some t) Pattern before after hist v none u counted = (none, (λ reading reads. inr (u reading h reads v)), counted)
 ungathered_lawful h caller id command tables Full before after hist v none u counted = absurd u
+||||||| base
+ungathered_lawful : (h : List Entry) (caller : ℕ) (id : List ℕ) (command : Command) (tables : Option Tables) (cause : Cause) (before after : ℕ) → IsHistory h → Views h tables →
+    stored h (record { caller = caller; id = id }) ≡ None → IsUngathered (OfCommand command) tables cause → CountsReply (NotTaken cause) before after → IsLawful h (Write caller id command) cause before after
+ungathered_lawful h caller id command tables Memory before after hist v none u counted = counted
+ungathered_lawful h caller id command tables Store before after hist v none u counted = counted
+ungathered_lawful h caller id command None Damaged before after hist v none u counted = absurd u
+ungathered_lawful h caller id command (Some t) Damaged before after hist v none u counted = absurd (u h hist v)
+ungathered_lawful h caller id command None Pattern before after hist v none u counted = absurd u
+ungathered_lawful h caller id command (Some t) Pattern before after hist v none u counted = (none, (λ reading reads. inr (u reading h reads v)), counted)
+ungathered_lawful h caller id command tables Full before after hist v none u counted = absurd u
+=======
+ungathered_lawful : (h : List Entry) (caller epoch : ℕ) (id : List ℕ) (command : Command) (tables : Option Tables) (cause : Cause) (before after : ℕ) → IsHistory h → Views h tables →
+    IsFirst h (record { caller = caller; epoch = epoch; id = id }) → IsUngathered (OfCommand command) tables cause → CountsReply (NotTaken cause) before after → IsLawful h (Write caller epoch id command) cause before after
+ungathered_lawful h caller epoch id command tables Memory before after hist v none u counted = counted
+ungathered_lawful h caller epoch id command tables Store before after hist v none u counted = counted
+ungathered_lawful h caller epoch id command None Damaged before after hist v none u counted = absurd u
+ungathered_lawful h caller epoch id command (Some t) Damaged before after hist v none u counted = absurd (u h hist v)
+ungathered_lawful h caller epoch id command None Pattern before after hist v none u counted = absurd u
+ungathered_lawful h caller epoch id command (Some t) Pattern before after hist v none u counted = (none, (λ reading reads. inr (u reading h reads v)), counted)
+ungathered_lawful h caller epoch id command tables Full before after hist v none u counted = absurd u
+>>>>>>> epochs
 
 unread_lawful : (h : List Entry) (caller : ℕ) (query : Query) (tables : Option Tables) (cause : Cause) (before after : ℕ) → IsHistory h → Views h tables →
     IsUngathered (OfQuery query) tables cause → CountsReply (NotTaken cause) before after → IsLawful h (Read caller query) cause before after
@@ -356,12 +650,28 @@ views_left_by h Store old new (inl e) v = subst (Views h) (sym e) v
 views_left_by h Store old new (inr e) v = subst (Views h) (sym e) tt
 
 -- a command for which not all was gathered
+<<<<<<< ours
 pub ungathered_served : (h : List Entry) (caller : ℕ) (id : List ℕ) (command : Command) (cause : Cause) (old new : Shown) → IsHistory h → Views h old.tables →
     IsFirst h (record { caller = caller; id = id }) → IsUngathered (OfCommand command) old.tables cause → LeavesBy cause old.tables new.tables →
     CountsReply (NotTaken cause) old.faults new.faults → AddsNoStop old new → IsServed h (Write caller id command) (NotTaken cause) old new
 ungathered_served h caller id command cause old new hist v none u left counted adds =
     not_taken_served h (Write caller id command) cause old new hist (views_left_by h cause old.tables new.tables left v)
     (ungathered_lawful h caller id command old.tables cause old.faults new.faults hist v none u counted) (λ t x. inl (adds t x))
+||||||| base
+pub ungathered_served : (h : List Entry) (caller : ℕ) (id : List ℕ) (command : Command) (cause : Cause) (old new : Shown) → IsHistory h → Views h old.tables →
+    stored h (record { caller = caller; id = id }) ≡ None → IsUngathered (OfCommand command) old.tables cause → LeavesBy cause old.tables new.tables →
+    CountsReply (NotTaken cause) old.faults new.faults → AddsNoStop old new → IsServed h (Write caller id command) (NotTaken cause) old new
+ungathered_served h caller id command cause old new hist v none u left counted adds =
+    not_taken_served h (Write caller id command) cause old new hist (views_left_by h cause old.tables new.tables left v)
+    (ungathered_lawful h caller id command old.tables cause old.faults new.faults hist v none u counted) (λ t x. inl (adds t x))
+=======
+pub ungathered_served : (h : List Entry) (caller epoch : ℕ) (id : List ℕ) (command : Command) (cause : Cause) (old new : Shown) → IsHistory h → Views h old.tables →
+    IsFirst h (record { caller = caller; epoch = epoch; id = id }) → IsUngathered (OfCommand command) old.tables cause → LeavesBy cause old.tables new.tables →
+    CountsReply (NotTaken cause) old.faults new.faults → AddsNoStop old new → IsServed h (Write caller epoch id command) (NotTaken cause) old new
+ungathered_served h caller epoch id command cause old new hist v none u left counted adds =
+    not_taken_served h (Write caller epoch id command) cause old new hist (views_left_by h cause old.tables new.tables left v)
+    (ungathered_lawful h caller epoch id command old.tables cause old.faults new.faults hist v none u counted) (λ t x. inl (adds t x))
+>>>>>>> epochs
 
 -- and a question
 pub unread_served : (h : List Entry) (caller : ℕ) (query : Query) (cause : Cause) (old new : Shown) → IsHistory h → Views h old.tables →
@@ -371,13 +681,13 @@ unread_served h caller query cause old new hist v u left counted adds =
     not_taken_served h (Read caller query) cause old new hist (views_left_by h cause old.tables new.tables left v)
     (unread_lawful h caller query old.tables cause old.faults new.faults hist v u counted) (λ t x. inl (adds t x))
 
-pub ungathered_keeps : (caller : ℕ) (id : List ℕ) (command : Command) (cause : Cause) (old new : Option Tables) → IsUngathered (OfCommand command) old cause → LeavesBy cause old new →
-    KeepsUntaken (Write caller id command) (NotTaken cause) old new
-ungathered_keeps caller id command Memory old new u left = (tt, left)
-ungathered_keeps caller id command Store old new u left = (tt, left)
-ungathered_keeps caller id command Damaged old new u left = (tt, left)
-ungathered_keeps caller id command Pattern old new u left = (tt, left)
-ungathered_keeps caller id command Full old new u left = absurd u
+pub ungathered_keeps : (caller epoch : ℕ) (id : List ℕ) (command : Command) (cause : Cause) (old new : Option Tables) → IsUngathered (OfCommand command) old cause → LeavesBy cause old new →
+    KeepsUntaken (Write caller epoch id command) (NotTaken cause) old new
+ungathered_keeps caller epoch id command Memory old new u left = (tt, left)
+ungathered_keeps caller epoch id command Store old new u left = (tt, left)
+ungathered_keeps caller epoch id command Damaged old new u left = (tt, left)
+ungathered_keeps caller epoch id command Pattern old new u left = (tt, left)
+ungathered_keeps caller epoch id command Full old new u left = absurd u
 
 -- a question that was not answered
 unshown_lawful : (h : List Entry) (caller : ℕ) (query : Query) (file : Option File) (rows : Rows) (cause : Cause) (before after : ℕ) → IsHistory h →
@@ -404,6 +714,7 @@ pub shown_counts : (caller : ℕ) (query : Query) (file : Option File) (rows : R
 shown_counts caller query file rows (Ok (Done a)) before after answered cause same = same
 shown_counts caller query file rows (Ok (Refused x)) before after answered cause same = same
 shown_counts caller query file rows (Ok IdentityReused) before after answered cause same = absurd answered
+shown_counts caller query file rows (Ok EpochClosed) before after answered cause same = absurd answered
 shown_counts caller query file rows (Ok (NotTaken c)) before after answered cause same = absurd answered
 shown_counts caller query file rows (Err Memory) before after answered cause same = same
 shown_counts caller query file rows (Err Damaged) before after answered cause same = same
@@ -415,6 +726,7 @@ pub shown_keeps : (caller : ℕ) (query : Query) (r : Result Reply Cause) (old n
 shown_keeps caller query (Ok (Done a)) old new answered same = same
 shown_keeps caller query (Ok (Refused x)) old new answered same = same
 shown_keeps caller query (Ok IdentityReused) old new answered same = same
+shown_keeps caller query (Ok EpochClosed) old new answered same = same
 shown_keeps caller query (Ok (NotTaken c)) old new answered same = absurd answered
 shown_keeps caller query (Err Store) old new answered same = inl same
 shown_keeps caller query (Err Memory) old new answered same = same

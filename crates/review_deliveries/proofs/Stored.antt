@@ -11,7 +11,7 @@ use Rattle.review_words.specs.declared.changes.Given.{Given}
 use Rattle.review_words.specs.declared.changes.NewPatch.{NewPatch}
 use Rattle.review_words.specs.declared.changes.Review.{Review as ReviewOf}
 use Rattle.review_words.specs.declared.command.Command.{Command}
-use Rattle.review_words.specs.declared.command.Command.TheVariants.{CreateAccount, PutGroup, PutProject, RecordBase, CreateChange, OnChange, Submit}
+use Rattle.review_words.specs.declared.command.Command.TheVariants.{CreateAccount, PutGroup, PutProject, RecordBase, CloseEpoch, CreateChange, OnChange, Submit}
 use Rattle.review_words.specs.declared.command.ChangeCommand.{ChangeCommand}
 use Rattle.review_words.specs.declared.command.ChangeCommand.TheVariants as on
 use Rattle.review_words.specs.declared.reply.Reply.{Reply}
@@ -36,10 +36,18 @@ use Rattle.review_changes.specs.Facts.{AreStanding, IsFirstUnsatisfied, is_unsat
 use Rattle.review_changes.specs.Status.{status_of}
 use Rattle.review_changes.specs.Change.{Change, Setting, current, said}
 use Rattle.review_change_laws.proofs.Sound.{Passes, all_pass, later_pass}
+<<<<<<< ours
 use Rattle.review_rows.specs.Answer.{IsHistory, IsAnswer, IsAnswerBy, IsAnswerWithoutParents, IsOutcome, IsOf, IsRequestOutcome, IsUploadAnswer, checks, comment_numbers, file_checks, first_refusal, given_checks, numbers_after, of_change, puts_parent, refused_by, refused_or, request_checks, review_checks, submit_checks, upload_checks}
 use Rattle.review_ancestors.proofs.Effective.{line_read}
 use Rattle.review_rows.specs.Changes.{Reading, Reads, change, change_count, file_of, setting_of, texts_of}
 use Rattle.review_rows.specs.Lines.{most_depth}
+||||||| base
+use Rattle.review_rows.specs.Answer.{IsHistory, IsAnswer, IsAnswerBy, IsOutcome, IsOf, IsRequestOutcome, IsUploadAnswer, checks, comment_numbers, file_checks, first_refusal, given_checks, numbers_after, of_change, refused_by, refused_or, request_checks, review_checks, submit_checks, upload_checks}
+use Rattle.review_rows.specs.Changes.{Reading, Reads, change, change_count, file_of, setting_of}
+=======
+use Rattle.review_rows.specs.Answer.{IsHistory, IsAnswer, IsAnswerBy, IsOutcome, IsOf, IsRequestOutcome, IsUploadAnswer, checks, comment_numbers, file_checks, first_refusal, given_checks, numbers_after, of_change, refused_by, refused_or, request_checks, review_checks, submit_checks, upload_checks, IsAnswerIn, epoch_checks}
+use Rattle.review_rows.specs.Changes.{Reading, Reads, change, change_count, file_of, setting_of}
+>>>>>>> epochs
 use Rattle.review_rows.specs.Links.{link_for}
 use Rattle.review_rows.specs.Submits.{IsSubmitAnswer, branch_after, checked_reply, judged_after, refusal_of}
 use Rattle.review_rows.proofs.Readings.{reading_of}
@@ -94,6 +102,7 @@ checks_stored reading h caller (CreateAccount name) = (tt, (tt, (tt, tt)))
 checks_stored reading h caller (PutGroup group members) = (tt, (tt, (tt, tt)))
 checks_stored reading h caller (PutProject project text) = (tt, tt)
 checks_stored reading h caller (RecordBase project branch commit) = (tt, (tt, (tt, (tt, tt))))
+checks_stored reading h caller (CloseEpoch epoch) = (tt, tt)
 checks_stored reading h caller (CreateChange new) = (tt, (tt, (tt, (tt, (tt, (tt, tt))))))
 checks_stored reading h caller (Submit n) = on_stored (submit_checks reading h caller) (λ c. (tt, (tt, (tt, tt)))) (change reading h n)
 checks_stored reading h caller (OnChange n command) = on_stored (request_checks reading h caller command) (request_stored reading h caller command) (change reading h n)
@@ -224,6 +233,7 @@ outcome_stored reading h caller (CreateAccount name) reply history reads all is 
     let below = ltb-true (account_count h) 1000000 all.1.1.0 in subst IsStored (sym is) (omega arith, omega arith)
 outcome_stored reading h caller (PutGroup group members) reply history reads all is = subst IsStored (sym is) tt
 outcome_stored reading h caller (RecordBase project branch commit) reply history reads all is = subst IsStored (sym is) tt
+outcome_stored reading h caller (CloseEpoch epoch) reply history reads all is = subst IsStored (sym is) tt
 outcome_stored reading h caller (PutProject project text) reply history reads all (inl f) = subst IsStored (sym f.2) (placed text f.0 f.1)
 outcome_stored reading h caller (PutProject project text) reply history reads all (inr f) =
     subst IsStored (sym f.2)
@@ -241,7 +251,23 @@ answer_stored_by reading h caller command reply history reads is = at (refused_b
     at None none is = outcome_stored reading h caller command reply history reads (all_pass ((is_account h caller, UnknownCaller) ∷ checks reading h caller command) none).1 is
     at (Some r) some is = subst IsStored (sym is) (first_stored ((is_account h caller, UnknownCaller) ∷ checks reading h caller command) r (tt, checks_stored reading h caller command) some)
 
+answer_stored_in : (reading : Reading) (h : List Entry) (caller epoch : ℕ) (command : Command) (reply : Reply) → IsHistory h → Reads reading h → IsAnswerIn reading h caller epoch command reply → IsStored reply
+answer_stored_in reading h caller epoch (CreateAccount name) reply history reads is = answer_stored_by reading h caller (CreateAccount name) reply history reads is
+answer_stored_in reading h caller epoch (PutGroup group members) reply history reads is = answer_stored_by reading h caller (PutGroup group members) reply history reads is
+answer_stored_in reading h caller epoch (PutProject project text) reply history reads is = answer_stored_by reading h caller (PutProject project text) reply history reads is
+answer_stored_in reading h caller epoch (RecordBase project branch commit) reply history reads is = answer_stored_by reading h caller (RecordBase project branch commit) reply history reads is
+answer_stored_in reading h caller epoch (CreateChange new) reply history reads is = answer_stored_by reading h caller (CreateChange new) reply history reads is
+answer_stored_in reading h caller epoch (OnChange n command) reply history reads is = answer_stored_by reading h caller (OnChange n command) reply history reads is
+answer_stored_in reading h caller epoch (Submit n) reply history reads is = answer_stored_by reading h caller (Submit n) reply history reads is
+answer_stored_in reading h caller epoch (CloseEpoch least) reply history reads is = at (refused_by reading h caller (CloseEpoch least)) refl is
+  where
+    at : (o : Option Refusal) → refused_by reading h caller (CloseEpoch least) ≡ o →
+        MatchOption o (reply ≡ refused_or (first_refusal (epoch_checks h epoch least)) Nothing) (λ refusal. reply ≡ Refused refusal) → IsStored reply
+    at None none is = subst IsStored (sym is) (refused_or_stored (first_refusal (epoch_checks h epoch least)) (λ r is. first_stored (epoch_checks h epoch least) r (tt, (tt, tt)) is))
+    at (Some r) some is = subst IsStored (sym is) (first_stored ((is_account h caller, UnknownCaller) ∷ checks reading h caller (CloseEpoch least)) r (tt, checks_stored reading h caller (CloseEpoch least)) some)
+
 -- each answer after a history is stored
+<<<<<<< ours
 pub answer_stored : (h : List Entry) (caller : ℕ) (command : Command) (reply : Reply) → IsHistory h → IsAnswer h caller command reply → IsStored reply
 answer_stored h caller command reply history is =
     let r = reading_of h history in answer_stored_by r.0 h caller command reply history r.1 (is r.0 r.1)
@@ -261,3 +287,12 @@ entry_stored e h history = by (nat_lt e.version 2 && puts_parent e.command) hist
     by : (b : Bool) → MatchBool b (IsAnswerWithoutParents h e.identity.caller e.command e.reply) (IsAnswer h e.identity.caller e.command e.reply) → IsStored e.reply
     by true is = old_stored h e.identity.caller e.command e.reply history.3 is
     by false is = answer_stored h e.identity.caller e.command e.reply history.3 is
+||||||| base
+pub answer_stored : (h : List Entry) (caller : ℕ) (command : Command) (reply : Reply) → IsHistory h → IsAnswer h caller command reply → IsStored reply
+answer_stored h caller command reply history is =
+    let r = reading_of h history in answer_stored_by r.0 h caller command reply history r.1 (is r.0 r.1)
+=======
+pub answer_stored : (h : List Entry) (caller epoch : ℕ) (command : Command) (reply : Reply) → IsHistory h → IsAnswer h caller epoch command reply → IsStored reply
+answer_stored h caller epoch command reply history is =
+    let r = reading_of h history in answer_stored_in r.0 h caller epoch command reply history r.1 (is r.0 r.1)
+>>>>>>> epochs

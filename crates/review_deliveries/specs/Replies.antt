@@ -1,21 +1,47 @@
 -- Deliveries that each act once: which are first arrivals, what history they leave, and which replies are right.
+<<<<<<< ours
 use Rattle.std.specs.Prelude.{ℕ, ◌<◌, ◌≤◌, ◌≡◌, List, [], ◌∷◌, ◌++◌, Option, Some, None, Bool, ◌||◌, is_some, length, take, slice_index_or, Result, Ok, Err, ◌+◌, if◌then◌else◌, ◌⊎◌}
+||||||| base
+use Rattle.std.specs.Prelude.{ℕ, ◌<◌, ◌≤◌, ◌≡◌, List, [], ◌∷◌, ◌++◌, Option, Some, None, Bool, ◌||◌, is_some, length, take, slice_index_or, Result, Ok, Err, ◌+◌, if◌then◌else◌, ◌⊎◌, MatchOption}
+=======
+use Rattle.std.specs.Prelude.{ℕ, ◌<◌, ◌≤◌, ◌≡◌, List, [], ◌∷◌, ◌++◌, Option, Some, None, Bool, true, false, nat_lt, ◌||◌, is_some, length, take, slice_index_or, Result, Ok, Err, ◌+◌, if◌then◌else◌, ◌⊎◌, MatchOption}
+>>>>>>> epochs
 use Rattle.review_words.specs.declared.command.Command.{Command}
 use Rattle.review_words.specs.declared.command.Delivery.{Delivery}
 use Rattle.review_words.specs.declared.command.Delivery.TheVariants.{Write, Read}
 use Rattle.review_words.specs.declared.reply.Reply.{Reply}
-use Rattle.review_words.specs.declared.reply.Reply.TheVariants.{Done, Refused, IdentityReused, NotTaken}
+use Rattle.review_words.specs.declared.reply.Reply.TheVariants.{Done, Refused, IdentityReused, EpochClosed, NotTaken}
 use Rattle.review_words.specs.declared.reply.NotTaken.{NotTaken as Cause}
 use Rattle.review_words.specs.declared.reply.NotTaken.TheVariants.{Memory, Store, Damaged, Pattern, Full}
+<<<<<<< ours
 use Rattle.review_words.specs.History.{Entry, Identity, IsFirst, entry_of, stored, is_same, latest}
+||||||| base
+use Rattle.review_words.specs.History.{Entry, Identity, stored, is_same}
+=======
+use Rattle.review_words.specs.History.{Entry, Identity, stored, is_same, is_closed, if_done}
+>>>>>>> epochs
 use Rattle.review_words.specs.Texts.{content_text, reply_text, IsStored}
-use Rattle.review_rows.specs.Answer.{IsHistory, IsAnswer, most_requests}
+use Rattle.review_rows.specs.Answer.{IsHistory, IsFirst, IsAnswer, most_requests}
 use Rattle.review_rows.specs.Questions.{IsQueryAnswer}
-use Rattle.review_rows.specs.Rows.{Key, Count, Tables, AnswerRow, Answered}
+use Rattle.review_rows.specs.Rows.{Key, Count, Tables, AnswerRow, Answered, is_below, closing}
 use Rattle.review_rows.specs.View.{IsView, answer_row}
 use Rattle.review_rows.specs.Changes.{Reading, Reads}
 use Rattle.review_rows.specs.Decisions.{HasPatternIn, ReadsPattern, IsDoneOrRefused, asking_project}
+<<<<<<< ours
 use Rattle.review_rows.specs.Shelf.{greatest_count, Shown, Shows, Views, LeavesBy, Answers, StopLeavesOwnTables}
+||||||| base
+use Rattle.review_rows.specs.Shelf.{greatest_count, Shown, Shows, Views, LeavesBy, StopLeavesOwnTables}
+
+-- a delivery that was taken, as an entry
+abbrev pub entry_of : ℕ → List ℕ → Command → Reply → Entry
+entry_of caller id command reply = record { identity = record { caller = caller; id = id }; command = command; reply = reply }
+=======
+use Rattle.review_rows.specs.Shelf.{greatest_count, Shown, Shows, Views, LeavesBy, StopLeavesOwnTables, Answers, IsClosedIn}
+
+-- a delivery that was taken, as an entry
+abbrev pub entry_of : ℕ → ℕ → List ℕ → Command → Reply → Entry
+entry_of caller epoch id command reply = record { identity = record { caller = caller; epoch = epoch; id = id }; command = command; reply = reply }
+>>>>>>> epochs
 
 -- these entries with that of a write in front, where it was taken
 abbrev pub with_write : Reply → Entry → List Entry → List Entry
@@ -23,10 +49,11 @@ with_write (NotTaken cause) e es = es
 with_write (Done a) e es = e ∷ es
 with_write (Refused r) e es = e ∷ es
 with_write IdentityReused e es = e ∷ es
+with_write EpochClosed e es = e ∷ es
 
 -- the same of any delivery; a question stores nothing
 abbrev pub with_taken : Delivery → Reply → List Entry → List Entry
-with_taken (Write caller id command) reply es = with_write reply (entry_of caller id command reply) es
+with_taken (Write caller epoch id command) reply es = with_write reply (entry_of caller epoch id command reply) es
 with_taken (Read caller query) reply es = es
 
 -- the writes that were taken, as entries with their replies: those whose reply isn't NotTaken
@@ -49,12 +76,12 @@ arrivals_after h0 earlier (e ∷ es) =
 abbrev pub first_arrivals : List Entry → List Entry → List Entry
 first_arrivals h0 es = arrivals_after h0 [] es
 
--- the history with these entries, one after the other
+-- The history with these entries, one after the other; one whose epoch is closed by then is passed over.
 abbrev pub with_entries : List Entry → List Entry → List Entry
 with_entries h0 [] = h0
-with_entries h0 (e ∷ es) = with_entries (e ∷ h0) es
+with_entries h0 (e ∷ es) = if is_closed h0 e.identity.epoch then with_entries h0 es else with_entries (e ∷ h0) es
 
--- the history after deliveries that got these replies: each taken request stands once, at its first arrival
+-- the history after deliveries that got these replies: each taken request whose epoch was open at its first arrival stands once, at that
 abbrev pub history_after : List Entry → List Delivery → List Reply → List Entry
 history_after h0 ds rs = with_entries h0 (first_arrivals h0 (taken ds rs))
 
@@ -63,8 +90,16 @@ abbrev pub IsLawful : List Entry → Delivery → Cause → ℕ → ℕ → Type
 IsLawful h d Memory before after = after ≡ before
 IsLawful h d Store before after = (before < after) ⊎ ((before ≡ greatest_count) × (after ≡ before))
 IsLawful h d Damaged before after = ⊥
+<<<<<<< ours
 IsLawful h (Write caller id command) Pattern before after = IsFirst h (record { caller = caller; id = id }) × ((reading : Reading) → Reads reading h → ReadsPattern reading h command) × (after ≡ before)
 IsLawful h (Write caller id command) Full before after = IsFirst h (record { caller = caller; id = id }) × (length h ≡ most_requests) × (after ≡ before)
+||||||| base
+IsLawful h (Write caller id command) Pattern before after = (stored h (record { caller = caller; id = id }) ≡ None) × ((reading : Reading) → Reads reading h → ReadsPattern reading h command) × (after ≡ before)
+IsLawful h (Write caller id command) Full before after = (stored h (record { caller = caller; id = id }) ≡ None) × (length h ≡ most_requests) × (after ≡ before)
+=======
+IsLawful h (Write caller epoch id command) Pattern before after = IsFirst h (record { caller = caller; epoch = epoch; id = id }) × ((reading : Reading) → Reads reading h → ReadsPattern reading h command) × (after ≡ before)
+IsLawful h (Write caller epoch id command) Full before after = IsFirst h (record { caller = caller; epoch = epoch; id = id }) × (length h ≡ most_requests) × (after ≡ before)
+>>>>>>> epochs
 IsLawful h (Read caller query) Pattern before after = ((reading : Reading) → Reads reading h → HasPatternIn h (asking_project reading h query)) × (after ≡ before)
 IsLawful h (Read caller query) Full before after = ⊥
 
@@ -73,14 +108,30 @@ pub record IsToldOfStored (e : Entry) (command : Command) (reply : Reply) : Type
   pub equal : command ≡ e.command → reply ≡ e.reply
   pub other : (command ≡ e.command → ⊥) → reply ≡ IdentityReused
 
+<<<<<<< ours
 -- what a write is told, by the entry that has its identity: where there is none, the answer to its command
 abbrev pub IsToldWhere : Option Entry → List Entry → ℕ → Command → Reply → Type 0
 IsToldWhere None h caller command reply = IsAnswer h caller command reply
 IsToldWhere (Some e) h caller command reply = IsToldOfStored e command reply
 
+||||||| base
+=======
+-- what a write is told, by whether its epoch is closed and what is stored under its identity
+abbrev pub IsToldWhere : Bool → Option Entry → List Entry → ℕ → ℕ → Command → Reply → Type 0
+IsToldWhere true o h caller epoch command reply = reply ≡ EpochClosed
+IsToldWhere false None h caller epoch command reply = IsAnswer h caller epoch command reply
+IsToldWhere false (Some e) h caller epoch command reply = IsToldOfStored e command reply
+
+>>>>>>> epochs
 -- what a delivery is told after the history
 abbrev pub IsTold : List Entry → Delivery → Reply → Type 0
+<<<<<<< ours
 IsTold h (Write caller id command) reply = IsToldWhere (stored h (record { caller = caller; id = id })) h caller command reply
+||||||| base
+IsTold h (Write caller id command) reply = MatchOption (stored h (record { caller = caller; id = id })) (IsAnswer h caller command reply) (λ e. IsToldOfStored e command reply)
+=======
+IsTold h (Write caller epoch id command) reply = IsToldWhere (is_closed h epoch) (stored h (record { caller = caller; epoch = epoch; id = id })) h caller epoch command reply
+>>>>>>> epochs
 IsTold h (Read caller query) reply = IsQueryAnswer h caller query reply
 
 -- the right reply after the history
@@ -89,6 +140,7 @@ IsRight h d (NotTaken cause) before after = IsLawful h d cause before after
 IsRight h d (Done a) before after = IsTold h d (Done a) × (after ≡ before)
 IsRight h d (Refused r) before after = IsTold h d (Refused r) × (after ≡ before)
 IsRight h d IdentityReused before after = IsTold h d IdentityReused × (after ≡ before)
+IsRight h d EpochClosed before after = IsTold h d EpochClosed × (after ≡ before)
 
 -- Each reply is right after the history that the deliveries before it left, where the count of faults went from one number to another
 -- meanwhile; d, r and c are what an index past the end would give.
@@ -103,14 +155,20 @@ abbrev pub CountsFollow : ℕ → List (ℕ × ℕ) → ℕ → Type 0
 CountsFollow from [] to = to ≡ from
 CountsFollow from (c ∷ cs) to = (c.0 ≡ from) × CountsFollow c.1 cs to
 
--- a first arrival
+-- a first arrival of an open epoch
 abbrev pub IsNew : List Entry → Delivery → Type 0
+<<<<<<< ours
 IsNew h (Write caller id command) = IsFirst h (record { caller = caller; id = id })
+||||||| base
+IsNew h (Write caller id command) = stored h (record { caller = caller; id = id }) ≡ None
+=======
+IsNew h (Write caller epoch id command) = IsFirst h (record { caller = caller; epoch = epoch; id = id })
+>>>>>>> epochs
 IsNew h (Read caller query) = ⊥
 
 -- the tables have the whole effect of a first arrival, and its answer
 abbrev pub HasEffect : List Entry → Delivery → Tables → Type 0
-HasEffect h (Write caller id command) t = (reply : Reply) × IsHistory (entry_of caller id command reply ∷ h) × IsView (entry_of caller id command reply ∷ h) t
+HasEffect h (Write caller epoch id command) t = (reply : Reply) × IsHistory (entry_of caller epoch id command reply ∷ h) × IsView (entry_of caller epoch id command reply ∷ h) t
 HasEffect h (Read caller query) t = ⊥
 
 -- what one delivery does: the right reply, the tables of the history after it, and what a stop then may leave
@@ -131,7 +189,13 @@ StopGoesOnFrom h s = (t : Tables) → s.stops t → GoesOn h t
 
 -- the write is an entry, with this reply, whatever version's rules gave it
 abbrev pub IsEntered : Delivery → Reply → List Entry → Type 0
+<<<<<<< ours
 IsEntered (Write caller id command) reply h = (e : Entry) × (stored h (record { caller = caller; id = id }) ≡ Some e) × (e.command ≡ command) × (e.reply ≡ reply)
+||||||| base
+IsEntered (Write caller id command) reply h = stored h (record { caller = caller; id = id }) ≡ Some (entry_of caller id command reply)
+=======
+IsEntered (Write caller epoch id command) reply h = stored h (record { caller = caller; epoch = epoch; id = id }) ≡ Some (entry_of caller epoch id command reply)
+>>>>>>> epochs
 IsEntered (Read caller query) reply h = Unit {0}
 
 -- once it was answered, a stop leaves only tables of histories that have the write
@@ -183,11 +247,13 @@ abbrev pub IsFullWhereSaid : Identity → Cause → Option Tables → Type 0
 IsFullWhereSaid i Full tables = Shows tables (λ t. Answers t i None × (most_requests ≤ t.requests))
 IsFullWhereSaid i _ tables = Unit {0}
 
--- On any tables whatever: what is not taken leaves them, though a store fault may shut the store; so does a clash, where the identity is stored with another command, and each question.
+-- On any tables whatever: what is not taken leaves them, though a store fault may shut the store; so does a clash, where the identity is stored with another command, a write whose epoch
+-- is closed in them, and each question.
 abbrev pub KeepsUntaken : Delivery → Reply → Option Tables → Option Tables → Type 0
-KeepsUntaken (Write caller id command) IdentityReused old new = HasStored (record { caller = caller; id = id }) old (HasOtherContent command) × (new ≡ old)
-KeepsUntaken (Write caller id command) (NotTaken cause) old new = IsFullWhereSaid (record { caller = caller; id = id }) cause old × LeavesBy cause old new
-KeepsUntaken (Write caller id command) _ old new = Unit {0}
+KeepsUntaken (Write caller epoch id command) IdentityReused old new = HasStored (record { caller = caller; epoch = epoch; id = id }) old (HasOtherContent command) × (new ≡ old)
+KeepsUntaken (Write caller epoch id command) (NotTaken cause) old new = IsFullWhereSaid (record { caller = caller; epoch = epoch; id = id }) cause old × LeavesBy cause old new
+KeepsUntaken (Write caller epoch id command) EpochClosed old new = Shows old (λ t. IsClosedIn t epoch) × (new ≡ old)
+KeepsUntaken (Write caller epoch id command) _ old new = Unit {0}
 KeepsUntaken (Read caller query) (NotTaken cause) old new = LeavesBy cause old new
 KeepsUntaken (Read caller query) _ old new = new ≡ old
 
@@ -202,8 +268,17 @@ KeepsRows _ t u = Unit {0}
 
 -- the request is stored beside the others under the next number, and a refusal does nothing else
 pub record StoresRequest (i : Identity) (command : Command) (reply : Reply) (t u : Tables) : Type 0 where
+<<<<<<< ours
   pub new : Answers t i None
   pub answer_is : (j : Identity) → u.answer j ≡ (if is_same i j then Some (Answered (answer_row (record { identity = i; version = latest; command = command; reply = reply }) (t.requests + 1))) else t.answer j)
+||||||| base
+  pub new : t.answer i ≡ None
+  pub answer_is : (j : Identity) → u.answer j ≡ (if is_same i j then Some (Answered (answer_row (record { identity = i; command = command; reply = reply }) (t.requests + 1))) else t.answer j)
+=======
+  pub new : Answers t i None
+  pub answer_is : (j : Identity) → u.answer j ≡ (if is_same i j then Some (Answered (answer_row (record { identity = i; command = command; reply = reply }) (t.requests + 1)))
+      else (if is_below (closing (if_done reply command)) j.epoch then None else t.answer j))
+>>>>>>> epochs
   pub version : u.version ≡ t.version
   pub requests : u.requests ≡ t.requests + 1
   pub rows : KeepsRows reply t u
@@ -215,8 +290,8 @@ IsFoundOrStored i command reply old new =
 
 -- On any tables whatever: after Done and Refused the request stands in them once, with this reply.
 abbrev pub StoresOnce : Delivery → Reply → Option Tables → Option Tables → Type 0
-StoresOnce (Write caller id command) (Done a) old new = IsFoundOrStored (record { caller = caller; id = id }) command (Done a) old new
-StoresOnce (Write caller id command) (Refused r) old new = IsFoundOrStored (record { caller = caller; id = id }) command (Refused r) old new
+StoresOnce (Write caller epoch id command) (Done a) old new = IsFoundOrStored (record { caller = caller; epoch = epoch; id = id }) command (Done a) old new
+StoresOnce (Write caller epoch id command) (Refused r) old new = IsFoundOrStored (record { caller = caller; epoch = epoch; id = id }) command (Refused r) old new
 StoresOnce d _ old new = Unit {0}
 
 -- On any tables whatever: a run is made of such steps, one a delivery.

@@ -1,29 +1,71 @@
 //! One delivery.
+<<<<<<< ours
 ghost use Rattle.std.specs.Prelude.{◌≡◌, ◌≤◌, ◌<◌, ◌+◌, ◌⊎◌, ℕ, List, [], ◌∷◌, None, IfErr, IfOk, OnOk, length, string_bytes, option_copied};
+||||||| base
+ghost use Rattle.std.specs.Prelude.{◌≡◌, ◌≤◌, ◌<◌, ◌+◌, ◌⊎◌, ℕ, List, [], ◌∷◌, None, IfErr, IfOk, OnOk, length, string_bytes};
+=======
+ghost use Rattle.std.specs.Prelude.{◌≡◌, false, ◌≤◌, ◌<◌, ◌+◌, ◌⊎◌, ℕ, List, [], ◌∷◌, None, IfErr, IfOk, OnOk, length, string_bytes};
+>>>>>>> epochs
 ghost use Rattle.review_words.specs.Texts.{IsStored, content_text};
+<<<<<<< ours
 ghost use Rattle.review_words.specs.History.{Entry, IsFirst};
+||||||| base
+ghost use Rattle.review_words.specs.History.{Entry, stored};
+=======
+ghost use Rattle.review_words.specs.History.{Entry, if_done};
+>>>>>>> epochs
 ghost use Rattle.review_words.specs.declared.command.Delivery.TheVariants.{Write, Read};
+<<<<<<< ours
 ghost use Rattle.review_rows.specs.Answer.{IsHistory, most_requests};
+||||||| base
+ghost use Rattle.review_file.specs.Texts.{file_read};
+ghost use Rattle.review_rows.specs.Answer.{IsHistory, most_requests};
+=======
+ghost use Rattle.review_file.specs.Texts.{file_read};
+ghost use Rattle.review_rows.specs.Answer.{IsHistory, IsFirst, most_requests};
+>>>>>>> epochs
 ghost use Rattle.review_rows.specs.Changes.{Reading};
 ghost use Rattle.review_rows.specs.Decisions.{RestsOn};
 ghost use Rattle.review_rows.specs.declared.rows.Want.{Want};
 ghost use Rattle.review_rows.specs.declared.rows.Want.TheVariants as want;
 ghost use Rattle.review_rows.specs.Known.{known, number_of};
+<<<<<<< ours
 ghost use Rattle.review_rows.specs.Rows.{HasNoEffect, Tables, kept_row};
 ghost use Rattle.review_rows.specs.Shelf.{Answers, BlamesTables, CountsFaults, IsCommitted, LeavesUndone, Shows, StopLeavesOwnTables, Views};
+||||||| base
+ghost use Rattle.review_rows.specs.Rows.{HasNoEffect, Tables, kept_row};
+ghost use Rattle.review_rows.specs.Shelf.{BlamesTables, CountsFaults, IsCommitted, LeavesUndone, Shows, StopLeavesOwnTables, Views};
+=======
+ghost use Rattle.review_rows.specs.Rows.{HasNoEffect, Tables, closing, is_below, kept_row};
+ghost use Rattle.review_rows.specs.Shelf.{Answers, BlamesTables, CountsFaults, IsCommitted, LeavesUndone, Shows, StopLeavesOwnTables, Views};
+>>>>>>> epochs
 ghost use Rattle.review_rows.specs.Steps.{OfCommand};
+<<<<<<< ours
 ghost use Rattle.review_rows.specs.View.{AreEnough, IsDecided};
 ghost use Rattle.review_deliveries.specs.Delivered.{IsDelivered};
+||||||| base
+ghost use Rattle.review_rows.specs.View.{AreEnough, IsDecided};
+=======
+ghost use Rattle.review_rows.specs.View.{AreEnough, IsDecidedIn};
+>>>>>>> epochs
 ghost use Rattle.review_deliveries.specs.Gathered.{IsUnstored};
 ghost use Rattle.review_deliveries.specs.Kept.{row_for};
 ghost use Rattle.review_deliveries.specs.Replies.{IsServed, IsToldAgain, KeepsUntaken, StoresOnce, CountsReply, reply_of};
 
 use crate::gathering::gathered;
 use crate::rules::Rules;
+<<<<<<< ours
 use review_file::ProjectFile;
 use review_rows::{Delta, Kept, Matter, Recalled, Rows, Shelf, ShelfFault};
+||||||| base
+use review_file::ReadText;
+use review_rows::{Delta, Kept, Matter, Rows, Shelf, ShelfFault};
+=======
+use review_file::ReadText;
+use review_rows::{Delta, Kept, Matter, Recalled, Rows, Shelf, ShelfFault};
+>>>>>>> epochs
 use review_texts::{BadReply, content_text, read_reply, reply_text};
-use review_words::{AccountNo, Command, Delivery, NotTaken, Query, Reply, RequestId};
+use review_words::{AccountNo, Command, Delivery, Epoch, NotTaken, Query, Reply, RequestId};
 use std::alloc::{AllocError, Global};
 
 /// The last number of a request.
@@ -31,7 +73,7 @@ const MOST_REQUESTS: u64 = 9_007_199_254_740_991;
 
 /// Takes one delivery.
 ///
-/// From the tables of a history its reply is the right one: what is stored for a repeat, that the identity is used for
+/// From the tables of a history its reply is the right one: that its epoch is closed, what is stored for a repeat, that the identity is used for
 /// another command under it, the answer of the command for a first arrival, or that it wasn't taken, for a lawful cause.
 /// The tables are then those of the history after it, and a stop leaves what it could leave before, or the whole effect with
 /// the answer; after an answer it leaves only tables that have the request.
@@ -74,9 +116,10 @@ fn serve<S: Shelf, R: Rules>(
     match delivery {
         Delivery::Write {
             caller,
+            epoch,
             id,
             command,
-        } => told(write(alloc, shelf, rules, *caller, id, command)),
+        } => told(write(alloc, shelf, rules, *caller, *epoch, id, command)),
         Delivery::Read { caller, query } => told(read(alloc, shelf, rules, *caller, query)),
     }
 }
@@ -95,23 +138,37 @@ fn write<S: Shelf, R: Rules>(
     shelf: &mut S,
     rules: &mut R,
     caller: AccountNo,
+    epoch: Epoch,
     id: &RequestId,
     command: &Command,
 ) -> Result<Reply, NotTaken>
     ensures honest { (S.state shelf.new).is_honest → (S.state shelf.old).is_honest }
     ensures served { (S.state shelf.new).is_honest → (h : List Entry) → IsHistory h → Views h (S.state shelf.old).tables →
-        IsServed h (Write caller id.now command.now) (reply_of result) (S.state shelf.old) (S.state shelf.new) }
-    ensures unchanged { (S.state shelf.new).is_honest → KeepsUntaken (Write caller id.now command.now) (reply_of result) (S.state shelf.old).tables (S.state shelf.new).tables }
-    ensures once { (S.state shelf.new).is_honest → StoresOnce (Write caller id.now command.now) (reply_of result) (S.state shelf.old).tables (S.state shelf.new).tables }
+        IsServed h (Write caller epoch id.now command.now) (reply_of result) (S.state shelf.old) (S.state shelf.new) }
+    ensures unchanged { (S.state shelf.new).is_honest → KeepsUntaken (Write caller epoch id.now command.now) (reply_of result) (S.state shelf.old).tables (S.state shelf.new).tables }
+    ensures once { (S.state shelf.new).is_honest → StoresOnce (Write caller epoch id.now command.now) (reply_of result) (S.state shelf.old).tables (S.state shelf.new).tables }
     ensures counted { CountsReply (reply_of result) (S.state shelf.old).faults (S.state shelf.new).faults }
 {
     let content = content_text(alloc, command)?;
+<<<<<<< ours
     match shelf.recall(alloc, caller, id)? {
         Recalled::Kept(kept) => repeated(alloc, &kept, content.as_str()),
         Recalled::Fresh => {
+||||||| base
+    match shelf.recall(alloc, caller, id)? {
+        Some(kept) => repeated(alloc, &kept, content.as_str()),
+        None => {
+=======
+    match shelf.recall(alloc, caller, epoch, id)? {
+        Recalled::Kept(kept) => repeated(alloc, &kept, content.as_str()),
+        Recalled::Fresh => {
+>>>>>>> epochs
             let mut rows = Rows::new(alloc);
-            first_arrival(alloc, shelf, rules, &mut rows, caller, id, command, content)
+            first_arrival(
+                alloc, shelf, rules, &mut rows, caller, epoch, id, command, content,
+            )
         }
+        Recalled::Closed => Ok(Reply::EpochClosed),
     }
 }
 
@@ -155,6 +212,7 @@ fn first_arrival<S: Shelf, R: Rules>(
     rules: &mut R,
     rows: &mut Rows,
     caller: AccountNo,
+    epoch: Epoch,
     id: &RequestId,
     command: &Command,
     content: String,
@@ -163,18 +221,42 @@ fn first_arrival<S: Shelf, R: Rules>(
     requires content { string_bytes content ≡ content_text command.now }
     ensures honest { (S.state shelf.new).is_honest → (S.state shelf.old).is_honest }
     ensures served { (S.state shelf.new).is_honest → (h : List Entry) → IsHistory h → Views h (S.state shelf.old).tables →
+<<<<<<< ours
         IsFirst h (record { caller = caller; id = id.now }) →
         IsServed h (Write caller id.now command.now) (reply_of result) (S.state shelf.old) (S.state shelf.new) }
     ensures unchanged { (S.state shelf.new).is_honest → Shows (S.state shelf.old).tables (λ t. Answers t (record { caller = caller; id = id.now }) None) →
         KeepsUntaken (Write caller id.now command.now) (reply_of result) (S.state shelf.old).tables (S.state shelf.new).tables }
     ensures once { (S.state shelf.new).is_honest → Shows (S.state shelf.old).tables (λ t. Answers t (record { caller = caller; id = id.now }) None) →
         StoresOnce (Write caller id.now command.now) (reply_of result) (S.state shelf.old).tables (S.state shelf.new).tables }
+||||||| base
+        stored h (record { caller = caller; id = id.now }) ≡ None →
+        IsServed h (Write caller id.now command.now) (reply_of result) (S.state shelf.old) (S.state shelf.new) }
+    ensures unchanged { (S.state shelf.new).is_honest → Shows (S.state shelf.old).tables (λ t. t.answer (record { caller = caller; id = id.now }) ≡ None) →
+        KeepsUntaken (Write caller id.now command.now) (reply_of result) (S.state shelf.old).tables (S.state shelf.new).tables }
+    ensures once { (S.state shelf.new).is_honest → Shows (S.state shelf.old).tables (λ t. t.answer (record { caller = caller; id = id.now }) ≡ None) →
+        StoresOnce (Write caller id.now command.now) (reply_of result) (S.state shelf.old).tables (S.state shelf.new).tables }
+=======
+        IsFirst h (record { caller = caller; epoch = epoch; id = id.now }) →
+        IsServed h (Write caller epoch id.now command.now) (reply_of result) (S.state shelf.old) (S.state shelf.new) }
+    ensures unchanged { (S.state shelf.new).is_honest → Shows (S.state shelf.old).tables (λ t. Answers t (record { caller = caller; epoch = epoch; id = id.now }) None) →
+        KeepsUntaken (Write caller epoch id.now command.now) (reply_of result) (S.state shelf.old).tables (S.state shelf.new).tables }
+    ensures once { (S.state shelf.new).is_honest → Shows (S.state shelf.old).tables (λ t. Answers t (record { caller = caller; epoch = epoch; id = id.now }) None) →
+        StoresOnce (Write caller epoch id.now command.now) (reply_of result) (S.state shelf.old).tables (S.state shelf.new).tables }
+>>>>>>> epochs
     ensures counted { CountsReply (reply_of result) (S.state shelf.old).faults (S.state shelf.new).faults }
 {
     let matter = Matter::Command(command);
     let read = gathered(alloc, shelf, rules, rows, caller, matter)?;
+<<<<<<< ours
     let decided = decide(alloc, rules, read.as_ref(), rows, caller, command)?;
     store(alloc, shelf, caller, id, &decided, content)?;
+||||||| base
+    let decided = decide(alloc, rules, read, rows, caller, command)?;
+    store(alloc, shelf, caller, id, &decided, content)?;
+=======
+    let decided = decide(alloc, rules, read, rows, caller, epoch, command)?;
+    store(alloc, shelf, caller, epoch, id, &decided, content)?;
+>>>>>>> epochs
     Ok(decided.reply)
 }
 
@@ -194,19 +276,34 @@ fn decide<R: Rules>(
     read: Option<&ProjectFile>,
     rows: &Rows,
     caller: AccountNo,
+    epoch: Epoch,
     command: &Command,
 ) -> Result<Decided, NotTaken>
     ensures request { IfOk result (λ d. (d.request ≡ number_of (known rows.now want.Requests) + 1) × (d.request ≤ most_requests)) }
+<<<<<<< ours
     ensures decided { IfOk result (λ d. (reading : Reading) (h : List Entry) → length h < most_requests → RestsOn (OfCommand command.now) h → AreEnough reading h caller (OfCommand command.now) (option_copied read.entry) rows.now → IsDecided reading h caller command.now d.delta d.reply) }
+||||||| base
+    ensures decided { IfOk result (λ d. (reading : Reading) (h : List Entry) → length h < most_requests → RestsOn (OfCommand command.now) h → AreEnough reading h caller (OfCommand command.now) (file_read read) rows.now → IsDecided reading h caller command.now d.delta d.reply) }
+=======
+    ensures decided { IfOk result (λ d. (reading : Reading) (h : List Entry) → length h < most_requests → RestsOn (OfCommand command.now) h → AreEnough reading h caller (OfCommand command.now) (file_read read) rows.now → IsDecidedIn reading h caller epoch command.now d.delta d.reply) }
+>>>>>>> epochs
     ensures stored { IfOk result (λ d. IsStored d.reply) }
     ensures refused { IfOk result (λ d. HasNoEffect d.reply d.delta) }
+<<<<<<< ours
     ensures cause { IfErr result (IsUnstored caller command.now (option_copied read.entry) rows.now) }
+||||||| base
+    ensures cause { IfErr result (IsUnstored caller command.now (file_read read) rows.now) }
+=======
+    ensures closes { IfOk result (λ d. d.delta.epoch ≡ closing (if_done d.reply command.now)) }
+    ensures own { IfOk result (λ d. is_below d.delta.epoch epoch ≡ false) }
+    ensures cause { IfErr result (IsUnstored caller command.now (file_read read) rows.now) }
+>>>>>>> epochs
 {
     let requests = rows.requests();
     if requests >= MOST_REQUESTS {
         return Err(NotTaken::Full);
     }
-    let (delta, reply) = rules.decide(alloc, read, rows, caller, command)?;
+    let (delta, reply) = rules.decide(alloc, read, rows, caller, epoch, command)?;
     Ok(Decided {
         request: requests + 1,
         delta,
@@ -219,20 +316,21 @@ fn store<S: Shelf>(
     alloc: Global,
     shelf: &mut S,
     caller: AccountNo,
+    epoch: Epoch,
     id: &RequestId,
     decided: &Decided,
     content: String,
 ) -> Result<(), ShelfFault>
     ensures honest { (S.state shelf.new).is_honest → (S.state shelf.old).is_honest }
-    ensures done { (S.state shelf.new).is_honest → OnOk result (Shows (S.state shelf.old).tables (λ t. Shows (S.state shelf.new).tables (IsCommitted t decided.now.delta (row_for caller id.now decided.now (string_bytes content))))) }
+    ensures done { (S.state shelf.new).is_honest → OnOk result (Shows (S.state shelf.old).tables (λ t. Shows (S.state shelf.new).tables (IsCommitted t decided.now.delta (row_for caller epoch id.now decided.now (string_bytes content))))) }
     ensures alone { (S.state shelf.new).is_honest → OnOk result (StopLeavesOwnTables (S.state shelf.new)) }
     ensures undone { (S.state shelf.new).is_honest → LeavesUndone result (S.state shelf.old).tables (S.state shelf.new).tables }
     ensures damaged { (S.state shelf.new).is_honest → BlamesTables result (S.state shelf.old).tables }
     ensures stops { (S.state shelf.new).is_honest → (t : Tables) → (S.state shelf.new).stops t →
-        (S.state shelf.old).stops t ⊎ Shows (S.state shelf.old).tables (λ was. IsCommitted was decided.now.delta (row_for caller id.now decided.now (string_bytes content)) t) }
+        (S.state shelf.old).stops t ⊎ Shows (S.state shelf.old).tables (λ was. IsCommitted was decided.now.delta (row_for caller epoch id.now decided.now (string_bytes content)) t) }
     ensures counted { CountsFaults result (S.state shelf.old).faults (S.state shelf.new).faults }
 {
-    let kept = kept_for(alloc, caller, id, decided, content)?;
+    let kept = kept_for(alloc, caller, epoch, id, decided, content)?;
     shelf.commit(alloc, &decided.delta, &kept)
 }
 
@@ -240,16 +338,18 @@ fn store<S: Shelf>(
 fn kept_for(
     alloc: Global,
     caller: AccountNo,
+    epoch: Epoch,
     id: &RequestId,
     decided: &Decided,
     content: String,
 ) -> Result<Kept, AllocError>
-    ensures { IfOk result (λ kept. kept_row kept ≡ row_for caller id.now decided.now (string_bytes content)) }
+    ensures { IfOk result (λ kept. kept_row kept ≡ row_for caller epoch id.now decided.now (string_bytes content)) }
 {
     let id = id.copy(alloc)?;
     let reply = reply_text(alloc, &decided.reply)?;
     Ok(Kept {
         caller,
+        epoch,
         id,
         request: decided.request,
         content,

@@ -1,6 +1,12 @@
 //! Decisions on the files of projects.
+<<<<<<< ours
 ghost use Rattle.std.specs.Prelude.{◌≡◌, ◌≢◌, ◌⊎◌, [], List, IfOk, IfErr, IfSome, Some, is_some, length, option_copied, option_map, true, false};
 ghost use Rattle.std.specs.Option.{option_map_or};
+||||||| base
+ghost use Rattle.std.specs.Prelude.{◌≡◌, List, IfOk, IfErr, IfSome, Some, option_copied, option_map, true};
+=======
+ghost use Rattle.std.specs.Prelude.{◌≡◌, List, IfOk, IfErr, IfSome, Some, option_copied, option_map, true, None};
+>>>>>>> epochs
 ghost use Rattle.review_words.specs.Texts.{IsStored};
 ghost use Rattle.review_words.specs.History.{Entry, is_account};
 ghost use Rattle.review_words.specs.declared.command.Command.TheVariants.{PutProject};
@@ -46,6 +52,7 @@ pub fn put_project(
     ensures cause { IfErr result (IsUndecided caller (PutProject project.now file.now) (option_copied had.entry) rows.now) }
     ensures stored { IfOk result (λ r. IsStored r.1) }
     ensures refused { IfOk result (λ r. HasNoEffect r.1 r.0) }
+    ensures epoch { IfOk result (λ r. r.0.epoch ≡ None) }
     ensures once { IfOk result (λ r. NamesEachOnce r.0) }
 {
     one_effective_file();
@@ -208,6 +215,7 @@ fn put_line(
     ensures cause { IfErr result (λ cause. cause ≡ Memory) }
     ensures stored { IfOk result (λ r. IsStored r.1) }
     ensures refused { IfOk result (λ r. HasNoEffect r.1 r.0) }
+    ensures epoch { IfOk result (λ r. r.0.epoch ≡ None) }
     ensures once { IfOk result (λ r. NamesEachOnce r.0) }
 {
     let covered = is_covered(had, line.file());
@@ -240,11 +248,34 @@ fn refusal_by(covered: Option<bool>, has_room: bool) -> Option<Refusal>
     }
 }
 
+<<<<<<< ours
 // The change that puts the row of a project.
 fn put_row(alloc: Global, put: Put<ProjectName, StoredFile>) -> (Delta, Reply)
     ensures reply { result.1 ≡ Done Nothing }
     ensures delta { PutsFile put.key put.row result.0 }
     ensures once { NamesEachOnce result.0 }
+||||||| base
+// The change that puts the file of a project.
+fn put_text(
+    alloc: Global,
+    project: &ProjectName,
+    file: &FileText,
+) -> Result<(Delta, Reply), AllocError>
+    ensures reply { IfOk result (λ r. r.1 ≡ Done Nothing) }
+    ensures delta { IfOk result (λ r. PutsFile project.now file.now r.0) }
+    ensures once { IfOk result (λ r. NamesEachOnce r.0) }
+=======
+// The change that puts the file of a project.
+fn put_text(
+    alloc: Global,
+    project: &ProjectName,
+    file: &FileText,
+) -> Result<(Delta, Reply), AllocError>
+    ensures reply { IfOk result (λ r. r.1 ≡ Done Nothing) }
+    ensures delta { IfOk result (λ r. PutsFile project.now file.now r.0) }
+    ensures epoch { IfOk result (λ r. r.0.epoch ≡ None) }
+    ensures once { IfOk result (λ r. NamesEachOnce r.0) }
+>>>>>>> epochs
 {
     let mut delta = nothing(alloc);
     delta.file = Some(put);

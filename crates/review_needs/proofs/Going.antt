@@ -1,7 +1,17 @@
 -- Looks for a chain that go on.
+<<<<<<< ours
 use Rattle.std.proofs.Common.{List, ap, ◌≡◌, ℕ, true, [], Option, Some, None, refl, sym, ◌∙◌, subst}
 use Rattle.std.specs.Prelude.{◌&&◌, not, is_some, IfSome}
 use Rattle.review_words.specs.declared.command.Command.TheVariants.{CreateAccount, PutGroup, PutProject, RecordBase, CreateChange, OnChange, Submit}
+||||||| base
+use Rattle.std.proofs.Common.{◌≡◌, ℕ, true, [], Option, Some, None, refl, sym, ◌∙◌, subst}
+use Rattle.std.specs.Prelude.{◌&&◌, not, IfSome}
+use Rattle.review_words.specs.declared.command.Command.TheVariants.{CreateAccount, PutGroup, PutProject, RecordBase, CreateChange, OnChange, Submit}
+=======
+use Rattle.std.proofs.Common.{◌≡◌, ℕ, true, [], Option, Some, None, refl, sym, ◌∙◌, subst}
+use Rattle.std.specs.Prelude.{◌&&◌, not, IfSome}
+use Rattle.review_words.specs.declared.command.Command.TheVariants.{CreateAccount, PutGroup, PutProject, RecordBase, CloseEpoch, CreateChange, OnChange, Submit}
+>>>>>>> epochs
 use Rattle.review_changes.specs.Change.{Change, is_open}
 use Rattle.review_chain.specs.declared.walks.Walked.{Walked}
 use Rattle.review_chain.specs.Branches.{Branch}
@@ -46,7 +56,9 @@ come_for file rows caller (OfCommand (PutGroup group members)) (Some w) h = absu
 come_for file rows caller (OfCommand (PutProject project text)) None h = refl
 come_for file rows caller (OfCommand (PutProject project text)) (Some w) h = absurd h
 come_for file rows caller (OfCommand (RecordBase project branch commit)) None h = refl
+come_for file rows caller (OfCommand (CloseEpoch epoch)) None h = refl
 come_for file rows caller (OfCommand (RecordBase project branch commit)) (Some w) h = absurd h
+come_for file rows caller (OfCommand (CloseEpoch epoch)) (Some w) h = absurd h
 come_for file rows caller (OfCommand (CreateChange new)) None h = refl
 come_for file rows caller (OfCommand (CreateChange new)) (Some w) h = absurd h
 come_for file rows caller (OfCommand (OnChange change command)) None h = refl
@@ -62,6 +74,7 @@ come_to file rows caller (OfCommand (CreateAccount name)) (Some w) made h = absu
 come_to file rows caller (OfCommand (PutGroup group members)) (Some w) made h = absurd (cc)
 come_to file rows caller (OfCommand (PutProject project text)) (Some w) made h = absurd (cc)
 come_to file rows caller (OfCommand (RecordBase project branch commit)) (Some w) made h = absurd (cc)
+come_to file rows caller (OfCommand (CloseEpoch epoch)) (Some w) made h = absurd (cc)
 come_to file rows caller (OfCommand (CreateChange new)) (Some w) made h = absurd (cc)
 come_to file rows caller (OfCommand (OnChange change command)) (Some w) made h = absurd (cc)
 come_to file rows caller (OfCommand (Submit n)) (Some w) made h = (made, h)
@@ -72,6 +85,7 @@ made_before file rows caller (OfCommand (CreateAccount name)) w h = absurd h
 made_before file rows caller (OfCommand (PutGroup group members)) w h = absurd h
 made_before file rows caller (OfCommand (PutProject project text)) w h = absurd h
 made_before file rows caller (OfCommand (RecordBase project branch commit)) w h = absurd h
+made_before file rows caller (OfCommand (CloseEpoch epoch)) w h = absurd h
 made_before file rows caller (OfCommand (CreateChange new)) w h = absurd h
 made_before file rows caller (OfCommand (OnChange change command)) w h = absurd h
 made_before file rows caller (OfCommand (Submit n)) w h = h.0

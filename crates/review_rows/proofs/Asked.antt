@@ -6,7 +6,7 @@ use Rattle.std.specs.List.{All, AllByRecursion}
 use Rattle.std.proofs.lemmas.Bool.{cases_Bool}
 use Rattle.std.proofs.lemmas.List.Elements.{All-head, All-tail}
 use Rattle.review_words.specs.declared.command.Command.{Command}
-use Rattle.review_words.specs.declared.command.Command.TheVariants.{CreateAccount, PutGroup, PutProject, RecordBase, CreateChange, OnChange, Submit}
+use Rattle.review_words.specs.declared.command.Command.TheVariants.{CreateAccount, PutGroup, PutProject, RecordBase, CloseEpoch, CreateChange, OnChange, Submit}
 use Rattle.review_words.specs.declared.command.Query.TheVariants as asked
 use Rattle.review_rows.specs.declared.rows.Want.{Want}
 use Rattle.review_rows.specs.declared.rows.Want.TheVariants as want
@@ -144,6 +144,7 @@ same_wants rows more both caller (OfCommand (CreateAccount name)) added none = r
 same_wants rows more both caller (OfCommand (PutGroup group members)) added none = refl
 same_wants rows more both caller (OfCommand (PutProject project text)) added none = refl
 same_wants rows more both caller (OfCommand (RecordBase project branch commit)) added none = refl
+same_wants rows more both caller (OfCommand (CloseEpoch epoch)) added none = refl
 same_wants rows more both caller (OfCommand (CreateChange new)) added none = refl
 same_wants rows more both caller (OfCommand (Submit change)) added none =
     ap (λ k. wants_by submit_wants (change_in k)) (known_stays rows more both (want.Change change) added (submit_known rows caller change none))
@@ -296,6 +297,7 @@ last_lowers rows more both (OfCommand (CreateAccount name)) w ws added all there
 last_lowers rows more both (OfCommand (PutGroup group members)) w ws added all there is = absurd (let f : [] ≡ w ∷ ws = is in cc)
 last_lowers rows more both (OfCommand (PutProject project text)) w ws added all there is = absurd (let f : [] ≡ w ∷ ws = is in cc)
 last_lowers rows more both (OfCommand (RecordBase project branch commit)) w ws added all there is = absurd (let f : [] ≡ w ∷ ws = is in cc)
+last_lowers rows more both (OfCommand (CloseEpoch epoch)) w ws added all there is = absurd (let f : [] ≡ w ∷ ws = is in cc)
 last_lowers rows more both (OfCommand (CreateChange new)) w ws added all there is = absurd (let f : [] ≡ w ∷ ws = is in cc)
 last_lowers rows more both (OfCommand (OnChange change command)) w ws added all there is = absurd (let f : [] ≡ w ∷ ws = is in cc)
 last_lowers rows more both (OfCommand (Submit n)) w ws added all there is =
@@ -336,6 +338,7 @@ last_bounded rows topic = at (last_wants rows topic) (last_of rows topic) (by_to
     by_topic (OfCommand (PutGroup group members)) = omega arith
     by_topic (OfCommand (PutProject project text)) = omega arith
     by_topic (OfCommand (RecordBase project branch commit)) = omega arith
+    by_topic (OfCommand (CloseEpoch epoch)) = omega arith
     by_topic (OfCommand (CreateChange new)) = omega arith
     by_topic (OfCommand (OnChange change command)) = omega arith
     by_topic (OfCommand (Submit n)) = by_change n (change_in (known rows (want.Change n)))
@@ -516,6 +519,7 @@ come_stays file rows more both caller (OfCommand (CreateAccount name)) (Some w) 
 come_stays file rows more both caller (OfCommand (PutGroup group members)) (Some w) added h = h
 come_stays file rows more both caller (OfCommand (PutProject project text)) (Some w) added h = h
 come_stays file rows more both caller (OfCommand (RecordBase project branch commit)) (Some w) added h = h
+come_stays file rows more both caller (OfCommand (CloseEpoch epoch)) (Some w) added h = h
 come_stays file rows more both caller (OfCommand (CreateChange new)) (Some w) added h = h
 come_stays file rows more both caller (OfCommand (OnChange change command)) (Some w) added h = h
 come_stays file rows more both caller (OfCommand (Submit n)) (Some w) added h =

@@ -7,17 +7,26 @@ use Rattle.std.proofs.lemmas.Bool.{cases_Bool}
 use Rattle.std.proofs.lemmas.Slice.Eq.{bytes_eq-Decides}
 use Rattle.review_words.specs.History.{Asking, Entry, asking_of, accepted, if_done, file_text, text_put}
 use Rattle.review_words.specs.declared.command.Command.{Command}
-use Rattle.review_words.specs.declared.command.Command.TheVariants.{CreateAccount, PutGroup, PutProject, RecordBase, CreateChange, OnChange, Submit}
+use Rattle.review_words.specs.declared.command.Command.TheVariants.{CreateAccount, PutGroup, PutProject, RecordBase, CloseEpoch, CreateChange, OnChange, Submit}
 use Rattle.review_words.specs.declared.reply.Answer.{Answer}
 use Rattle.review_words.specs.declared.faults.FileFault.TheVariants.{UnknownKey}
 use Rattle.review_words.specs.declared.reply.Refusal.{Refusal}
 use Rattle.review_words.specs.declared.reply.Refusal.TheVariants.{BadFile}
 use Rattle.review_words.specs.declared.reply.Reply.{Reply}
+<<<<<<< ours
 use Rattle.review_words.specs.declared.reply.Reply.TheVariants.{Done, Refused, IdentityReused, NotTaken}
 use Rattle.review_project.specs.Inherited.{no_file}
 use Rattle.review_rows.specs.Answer.{IsAnswer, IsAnswerBy, IsAnswerIn, IsAnswerWithoutParents, IsHistory, IsFaultAnswer, IsFileAnswer, puts_parent, refused_by}
+||||||| base
+use Rattle.review_words.specs.declared.reply.Reply.TheVariants.{Done, Refused, IdentityReused, NotTaken}
+use Rattle.review_rows.specs.Answer.{IsAnswerBy, IsHistory, IsFaultAnswer, IsFileAnswer, refused_by}
+=======
+use Rattle.review_words.specs.declared.reply.Reply.TheVariants.{Done, Refused, IdentityReused, EpochClosed, NotTaken}
+use Rattle.review_rows.specs.Answer.{IsAnswerBy, IsHistory, IsFaultAnswer, IsFileAnswer, refused_by}
+>>>>>>> epochs
 use Rattle.review_rows.specs.Changes.{Reading, Reads, IsReadRight}
 use Rattle.review_rows.specs.Files.{File, IsRead}
+use Rattle.review_rows.proofs.Epochs.{IsDoneBy, done_by}
 
 -- what is read, with the file of one text more
 abbrev reading_with : Reading → List ℕ → File → Reading
@@ -37,6 +46,7 @@ right_with reading text file is (Some (CreateAccount name)) right = tt
 right_with reading text file is (Some (PutGroup group members)) right = tt
 right_with reading text file is (Some (PutProject project t)) right = read_with reading text file is t (inr right)
 right_with reading text file is (Some (RecordBase project branch commit)) right = tt
+right_with reading text file is (Some (CloseEpoch epoch)) right = tt
 right_with reading text file is (Some (CreateChange new)) right = tt
 right_with reading text file is (Some (OnChange n command)) right = tt
 right_with reading text file is (Some (Submit n)) right = tt
@@ -85,6 +95,7 @@ reading_of_one : (h : List Entry) (reading : Reading) → Reads reading h → (c
     (more : Reading) × IsReadRight more (if_done reply command) × Reads more h
 reading_of_one h reading reads caller command (Refused r) answer = (reading, tt, reads)
 reading_of_one h reading reads caller command IdentityReused answer = (reading, tt, reads)
+reading_of_one h reading reads caller command EpochClosed answer = (reading, tt, reads)
 reading_of_one h reading reads caller command (NotTaken cause) answer = (reading, tt, reads)
 reading_of_one h reading reads caller (CreateAccount name) (Done a) answer = (reading, tt, reads)
 reading_of_one h reading reads caller (PutGroup group members) (Done a) answer = (reading, tt, reads)
@@ -92,6 +103,7 @@ reading_of_one h reading reads caller (PutProject project text) (Done a) answer 
     let put = put_file reading h caller project text a answer in
     (reading_with reading text put.0, read_with reading text put.0 put.1 text (inl ((bytes_eq-Decides text text).1 refl)), reads_with reading text put.0 put.1 h reads)
 reading_of_one h reading reads caller (RecordBase project branch commit) (Done a) answer = (reading, tt, reads)
+reading_of_one h reading reads caller (CloseEpoch epoch) (Done a) answer = (reading, tt, reads)
 reading_of_one h reading reads caller (CreateChange new) (Done a) answer = (reading, tt, reads)
 reading_of_one h reading reads caller (OnChange n request) (Done a) answer = (reading, tt, reads)
 reading_of_one h reading reads caller (Submit n) (Done a) answer = (reading, tt, reads)
@@ -101,7 +113,13 @@ pub reading_of : (h : List Entry) → IsHistory h → (reading : Reading) × Rea
 reading_of [] history = (λ text. no_file, tt)
 reading_of (e ∷ h) history =
     let before = reading_of h history.3 in
+<<<<<<< ours
     let now = reading_of_one h before.0 before.1 e.identity.caller e.command e.reply (done_of e h history before.0 before.1) in
+||||||| base
+    let now = reading_of_one h before.0 before.1 e.identity.caller e.command e.reply (history.1 before.0 before.1) in
+=======
+    let now = reading_of_one h before.0 before.1 e.identity.caller e.command e.reply (done_by before.0 h e.identity.caller e.identity.epoch e.command e.reply (history.1 before.0 before.1)) in
+>>>>>>> epochs
     (now.0, (now.1, now.2))
 
 -- a text that a command puts, or one from before
@@ -120,6 +138,7 @@ read_by reading (Some (PutProject given put)) project text before right later is
     (λ (there : before ≡ Some text). later there)
     (put_before (bytes_eq given project) put text before is)
 read_by reading (Some (RecordBase in_project branch commit)) project text before right later is = later is
+read_by reading (Some (CloseEpoch epoch)) project text before right later is = later is
 read_by reading (Some (CreateChange new)) project text before right later is = later is
 read_by reading (Some (OnChange n command)) project text before right later is = later is
 read_by reading (Some (Submit n)) project text before right later is = later is

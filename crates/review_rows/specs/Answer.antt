@@ -11,7 +11,7 @@ use Rattle.review_words.specs.declared.changes.Review.{Review as ReviewOf}
 use Rattle.review_words.specs.declared.changes.Role.{Role}
 use Rattle.review_words.specs.declared.changes.Role.TheVariants.{Reviewer, Cc}
 use Rattle.review_words.specs.declared.command.Command.{Command}
-use Rattle.review_words.specs.declared.command.Command.TheVariants.{CreateAccount, PutGroup, PutProject, RecordBase, CreateChange, OnChange, Submit}
+use Rattle.review_words.specs.declared.command.Command.TheVariants.{CreateAccount, PutGroup, PutProject, RecordBase, CreateChange, OnChange, Submit, CloseEpoch}
 use Rattle.review_words.specs.declared.command.ChangeCommand.{ChangeCommand}
 use Rattle.review_words.specs.declared.command.ChangeCommand.TheVariants.{Upload, Review, AddReviewer, RemoveReviewer, SetWip, SetReady, Abandon, Restore, AddAttention, RemoveAttention}
 use Rattle.review_words.specs.declared.reply.Reply.{Reply}
@@ -19,10 +19,22 @@ use Rattle.review_words.specs.declared.reply.Reply.TheVariants.{Done, Refused}
 use Rattle.review_words.specs.declared.reply.Answer.{Answer}
 use Rattle.review_words.specs.declared.reply.Answer.TheVariants.{Account, Nothing, Change as AChange, Patch, Reviewed}
 use Rattle.review_words.specs.declared.reply.Refusal.{Refusal}
+<<<<<<< ours
 use Rattle.review_words.specs.declared.reply.Refusal.TheVariants.{UnknownCaller, NotAdmin, NoProject, NoBranch, NoChange, NoPatchSet, NoAccount, NoComment, NotAllowed, Closed, SameState, WorkInProgress, StalePatchSet, NoLabel, ValueOut, VoteRestricted, CommitKnown, UnknownParent, NotEligible, NameTaken, BadFile, LabelNarrowed, Limit, NoParent, ParentFixed, ParentDepth}
+||||||| base
+use Rattle.review_words.specs.declared.reply.Refusal.TheVariants.{UnknownCaller, NotAdmin, NoProject, NoBranch, NoChange, NoPatchSet, NoAccount, NoComment, NotAllowed, Closed, SameState, WorkInProgress, StalePatchSet, NoLabel, ValueOut, VoteRestricted, CommitKnown, UnknownParent, NotEligible, NameTaken, BadFile, LabelNarrowed, Limit}
+=======
+use Rattle.review_words.specs.declared.reply.Refusal.TheVariants.{UnknownCaller, NotAdmin, NoProject, NoBranch, NoChange, NoPatchSet, NoAccount, NoComment, NotAllowed, Closed, SameState, WorkInProgress, StalePatchSet, NoLabel, ValueOut, VoteRestricted, CommitKnown, UnknownParent, NotEligible, NameTaken, BadFile, LabelNarrowed, Limit, EpochAhead}
+>>>>>>> epochs
 use Rattle.review_words.specs.declared.faults.FileFault.{FileFault}
+<<<<<<< ours
 use Rattle.review_words.specs.declared.faults.FileFault.TheVariants.{UnknownKey, UnknownLabel}
 use Rattle.review_words.specs.History.{Asking, Entry, IsFirst, asking_of, may_follow, account_count, name_taken, is_account, is_admin, is_project, project_count, base_count, is_branch}
+||||||| base
+use Rattle.review_words.specs.History.{Entry, stored, account_count, name_taken, is_account, is_admin, file_text, is_project, project_count, base_count, is_branch}
+=======
+use Rattle.review_words.specs.History.{Entry, Identity, stored, is_closed, least_open, account_count, name_taken, is_account, is_admin, file_text, is_project, project_count, base_count, is_branch}
+>>>>>>> epochs
 use Rattle.review_names.specs.Forms.{is_within, most_changes, most_patches, most_comments}
 use Rattle.review_names.specs.Names.{registered_users}
 use Rattle.review_project.specs.Inherited.{inherit, inherits_unknown_label}
@@ -131,6 +143,7 @@ checks reading h caller (CreateChange new) =
     ∷ (commit_checks reading h new.project new.branch new.commit new.parent ++ (nat_lt (change_count h) most_changes, Limit) ∷ [])
 checks reading h caller (OnChange n command) = of_change (request_checks reading h caller command) (change reading h n)
 checks reading h caller (Submit n) = of_change (submit_checks reading h caller) (change reading h n)
+checks reading h caller (CloseEpoch least) = (is_admin h caller, NotAdmin) ∷ []
 
 -- the refusal of the first check that fails
 abbrev pub first_refusal : List (Bool × Refusal) → Option Refusal
@@ -227,10 +240,12 @@ IsOutcome reading h caller command reply = reply ≡ Done (done reading h comman
 abbrev pub IsAnswerBy : Reading → List Entry → ℕ → Command → Reply → Type 0
 IsAnswerBy reading h caller command reply = MatchOption (refused_by reading h caller command) (IsOutcome reading h caller command reply) (λ refusal. reply ≡ Refused refusal)
 
--- The reply is an answer to the command, where each text that was put is read right.
-abbrev pub IsAnswer : List Entry → ℕ → Command → Reply → Type 0
-IsAnswer h caller command reply = (reading : Reading) → Reads reading h → IsAnswerBy reading h caller command reply
+-- The checks of a CloseEpoch in a request of this epoch, after that of the caller: the epoch that is to be the least open one is not beyond the request's own, and it is above the
+-- one that is so.
+abbrev pub epoch_checks : List Entry → ℕ → ℕ → List (Bool × Refusal)
+epoch_checks h epoch least = (nat_le least epoch, EpochAhead) ∷ (nat_lt (least_open h) least, SameState) ∷ []
 
+<<<<<<< ours
 -- whether a command puts a text with the key `parent`
 abbrev pub puts_parent : Command → Bool
 puts_parent (PutProject project text) = has_parent_key text
@@ -249,7 +264,34 @@ IsAnswerIn h asking command reply =
 -- A history: each identity stands once, each reply is an answer after what stood before by the rules of its version, there are at most so many
 -- requests, and versions never fall. Nothing is asked of the forms of names and numbers in it, so where a history is assumed, more lists are spoken of
 -- than the desk can make.
+||||||| base
+-- A history: each identity stands once, each reply is an answer after what stood before, and there are at most so many requests. Nothing is
+-- asked of the forms of names and numbers in it, so where a history is assumed, more lists are spoken of than the desk can make.
+=======
+-- What a command is told in a request of this epoch. The answer to each but CloseEpoch doesn't depend on the epoch.
+abbrev pub IsAnswerIn : Reading → List Entry → ℕ → ℕ → Command → Reply → Type 0
+IsAnswerIn reading h caller epoch (CloseEpoch least) reply =
+    MatchOption (refused_by reading h caller (CloseEpoch least)) (reply ≡ refused_or (first_refusal (epoch_checks h epoch least)) Nothing) (λ refusal. reply ≡ Refused refusal)
+IsAnswerIn reading h caller epoch command reply = IsAnswerBy reading h caller command reply
+
+-- The reply is an answer to the command of a request of this epoch, where each text that was put is read right.
+abbrev pub IsAnswer : List Entry → ℕ → ℕ → Command → Reply → Type 0
+IsAnswer h caller epoch command reply = (reading : Reading) → Reads reading h → IsAnswerIn reading h caller epoch command reply
+
+-- an identity that is not stored, and whose epoch is open
+abbrev pub IsFirst : List Entry → Identity → Type 0
+IsFirst h i = (stored h i ≡ None) × (is_closed h i.epoch ≡ false)
+
+-- A history: each identity stands once, and its epoch was open before it, each reply is an answer after what stood before, and there are at most so many requests. Nothing is
+-- asked of the forms of names and numbers in it, so where a history is assumed, more lists are spoken of than the desk can make.
+>>>>>>> epochs
 abbrev pub IsHistory : List Entry → Type 0
 IsHistory [] = Unit {0}
+<<<<<<< ours
 IsHistory (e ∷ h) =
     IsFirst h e.identity × IsAnswerIn h (asking_of e) e.command e.reply × (length h < most_requests) × IsHistory h × (may_follow h e.version ≡ true)
+||||||| base
+IsHistory (e ∷ h) = (stored h e.identity ≡ None) × IsAnswer h e.identity.caller e.command e.reply × (length h < most_requests) × IsHistory h
+=======
+IsHistory (e ∷ h) = IsFirst h e.identity × IsAnswer h e.identity.caller e.identity.epoch e.command e.reply × (length h < most_requests) × IsHistory h
+>>>>>>> epochs

@@ -21,9 +21,14 @@ use Rattle.review_rows.specs.declared.rows.Counted.TheVariants as counted
 use Rattle.review_rows.specs.declared.rows.Want.{Want}
 use Rattle.review_rows.specs.declared.rows.Want.TheVariants as want
 use Rattle.review_rows.specs.declared.rows.Rows.{Rows}
+<<<<<<< ours
 use Rattle.review_rows.specs.declared.rows.StoredFile.{StoredFile}
+||||||| base
+=======
+use Rattle.review_words.specs.Epochs.{last_epoch}
+>>>>>>> epochs
 use Rattle.review_rows.specs.Limits.{most_projects, most_bases}
-use Rattle.review_rows.specs.Rows.{Key, AccountKey, MemberKey, FileKey, BaseKey, PartKey, APart, Row, AccountRow, MemberRow, FileRow, BaseRow, Count, Projects, BasesOf, Tables, member_cmp, branch_cmp, base_cmp, member_row}
+use Rattle.review_rows.specs.Rows.{Key, AccountKey, MemberKey, FileKey, BaseKey, PartKey, APart, Row, AccountRow, MemberRow, FileRow, BaseRow, Count, Projects, BasesOf, ClosedEpochs, Tables, member_cmp, branch_cmp, base_cmp, member_row}
 
 -- what a look-up finds, by its kind: a number, an account's name, the account or the change that was looked for, whether something is so, the members of a group, the file of a project with its parent, the bases of a branch, a change, what a commit is to a branch, the changes that joined a branch
 pub data Found : Type 0 where
@@ -168,6 +173,7 @@ count_of (counted.BasesOf project) = BasesOf project
 abbrev pub most : Count → ℕ
 most Projects = most_projects
 most (BasesOf project) = most_bases
+most ClosedEpochs = last_epoch
 
 -- it is of this kind, with a value for which this holds
 abbrev pub Finds : {X : Type 0} → (X → Found) → (X → Type 0) → Found → Type 0
@@ -193,6 +199,7 @@ IsFound t want.LastChange = Finds Number (IsLast header_key t.row)
 IsFound t (want.LastJoined key) = Finds Number (IsLastJoined t.row key)
 IsFound t (want.Standing base) = Finds Stands (StandsAs t.row base)
 IsFound t (want.Joined key) = Finds Joins (HaveJoined t.row key)
+IsFound t want.LeastEpoch = Finds Number (λ n. n ≡ t.count ClosedEpochs)
 
 -- What rows know of a look-up: nothing where it wasn't made, and otherwise what it found.
 abbrev pub known : Rows → Want → Option Found
@@ -215,6 +222,7 @@ known rows want.LastChange = option_map Number rows.last_change
 known rows (want.LastJoined key) = option_map Number (row_in branch_cmp (rows_of rows.last_joined) key)
 known rows (want.Standing base) = option_map Stands (row_in base_cmp (rows_of rows.standings) base)
 known rows (want.Joined key) = option_map Joins (row_in branch_cmp (rows_of rows.joined) key)
+known rows want.LeastEpoch = option_map Number rows.least_epoch
 
 -- what rows know is so in these tables
 abbrev pub Agrees : Tables → Rows → Type 0

@@ -1,5 +1,11 @@
 -- Rows of all tables as one type, read at a key: what tables hold, and what a delta changes.
+<<<<<<< ours
 use Rattle.std.specs.Prelude.{ℕ, ℤ, ◌+◌, ◌≡◌, List, [], ◌∷◌, Option, Some, None, Bool, true, ◌==◌, is_some, option_map, if◌then◌else◌, string_bytes}
+||||||| base
+use Rattle.std.specs.Prelude.{ℕ, ℤ, ◌+◌, ◌≡◌, List, [], ◌∷◌, Option, Some, None, ◌&&◌, ◌==◌, is_some, option_map, if◌then◌else◌, string_bytes}
+=======
+use Rattle.std.specs.Prelude.{ℕ, ℤ, ◌+◌, ◌≡◌, List, [], ◌∷◌, Option, Some, None, Bool, true, false, nat_lt, unwrap_or, ◌&&◌, ◌==◌, is_some, option_map, if◌then◌else◌, string_bytes}
+>>>>>>> epochs
 use Rattle.std.specs.declared.cmp.Ordering.{Ordering}
 use Rattle.std.specs.Ordering.{nat_cmp, ordering_then}
 use Rattle.std.specs.Cmp.Lexicographic.{slice_cmp}
@@ -10,6 +16,8 @@ use Rattle.review_changes.specs.Parts.{Part, TheHeader, PatchOf, VoteOf, RoleOf,
 use Rattle.review_changes.specs.Seen.{vote_cmp}
 use Rattle.review_changes.specs.Votes.{voted}
 use Rattle.review_words.specs.History.{Identity}
+use Rattle.review_words.specs.declared.command.Command.{Command}
+use Rattle.review_words.specs.declared.command.Command.TheVariants.{CloseEpoch}
 use Rattle.review_words.specs.declared.reply.Reply.{Reply}
 use Rattle.review_words.specs.declared.reply.Reply.TheVariants.{Refused}
 use Rattle.review_rows.specs.declared.rows.MemberKey.{MemberKey as Member}
@@ -40,10 +48,11 @@ pub data Row : Type 0 where
   APart : PartRow → Row
   OddRow : Row
 
--- what is counted: the projects, and the bases of a project over all its branches
+-- what is counted: the projects, the bases of a project over all its branches, and the closed epochs, whose count is the least open one
 pub data Count : Type 0 where
   Projects : Count
   BasesOf : List ℕ → Count
+  ClosedEpochs : Count
 
 -- a stored request with its texts
 pub record AnswerRow : Type 0 where
@@ -136,11 +145,31 @@ count_put test (Some put) row n = if test put.key then (if is_some (row put.key)
 
 -- a count after a delta, where the rows were these and the count this one before
 abbrev pub count_after : Delta → (Key → Option Row) → Count → ℕ → ℕ
+<<<<<<< ours
 count_after delta row Projects n = count_put (λ p. true) delta.file (λ p. row (FileKey p)) n
 count_after delta row (BasesOf project) n = count_put (λ k. bytes_eq k.project project) delta.base (λ k. row (BaseKey k.project k.branch k.place)) n
+||||||| base
+count_after delta row Projects n = projects_after delta.file row n
+count_after delta row (BasesOf project) n = bases_after delta.base row project n
+=======
+count_after delta row Projects n = projects_after delta.file row n
+count_after delta row (BasesOf project) n = bases_after delta.base row project n
+count_after delta row ClosedEpochs n = unwrap_or delta.epoch n
+>>>>>>> epochs
 
--- no row and no count is changed, whatever they were
+-- whether an epoch is below the one that is named, if one is
+abbrev pub is_below : Option ℕ → ℕ → Bool
+is_below None epoch = false
+is_below (Some least) epoch = nat_lt epoch least
+
+-- the epoch that an accepted command makes the least open one
+abbrev pub closing : Option Command → Option ℕ
+closing (Some (CloseEpoch least)) = Some least
+closing _ = None
+
+-- no row and no count is changed, whatever they were, and no kept answer is given up
 pub record ChangesNothing (delta : Delta) : Type 0 where
+  pub answers : delta.epoch ≡ None
   pub rows : (k : Key) (was : Option Row) → after delta k was ≡ was
   pub counts : (row : Key → Option Row) (c : Count) (n : ℕ) → count_after delta row c n ≡ n
 
@@ -151,4 +180,4 @@ HasNoEffect _ delta = Unit {0}
 
 -- a stored request as the tables hold it
 abbrev pub kept_row : Kept → AnswerRow
-kept_row k = record { identity = record { caller = k.caller; id = k.id }; request = k.request; content = string_bytes k.content; reply = string_bytes k.reply }
+kept_row k = record { identity = record { caller = k.caller; epoch = k.epoch; id = k.id }; request = k.request; content = string_bytes k.content; reply = string_bytes k.reply }

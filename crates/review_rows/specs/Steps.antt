@@ -3,7 +3,7 @@ use Rattle.std.specs.Prelude.{ℕ, zero, suc, Bool, true, false, ◌+◌, ◌<�
 use Rattle.std.specs.List.{All, filter}
 use Rattle.review_names.specs.Names.{administrators}
 use Rattle.review_words.specs.declared.command.Command.{Command}
-use Rattle.review_words.specs.declared.command.Command.TheVariants.{CreateAccount, PutGroup, PutProject, RecordBase, CreateChange, OnChange, Submit}
+use Rattle.review_words.specs.declared.command.Command.TheVariants.{CreateAccount, PutGroup, PutProject, RecordBase, CreateChange, OnChange, Submit, CloseEpoch}
 use Rattle.review_words.specs.declared.changes.Given.{Given}
 use Rattle.review_words.specs.declared.command.ChangeCommand.{ChangeCommand}
 use Rattle.review_words.specs.declared.command.ChangeCommand.TheVariants.{Upload, Review, AddReviewer, RemoveReviewer, Abandon, Restore, AddAttention, RemoveAttention}
@@ -75,6 +75,7 @@ command_wants (CreateChange new) =
     want.LastPlace (record { project = new.project; branch = new.branch }) ∷ want.LastChange ∷ patch_wants new.project new.branch new.commit new.parent
 command_wants (OnChange change command) = want.Change change ∷ map want.Account (named_in command)
 command_wants (Submit change) = want.Change change ∷ []
+command_wants (CloseEpoch least) = want.LeastEpoch ∷ []
 
 -- what a question asks
 abbrev pub query_wants : ℕ → Query → List Want

@@ -1,16 +1,32 @@
 -- The tables of a history, and what was decided.
 use Rattle.std.specs.Prelude.{ℕ, ◌+◌, ◌≡◌, List, [], ◌∷◌, Option, Some, None, length, option_map, if◌then◌else◌}
 use Rattle.review_words.specs.Texts.{content_text, reply_text}
+<<<<<<< ours
 use Rattle.review_words.specs.History.{Entry, Identity, entry_of, is_same, latest, name_of, is_listed, project_count, bases, base_count}
+||||||| base
+use Rattle.review_words.specs.History.{Entry, Identity, is_same, name_of, is_listed, file_text, project_count, bases, base_count}
+=======
+use Rattle.review_words.specs.History.{Entry, Identity, is_same, is_closed, least_open, name_of, is_listed, file_text, project_count, bases, base_count}
+>>>>>>> epochs
 use Rattle.review_words.specs.declared.command.Command.{Command}
 use Rattle.review_words.specs.declared.reply.Reply.{Reply}
 use Rattle.review_rows.specs.declared.rows.Delta.{Delta}
 use Rattle.review_rows.specs.declared.rows.Rows.{Rows}
-use Rattle.review_rows.specs.Rows.{Key, AccountKey, MemberKey, FileKey, BaseKey, PartKey, OddKey, Row, AccountRow, MemberRow, FileRow, BaseRow, APart, Count, Projects, BasesOf, AnswerRow, Stored, Answered, Tables, after, count_after}
+use Rattle.review_rows.specs.Rows.{Key, AccountKey, MemberKey, FileKey, BaseKey, PartKey, OddKey, Row, AccountRow, MemberRow, FileRow, BaseRow, APart, Count, Projects, BasesOf, ClosedEpochs, AnswerRow, Stored, Answered, Tables, after, count_after}
 use Rattle.review_rows.specs.Known.{at_place, part_of, Agrees}
+<<<<<<< ours
 use Rattle.review_rows.specs.Steps.{Topic, HasFile, next, texts_for}
 use Rattle.review_rows.specs.Answer.{IsAnswerBy}
 use Rattle.review_rows.specs.Changes.{Reading, Reads, change, own_of}
+||||||| base
+use Rattle.review_rows.specs.Steps.{Topic, HasFile, next, text_for}
+use Rattle.review_rows.specs.Answer.{IsAnswerBy}
+use Rattle.review_rows.specs.Changes.{Reading, Reads, change}
+=======
+use Rattle.review_rows.specs.Steps.{Topic, HasFile, next, text_for}
+use Rattle.review_rows.specs.Answer.{IsAnswerBy, IsAnswerIn}
+use Rattle.review_rows.specs.Changes.{Reading, Reads, change}
+>>>>>>> epochs
 use Rattle.review_rows.specs.Files.{File}
 
 -- the row of a key that the history says, by what is read of the texts that were put
@@ -26,6 +42,7 @@ fact reading h (OddKey o) = None
 abbrev pub counted : List Entry → Count → ℕ
 counted h Projects = project_count h
 counted h (BasesOf project) = base_count h project
+counted h ClosedEpochs = least_open h
 
 -- the row of an entry, which has its number
 abbrev pub answer_row : Entry → ℕ → AnswerRow
@@ -36,19 +53,29 @@ abbrev pub stored_answer : List Entry → Identity → Option Stored
 stored_answer [] i = None
 stored_answer (e ∷ h) i = if is_same e.identity i then Some (Answered (answer_row e (length h + 1))) else stored_answer h i
 
+<<<<<<< ours
 -- the version of the tables: that of the desk that keeps them
+||||||| base
+-- the version of the tables
+=======
+-- what is kept under an identity: nothing once its epoch is closed
+abbrev pub kept_answer : List Entry → Identity → Option Stored
+kept_answer h i = if is_closed h i.epoch then None else stored_answer h i
+
+-- the version of the tables
+>>>>>>> epochs
 abbrev pub tables_version : ℕ
 tables_version = latest
 
 -- the tables of a history, by what is read of the texts that were put
 abbrev pub view : Reading → List Entry → Tables
-view reading h = record { row = fact reading h; count = counted h; answer = stored_answer h; version = tables_version; requests = length h }
+view reading h = record { row = fact reading h; count = counted h; answer = kept_answer h; version = tables_version; requests = length h }
 
 -- the tables have just what the history says, by what is read of the texts that were put
 pub record IsViewBy (reading : Reading) (h : List Entry) (t : Tables) : Type 0 where
   pub row_is : (k : Key) → t.row k ≡ fact reading h k
   pub count_is : (c : Count) → t.count c ≡ counted h c
-  pub answer_is : (i : Identity) → t.answer i ≡ stored_answer h i
+  pub answer_is : (i : Identity) → t.answer i ≡ kept_answer h i
   pub version : t.version ≡ tables_version
   pub requests : t.requests ≡ length h
 
@@ -63,8 +90,22 @@ pub record AreEnough (reading : Reading) (h : List Entry) (caller : ℕ) (topic 
   pub file_is : HasFile (texts_for rows topic) file
   pub nothing_left : next file rows caller topic ≡ []
 
--- The reply is an answer after the history, and the delta turns its rows and counts into those of the history with the entry.
+-- The reply is an answer after the history, and the delta turns its rows and counts into those of the history with the entry. So it is for each command but CloseEpoch.
 pub record IsDecided (reading : Reading) (h : List Entry) (caller : ℕ) (command : Command) (delta : Delta) (reply : Reply) : Type 0 where
   pub reply_is : IsAnswerBy reading h caller command reply
+<<<<<<< ours
   pub row_is : (id : List ℕ) (k : Key) → fact reading (entry_of caller id command reply ∷ h) k ≡ after delta k (fact reading h k)
   pub count_is : (id : List ℕ) (c : Count) → counted (entry_of caller id command reply ∷ h) c ≡ count_after delta (fact reading h) c (counted h c)
+||||||| base
+  pub row_is : (id : List ℕ) (k : Key) → fact reading (record { identity = record { caller = caller; id = id }; command = command; reply = reply } ∷ h) k ≡ after delta k (fact reading h k)
+  pub count_is : (id : List ℕ) (c : Count) → counted (record { identity = record { caller = caller; id = id }; command = command; reply = reply } ∷ h) c ≡ count_after delta (fact reading h) c (counted h c)
+=======
+  pub row_is : (epoch : ℕ) (id : List ℕ) (k : Key) → fact reading (record { identity = record { caller = caller; epoch = epoch; id = id }; command = command; reply = reply } ∷ h) k ≡ after delta k (fact reading h k)
+  pub count_is : (epoch : ℕ) (id : List ℕ) (c : Count) → counted (record { identity = record { caller = caller; epoch = epoch; id = id }; command = command; reply = reply } ∷ h) c ≡ count_after delta (fact reading h) c (counted h c)
+
+-- The same of any command, in a request of this epoch.
+pub record IsDecidedIn (reading : Reading) (h : List Entry) (caller epoch : ℕ) (command : Command) (delta : Delta) (reply : Reply) : Type 0 where
+  pub reply_is : IsAnswerIn reading h caller epoch command reply
+  pub row_is : (id : List ℕ) (k : Key) → fact reading (record { identity = record { caller = caller; epoch = epoch; id = id }; command = command; reply = reply } ∷ h) k ≡ after delta k (fact reading h k)
+  pub count_is : (id : List ℕ) (c : Count) → counted (record { identity = record { caller = caller; epoch = epoch; id = id }; command = command; reply = reply } ∷ h) c ≡ count_after delta (fact reading h) c (counted h c)
+>>>>>>> epochs

@@ -5,7 +5,7 @@ use review_chain::Standing;
 use review_changes::{Called, ChangeRows, Comment, Header, PatchRow, Vote, VoteKey};
 use review_table::{Change, Key, Table};
 use review_words::{
-    AccountName, AccountNo, Bases, BranchName, ChangeNo, CommentNo, CommitName, FileText,
+    AccountName, AccountNo, Bases, BranchName, ChangeNo, CommentNo, CommitName, Epoch, FileText,
     GroupName, JoinedChange, Listed, PatchNo, ProjectName, RequestId, Role,
 };
 use std::alloc::{AllocError, Global};
@@ -172,6 +172,8 @@ pub enum Want {
     Standing(Base),
     /// The changes that joined a branch.
     Joined(BranchKey),
+    /// The least open epoch.
+    LeastEpoch,
 }
 
 /// What a load asks for.
@@ -207,10 +209,19 @@ pub struct Rows {
     pub standings: Table<Base, Standing>,
     /// The changes that joined a branch, in the order of their places.
     pub joined: Table<BranchKey, Listed<JoinedChange>>,
+    pub least_epoch: Option<u32>,
 }
 
+<<<<<<< ours
 /// What a request changes: for each account and member that it names a new row, or none; the file of a project and the base at a place
 /// of a branch, neither of which is ever taken away; and the rows of changes.
+||||||| base
+/// What a request changes: for each key that it names a new row, or none; the file of a project, a base of a branch, and the rows of
+/// changes.
+=======
+/// What a request changes: for each key that it names a new row, or none; the file of a project, a base of a branch, the rows of
+/// changes, and the least open epoch, with which the kept answers of lower epochs are given up.
+>>>>>>> epochs
 #[derive(Drop)]
 pub struct Delta {
     pub accounts: Vec<Change<AccountNo, AccountName>>,
@@ -218,18 +229,21 @@ pub struct Delta {
     pub file: Option<Put<ProjectName, StoredFile>>,
     pub base: Option<Put<PlaceKey, CommitName>>,
     pub changes: Vec<ChangeEdit>,
+    pub epoch: Option<Epoch>,
 }
 
 /// A stored request, with the texts of its command and its reply.
 #[derive(Debug, Drop)]
 pub struct Kept {
     pub caller: AccountNo,
+    pub epoch: Epoch,
     pub id: RequestId,
     /// Its number among the stored requests, from 1.
     pub request: u64,
     pub content: String,
     pub reply: String,
 }
+<<<<<<< ours
 
 /// What is known of the identity of a request.
 #[derive(Debug, Drop)]
@@ -239,3 +253,17 @@ pub enum Recalled {
     /// No request is stored under it.
     Fresh,
 }
+||||||| base
+=======
+
+/// What is known of an identity.
+#[derive(Debug, Drop)]
+pub enum Recalled {
+    /// It is stored.
+    Kept(Kept),
+    /// It is new, and its epoch is open.
+    Fresh,
+    /// Its epoch is closed.
+    Closed,
+}
+>>>>>>> epochs

@@ -19,10 +19,20 @@ use Rattle.review_words.specs.History.{Identity, is_same}
 use Rattle.review_rows.specs.declared.rows.MemberKey.{MemberKey as Member}
 use Rattle.review_rows.specs.declared.rows.Delta.{Delta}
 use Rattle.review_rows.specs.declared.rows.Kept.{Kept}
+<<<<<<< ours
 use Rattle.review_rows.specs.declared.rows.PlaceKey.{PlaceKey}
 use Rattle.review_rows.specs.declared.rows.Put.{Put}
 use Rattle.review_rows.specs.declared.rows.StoredFile.{StoredFile}
 use Rattle.review_rows.specs.Rows.{Key, AccountKey, MemberKey, FileKey, BaseKey, PartKey, OddKey, Row, AccountRow, FileRow, BaseRow, APart, Count, Projects, BasesOf, AnswerRow, Answered, Tables, member_cmp, member_row, member_change, account_change, after_put, count_put, place_cmp, after, count_after, kept_row}
+||||||| base
+use Rattle.review_rows.specs.declared.rows.BaseRow.{BaseRow as PlacedBase}
+use Rattle.review_rows.specs.declared.rows.ProjectRow.{ProjectRow}
+use Rattle.review_rows.specs.Rows.{Key, AccountKey, MemberKey, FileKey, BaseKey, PartKey, OddKey, Row, AccountRow, FileRow, BaseRow, APart, Count, Projects, BasesOf, AnswerRow, Answered, Tables, member_cmp, member_row, member_change, account_change, file_after, base_after, projects_after, bases_after, after, count_after, kept_row}
+=======
+use Rattle.review_rows.specs.declared.rows.BaseRow.{BaseRow as PlacedBase}
+use Rattle.review_rows.specs.declared.rows.ProjectRow.{ProjectRow}
+use Rattle.review_rows.specs.Rows.{Key, AccountKey, MemberKey, FileKey, BaseKey, PartKey, OddKey, Row, AccountRow, FileRow, BaseRow, APart, Count, Projects, BasesOf, ClosedEpochs, AnswerRow, Answered, Tables, member_cmp, member_row, member_change, account_change, file_after, base_after, projects_after, bases_after, after, count_after, kept_row}
+>>>>>>> epochs
 use Rattle.review_rows.specs.Shelf.{IsCommitted}
 use Rattle.review_changes.specs.Parts.{PartRow}
 use Rattle.review_rows.specs.Rows.{edited}
@@ -33,8 +43,20 @@ use Rattle.review_shelves.specs.declared.keys.AnswerKey.{AnswerKey}
 use Rattle.review_shelves.specs.declared.keys.NameKey.{NameKey}
 use Rattle.review_shelves.specs.declared.keys.StoredAnswer.{StoredAnswer}
 use Rattle.review_shelves.specs.declared.tables.MemoryTables.{MemoryTables}
+<<<<<<< ours
 use Rattle.review_shelves.specs.Desk.{Desk, desk_of, tables_of, row_of, count_of, stored_row, file_changes, answer_cmp, name_cmp, IsNumber, AreInUse, IsIndexed, IsNumbered, IsBounded, IsSound, IsGiven, IsHeld, AreIndexed, KeepsNames, AreChangesOf, AreApplied, IsWithBase, HasRoom, HasRoomOnlyFor, with_branches, with_changes}
 use Rattle.review_kept_branches.specs.Branches.{BranchesView, total_in}
+||||||| base
+use Rattle.review_shelves.specs.Desk.{Desk, desk_of, tables_of, row_of, count_of, stored_row, file_changes, answer_cmp, name_cmp, IsNumber, AreInUse, IsIndexed, IsNumbered, IsBounded, IsSound, IsGiven, IsHeld, AreIndexed, KeepsNames, AreChangesOf, AreApplied, IsWithBase, HasRoom, HasRoomOnlyFor, with_branches, with_changes}
+use Rattle.review_kept_branches.specs.Branches.{BranchesView, place_cmp, base_at, total_in, place_of}
+use Rattle.review_kept_branches.specs.declared.keys.PlaceKey.{PlaceKey}
+use Rattle.review_kept_branches.proofs.Based.{at_place_of}
+=======
+use Rattle.review_shelves.specs.Desk.{beside_epoch, key_of, Desk, desk_of, tables_of, row_of, count_of, stored_row, file_changes, answer_cmp, name_cmp, IsNumber, AreInUse, IsIndexed, IsNumbered, IsBounded, IsSound, IsGiven, IsHeld, AreIndexed, KeepsNames, AreChangesOf, AreApplied, IsWithBase, HasRoom, HasRoomOnlyFor, with_branches, with_changes}
+use Rattle.review_kept_branches.specs.Branches.{BranchesView, place_cmp, base_at, total_in, place_of}
+use Rattle.review_kept_branches.specs.declared.keys.PlaceKey.{PlaceKey}
+use Rattle.review_kept_branches.proofs.Based.{at_place_of}
+>>>>>>> epochs
 use Rattle.review_shelves.proofs.Orders.{exact_member, exact_answer, at_answer}
 
 -- names that are listed stay so
@@ -155,28 +177,35 @@ total_after (Some base) old new put p =
     (sym (some_based (row_in place_cmp old.branches.bases base.key)))
 
 pub committed : (delta : Delta) (kept : Kept) (changes : Changes) (projects : ℕ) (old new : Desk) → AreChangesOf delta kept changes → ArePrepared old.changes delta.changes.items changes.edits →
+<<<<<<< ours
     AreApplied old changes projects new → IsWithBase delta.base old.branches new.branches → projects ≡ count_put (λ p. true) delta.file (files_of (row_of old)) old.projects → IsCommitted (tables_of old) delta (kept_row kept) (tables_of new)
+||||||| base
+    AreApplied old changes projects new → IsWithBase delta.base old.branches new.branches → projects ≡ projects_after delta.file (row_of old) old.projects → IsCommitted (tables_of old) delta (kept_row kept) (tables_of new)
+=======
+    AreApplied old changes projects new → IsWithBase delta.base old.branches new.branches → projects ≡ projects_after delta.file (row_of old) old.projects → IsCommitted (tables_of old) (beside_epoch delta) (kept_row kept) (tables_of new)
+>>>>>>> epochs
 committed delta kept changes projects old new copies prepared applied based number = record {
   row_is = rows;
   count_is = counts;
   answer_is = λ i.
-      let key : AnswerKey = record { caller = kept.caller; id = kept.id } in
-      let asked : AnswerKey = record { caller = i.caller; id = i.id } in
+      let key : AnswerKey = key_of (kept_row kept).identity in
+      let asked : AnswerKey = key_of i in
       let was = row_in answer_cmp old.answers asked in
       let c = copies.answers.0 in
       ap (option_map Answered) (ap (stored_row i) (applied.answers asked ∙ ap (λ cs. changed answer_cmp cs asked was) copies.answers.1 ∙ ap (λ k. after_change (cond (is_at (answer_cmp k) asked) (Some c.row) None) was) copies.answers.2.key)
-      ∙ answer_after kept i (is_at (answer_cmp key) asked) c.row was (λ same. ap (λ (k : AnswerKey). record { caller = k.caller; id = k.id }) (tells_apart exact_answer key asked same)) copies.answers.2.row
+      ∙ answer_after kept i (is_at (answer_cmp key) asked) c.row was (λ same. ap (λ (k : AnswerKey). record { caller = k.caller; epoch = k.epoch; id = k.id }) (tells_apart exact_answer key asked same)) copies.answers.2.row
       ∙ ap (λ b. cond b (Some (kept_row kept)) (stored_row i was)) (at_answer key asked))
       ∙ answer_there (is_same (kept_row kept).identity i) (kept_row kept) (stored_row i was);
   version = refl;
   requests = applied.requests;
 }
   where
-    counts : (c : Count) → count_of new c ≡ count_after delta (row_of old) c (count_of old c)
+    counts : (c : Count) → count_of new c ≡ count_after (beside_epoch delta) (row_of old) c (count_of old c)
     counts Projects = applied.projects_are ∙ number
     counts (BasesOf project) = total_after delta.base old new based project
+    counts ClosedEpochs = applied.least
 
-    rows : (k : Key) → row_of new k ≡ after delta k (row_of old k)
+    rows : (k : Key) → row_of new k ≡ after (beside_epoch delta) k (row_of old k)
     rows (AccountKey n) = ap (option_map AccountRow) (applied.accounts n ∙ ap (λ cs. changed nat_cmp cs n (row_in nat_cmp old.accounts n)) copies.accounts) ∙ account_after (change_of nat_cmp delta.accounts.items n) (row_in nat_cmp old.accounts n)
     rows (MemberKey group account) =
         let k : Member = record { group = group; account = account } in
@@ -209,6 +238,7 @@ applied_from old mid branches changes projects new same applied = record {
   files = λ k. applied.files k ∙ ap (λ (d : Desk). changed (slice_cmp nat_cmp) changes.files.items k (row_in (slice_cmp nat_cmp) d.files k)) same;
   edits = λ k. applied.edits k ∙ ap (λ (d : Desk). changed nat_cmp changes.edits.tables.items k (row_in nat_cmp d.changes k)) same;
   projects_are = applied.projects_are;
+  least = applied.least ∙ ap (λ (d : Desk). d.least) same;
   answers = λ k. applied.answers k ∙ ap (λ (d : Desk). changed answer_cmp changes.answers.items k (row_in answer_cmp d.answers k)) same;
   requests = applied.requests ∙ ap (λ (d : Desk). d.requests + 1) same;
 }
@@ -271,9 +301,15 @@ made_sound delta kept changes given projects (Err e) old new copies are keeps li
 }
 
 pub made_committed : (delta : Delta) (kept : Kept) (changes : Changes) (projects : ℕ) (r : Result (Unit {0}) AllocError) (old made new : Desk) → AreChangesOf delta kept changes →
+<<<<<<< ours
     ArePrepared old.changes delta.changes.items changes.edits → OnOk r (AreApplied old changes projects made) → OnOk r (IsWithBase delta.base old.branches made.branches) → projects ≡ count_put (λ p. true) delta.file (files_of (row_of old)) old.projects → new ≡ made → OnOk r (IsCommitted (tables_of old) delta (kept_row kept) (tables_of new))
+||||||| base
+    ArePrepared old.changes delta.changes.items changes.edits → OnOk r (AreApplied old changes projects made) → OnOk r (IsWithBase delta.base old.branches made.branches) → projects ≡ projects_after delta.file (row_of old) old.projects → new ≡ made → OnOk r (IsCommitted (tables_of old) delta (kept_row kept) (tables_of new))
+=======
+    ArePrepared old.changes delta.changes.items changes.edits → OnOk r (AreApplied old changes projects made) → OnOk r (IsWithBase delta.base old.branches made.branches) → projects ≡ projects_after delta.file (row_of old) old.projects → new ≡ made → OnOk r (IsCommitted (tables_of old) (beside_epoch delta) (kept_row kept) (tables_of new))
+>>>>>>> epochs
 made_committed delta kept changes projects (Ok u) old made new copies prepared done based number same =
-    subst (λ d. IsCommitted (tables_of old) delta (kept_row kept) (tables_of d)) (sym same) (committed delta kept changes projects old made copies prepared done based number)
+    subst (λ d. IsCommitted (tables_of old) (beside_epoch delta) (kept_row kept) (tables_of d)) (sym same) (committed delta kept changes projects old made copies prepared done based number)
 made_committed delta kept changes projects (Err e) old made new copies prepared done based number same = tt
 
 pub unmade_same : (r : Result (Unit {0}) AllocError) (old made new : Desk) → OnErr r (made ≡ old) → new ≡ made → OnErr r (tables_of new ≡ tables_of old)

@@ -1,6 +1,7 @@
 -- The desk that tables in memory hold.
-use Rattle.std.specs.Prelude.{ℕ, ◌≡◌, ◌≤◌, ◌+◌, ◌⊎◌, List, [], ◌∷◌, Option, Some, None, IfSome, option_map, string_bytes}
-use Rattle.std.specs.List.{All, Contains}
+use Rattle.std.specs.Prelude.{Bool, nat_lt, flat_map, ◌++◌, if◌then◌else◌, ℕ, ◌≡◌, ◌≤◌, ◌+◌, ◌⊎◌, List, [], ◌∷◌, Option, Some, None, IfSome, option_map, string_bytes}
+use Rattle.std.specs.List.{All, Contains, list_any}
+use Rattle.std.specs.BTreeMap.{is_at}
 use Rattle.std.specs.declared.cmp.Ordering.{Ordering}
 use Rattle.std.specs.Ordering.{nat_cmp, ordering_then}
 use Rattle.std.specs.Cmp.Lexicographic.{slice_cmp}
@@ -13,7 +14,7 @@ use Rattle.review_rows.specs.declared.rows.Put.{Put}
 use Rattle.review_rows.specs.declared.rows.StoredFile.{StoredFile}
 use Rattle.review_rows.specs.declared.rows.Delta.{Delta}
 use Rattle.review_rows.specs.declared.rows.Kept.{Kept}
-use Rattle.review_rows.specs.Rows.{Key, AccountKey, MemberKey, FileKey, BaseKey, PartKey, OddKey, Row, AccountRow, FileRow, BaseRow, APart, Count, Projects, BasesOf, AnswerRow, Stored, Answered, Tables, member_cmp, member_row, kept_row}
+use Rattle.review_rows.specs.Rows.{Key, AccountKey, MemberKey, FileKey, BaseKey, PartKey, OddKey, Row, AccountRow, FileRow, BaseRow, APart, Count, Projects, BasesOf, ClosedEpochs, AnswerRow, Stored, Answered, Tables, member_cmp, member_row, kept_row}
 use Rattle.review_rows.specs.View.{tables_version}
 use Rattle.review_change_rows.specs.declared.tables.ChangeTables.{ChangeTables}
 use Rattle.review_kept_changes.specs.Kept.{KeptView, HasRoomFor, IsFull, part_at}
@@ -28,9 +29,13 @@ use Rattle.review_shelves.specs.declared.tables.MemoryTables.{MemoryTables}
 abbrev pub name_cmp : NameKey → NameKey → Ordering
 name_cmp a b = ordering_then (slice_cmp nat_cmp a.name b.name) (nat_cmp a.account b.account)
 
--- by caller, then by id
+-- by epoch, then by caller, then by id
 abbrev pub answer_cmp : AnswerKey → AnswerKey → Ordering
-answer_cmp a b = ordering_then (nat_cmp a.caller b.caller) (slice_cmp nat_cmp a.id b.id)
+answer_cmp a b = ordering_then (nat_cmp a.epoch b.epoch) (ordering_then (nat_cmp a.caller b.caller) (slice_cmp nat_cmp a.id b.id))
+
+-- the key of an identity
+abbrev pub key_of : Identity → AnswerKey
+key_of i = record { epoch = i.epoch; caller = i.caller; id = i.id }
 
 -- the rows of the tables, without the index
 pub record Desk : Type 0 where
@@ -41,6 +46,7 @@ pub record Desk : Type 0 where
   pub changes : List (ℕ × ChangeTables)
   pub projects : ℕ
   pub answers : List (AnswerKey × StoredAnswer)
+  pub least : ℕ
   pub requests : ℕ
 
 -- what a desk in memory holds, table by table
@@ -53,6 +59,7 @@ desk_of t = record {
   changes = rows_of t.changes.kept;
   projects = t.projects;
   answers = rows_of t.answers;
+  least = t.least;
   requests = t.requests;
 }
 
@@ -78,6 +85,7 @@ row_of d (OddKey o) = None
 abbrev pub count_of : Desk → Count → ℕ
 count_of d Projects = d.projects
 count_of d (BasesOf project) = total_in d.branches.totals project
+count_of d ClosedEpochs = d.least
 
 -- the same tables but for those of branches
 abbrev pub with_branches : MemoryTables → BranchesView → MemoryTables
@@ -90,8 +98,45 @@ with_branches t branches = record {
   changes = t.changes;
   projects = t.projects;
   answers = t.answers;
+  least = t.least;
   requests = t.requests;
 }
+
+-- the same tables but for what is stored of requests, and the least open epoch
+abbrev pub with_answers : MemoryTables → List (AnswerKey × Option StoredAnswer) → ℕ → MemoryTables
+with_answers t answers least = record {
+  accounts = t.accounts;
+  names = t.names;
+  members = t.members;
+  files = t.files;
+  branches = t.branches;
+  changes = t.changes;
+  projects = t.projects;
+  answers = answers;
+  least = least;
+  requests = t.requests;
+}
+
+-- a delta but for the epoch that it names
+abbrev pub beside_epoch : Delta → Delta
+beside_epoch delta = record delta { epoch = None }
+
+-- whether a key is among these
+abbrev pub is_among : List AnswerKey → AnswerKey → Bool
+is_among keys q = list_any (λ k. is_at (answer_cmp k) q) keys
+
+-- a key, where its epoch is below the least
+abbrev pub if_lower : ℕ → AnswerKey → List AnswerKey
+if_lower least k = if nat_lt k.epoch least then k ∷ [] else []
+
+-- the keys of rows whose epochs are below the least
+abbrev pub lower : ℕ → List (AnswerKey × StoredAnswer) → List AnswerKey
+lower least rows = flat_map (λ e. if_lower least e.0) rows
+
+-- the keys of what is given up where an epoch is named: of rows, and of the request that is stored
+abbrev pub lower_of : Option ℕ → List (AnswerKey × StoredAnswer) → AnswerKey → List AnswerKey
+lower_of None rows kept = []
+lower_of (Some least) rows kept = lower least rows ++ if_lower least kept
 
 -- the same tables but for those of changes
 abbrev pub with_changes : MemoryTables → KeptView → MemoryTables
@@ -104,12 +149,13 @@ with_changes t changes = record {
   changes = changes;
   projects = t.projects;
   answers = t.answers;
+  least = t.least;
   requests = t.requests;
 }
 
 -- the stored request of an identity
 abbrev pub answer_of : List (AnswerKey × StoredAnswer) → Identity → Option Stored
-answer_of answers i = option_map Answered (stored_row i (row_in answer_cmp answers (record { caller = i.caller; id = i.id })))
+answer_of answers i = option_map Answered (stored_row i (row_in answer_cmp answers (key_of i)))
 
 -- a desk as the tables that contracts see
 abbrev pub tables_of : Desk → Tables
@@ -163,7 +209,7 @@ IsGiven names c = IsNumber c.key × IfSome c.row (λ name. Contains names (recor
 
 -- the change puts a stored request
 pub record PutsAnswer (kept : Kept) (c : Change AnswerKey StoredAnswer) : Type 0 where
-  pub key : c.key ≡ record { caller = kept.caller; id = kept.id }
+  pub key : c.key ≡ key_of (kept_row kept).identity
   pub row : stored_row (kept_row kept).identity c.row ≡ Some (kept_row kept)
 
 -- the change of a project's file
@@ -219,5 +265,6 @@ pub record AreApplied (old : Desk) (changes : Changes) (projects : ℕ) (new : D
   pub files : (k : List ℕ) → row_in (slice_cmp nat_cmp) new.files k ≡ changed (slice_cmp nat_cmp) changes.files.items k (row_in (slice_cmp nat_cmp) old.files k)
   pub edits : (k : ℕ) → row_in nat_cmp new.changes k ≡ changed nat_cmp changes.edits.tables.items k (row_in nat_cmp old.changes k)
   pub projects_are : new.projects ≡ projects
+  pub least : new.least ≡ old.least
   pub answers : (k : AnswerKey) → row_in answer_cmp new.answers k ≡ changed answer_cmp changes.answers.items k (row_in answer_cmp old.answers k)
   pub requests : new.requests ≡ old.requests + 1

@@ -128,6 +128,7 @@ fn stored(alloc: Global, kept: &Kept) -> Result<Change<AnswerKey, StoredAnswer>,
     ensures { IfOk result (PutsAnswer kept.now) }
 {
     let key = AnswerKey {
+        epoch: kept.epoch,
         caller: kept.caller,
         id: kept.id.copy(alloc)?,
     };

@@ -67,6 +67,7 @@ impl MemoryTables {
             Want::Change(number) => return self.find_change(alloc, *number, rows),
             Want::ChangeOf(base) => self.find_change_of(alloc, base, rows)?,
             Want::LastChange => self.find_last_change(rows),
+            Want::LeastEpoch => self.find_least_epoch(rows),
             Want::LastJoined(branch) => self.find_last_joined(alloc, branch, rows)?,
             Want::Standing(base) => self.find_standing(alloc, base, rows)?,
             Want::Joined(branch) => self.find_joined(alloc, branch, rows)?,
@@ -236,6 +237,13 @@ impl MemoryTables {
     {
         let change = self.changes.sender(alloc, base)?;
         rows.learn_change_of(base.copy(alloc)?, change)
+    }
+
+    /// Finds the least open epoch.
+    fn find_least_epoch(&self, rows: &mut Rows)
+        ensures { LearnsFound (tables_of (desk_of self.now)) want.LeastEpoch rows.old rows.new }
+    {
+        rows.learn_least_epoch(self.least);
     }
 
     fn find_last_change(&self, rows: &mut Rows)

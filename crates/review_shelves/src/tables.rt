@@ -1,6 +1,14 @@
 //! The tables of a desk in memory, and what changes in them.
+<<<<<<< ours
 ghost use Rattle.std.specs.Prelude.{◌≡◌, Some, IfOk, OnOk, OnErr, ◌<◌, ◌^◌, ◌-◌, IsTrue, ◌↔◌, [], true};
+||||||| base
+ghost use Rattle.std.specs.Prelude.{◌≡◌, Some, IfOk, OnOk, OnErr, ◌<◌, ◌^◌, ◌-◌, IsTrue, ◌↔◌, []};
+=======
+ghost use Rattle.std.specs.Prelude.{◌≡◌, ◌++◌, Some, None, unwrap_or, map, if◌then◌else◌, IfOk, OnOk, OnErr, ◌<◌, ◌^◌, ◌-◌, IsTrue, ◌↔◌, []};
+>>>>>>> epochs
 ghost use Rattle.std.specs.List.{All};
+ghost use Rattle.std.specs.Map.Iter.{deref_pair};
+ghost use Rattle.review_shelves.specs.declared.keys.AnswerKey.{AnswerKey};
 ghost use Rattle.std.specs.Ordering.{nat_cmp};
 ghost use Rattle.std.specs.Cmp.Lexicographic.{slice_cmp};
 ghost use Rattle.review_table.specs.Rows.{row_in, rows_of, is_named, HasEmptyOnly, HasNoEmptyPlace};
@@ -9,7 +17,7 @@ ghost use Rattle.review_rows.specs.declared.rows.Kept.{Kept};
 ghost use Rattle.review_shelves.specs.declared.changes.Changes.{Changes};
 ghost use Rattle.review_rows.specs.Shelf.{IsRecalled, IsCommitted};
 ghost use Rattle.review_rows.specs.View.{IsView};
-ghost use Rattle.review_shelves.specs.Desk.{tables_of, desk_of, row_of, name_cmp, file_changes, IsIndexed, IsBounded, IsSound, AddsNames, AreChangesOf, AreIndexed, KeepsNames, HasNoSpareRoom, HasRoom, HasRoomOnlyFor, AreApplied, IsWithBase, with_branches, with_changes};
+ghost use Rattle.review_shelves.specs.Desk.{tables_of, desk_of, row_of, name_cmp, file_changes, IsIndexed, IsBounded, IsSound, AddsNames, AreChangesOf, AreIndexed, KeepsNames, HasNoSpareRoom, HasRoom, HasRoomOnlyFor, AreApplied, IsWithBase, answer_cmp, beside_epoch, if_lower, is_among, key_of, lower, lower_of, with_answers, with_branches, with_changes};
 ghost use Rattle.review_shelves.specs.First.{HasAccount, HasName, HasMember};
 ghost use Rattle.review_kept_changes.specs.Kept.{IsFull, IsFullBut, IsReady};
 
@@ -17,10 +25,22 @@ use crate::changes::{Changes, names_given, names_held};
 use crate::keys::{AnswerKey, NameKey, StoredAnswer};
 use review_kept_branches::Branches;
 use review_kept_changes::{KeptChanges, Prepared};
+<<<<<<< ours
 use review_rows::{Delta, Kept, MemberKey, PlaceKey, Put, Recalled, StoredFile};
+||||||| base
+use review_rows::{BaseRow, Delta, Kept, MemberKey, ProjectRow};
+=======
+use review_rows::{BaseRow, Delta, Kept, MemberKey, ProjectRow, Recalled};
+>>>>>>> epochs
 use review_table::{Key, Table};
 use review_words::{
+<<<<<<< ours
     AccountName, AccountNo, CommitName, ProjectName, RequestId, admin_name, administrators,
+||||||| base
+    AccountName, AccountNo, FileText, ProjectName, RequestId, admin_name, administrators,
+=======
+    AccountName, AccountNo, Epoch, FileText, ProjectName, RequestId, admin_name, administrators,
+>>>>>>> epochs
 };
 use std::alloc::{AllocError, Global};
 
@@ -37,6 +57,8 @@ pub struct MemoryTables {
     /// How many projects have a file.
     pub projects: u64,
     pub answers: Table<AnswerKey, StoredAnswer>,
+    /// The least open epoch.
+    pub least: u32,
     pub requests: u64,
 }
 
@@ -58,29 +80,58 @@ impl MemoryTables {
             changes: KeptChanges::new(alloc),
             projects: 0,
             answers: Table::new(alloc),
+            least: 0,
             requests: 0,
         })
     }
 
+<<<<<<< ours
     /// The stored request of an identity, or that none is stored under it.
+||||||| base
+    /// The stored request of an identity.
+=======
+    /// What is known of an identity.
+>>>>>>> epochs
     pub fn recall(
         &self,
         alloc: Global,
         caller: AccountNo,
+        epoch: Epoch,
         id: &RequestId,
+<<<<<<< ours
     ) -> Result<Recalled, AllocError>
         ensures { IfOk result (λ recalled. IsRecalled (tables_of (desk_of self.now)) (record { caller = caller; id = id.now }) recalled) }
+||||||| base
+    ) -> Result<Option<Kept>, AllocError>
+        ensures { IfOk result (λ kept. IsRecalled (tables_of (desk_of self.now)) (record { caller = caller; id = id.now }) kept) }
+=======
+    ) -> Result<Recalled, AllocError>
+        ensures { IfOk result (IsRecalled (tables_of (desk_of self.now)) (record { caller = caller; epoch = epoch; id = id.now })) }
+>>>>>>> epochs
     {
+        if epoch.get() < self.least {
+            return Ok(Recalled::Closed);
+        }
         let key = AnswerKey {
+            epoch,
             caller,
             id: id.copy(alloc)?,
         };
         let Some(stored) = self.answers.get(&key) else {
             return Ok(Recalled::Fresh);
         };
+<<<<<<< ours
         let AnswerKey { caller, id } = key;
         Ok(Recalled::Kept(Kept {
+||||||| base
+        let AnswerKey { caller, id } = key;
+        Ok(Some(Kept {
+=======
+        let AnswerKey { epoch, caller, id } = key;
+        Ok(Recalled::Kept(Kept {
+>>>>>>> epochs
             caller,
+            epoch,
             id,
             request: stored.request,
             content: stored.content.clone()?,
@@ -88,7 +139,7 @@ impl MemoryTables {
         }))
     }
 
-    /// Applies a delta and stores its request, or changes no row. Places that got no row are given back.
+    /// Applies a delta and stores its request, or changes no row; where the delta names an epoch, what is kept of lower ones is given up then.
     pub fn commit(&mut self, alloc: Global, delta: &Delta, kept: &Kept) -> Result<(), AllocError>
         requires sound { IsSound self.old }
         requires room { self.old.requests < 2 ^ 64 - 1 }
@@ -96,12 +147,59 @@ impl MemoryTables {
         ensures done { OnOk result (IsCommitted (tables_of (desk_of self.old)) delta.now (kept_row kept.now) (tables_of (desk_of self.new))) }
         ensures same { OnErr result (tables_of (desk_of self.new) ≡ tables_of (desk_of self.old)) }
     {
+        let lower = self.lower_keys(alloc, delta.epoch, kept)?;
+        self.commit_beside(alloc, delta, kept)?;
+        self.give_up(delta.epoch, &lower);
+        Ok(())
+    }
+
+    /// The keys of what is given up where an epoch is named.
+    fn lower_keys(
+        &self,
+        alloc: Global,
+        epoch: Option<Epoch>,
+        kept: &Kept,
+    ) -> Result<Vec<AnswerKey>, AllocError>
+        ensures { IfOk result (λ keys. keys.items ≡ lower_of epoch (rows_of self.now.answers) (key_of (kept_row kept.now).identity)) }
+    {
+        let mut keys = Vec::new(alloc);
+        if let Some(least) = epoch {
+            let rows = self.answers.rows(alloc)?;
+            push_lower(alloc, &mut keys, &rows, least.get())?;
+            let own = key_of(alloc, kept)?;
+            add_lower(alloc, &mut keys, &own, least.get())?;
+        }
+        Ok(keys)
+    }
+
+    /// Drops what is stored under these keys, and makes an epoch the least open one, if one is named.
+    fn give_up(&mut self, epoch: Option<Epoch>, keys: &[AnswerKey])
+        ensures answers { (q : AnswerKey) → row_in answer_cmp (rows_of self.new.answers) q ≡ (if is_among keys.now q then None else row_in answer_cmp (rows_of self.old.answers) q) }
+        ensures filled { HasNoEmptyPlace answer_cmp self.old.answers → HasNoEmptyPlace answer_cmp self.new.answers }
+        ensures rest { self.new ≡ with_answers self.old self.new.answers (unwrap_or epoch self.old.least) }
+    {
+        remove_keys(&mut self.answers, keys);
+        if let Some(least) = epoch {
+            self.least = least.get();
+        }
+    }
+
+    /// Applies a delta but for its epoch and stores its request, or changes no row. Places that got no row are given back.
+    fn commit_beside(
+        &mut self,
+        alloc: Global,
+        delta: &Delta,
+        kept: &Kept,
+    ) -> Result<(), AllocError>
+        requires sound { IsSound self.old }
+        requires room { self.old.requests < 2 ^ 64 - 1 }
+        ensures sound { IsSound self.new }
+        ensures done { OnOk result (IsCommitted (tables_of (desk_of self.old)) (beside_epoch delta.now) (kept_row kept.now) (tables_of (desk_of self.new))) }
+        ensures same { OnErr result (tables_of (desk_of self.new) ≡ tables_of (desk_of self.old)) }
+    {
         let held = names_held(alloc, &self.accounts, &delta.accounts)?;
         let given = names_given(alloc, &delta.accounts)?;
-        let identity = AnswerKey {
-            caller: kept.caller,
-            id: kept.id.copy(alloc)?,
-        };
+        let identity = key_of(alloc, kept)?;
         let changes = Changes::new(alloc, delta, kept, &self.changes)?;
         let projects = self.projects_with(&delta.file);
         let made = self.make(alloc, &given, changes, projects, &delta.base);
@@ -242,7 +340,7 @@ impl MemoryTables {
     fn release(&mut self, delta: &Delta, identity: &AnswerKey)
         ensures same { desk_of self.new ≡ desk_of self.old }
         ensures names { self.new.names ≡ self.old.names }
-        ensures filled { (kept : Kept) (changes : Changes) → AreChangesOf delta.now kept changes → identity.now ≡ record { caller = kept.caller; id = kept.id } →
+        ensures filled { (kept : Kept) (changes : Changes) → AreChangesOf delta.now kept changes → identity.now ≡ key_of (kept_row kept).identity →
             HasRoomOnlyFor changes self.old → IsFull self.old.changes → HasNoSpareRoom self.new }
     {
         self.accounts.release(&delta.accounts);
@@ -367,5 +465,56 @@ fn release_file(
 {
     if let Some(put) = file {
         files.release_one(&put.key);
+    }
+}
+
+// The key of a request that is to be stored.
+fn key_of(alloc: Global, kept: &Kept) -> Result<AnswerKey, AllocError>
+    ensures { IfOk result (λ key. key ≡ key_of (kept_row kept.now).identity) }
+{
+    Ok(AnswerKey {
+        epoch: kept.epoch,
+        caller: kept.caller,
+        id: kept.id.copy(alloc)?,
+    })
+}
+
+// Adds a key, where its epoch is below the least.
+fn add_lower(
+    alloc: Global,
+    keys: &mut Vec<AnswerKey>,
+    key: &AnswerKey,
+    least: u32,
+) -> Result<(), AllocError>
+    ensures { OnOk result (keys.new.items ≡ keys.old.items ++ if_lower least key.now) }
+{
+    if key.epoch.get() < least {
+        keys.push(key.copy(alloc)?)?;
+    }
+    Ok(())
+}
+
+// Adds the keys of rows whose epochs are below the least.
+fn push_lower(
+    alloc: Global,
+    keys: &mut Vec<AnswerKey>,
+    rows: &[(&AnswerKey, &StoredAnswer)],
+    least: u32,
+) -> Result<(), AllocError>
+    ensures { OnOk result (keys.new.items ≡ keys.old.items ++ lower least (map deref_pair rows.now)) }
+{
+    for row in rows {
+        add_lower(alloc, keys, row.0, least)?;
+    }
+    Ok(())
+}
+
+// Drops the rows of keys, with their places.
+fn remove_keys(answers: &mut Table<AnswerKey, StoredAnswer>, keys: &[AnswerKey])
+    ensures rows { (q : AnswerKey) → row_in answer_cmp (rows_of answers.new) q ≡ (if is_among keys.now q then None else row_in answer_cmp (rows_of answers.old) q) }
+    ensures filled { HasNoEmptyPlace answer_cmp answers.old → HasNoEmptyPlace answer_cmp answers.new }
+{
+    for key in keys {
+        answers.remove(key);
     }
 }

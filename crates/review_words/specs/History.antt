@@ -1,21 +1,28 @@
 -- Histories of taken requests, the newest first, and the settings that they leave.
+<<<<<<< ours
 use Rattle.std.specs.Prelude.{ℕ, ◌+◌, ◌≡◌, List, [], ◌∷◌, ◌++◌, length, Option, Some, None, Bool, ◌&&◌, ◌||◌, ◌==◌, nat_le, if◌then◌else◌, is_some}
+||||||| base
+use Rattle.std.specs.Prelude.{ℕ, ◌+◌, List, [], ◌∷◌, ◌++◌, length, Option, Some, None, Bool, ◌&&◌, ◌||◌, ◌==◌, nat_le, if◌then◌else◌, is_some}
+=======
+use Rattle.std.specs.Prelude.{ℕ, ◌+◌, List, [], ◌∷◌, ◌++◌, length, Option, Some, None, Bool, ◌&&◌, ◌||◌, ◌==◌, nat_le, nat_lt, if◌then◌else◌, is_some}
+>>>>>>> epochs
 use Rattle.std.specs.Str.{bytes_eq}
 use Rattle.std.specs.List.{list_any}
 use Rattle.review_names.specs.Names.{administrators, admin_name}
 use Rattle.review_words.specs.declared.command.Command.{Command}
-use Rattle.review_words.specs.declared.command.Command.TheVariants.{CreateAccount, PutGroup, PutProject, RecordBase}
+use Rattle.review_words.specs.declared.command.Command.TheVariants.{CreateAccount, PutGroup, PutProject, RecordBase, CloseEpoch}
 use Rattle.review_words.specs.declared.reply.Reply.{Reply}
 use Rattle.review_words.specs.declared.reply.Reply.TheVariants.{Done}
 
 -- what makes two writes the same request
 pub record Identity : Type 0 where
   pub caller : ℕ
+  pub epoch : ℕ
   pub id : List ℕ
 
--- the caller and the id agree
+-- the caller, the epoch and the id agree
 abbrev pub is_same : Identity → Identity → Bool
-is_same a b = (a.caller == b.caller) && bytes_eq a.id b.id
+is_same a b = (a.caller == b.caller) && ((a.epoch == b.epoch) && bytes_eq a.id b.id)
 
 -- a request that was taken, with its reply, and the version of the desk whose rules answered it
 pub record Entry : Type 0 where
@@ -64,10 +71,28 @@ abbrev pub stored : List Entry → Identity → Option Entry
 stored [] i = None
 stored (e ∷ h) i = if is_same e.identity i then Some e else stored h i
 
+<<<<<<< ours
 -- no entry of the history has this identity
 abbrev pub IsFirst : List Entry → Identity → Type 0
 IsFirst h i = stored h i ≡ None
 
+||||||| base
+=======
+-- the least open epoch, once this command is done
+abbrev pub raised : Option Command → ℕ → ℕ
+raised (Some (CloseEpoch epoch)) least = if nat_lt least epoch then epoch else least
+raised _ least = least
+
+-- the least open epoch: the greatest that an accepted CloseEpoch named, and 0 without one, so an epoch never opens again
+abbrev pub least_open : List Entry → ℕ
+least_open [] = 0
+least_open (e ∷ h) = raised (accepted e) (least_open h)
+
+-- whether an epoch is closed
+abbrev pub is_closed : List Entry → ℕ → Bool
+is_closed h epoch = nat_lt epoch (least_open h)
+
+>>>>>>> epochs
 -- one account more, where the command makes one
 abbrev pub counted : Option Command → ℕ → ℕ
 counted (Some (CreateAccount name)) n = n + 1
