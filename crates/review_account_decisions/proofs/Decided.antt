@@ -20,24 +20,12 @@ use Rattle.review_words.specs.declared.reply.Reply.TheVariants.{Done, Refused}
 use Rattle.review_words.specs.declared.reply.Answer.TheVariants as made
 use Rattle.review_words.specs.declared.reply.Refusal.{Refusal}
 use Rattle.review_words.specs.declared.reply.Refusal.TheVariants.{UnknownCaller, NotAdmin, NoProject, NoAccount, CommitKnown, NameTaken, Limit}
-<<<<<<< ours
-use Rattle.review_words.specs.History.{Entry, entry_of, account_count, name_of, name_taken, is_account, is_admin, is_listed, listed_members, file_text, is_project, project_count, bases, base_count}
-||||||| base
-use Rattle.review_words.specs.History.{Entry, account_count, name_of, name_taken, is_account, is_admin, is_listed, listed_members, file_text, is_project, project_count, bases, base_count}
-=======
-use Rattle.review_words.specs.History.{Entry, account_count, name_of, name_taken, is_account, is_admin, is_listed, listed_members, file_text, is_project, project_count, bases, base_count, least_open}
->>>>>>> epochs
+use Rattle.review_words.specs.History.{Entry, entry_of, account_count, name_of, name_taken, is_account, is_admin, is_listed, listed_members, file_text, is_project, project_count, bases, base_count, least_open}
 use Rattle.review_rows.specs.declared.rows.Rows.{Rows}
 use Rattle.review_rows.specs.declared.rows.Delta.{Delta}
-<<<<<<< ours
 use Rattle.review_rows.specs.declared.rows.PlaceKey.{PlaceKey}
-use Rattle.review_rows.specs.Rows.{Key, AccountKey, MemberKey, FileKey, BaseKey, PartKey, OddKey, Row, AccountRow, FileRow, BaseRow, APart, Count, Projects, BasesOf, member_cmp, account_change, member_change, edited, after, count_after, after_put, count_put, place_cmp, ChangesNothing}
+use Rattle.review_rows.specs.Rows.{Key, AccountKey, MemberKey, FileKey, BaseKey, PartKey, OddKey, Row, AccountRow, FileRow, BaseRow, APart, Count, Projects, BasesOf, ClosedEpochs, member_cmp, account_change, member_change, edited, after, count_after, after_put, count_put, place_cmp, ChangesNothing}
 use Rattle.review_rows.proofs.Puts.{at_place_of, no_base, no_base_more, no_file, no_project}
-||||||| base
-use Rattle.review_rows.specs.Rows.{Key, AccountKey, MemberKey, FileKey, BaseKey, PartKey, OddKey, Row, AccountRow, FileRow, BaseRow, APart, Count, Projects, BasesOf, member_cmp, account_change, member_change, file_after, base_after, edited, projects_after, bases_after, after, count_after, ChangesNothing}
-=======
-use Rattle.review_rows.specs.Rows.{Key, AccountKey, MemberKey, FileKey, BaseKey, PartKey, OddKey, Row, AccountRow, FileRow, BaseRow, APart, Count, Projects, BasesOf, ClosedEpochs, member_cmp, account_change, member_change, file_after, base_after, edited, projects_after, bases_after, after, count_after, ChangesNothing}
->>>>>>> epochs
 use Rattle.review_rows.specs.declared.rows.Want.TheVariants as want
 use Rattle.review_rows.specs.Known.{known, Agrees, IsKnown, is_so, is_there, members_of, at_place}
 use Rattle.review_rows.specs.Steps.{OfCommand, command_wants}
@@ -347,13 +335,7 @@ base_rows h project branch commit place p b n is =
 -- the base is the last of its branch
 pub base_decided : {reading : Reading} (h : List Entry) (caller : ℕ) (project branch commit : List ℕ) (place : ℕ) (delta : Delta) → place ≡ length (bases h project branch) + 1 →
     is_account h caller ≡ true → is_admin h caller ≡ true → is_project h project ≡ true → is_known reading h project branch commit ≡ false → nat_lt (base_count h project) 100000 ≡ true →
-<<<<<<< ours
-    delta.accounts.items ≡ [] → delta.members.items ≡ [] → delta.file ≡ None → delta.base ≡ Some (record { key = record { project = project; branch = branch; place = place }; row = commit }) → delta.changes.items ≡ [] →
-||||||| base
-    delta.accounts.items ≡ [] → delta.members.items ≡ [] → delta.file ≡ None → delta.base ≡ Some (record { project = project; branch = branch; place = place; commit = commit }) → delta.changes.items ≡ [] →
-=======
-    delta.accounts.items ≡ [] → delta.members.items ≡ [] → delta.file ≡ None → delta.base ≡ Some (record { project = project; branch = branch; place = place; commit = commit }) → delta.changes.items ≡ [] → delta.epoch ≡ None →
->>>>>>> epochs
+    delta.accounts.items ≡ [] → delta.members.items ≡ [] → delta.file ≡ None → delta.base ≡ Some (record { key = record { project = project; branch = branch; place = place }; row = commit }) → delta.changes.items ≡ [] → delta.epoch ≡ None →
     IsDecided reading h caller (RecordBase project branch commit) delta (Done made.Nothing)
 base_decided {reading = reading} h caller project branch commit place delta is a b c d e da dm df db dc de = record {
   reply_is = outcome_answer reading h caller (RecordBase project branch commit) (Done made.Nothing) (base_refused reading h caller project branch commit true true true false true a b c d e) refl;
@@ -376,14 +358,8 @@ base_decided {reading = reading} h caller project branch commit place delta is a
 >>>>>>> epochs
     counts (BasesOf p) =
         sym (ap (λ t. cond (bytes_eq project p) (cond t (base_count h p) (base_count h p + 1)) (base_count h p)) free)
-<<<<<<< ours
         ∙ sym (ap (λ o. count_put (λ (k : PlaceKey). bytes_eq k.project p) o (λ (k : PlaceKey). fact reading h (BaseKey k.project k.branch k.place)) (base_count h p)) db)
-||||||| base
-        ∙ sym (ap (λ o. bases_after o (fact reading h) p (base_count h p)) db)
-=======
-        ∙ sym (ap (λ o. bases_after o (fact reading h) p (base_count h p)) db)
     counts ClosedEpochs = sym (ap (λ o. unwrap_or o (least_open h)) de)
->>>>>>> epochs
 
 <<<<<<< ours
     rows : (k : Key) → fact reading (entry_of caller [] (RecordBase project branch commit) (Done made.Nothing) ∷ h) k ≡ after delta k (fact reading h k)
@@ -405,13 +381,7 @@ base_decided {reading = reading} h caller project branch commit place delta is a
 -- the project has the file that is put
 pub file_decided : {reading : Reading} (h : List Entry) (caller : ℕ) (project text : List ℕ) (delta : Delta) →
     IsAnswerBy reading h caller (PutProject project text) (Done made.Nothing) →
-<<<<<<< ours
-    delta.accounts.items ≡ [] → delta.members.items ≡ [] → delta.file ≡ Some (record { key = project; row = record { text = text; parent = named_parent text } }) → delta.base ≡ None → delta.changes.items ≡ [] →
-||||||| base
-    delta.accounts.items ≡ [] → delta.members.items ≡ [] → delta.file ≡ Some (record { project = project; file = text }) → delta.base ≡ None → delta.changes.items ≡ [] →
-=======
-    delta.accounts.items ≡ [] → delta.members.items ≡ [] → delta.file ≡ Some (record { project = project; file = text }) → delta.base ≡ None → delta.changes.items ≡ [] → delta.epoch ≡ None →
->>>>>>> epochs
+    delta.accounts.items ≡ [] → delta.members.items ≡ [] → delta.file ≡ Some (record { key = project; row = record { text = text; parent = named_parent text } }) → delta.base ≡ None → delta.changes.items ≡ [] → delta.epoch ≡ None →
     IsDecided reading h caller (PutProject project text) delta (Done made.Nothing)
 file_decided {reading = reading} h caller project text delta is da dm df db dc de = record {
   reply_is = is;

@@ -6,13 +6,7 @@ use Rattle.std.specs.Ordering.{nat_cmp}
 use Rattle.std.proofs.lemmas.Bool.Decides.{nat_tests}
 use Rattle.review_names.specs.Forms.{most_changes}
 use Rattle.review_table.specs.Rows.{after_change, change_of}
-<<<<<<< ours
-use Rattle.review_words.specs.History.{Entry, entry_of, base_count, is_account, is_branch, is_project, project_count}
-||||||| base
-use Rattle.review_words.specs.History.{Entry, base_count, file_text, is_account, is_branch, is_project, project_count}
-=======
-use Rattle.review_words.specs.History.{Entry, base_count, file_text, is_account, is_branch, is_project, least_open, project_count}
->>>>>>> epochs
+use Rattle.review_words.specs.History.{Entry, entry_of, base_count, is_account, is_branch, is_project, project_count, least_open}
 use Rattle.review_words.specs.declared.changes.NewChange.{NewChange}
 use Rattle.review_words.specs.declared.command.Command.TheVariants.{CreateChange}
 use Rattle.review_words.specs.declared.reply.Answer.TheVariants as made
@@ -26,14 +20,8 @@ use Rattle.review_rows.specs.Answer.{first_refusal, has_right, refused_by}
 use Rattle.review_rows.specs.Changes.{Reading, change, change_count, is_known, own_of, texts_of}
 use Rattle.review_rows.specs.Files.{File}
 use Rattle.review_rows.specs.Known.{known, IsKnown, number_of, part_of}
-<<<<<<< ours
-use Rattle.review_rows.specs.Rows.{Key, AccountKey, MemberKey, FileKey, BaseKey, PartKey, OddKey, APart, Count, Projects, BasesOf, account_change, member_change, edited, after, count_after, part_change, member_cmp}
+use Rattle.review_rows.specs.Rows.{Key, AccountKey, MemberKey, FileKey, BaseKey, PartKey, OddKey, APart, Count, Projects, BasesOf, ClosedEpochs, account_change, member_change, edited, after, count_after, part_change, member_cmp}
 use Rattle.review_rows.proofs.Puts.{no_base, no_base_more, no_file, no_project}
-||||||| base
-use Rattle.review_rows.specs.Rows.{Key, AccountKey, MemberKey, FileKey, BaseKey, PartKey, OddKey, APart, Count, Projects, BasesOf, account_change, member_change, file_after, base_after, edited, projects_after, bases_after, after, count_after, part_change, member_cmp}
-=======
-use Rattle.review_rows.specs.Rows.{Key, AccountKey, MemberKey, FileKey, BaseKey, PartKey, OddKey, APart, Count, Projects, BasesOf, ClosedEpochs, account_change, member_change, file_after, base_after, edited, projects_after, bases_after, after, count_after, part_change, member_cmp}
->>>>>>> epochs
 use Rattle.review_rows.specs.Steps.{HasFile, OfCommand, command_wants, file_wants}
 use Rattle.review_rows.specs.View.{AreEnough, IsDecided, counted, fact}
 use Rattle.review_rows.specs.declared.rows.ChangeEdit.{ChangeEdit}

@@ -3,13 +3,7 @@ use Rattle.std.proofs.Common.{◌≡◌, ℕ, ◌+◌, ◌<◌, ◌==◌, min, L
 use Rattle.std.specs.Prelude.{option_map, unwrap_or}
 use Rattle.std.specs.Ordering.{nat_cmp}
 use Rattle.review_table.specs.Rows.{after_change, change_of}
-<<<<<<< ours
-use Rattle.review_words.specs.History.{Entry, entry_of, base_count, project_count}
-||||||| base
-use Rattle.review_words.specs.History.{Entry, base_count, project_count}
-=======
-use Rattle.review_words.specs.History.{Entry, base_count, least_open, project_count}
->>>>>>> epochs
+use Rattle.review_words.specs.History.{Entry, entry_of, base_count, project_count, least_open}
 use Rattle.review_words.specs.declared.changes.Review.{Review as ReviewOf}
 use Rattle.review_words.specs.declared.changes.NewPatch.{NewPatch}
 use Rattle.review_words.specs.declared.command.Command.{Command}
@@ -27,14 +21,8 @@ use Rattle.review_rows.specs.Answer.{IsAnswerBy, IsOf, IsUploadAnswer, comment_n
 use Rattle.review_rows.specs.Changes.{Reading, change, setting_of}
 use Rattle.review_rows.specs.Files.{File}
 use Rattle.review_rows.specs.Known.{known, number_of, part_of}
-<<<<<<< ours
-use Rattle.review_rows.specs.Rows.{Key, Row, AccountKey, MemberKey, FileKey, BaseKey, PartKey, OddKey, APart, Count, Projects, BasesOf, account_change, member_change, edited, after, count_after, part_change, member_cmp}
+use Rattle.review_rows.specs.Rows.{Key, Row, AccountKey, MemberKey, FileKey, BaseKey, PartKey, OddKey, APart, Count, Projects, BasesOf, ClosedEpochs, account_change, member_change, edited, after, count_after, part_change, member_cmp}
 use Rattle.review_rows.proofs.Puts.{no_base, no_base_more, no_file, no_project}
-||||||| base
-use Rattle.review_rows.specs.Rows.{Key, Row, AccountKey, MemberKey, FileKey, BaseKey, PartKey, OddKey, APart, Count, Projects, BasesOf, account_change, member_change, file_after, base_after, edited, projects_after, bases_after, after, count_after, part_change, member_cmp}
-=======
-use Rattle.review_rows.specs.Rows.{Key, Row, AccountKey, MemberKey, FileKey, BaseKey, PartKey, OddKey, APart, Count, Projects, BasesOf, ClosedEpochs, account_change, member_change, file_after, base_after, edited, projects_after, bases_after, after, count_after, part_change, member_cmp}
->>>>>>> epochs
 use Rattle.review_rows.specs.Steps.{OfCommand}
 use Rattle.review_rows.specs.View.{AreEnough, IsDecided, counted, fact, view}
 use Rattle.review_rows.specs.declared.rows.Delta.{Delta}
@@ -92,17 +80,9 @@ rows_made reading h n c new delta told m (PartKey k part) =
 rows_made reading h n c new delta told m (OddKey o) = refl
 
 counts_made : (reading : Reading) (h : List Entry) (n : ℕ) (c new : Change) (delta : Delta) → MakesChange n c new delta → (k : Count) → counted h k ≡ count_after delta (fact reading h) k (counted h k)
-<<<<<<< ours
 counts_made reading h n c new delta m Projects = sym (no_project delta m.edits.file (fact reading h) (project_count h))
 counts_made reading h n c new delta m (BasesOf q) = sym (no_base_more delta m.edits.base (fact reading h) q (base_count h q))
-||||||| base
-counts_made reading h n c new delta m Projects = sym (ap (λ o. projects_after o (fact reading h) (project_count h)) m.edits.file)
-counts_made reading h n c new delta m (BasesOf q) = sym (ap (λ o. bases_after o (fact reading h) q (base_count h q)) m.edits.base)
-=======
-counts_made reading h n c new delta m Projects = sym (ap (λ o. projects_after o (fact reading h) (project_count h)) m.edits.file)
-counts_made reading h n c new delta m (BasesOf q) = sym (ap (λ o. bases_after o (fact reading h) q (base_count h q)) m.edits.base)
 counts_made reading h n c new delta m ClosedEpochs = sym (ap (λ o. unwrap_or o (least_open h)) m.edits.epoch)
->>>>>>> epochs
 
 -- a command that makes of a change another is decided
 change_decided : (reading : Reading) (h : List Entry) (caller n : ℕ) (command : Command) (a : Answer) (c new : Change) (delta : Delta) → change reading h n ≡ Some c → MakesChange n c new delta →

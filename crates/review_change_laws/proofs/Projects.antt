@@ -57,32 +57,14 @@ project_by reading h caller n c (OnChange m command) a answer before is =
     named (λ p. is_project h p ≡ true) (m == n) (change reading h n) (λ x. after (setting_of reading h x.project) command caller (length h + 1) x) c before (λ x. refl) is
 project_by reading h caller n c (Submit m) a answer before is = before c is
 
-<<<<<<< ours
 -- the project of a change is there, also after what was done
 pub project_stays : (reading : Reading) (h : List Entry) (caller n : ℕ) (c : Change) (command : Command) (reply : Reply) → IsDoneBy reading h caller command reply →
-||||||| base
-step : (reading : Reading) (h : List Entry) (caller n : ℕ) (c : Change) (command : Command) (reply : Reply) → IsAnswerBy reading h caller command reply →
-=======
-step : (reading : Reading) (h : List Entry) (caller n : ℕ) (c : Change) (command : Command) (reply : Reply) → IsDoneBy reading h caller command reply →
->>>>>>> epochs
     ((x : Change) → change reading h n ≡ Some x → is_project h x.project ≡ true) → change_by reading h caller (if_done reply command) n (change reading h n) ≡ Some c → is_project h c.project ≡ true
-<<<<<<< ours
 project_stays reading h caller n c command (Done a) answer before is = project_by reading h caller n c command a answer before is
 project_stays reading h caller n c command (Refused r) answer before is = before c is
 project_stays reading h caller n c command IdentityReused answer before is = before c is
-project_stays reading h caller n c command (NotTaken cause) answer before is = before c is
-||||||| base
-step reading h caller n c command (Done a) answer before is = project_by reading h caller n c command a answer before is
-step reading h caller n c command (Refused r) answer before is = before c is
-step reading h caller n c command IdentityReused answer before is = before c is
+project_stays reading h caller n c command EpochClosed answer before is = before c is
 step reading h caller n c command (NotTaken cause) answer before is = before c is
-=======
-step reading h caller n c command (Done a) answer before is = project_by reading h caller n c command a answer before is
-step reading h caller n c command (Refused r) answer before is = before c is
-step reading h caller n c command IdentityReused answer before is = before c is
-step reading h caller n c command EpochClosed answer before is = before c is
-step reading h caller n c command (NotTaken cause) answer before is = before c is
->>>>>>> epochs
 
 pub has_project : (reading : Reading) (h : List Entry) (n : ℕ) (c : Change) → IsHistory h → Reads reading h → change reading h n ≡ Some c → is_project h c.project ≡ true
 has_project reading [] n c history reads is = absurd (cc)

@@ -1,37 +1,13 @@
-<<<<<<< ours
 //! The answer to a command and what it changes, from the rows that decide it.
-ghost use Rattle.std.specs.Prelude.{◌≡◌, ◌<◌, List, IfOk, IfErr, length, option_copied, true};
-||||||| base
-//! The answer to a command and what it changes, and the answer to a question, from the rows that decide them.
-ghost use Rattle.std.specs.Prelude.{◌≡◌, ◌<◌, List, IfOk, IfErr, length, option_copied, true};
-ghost use Rattle.review_file.specs.Texts.{file_read};
-=======
-//! The answer to a command and what it changes, and the answer to a question, from the rows that decide them.
 ghost use Rattle.std.specs.Prelude.{◌≡◌, ◌<◌, List, IfOk, IfErr, length, option_copied, true, false};
-ghost use Rattle.review_file.specs.Texts.{file_read};
->>>>>>> epochs
 ghost use Rattle.review_words.specs.Texts.{IsStored};
 ghost use Rattle.review_words.specs.History.{Entry, if_done, is_account};
 ghost use Rattle.review_rows.specs.Answer.{most_requests};
 ghost use Rattle.review_rows.specs.Changes.{Reading};
-<<<<<<< ours
 ghost use Rattle.review_rows.specs.Decisions.{IsUndecided, NamesEachOnce, RestsOn};
-ghost use Rattle.review_rows.specs.Rows.{HasNoEffect};
-ghost use Rattle.review_rows.specs.Steps.{OfCommand};
-ghost use Rattle.review_rows.specs.View.{AreEnough, IsDecided};
-||||||| base
-ghost use Rattle.review_rows.specs.Decisions.{IsDoneOrRefused, IsUndecided, IsUnshown, NamesEachOnce, RestsOn};
-ghost use Rattle.review_rows.specs.Questions.{IsQueryAnswerBy};
-ghost use Rattle.review_rows.specs.Rows.{HasNoEffect};
-ghost use Rattle.review_rows.specs.Steps.{OfCommand, OfQuery};
-ghost use Rattle.review_rows.specs.View.{AreEnough, IsDecided};
-=======
-ghost use Rattle.review_rows.specs.Decisions.{IsDoneOrRefused, IsUndecided, IsUnshown, NamesEachOnce, RestsOn};
-ghost use Rattle.review_rows.specs.Questions.{IsQueryAnswerBy};
 ghost use Rattle.review_rows.specs.Rows.{HasNoEffect, closing, is_below};
-ghost use Rattle.review_rows.specs.Steps.{OfCommand, OfQuery};
+ghost use Rattle.review_rows.specs.Steps.{OfCommand};
 ghost use Rattle.review_rows.specs.View.{AreEnough, IsDecidedIn};
->>>>>>> epochs
 
 use review_account_decisions::{close_epoch, create_account, put_group, refused};
 use review_branch_decisions::record_base;
@@ -41,13 +17,7 @@ use review_file_decisions::put_project;
 use review_request_decisions::on_change;
 use review_rows::{Delta, Rows};
 use review_submit_decisions::submit;
-<<<<<<< ours
-use review_words::{AccountNo, Command, NotTaken, Refusal, Reply};
-||||||| base
-use review_words::{AccountNo, Command, NotTaken, Query, Refusal, Reply};
-=======
-use review_words::{AccountNo, Command, Epoch, NotTaken, Query, Refusal, Reply};
->>>>>>> epochs
+use review_words::{AccountNo, Command, NotTaken, Refusal, Reply, Epoch};
 use std::alloc::Global;
 
 /// The reply to a command and what it changes, by this effective file of its project: the first check that fails refuses, in the order of

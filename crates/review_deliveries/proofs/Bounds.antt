@@ -18,16 +18,8 @@ use Rattle.review_words.specs.declared.command.Command.TheVariants.{CreateAccoun
 use Rattle.review_words.specs.declared.reply.Answer.{Answer}
 use Rattle.review_words.specs.declared.reply.Refusal.TheVariants.{UnknownCaller}
 use Rattle.review_words.specs.declared.reply.Reply.{Reply}
-<<<<<<< ours
-use Rattle.review_words.specs.declared.reply.Reply.TheVariants.{Done, Refused, IdentityReused, NotTaken}
-use Rattle.review_words.specs.History.{Entry, if_done, account_count, counted, is_account}
-||||||| base
-use Rattle.review_words.specs.declared.reply.Reply.TheVariants.{Done, Refused, IdentityReused, NotTaken}
-use Rattle.review_words.specs.History.{Entry, if_done, account_count, counted, file_text, is_account, is_project}
-=======
 use Rattle.review_words.specs.declared.reply.Reply.TheVariants.{Done, Refused, IdentityReused, EpochClosed, NotTaken}
-use Rattle.review_words.specs.History.{Entry, if_done, account_count, counted, file_text, is_account, is_project}
->>>>>>> epochs
+use Rattle.review_words.specs.History.{Entry, if_done, account_count, counted, is_account}
 use Rattle.review_document.specs.Document.{members_at}
 use Rattle.review_document.specs.Limits.{most_parts}
 use Rattle.review_expr.specs.declared.expr.Expr.{Expr}
@@ -46,18 +38,12 @@ use Rattle.review_ancestors.proofs.Effective.{line_read}
 use Rattle.review_rows.specs.declared.rows.StoredFile.{StoredFile}
 use Rattle.review_rows.specs.Changes.{Reading, Reads, change, effective_of, file_of, own_of, setting_of, texts_of}
 use Rattle.review_rows.specs.Files.{IsRead}
-<<<<<<< ours
 use Rattle.review_rows.specs.Lines.{line_of, most_depth, with_above}
 use Rattle.review_rows.proofs.Readings.{IsDoneBy, done_of}
 use Rattle.review_vote_laws.proofs.Standing.{votes_stand}
 use Rattle.review_deliveries.proofs.Named.{AreReadRight}
 use Rattle.review_deliveries.proofs.OneFile.{spelled_once}
-||||||| base
-use Rattle.review_rows.proofs.Readings.{read_of}
-=======
-use Rattle.review_rows.proofs.Readings.{read_of}
 use Rattle.review_rows.proofs.Epochs.{IsDoneBy, done_by}
->>>>>>> epochs
 use Rattle.review_deliveries.proofs.Voted.{have_voters}
 use Rattle.review_deliveries.proofs.Votes.{no_more}
 

@@ -1,24 +1,10 @@
 -- What a delivery does to any tables whatever.
-<<<<<<< ours
-use Rattle.std.proofs.Common.{◌≡◌, ℕ, ◌+◌, ◌≤◌, List, [], Option, Some, None, Result, Ok, Err, cond, sym, ◌∙◌, subst, inl, inr}
-||||||| base
-use Rattle.std.proofs.Common.{◌≡◌, ℕ, ◌+◌, ◌≤◌, List, [], ◌∷◌, ◌++◌, Option, Some, None, Result, Ok, Err, cond, refl, sym, ◌∙◌, subst, inl, inr}
-=======
-use Rattle.std.proofs.Common.{◌≡◌, ℕ, ◌+◌, ◌≤◌, List, [], ◌∷◌, ◌++◌, Option, Some, None, Bool, true, false, Result, Ok, Err, cond, refl, sym, ap, ◌∙◌, subst, inl, inr}
->>>>>>> epochs
+use Rattle.std.proofs.Common.{◌≡◌, ℕ, ◌+◌, ◌≤◌, List, [], Option, Some, None, Result, Ok, Err, cond, sym, ◌∙◌, subst, inl, inr, Bool, true, false, ap}
 use Rattle.review_words.specs.declared.command.Command.{Command}
 use Rattle.review_words.specs.declared.command.Delivery.TheVariants.{Write}
 use Rattle.review_words.specs.declared.reply.Reply.{Reply}
-<<<<<<< ours
-use Rattle.review_words.specs.declared.reply.Reply.TheVariants.{Done, Refused, IdentityReused, NotTaken}
-use Rattle.review_words.specs.History.{Identity, is_same, latest}
-||||||| base
-use Rattle.review_words.specs.declared.reply.Reply.TheVariants.{Done, Refused, IdentityReused, NotTaken}
-use Rattle.review_words.specs.History.{Identity, is_same}
-=======
 use Rattle.review_words.specs.declared.reply.Reply.TheVariants.{Done, Refused, IdentityReused, EpochClosed, NotTaken}
-use Rattle.review_words.specs.History.{Identity, is_same, if_done}
->>>>>>> epochs
+use Rattle.review_words.specs.History.{Identity, is_same, latest, if_done}
 use Rattle.review_rows.specs.declared.rows.Delta.{Delta}
 use Rattle.review_rows.specs.declared.rows.Rows.{Rows}
 use Rattle.review_rows.specs.Rows.{Key, Count, AnswerRow, Stored, Answered, Tables, HasNoEffect, after, count_after, closing, is_below}
@@ -27,13 +13,7 @@ use Rattle.review_rows.specs.Files.{File}
 use Rattle.review_rows.specs.Known.{Agrees, known, number_of}
 use Rattle.review_rows.specs.Steps.{OfCommand, next}
 use Rattle.review_rows.proofs.Asked.{requests_are}
-<<<<<<< ours
 use Rattle.review_rows.specs.Shelf.{Answers, IsCommitted, Shows, LeavesBy, IsCounted, cause_of}
-||||||| base
-use Rattle.review_rows.specs.Shelf.{IsCommitted, Shows, LeavesBy, IsCounted, cause_of}
-=======
-use Rattle.review_rows.specs.Shelf.{IsCommitted, Answers, Shows, LeavesBy, IsCounted, cause_of}
->>>>>>> epochs
 use Rattle.review_rows.specs.declared.shelf.ShelfFault.{ShelfFault}
 use Rattle.review_rows.specs.declared.shelf.ShelfFault.TheVariants as fault
 use Rattle.review_words.specs.Texts.{IsStored, content_text}
@@ -41,14 +21,8 @@ use Rattle.review_rows.specs.View.{answer_row}
 use Rattle.review_rows.specs.Answer.{most_requests}
 use Rattle.review_words.specs.declared.reply.NotTaken.{NotTaken as Cause}
 use Rattle.review_words.specs.declared.reply.NotTaken.TheVariants.{Memory, Store, Damaged, Pattern, Full}
-<<<<<<< ours
-use Rattle.review_deliveries.specs.Replies.{StoresOnce, IsFoundOrStored, StoresRequest, KeepsRows, KeepsUntaken, CountsReply, IsToldAgain, reply_of, HasStored, HasTexts, HasOtherContent}
-||||||| base
-use Rattle.review_deliveries.specs.Replies.{StoresOnce, IsFoundOrStored, StoresRequest, KeepsRows, KeepsUntaken, AreSteps, CountsReply, IsToldAgain, reply_of, HasStored, HasTexts, HasOtherContent}
-=======
 use Rattle.review_deliveries.proofs.Histories.{same_from}
-use Rattle.review_deliveries.specs.Replies.{StoresOnce, IsFoundOrStored, StoresRequest, KeepsRows, KeepsUntaken, AreSteps, CountsReply, IsToldAgain, reply_of, HasStored, HasTexts, HasOtherContent}
->>>>>>> epochs
+use Rattle.review_deliveries.specs.Replies.{StoresOnce, IsFoundOrStored, StoresRequest, KeepsRows, KeepsUntaken, CountsReply, IsToldAgain, reply_of, HasStored, HasTexts, HasOtherContent}
 
 kept : (reply : Reply) (delta : Delta) (t u : Tables) → HasNoEffect reply delta → ((k : Key) → u.row k ≡ after delta k (t.row k)) → ((c : Count) → u.count c ≡ count_after delta t.row c (t.count c)) → KeepsRows reply t u
 kept (Refused r) delta t u none rows counts = (λ k. rows k ∙ none.rows k (t.row k), λ c. counts c ∙ none.counts t.row c (t.count c))
@@ -68,22 +42,10 @@ own_stays i j b x y own = at b (is_same i j) own
 
 -- a first arrival whose request was stored
 stored_request : (i : Identity) (command : Command) (reply : Reply) (delta : Delta) (file : Option File) (rows : Rows) (row : AnswerRow) (t u : Tables) →
-<<<<<<< ours
-    Answers t i None → Agrees t rows → next file rows i.caller (OfCommand command) ≡ [] → HasNoEffect reply delta → IsCommitted t delta row u →
-    ((n : ℕ) → number_of (known rows Requests) ≡ n → row ≡ answer_row (record { identity = i; version = latest; command = command; reply = reply }) (n + 1)) → StoresRequest i command reply t u
-stored_request i command reply delta file rows row t u none agree left quiet c is =
-    let same : row ≡ answer_row (record { identity = i; version = latest; command = command; reply = reply }) (t.requests + 1) = is t.requests (requests_are t file rows i.caller command agree left) in
-||||||| base
-    t.answer i ≡ None → Agrees t rows → next file rows i.caller (OfCommand command) ≡ [] → HasNoEffect reply delta → IsCommitted t delta row u →
-    ((n : ℕ) → number_of (known rows Requests) ≡ n → row ≡ answer_row (record { identity = i; command = command; reply = reply }) (n + 1)) → StoresRequest i command reply t u
-stored_request i command reply delta file rows row t u none agree left quiet c is =
-    let same : row ≡ answer_row (record { identity = i; command = command; reply = reply }) (t.requests + 1) = is t.requests (requests_are t file rows i.caller command agree left) in
-=======
     Answers t i None → Agrees t rows → next file rows i.caller (OfCommand command) ≡ [] → HasNoEffect reply delta → delta.epoch ≡ closing (if_done reply command) → is_below delta.epoch i.epoch ≡ false → IsCommitted t delta row u →
-    ((n : ℕ) → number_of (known rows Requests) ≡ n → row ≡ answer_row (record { identity = i; command = command; reply = reply }) (n + 1)) → StoresRequest i command reply t u
+    ((n : ℕ) → number_of (known rows Requests) ≡ n → row ≡ answer_row (record { identity = i; version = latest; command = command; reply = reply }) (n + 1)) → StoresRequest i command reply t u
 stored_request i command reply delta file rows row t u none agree left quiet closes own c is =
-    let same : row ≡ answer_row (record { identity = i; command = command; reply = reply }) (t.requests + 1) = is t.requests (requests_are t file rows i.caller command agree left) in
->>>>>>> epochs
+    let same : row ≡ answer_row (record { identity = i; version = latest; command = command; reply = reply }) (t.requests + 1) = is t.requests (requests_are t file rows i.caller command agree left) in
     record {
       new = none;
       answer_is = λ j. c.answer_is j ∙ (λ k. cond (is_below (closes k) j.epoch) None (cond (is_same (same k).identity j) (Some (Answered (same k))) (t.answer j)))
@@ -95,16 +57,8 @@ stored_request i command reply delta file rows row t u none agree left quiet clo
     }
 
 pub stored_shown : (i : Identity) (command : Command) (reply : Reply) (delta : Delta) (file : Option File) (rows : Rows) (row : AnswerRow) (old mid new : Option Tables) →
-<<<<<<< ours
-    mid ≡ old → Shows old (λ t. Answers t i None) → Shows old (λ t. Agrees t rows) → next file rows i.caller (OfCommand command) ≡ [] → HasNoEffect reply delta → Shows mid (λ t. Shows new (IsCommitted t delta row)) →
-    ((n : ℕ) → number_of (known rows Requests) ≡ n → row ≡ answer_row (record { identity = i; version = latest; command = command; reply = reply }) (n + 1)) →
-||||||| base
-    mid ≡ old → Shows old (λ t. t.answer i ≡ None) → Shows old (λ t. Agrees t rows) → next file rows i.caller (OfCommand command) ≡ [] → HasNoEffect reply delta → Shows mid (λ t. Shows new (IsCommitted t delta row)) →
-    ((n : ℕ) → number_of (known rows Requests) ≡ n → row ≡ answer_row (record { identity = i; command = command; reply = reply }) (n + 1)) →
-=======
     mid ≡ old → Shows old (λ t. Answers t i None) → Shows old (λ t. Agrees t rows) → next file rows i.caller (OfCommand command) ≡ [] → HasNoEffect reply delta → delta.epoch ≡ closing (if_done reply command) → is_below delta.epoch i.epoch ≡ false → Shows mid (λ t. Shows new (IsCommitted t delta row)) →
-    ((n : ℕ) → number_of (known rows Requests) ≡ n → row ≡ answer_row (record { identity = i; command = command; reply = reply }) (n + 1)) →
->>>>>>> epochs
+    ((n : ℕ) → number_of (known rows Requests) ≡ n → row ≡ answer_row (record { identity = i; version = latest; command = command; reply = reply }) (n + 1)) →
     IsFoundOrStored i command reply old new
 stored_shown i command reply delta file rows row old mid new stays none agree left quiet closes own c is =
     inr (both old new none agree (subst (λ (m : Option Tables). Shows m (λ t. Shows new (IsCommitted t delta row))) stays c))
@@ -129,23 +83,6 @@ has_stored i row IsSo None there so = absurd there
 has_stored i row IsSo (Some t) there so = (row, there, so)
 
 -- a request whose identity is stored
-<<<<<<< ours
-pub repeated : (caller : ℕ) (id : List ℕ) (command : Command) (result : Result Reply Cause) (row : AnswerRow) (old new : Option Tables) →
-    Shows old (λ t. Answers t (record { caller = caller; id = id }) (Some (Answered row))) → IsToldAgain row (content_text command) result → new ≡ old →
-    StoresOnce (Write caller id command) (reply_of result) old new
-repeated caller id command (Ok reply) row old new there (inl told) stays =
-    stores_once caller id command reply old new (inl (has_stored (record { caller = caller; id = id }) row (HasTexts command reply) old there (told.0, sym told.2), stays))
-repeated caller id command (Ok reply) row old new there (inr told) stays = subst (λ r. StoresOnce (Write caller id command) r old new) (sym told.1) tt
-repeated caller id command (Err cause) row old new there told stays = tt
-||||||| base
-pub repeated : (caller : ℕ) (id : List ℕ) (command : Command) (result : Result Reply Cause) (row : AnswerRow) (old new : Option Tables) →
-    Shows old (λ t. t.answer (record { caller = caller; id = id }) ≡ Some (Answered row)) → IsToldAgain row (content_text command) result → new ≡ old →
-    StoresOnce (Write caller id command) (reply_of result) old new
-repeated caller id command (Ok reply) row old new there (inl told) stays =
-    stores_once caller id command reply old new (inl (has_stored (record { caller = caller; id = id }) row (HasTexts command reply) old there (told.0, sym told.2), stays))
-repeated caller id command (Ok reply) row old new there (inr told) stays = subst (λ r. StoresOnce (Write caller id command) r old new) (sym told.1) tt
-repeated caller id command (Err cause) row old new there told stays = tt
-=======
 pub repeated : (caller epoch : ℕ) (id : List ℕ) (command : Command) (result : Result Reply Cause) (row : AnswerRow) (old new : Option Tables) →
     Shows old (λ t. Answers t (record { caller = caller; epoch = epoch; id = id }) (Some (Answered row))) → IsToldAgain row (content_text command) result → new ≡ old →
     StoresOnce (Write caller epoch id command) (reply_of result) old new
@@ -153,7 +90,6 @@ repeated caller epoch id command (Ok reply) row old new there (inl told) stays =
     stores_once caller epoch id command reply old new (inl (has_stored (record { caller = caller; epoch = epoch; id = id }) row (HasTexts command reply) old there (told.0, sym told.2), stays))
 repeated caller epoch id command (Ok reply) row old new there (inr told) stays = subst (λ r. StoresOnce (Write caller epoch id command) r old new) (sym told.1) tt
 repeated caller epoch id command (Err cause) row old new there told stays = tt
->>>>>>> epochs
 
 -- a reply that is stored is no clash
 pub decided_keeps : (caller epoch : ℕ) (id : List ℕ) (command : Command) (reply : Reply) (old new : Option Tables) → IsStored reply → KeepsUntaken (Write caller epoch id command) reply old new
@@ -163,33 +99,6 @@ decided_keeps caller epoch id command IdentityReused old new s = absurd s
 decided_keeps caller epoch id command EpochClosed old new s = absurd s
 decided_keeps caller epoch id command (NotTaken c) old new s = absurd s
 
-<<<<<<< ours
-pub repeat_keeps : (caller : ℕ) (id : List ℕ) (command : Command) (result : Result Reply Cause) (row : AnswerRow) (old new : Option Tables) →
-    Shows old (λ t. Answers t (record { caller = caller; id = id }) (Some (Answered row))) → IsToldAgain row (content_text command) result → new ≡ old →
-    KeepsUntaken (Write caller id command) (reply_of result) old new
-repeat_keeps caller id command (Ok reply) row old new there (inl told) stays = decided_keeps caller id command reply old new told.1
-repeat_keeps caller id command (Ok reply) row old new there (inr told) stays =
-    subst (λ r. KeepsUntaken (Write caller id command) r old new) (sym told.1)
-    (has_stored (record { caller = caller; id = id }) row (HasOtherContent command) old there told.0, stays)
-repeat_keeps caller id command (Err Memory) row old new there told stays = (tt, stays)
-repeat_keeps caller id command (Err Damaged) row old new there told stays = (tt, stays)
-repeat_keeps caller id command (Err Store) row old new there told stays = absurd told
-repeat_keeps caller id command (Err Pattern) row old new there told stays = absurd told
-repeat_keeps caller id command (Err Full) row old new there told stays = absurd told
-||||||| base
-pub repeat_keeps : (caller : ℕ) (id : List ℕ) (command : Command) (result : Result Reply Cause) (row : AnswerRow) (old new : Option Tables) →
-    Shows old (λ t. t.answer (record { caller = caller; id = id }) ≡ Some (Answered row)) → IsToldAgain row (content_text command) result → new ≡ old →
-    KeepsUntaken (Write caller id command) (reply_of result) old new
-repeat_keeps caller id command (Ok reply) row old new there (inl told) stays = decided_keeps caller id command reply old new told.1
-repeat_keeps caller id command (Ok reply) row old new there (inr told) stays =
-    subst (λ r. KeepsUntaken (Write caller id command) r old new) (sym told.1)
-    (has_stored (record { caller = caller; id = id }) row (HasOtherContent command) old there told.0, stays)
-repeat_keeps caller id command (Err Memory) row old new there told stays = (tt, stays)
-repeat_keeps caller id command (Err Damaged) row old new there told stays = (tt, stays)
-repeat_keeps caller id command (Err Store) row old new there told stays = absurd told
-repeat_keeps caller id command (Err Pattern) row old new there told stays = absurd told
-repeat_keeps caller id command (Err Full) row old new there told stays = absurd told
-=======
 pub repeat_keeps : (caller epoch : ℕ) (id : List ℕ) (command : Command) (result : Result Reply Cause) (row : AnswerRow) (old new : Option Tables) →
     Shows old (λ t. Answers t (record { caller = caller; epoch = epoch; id = id }) (Some (Answered row))) → IsToldAgain row (content_text command) result → new ≡ old →
     KeepsUntaken (Write caller epoch id command) (reply_of result) old new
@@ -202,7 +111,6 @@ repeat_keeps caller epoch id command (Err Damaged) row old new there told stays 
 repeat_keeps caller epoch id command (Err Store) row old new there told stays = absurd told
 repeat_keeps caller epoch id command (Err Pattern) row old new there told stays = absurd told
 repeat_keeps caller epoch id command (Err Full) row old new there told stays = absurd told
->>>>>>> epochs
 
 -- what a fault of the shelf leaves
 pub fault_keeps : (caller epoch : ℕ) (id : List ℕ) (command : Command) (f : ShelfFault) (old new : Option Tables) → LeavesBy (cause_of f) old new →
@@ -212,16 +120,8 @@ fault_keeps caller epoch id command fault.Store old new stays = (tt, stays)
 fault_keeps caller epoch id command fault.Damaged old new stays = (tt, stays)
 
 -- a new identity after the last number
-<<<<<<< ours
-pub full_keeps : (caller : ℕ) (id : List ℕ) (command : Command) (file : Option File) (rows : Rows) (old new : Option Tables) →
-    Shows old (λ t. Answers t (record { caller = caller; id = id }) None) → Shows old (λ t. Agrees t rows) → next file rows caller (OfCommand command) ≡ [] →
-||||||| base
-pub full_keeps : (caller : ℕ) (id : List ℕ) (command : Command) (file : Option File) (rows : Rows) (old new : Option Tables) →
-    Shows old (λ t. t.answer (record { caller = caller; id = id }) ≡ None) → Shows old (λ t. Agrees t rows) → next file rows caller (OfCommand command) ≡ [] →
-=======
 pub full_keeps : (caller epoch : ℕ) (id : List ℕ) (command : Command) (file : Option File) (rows : Rows) (old new : Option Tables) →
     Shows old (λ t. Answers t (record { caller = caller; epoch = epoch; id = id }) None) → Shows old (λ t. Agrees t rows) → next file rows caller (OfCommand command) ≡ [] →
->>>>>>> epochs
     most_requests ≤ number_of (known rows Requests) → new ≡ old →
     KeepsUntaken (Write caller epoch id command) (NotTaken Full) old new
 full_keeps caller epoch id command file rows None new none agree left most stays = absurd none

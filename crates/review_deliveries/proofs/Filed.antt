@@ -75,7 +75,6 @@ judged_by_change true reading h rows n project agree is =
 -- a project that is there is that by whose file the command is judged, where rows know it as such
 judged_by : (reading : Reading) (h : List Entry) (rows : Rows) (command : Command) (project : List ℕ) → Agrees (view reading h) rows → is_project h project ≡ true →
     project_of rows (OfCommand command) ≡ Some project → judging_project reading h command ≡ Some project
-<<<<<<< ours
 judged_by reading h rows (CreateAccount name) project agree there is = absurd (cc)
 judged_by reading h rows (PutGroup group members) project agree there is = absurd (cc)
 judged_by reading h rows (PutProject given text) project agree there is =
@@ -83,27 +82,10 @@ judged_by reading h rows (PutProject given text) project agree there is =
     let here : is_project h given ≡ true = ap (is_project h) same ∙ there in
     ap (λ b. cond b (Some given) (named_parent text)) here ∙ is
 judged_by reading h rows (RecordBase given branch commit) project agree there is = absurd (cc)
+judged_by reading h rows (CloseEpoch epoch) project agree is = absurd (cc)
 judged_by reading h rows (CreateChange new) project agree there is = is
 judged_by reading h rows (OnChange n command) project agree there is = judged_by_change (needs_file command) reading h rows n project agree is
 judged_by reading h rows (Submit n) project agree there is = judged_by_change true reading h rows n project agree is
-||||||| base
-judged_by reading h rows (CreateAccount name) project agree is = absurd (cc)
-judged_by reading h rows (PutGroup group members) project agree is = absurd (cc)
-judged_by reading h rows (PutProject given text) project agree is = is
-judged_by reading h rows (RecordBase given branch commit) project agree is = absurd (cc)
-judged_by reading h rows (CreateChange new) project agree is = is
-judged_by reading h rows (OnChange n command) project agree is = judged_by_change reading h rows n project agree is
-judged_by reading h rows (Submit n) project agree is = judged_by_change reading h rows n project agree is
-=======
-judged_by reading h rows (CreateAccount name) project agree is = absurd (cc)
-judged_by reading h rows (PutGroup group members) project agree is = absurd (cc)
-judged_by reading h rows (PutProject given text) project agree is = is
-judged_by reading h rows (RecordBase given branch commit) project agree is = absurd (cc)
-judged_by reading h rows (CloseEpoch epoch) project agree is = absurd (cc)
-judged_by reading h rows (CreateChange new) project agree is = is
-judged_by reading h rows (OnChange n command) project agree is = judged_by_change reading h rows n project agree is
-judged_by reading h rows (Submit n) project agree is = judged_by_change reading h rows n project agree is
->>>>>>> epochs
 
 -- and that by whose file a question is answered
 topic_judged : (reading : Reading) (h : List Entry) (rows : Rows) (topic : Topic) (project : List ℕ) → Agrees (view reading h) rows → is_project h project ≡ true →

@@ -7,16 +7,8 @@ use Rattle.std.proofs.Math.Seq.{take-append-add}
 use Rattle.review_words.specs.declared.command.Delivery.{Delivery}
 use Rattle.review_words.specs.declared.command.Delivery.TheVariants.{Write, Read}
 use Rattle.review_words.specs.declared.reply.Reply.{Reply}
-<<<<<<< ours
-use Rattle.review_words.specs.declared.reply.Reply.TheVariants.{Done, Refused, IdentityReused, NotTaken}
-use Rattle.review_words.specs.History.{Entry, Identity, stored, is_same, entry_of}
-||||||| base
-use Rattle.review_words.specs.declared.reply.Reply.TheVariants.{Done, Refused, IdentityReused, NotTaken}
-use Rattle.review_words.specs.History.{Entry, Identity, stored, is_same}
-=======
 use Rattle.review_words.specs.declared.reply.Reply.TheVariants.{Done, Refused, IdentityReused, EpochClosed, NotTaken}
-use Rattle.review_words.specs.History.{Entry, Identity, stored, is_same, is_closed}
->>>>>>> epochs
+use Rattle.review_words.specs.History.{Entry, Identity, stored, is_same, entry_of, is_closed}
 use Rattle.review_rows.specs.Answer.{IsHistory}
 use Rattle.review_deliveries.specs.Replies.{taken, with_taken, with_write, StopGoesOnFrom, first_arrivals as first, arrivals_after as first_after, has_identity, history_after, with_entries as hist, IsRight, AreRight, CountsFollow, IsServed, IsRun, StopsWithin, HasEffect}
 use Rattle.review_rows.specs.Shelf.{Shown, Views}

@@ -1,27 +1,13 @@
 -- Identities in histories, and the tables of a history with one more entry.
-<<<<<<< ours
-use Rattle.std.proofs.Common.{◌≡◌, ℕ, ◌+◌, ◌≤◌, List, [], ◌∷◌, ◌++◌, length, Option, Some, None, true, false, cond, refl, sym, ap, ◌∙◌, subst, ⊎_elim, inl, inr, arith, eqb-true, eq-eqb, ◌==◌}
-use Rattle.std.specs.Prelude.{MatchOption, nat_le}
-||||||| base
-use Rattle.std.proofs.Common.{◌≡◌, ℕ, ◌+◌, ◌≤◌, List, [], ◌∷◌, ◌++◌, length, Option, Some, None, true, false, cond, refl, sym, ap, ◌∙◌, subst, ⊎_elim, inl, inr, arith, eqb-true, eq-eqb, ◌==◌}
-use Rattle.std.specs.Prelude.{MatchOption, option_map}
-=======
 use Rattle.std.proofs.Common.{◌≡◌, ℕ, ◌+◌, ◌≤◌, List, [], ◌∷◌, ◌++◌, length, Option, Some, None, true, false, cond, refl, sym, ap, ◌∙◌, subst, ⊎_elim, inl, inr, arith, eqb-true, eq-eqb, ◌==◌, ◌&&◌, ◌||◌, Bool}
-use Rattle.std.specs.Prelude.{MatchOption, is_some, nat_lt, option_map, unwrap_or}
->>>>>>> epochs
+use Rattle.std.specs.Prelude.{MatchOption, nat_le, is_some, nat_lt, unwrap_or}
 use Rattle.std.specs.Str.{bytes_eq}
 use Rattle.std.proofs.lemmas.Bool.{and_parts, and_from, cases_Bool}
 use Rattle.std.proofs.lemmas.Slice.Eq.{bytes_eq-Decides}
 use Rattle.review_words.specs.Texts.{content_text, reply_text, IsStored}
 use Rattle.review_words.specs.declared.command.Command.{Command}
-<<<<<<< ours
-use Rattle.review_words.specs.declared.command.Command.TheVariants.{CreateAccount, PutGroup, PutProject, RecordBase, CreateChange, OnChange, Submit}
-use Rattle.review_words.specs.declared.command.Delivery.TheVariants.{Write}
-||||||| base
-use Rattle.review_words.specs.declared.command.Command.TheVariants.{CreateAccount, PutGroup, PutProject, RecordBase, CreateChange, OnChange, Submit}
-=======
 use Rattle.review_words.specs.declared.command.Command.TheVariants.{CreateAccount, PutGroup, PutProject, RecordBase, CloseEpoch, CreateChange, OnChange, Submit}
->>>>>>> epochs
+use Rattle.review_words.specs.declared.command.Delivery.TheVariants.{Write}
 use Rattle.review_words.specs.declared.command.ChangeCommand.{ChangeCommand}
 use Rattle.review_words.specs.declared.command.ChangeCommand.TheVariants as on
 use Rattle.review_words.specs.declared.changes.NewPatch.{NewPatch}
@@ -29,13 +15,7 @@ use Rattle.review_words.specs.declared.reply.Reply.{Reply}
 use Rattle.review_words.specs.declared.reply.Reply.TheVariants.{Done, Refused, IdentityReused, EpochClosed, NotTaken}
 use Rattle.review_words.specs.declared.reply.Answer.TheVariants.{Nothing}
 use Rattle.review_words.specs.declared.reply.Refusal.{Refusal}
-<<<<<<< ours
-use Rattle.review_words.specs.History.{Entry, Identity, IsFirst, stored, is_same, entry_of, latest, may_follow, version_of}
-||||||| base
-use Rattle.review_words.specs.History.{Entry, Identity, stored, is_same, file_text}
-=======
-use Rattle.review_words.specs.History.{Entry, Identity, stored, is_same, is_closed, least_open, raised, if_done, file_text}
->>>>>>> epochs
+use Rattle.review_words.specs.History.{Entry, Identity, IsFirst, stored, is_same, entry_of, latest, may_follow, version_of, is_closed, least_open, raised, if_done}
 use Rattle.review_changes.specs.Change.{Change}
 use Rattle.review_rows.specs.declared.rows.Delta.{Delta}
 use Rattle.review_rows.specs.declared.rows.Rows.{Rows}
@@ -223,13 +203,7 @@ stored_stays (m ∷ more) h i e hist some =
     let there = stored_stays more h i e hist.3 some in
     ⊎_elim
     (λ (t : is_same m.identity i ≡ true).
-<<<<<<< ours
-    let none : IsFirst (more ++ h) i = subst (IsFirst (more ++ h)) (same_from m.identity i t) hist.0 in
-||||||| base
-    let none : stored (more ++ h) i ≡ None = subst (λ (j : Identity). stored (more ++ h) j ≡ None) (same_from m.identity i t) hist.0 in
-=======
-    let none : stored (more ++ h) i ≡ None = subst (λ (j : Identity). stored (more ++ h) j ≡ None) (same_from m.identity i t) hist.0.0 in
->>>>>>> epochs
+    let none : IsFirst (more ++ h) i = subst (IsFirst (more ++ h)) (same_from m.identity i t) hist.0.0 in
     absurd (cc))
     (λ (f : is_same m.identity i ≡ false). stored_there m (more ++ h) i f ∙ there)
     (cases_Bool (is_same m.identity i))

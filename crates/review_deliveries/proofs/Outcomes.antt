@@ -22,21 +22,11 @@ use Rattle.review_inheritance.proofs.Alike.{covers_alike, inherit_alike, inherit
 use Rattle.review_changes.specs.Change.{Change, carried, copying, current, is_lost}
 use Rattle.review_words.specs.declared.command.ChangeCommand.TheVariants as change_asked
 use Rattle.review_changes.specs.Votes.{voted}
-<<<<<<< ours
 use Rattle.review_rows.specs.Changes.{Reading, change, depth, file_of, setting_of}
 use Rattle.review_rows.specs.Files.{File, covers, HasDeepPattern}
-use Rattle.review_rows.specs.Answer.{IsAnswerBy, IsOf, IsOutcome, IsRequestOutcome, IsUploadAnswer, file_checks, file_with, first_refusal, keeps_parent, puts_unknown_label, refused_by, refused_or}
+use Rattle.review_rows.specs.Answer.{IsAnswerBy, IsAnswerIn, epoch_checks, IsOf, IsOutcome, IsRequestOutcome, IsUploadAnswer, file_checks, file_with, first_refusal, keeps_parent, puts_unknown_label, refused_by, refused_or}
 use Rattle.review_rows.specs.Limits.{most_projects}
 use Rattle.review_rows.specs.Lines.{most_depth}
-||||||| base
-use Rattle.review_rows.specs.Changes.{Reading, change, setting_of}
-use Rattle.review_rows.specs.Files.{File, IsRead, covers, HasDeepPattern}
-use Rattle.review_rows.specs.Answer.{IsAnswerBy, IsOf, IsOutcome, IsRequestOutcome, IsUploadAnswer, first_refusal, refused_by, refused_or}
-=======
-use Rattle.review_rows.specs.Changes.{Reading, change, setting_of}
-use Rattle.review_rows.specs.Files.{File, IsRead, covers, HasDeepPattern}
-use Rattle.review_rows.specs.Answer.{IsAnswerBy, IsAnswerIn, epoch_checks, IsOf, IsOutcome, IsRequestOutcome, IsUploadAnswer, first_refusal, refused_by, refused_or}
->>>>>>> epochs
 use Rattle.review_rows.proofs.Readings.{reading_of}
 use Rattle.review_rows.proofs.Requested.{IsToldDone, sent_or_done}
 use Rattle.review_deliveries.specs.Restart.{IsFree, RefusesBadValue, OneAnswer}

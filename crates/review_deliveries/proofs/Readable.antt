@@ -4,13 +4,7 @@ use Rattle.std.specs.Prelude.{MatchOption}
 use Rattle.std.specs.Str.{bytes_eq}
 use Rattle.std.proofs.lemmas.Bool.{cases_Bool}
 use Rattle.std.proofs.lemmas.Slice.Eq.{bytes_eq-Decides}
-<<<<<<< ours
-use Rattle.review_words.specs.History.{Entry, accepted, stored, entry_of}
-||||||| base
-use Rattle.review_words.specs.History.{Entry, accepted, stored}
-=======
-use Rattle.review_words.specs.History.{Entry, accepted, stored, is_closed}
->>>>>>> epochs
+use Rattle.review_words.specs.History.{Entry, accepted, stored, entry_of, is_closed}
 use Rattle.review_words.specs.declared.command.Command.{Command}
 use Rattle.review_words.specs.declared.command.Command.TheVariants.{CreateAccount, PutGroup, PutProject, RecordBase, CloseEpoch, CreateChange, OnChange, Submit}
 use Rattle.review_words.specs.declared.command.Delivery.{Delivery}

@@ -9,19 +9,9 @@ use Rattle.review_words.specs.declared.command.Command.{Command}
 use Rattle.review_words.specs.declared.command.Delivery.{Delivery}
 use Rattle.review_words.specs.declared.command.Delivery.TheVariants.{Write, Read}
 use Rattle.review_words.specs.declared.reply.Reply.{Reply}
-<<<<<<< ours
-use Rattle.review_words.specs.declared.reply.Reply.TheVariants.{Done, Refused, IdentityReused, NotTaken}
-use Rattle.review_words.specs.History.{Entry, Identity, IsFirst, stored, is_same, entry_of}
-use Rattle.review_rows.specs.Answer.{IsHistory, IsAnswer}
-||||||| base
-use Rattle.review_words.specs.declared.reply.Reply.TheVariants.{Done, Refused, IdentityReused, NotTaken}
-use Rattle.review_words.specs.History.{Entry, Identity, stored, is_same}
-use Rattle.review_rows.specs.Answer.{IsHistory, IsAnswer}
-=======
 use Rattle.review_words.specs.declared.reply.Reply.TheVariants.{Done, Refused, IdentityReused, EpochClosed, NotTaken}
-use Rattle.review_words.specs.History.{Entry, Identity, stored, is_same, is_closed}
+use Rattle.review_words.specs.History.{Entry, Identity, IsFirst, stored, is_same, entry_of, is_closed}
 use Rattle.review_rows.specs.Answer.{IsHistory, IsFirst, IsAnswer}
->>>>>>> epochs
 use Rattle.review_rows.specs.Rows.{Tables}
 use Rattle.review_rows.specs.View.{IsView}
 use Rattle.review_rows.proofs.Epochs.{closed_stays, open_before}
@@ -29,25 +19,11 @@ use Rattle.review_rows.proofs.Readings.{reading_of}
 use Rattle.review_deliveries.proofs.Submits.{OneStanding}
 use Rattle.review_deliveries.proofs.Outcomes.{one_answer_in}
 use Rattle.review_deliveries.proofs.Readable.{HasReading, read_on}
-<<<<<<< ours
 use Rattle.review_deliveries.specs.Replies.{IsTold, IsRight, AreRight, IsToldOfStored, history_after, with_entries as hist, has_identity, first_arrivals as first, arrivals_after as first_after, taken, with_taken, HasEffect}
-use Rattle.review_deliveries.specs.Restart.{IsFree, RefusesBadValue, IsSettled, AreSettled, WasTaken, WereTaken, AgreeFor, AgreeOnWrites, RunsAsFrom, RestartIsRun, RestartAfterStop, RestartCompletes, RestartKeepsHistory, RepliesFollowHistory}
-use Rattle.review_deliveries.proofs.Histories.{answer_given, earlier, told_where, where_told, stored_stays, stored_here, stored_there, same_to}
-use Rattle.review_deliveries.proofs.Served.{new_history, same_history, same_command}
-use Rattle.review_deliveries.proofs.Going.{HasSince, since_old, since_new, or_false, with_taken-append, first-append, history_after-append}
-||||||| base
-use Rattle.review_deliveries.specs.Replies.{IsTold, IsRight, AreRight, IsToldOfStored, history_after, with_entries as hist, has_identity, first_arrivals as first, arrivals_after as first_after, taken, with_taken, entry_of, HasEffect}
-use Rattle.review_deliveries.specs.Restart.{IsFree, RefusesBadValue, IsSettled, AreSettled, WasTaken, WereTaken, AgreeFor, AgreeOnWrites, RunsAsFrom, RestartIsRun, RestartAfterStop, RestartCompletes, RestartKeepsHistory, RepliesFollowHistory}
-use Rattle.review_deliveries.proofs.Histories.{answer_given, earlier, stored_stays, stored_here, stored_there, same_to}
-use Rattle.review_deliveries.proofs.Served.{new_history, same_history, same_command}
-use Rattle.review_deliveries.proofs.Going.{HasSince, since_old, since_new, or_false, with_taken-append, first-append, history_after-append}
-=======
-use Rattle.review_deliveries.specs.Replies.{IsTold, IsRight, AreRight, IsToldOfStored, history_after, with_entries as hist, has_identity, first_arrivals as first, arrivals_after as first_after, taken, with_taken, entry_of, HasEffect}
 use Rattle.review_deliveries.specs.Restart.{IsFree, RefusesBadValue, IsSettled, AreSettled, WasTaken, WereTaken, AgreeFor, AgreeOnWrites, AgreesAgain, AgreeAfter, AgreesWhereOpen, AgreeWhereOpen, RunsAsFrom, RestartIsRun, RestartAfterStop, RestartCompletes, RestartKeepsHistory, RepliesFollowHistory}
-use Rattle.review_deliveries.proofs.Histories.{answer_given, earlier, passed_over, told_where, where_told, stored_stays, stored_here, stored_there, same_to}
+use Rattle.review_deliveries.proofs.Histories.{answer_given, earlier, told_where, where_told, stored_stays, stored_here, stored_there, same_to, passed_over}
 use Rattle.review_deliveries.proofs.Served.{new_history, same_history, closed_history, same_command}
 use Rattle.review_deliveries.proofs.Going.{HasSince, since_start, since_old, since_new, since_closed, dropped, added, each_way, with_taken-append, first-append, history_after-append}
->>>>>>> epochs
 
 -- each delivery is taken, and its reply is right after those before it
 abbrev pub AreTold : List Entry → List Delivery → List Reply → Type 0
@@ -101,21 +77,11 @@ one_told standing h (Write caller epoch id command) r s settled reading a b =
     let same = at (is_closed h epoch) (stored h (record { caller = caller; epoch = epoch; id = id })) refl refl in
     (same, ap (λ x. history_after h (Write caller epoch id command ∷ []) (x ∷ [])) (sym same))
   where
-<<<<<<< ours
-    at : (o : Option Entry) → stored h (record { caller = caller; id = id }) ≡ o → r ≡ s
-    at None is = settled_answer standing h caller command r s settled reading (told_where h caller id command r None is a) (told_where h caller id command s None is b)
-    at (Some e) is = one_repeat e command r s (told_where h caller id command r (Some e) is a) (told_where h caller id command s (Some e) is b)
-||||||| base
-    at : (o : Option Entry) → stored h (record { caller = caller; id = id }) ≡ o → r ≡ s
-    at None is = settled_answer standing h caller command r s settled reading (told_at h caller id command r None is a) (told_at h caller id command s None is b)
-    at (Some e) is = one_repeat e command r s (told_at h caller id command r (Some e) is a) (told_at h caller id command s (Some e) is b)
-=======
     at : (c : Bool) (o : Option Entry) → is_closed h epoch ≡ c → stored h (record { caller = caller; epoch = epoch; id = id }) ≡ o → r ≡ s
     at true o closed is = told_where h caller epoch id command r true o closed is a ∙ sym (told_where h caller epoch id command s true o closed is b)
     at false None opened is =
         settled_answer standing h caller epoch command r s settled reading (told_where h caller epoch id command r false None opened is a) (told_where h caller epoch id command s false None opened is b)
     at false (Some e) opened is = one_repeat e command r s (told_where h caller epoch id command r false (Some e) opened is a) (told_where h caller epoch id command s false (Some e) opened is b)
->>>>>>> epochs
 
 agrees : (d : Delivery) (r s : Reply) → r ≡ s → AgreeFor d r s
 agrees (Read caller query) r s e = tt

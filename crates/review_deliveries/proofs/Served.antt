@@ -1,14 +1,6 @@
 -- What one delivery does.
-<<<<<<< ours
-use Rattle.std.proofs.Common.{◌≡◌, ℕ, ◌+◌, ◌<◌, List, [], ◌∷◌, ◌++◌, length, Option, Some, None, true, false, cond, ◌||◌, refl, sym, ap, ◌∙◌, subst, inl, inr, ⊎_elim, ◌⊎◌, Result, Ok, Err}
-use Rattle.std.specs.Prelude.{is_some, IfOk, IfErr}
-||||||| base
-use Rattle.std.proofs.Common.{◌≡◌, ℕ, ◌+◌, ◌<◌, List, [], ◌∷◌, ◌++◌, length, Option, Some, None, true, false, cond, ◌||◌, refl, sym, ap, ◌∙◌, subst, inl, inr, ⊎_elim, ◌⊎◌, Result, Ok, Err}
-use Rattle.std.specs.Prelude.{is_some, MatchOption, IfOk, IfErr}
-=======
 use Rattle.std.proofs.Common.{◌≡◌, ℕ, ◌+◌, ◌<◌, List, [], ◌∷◌, ◌++◌, length, Option, Some, None, Bool, true, false, cond, ◌||◌, refl, sym, ap, ◌∙◌, subst, inl, inr, ⊎_elim, ◌⊎◌, Result, Ok, Err}
-use Rattle.std.specs.Prelude.{is_some, nat_lt, MatchOption, IfOk, IfErr}
->>>>>>> epochs
+use Rattle.std.specs.Prelude.{is_some, IfOk, IfErr, nat_lt}
 use Rattle.std.specs.Result.{IsErr, IsErrAnd}
 use Rattle.std.specs.Str.{bytes_eq}
 use Rattle.std.proofs.lemmas.Bool.{cases_Bool}
@@ -23,13 +15,7 @@ use Rattle.review_words.specs.declared.reply.Reply.{Reply}
 use Rattle.review_words.specs.declared.reply.Reply.TheVariants.{Done, Refused, IdentityReused, EpochClosed, NotTaken}
 use Rattle.review_words.specs.declared.reply.NotTaken.{NotTaken as Cause}
 use Rattle.review_words.specs.declared.reply.NotTaken.TheVariants.{Memory, Store, Damaged, Pattern, Full}
-<<<<<<< ours
-use Rattle.review_words.specs.History.{Entry, Identity, IsFirst, stored, entry_of}
-||||||| base
-use Rattle.review_words.specs.History.{Entry, Identity, stored}
-=======
-use Rattle.review_words.specs.History.{Entry, Identity, stored, is_closed}
->>>>>>> epochs
+use Rattle.review_words.specs.History.{Entry, Identity, IsFirst, stored, entry_of, is_closed}
 use Rattle.review_rows.specs.declared.shelf.ShelfFault.{ShelfFault}
 use Rattle.review_rows.specs.declared.shelf.ShelfFault.TheVariants as fault
 use Rattle.review_rows.specs.declared.rows.Delta.{Delta}
@@ -38,30 +24,16 @@ use Rattle.review_rows.specs.Rows.{AnswerRow, Answered, Tables, ClosedEpochs}
 use Rattle.review_rows.specs.Steps.{OfCommand, OfQuery}
 use Rattle.review_rows.specs.Answer.{IsHistory, IsFirst, IsAnswer, most_requests}
 use Rattle.review_rows.specs.Questions.{IsQueryAnswer, IsQueryAnswerBy}
-<<<<<<< ours
-use Rattle.review_rows.specs.View.{AreEnough, IsView, IsDecided, answer_row}
-use Rattle.review_rows.specs.Shelf.{Answers, IsCommitted, Shown, Shows, Views, LeavesBy, StopLeavesOwnTables, AddsNoStop, IsCounted, Blames, cause_of}
-||||||| base
-use Rattle.review_rows.specs.View.{AreEnough, IsView, IsDecided, answer_row}
-use Rattle.review_rows.specs.Shelf.{IsCommitted, Shown, Shows, Views, LeavesBy, StopLeavesOwnTables, AddsNoStop, IsCounted, Blames, cause_of}
-=======
 use Rattle.review_rows.specs.View.{AreEnough, IsView, IsDecidedIn, answer_row}
-use Rattle.review_rows.specs.Shelf.{IsCommitted, Answers, IsClosedIn, Shown, Shows, Views, LeavesBy, StopLeavesOwnTables, AddsNoStop, IsCounted, Blames, cause_of}
->>>>>>> epochs
+use Rattle.review_rows.specs.Shelf.{Answers, IsCommitted, Shown, Shows, Views, LeavesBy, StopLeavesOwnTables, AddsNoStop, IsCounted, Blames, cause_of, IsClosedIn}
 use Rattle.review_rows.specs.Decisions.{IsUndecided, IsUnshown, IsDoneOrRefused, RestsOn}
 use Rattle.review_rows.specs.Changes.{Reading, Reads}
 use Rattle.review_rows.specs.Files.{File}
 use Rattle.review_rows.specs.Known.{Agrees}
 use Rattle.review_rows.proofs.Readings.{reading_of}
 use Rattle.review_deliveries.specs.Gathered.{IsAllAsked, IsUngathered}
-<<<<<<< ours
-use Rattle.review_deliveries.specs.Replies.{history_after, with_entries as hist, IsRight, IsTold, IsToldOfStored, IsServed, IsToldAgain, IsLawful, reply_of, IsNew, HasEffect, StopGoesOnFrom, StopHasEntry, IsEntered, GoesOn, KeepsUntaken, CountsReply}
+use Rattle.review_deliveries.specs.Replies.{history_after, has_identity, with_entries as hist, IsRight, IsTold, IsToldOfStored, IsServed, IsToldAgain, IsLawful, reply_of, IsNew, HasEffect, StopGoesOnFrom, StopHasEntry, IsEntered, GoesOn, KeepsUntaken, CountsReply}
 use Rattle.review_deliveries.proofs.Patterns.{reads_pattern}
-||||||| base
-use Rattle.review_deliveries.specs.Replies.{history_after, with_entries as hist, entry_of, IsRight, IsTold, IsToldOfStored, IsServed, IsToldAgain, IsLawful, reply_of, IsNew, HasEffect, StopGoesOnFrom, StopHasEntry, IsEntered, GoesOn, KeepsUntaken, CountsReply}
-=======
-use Rattle.review_deliveries.specs.Replies.{history_after, has_identity, with_entries as hist, entry_of, IsRight, IsTold, IsToldOfStored, IsServed, IsToldAgain, IsLawful, reply_of, IsNew, HasEffect, StopGoesOnFrom, StopHasEntry, IsEntered, GoesOn, KeepsUntaken, CountsReply}
->>>>>>> epochs
 use Rattle.review_deliveries.proofs.Resting.{rests_on}
 <<<<<<< ours
 use Rattle.review_deliveries.proofs.Histories.{told_where, where_told, latest_follows, recalled, not_recalled, view_grows, answer_given, stored_given, enough_shown, stored_stays, stored_here, same_to}
@@ -204,51 +176,14 @@ fault_served h d f old new hist v stays blame counted stops =
     not_taken_served h d (cause_of f) old new hist (views_left h f old.tables new.tables stays v) (lawful_fault h d f old.tables old.faults new.faults hist v blame counted) stops
 
 -- what a commit of what was decided leaves has the whole effect
-<<<<<<< ours
-pub effect : (h : List Entry) (tables : Option Tables) (new : Tables) (delta : Delta) (row : AnswerRow) (caller : ℕ) (id : List ℕ) (command : Command) (reply : Reply) →
-    IsHistory h → Views h tables → IsFirst h (record { caller = caller; id = id }) → length h < most_requests → ((reading : Reading) → Reads reading h → IsDecided reading h caller command delta reply) →
-    row ≡ answer_row (entry_of caller id command reply) (length h + 1) → Shows tables (λ was. IsCommitted was delta row new) → HasEffect h (Write caller id command) new
-effect h None new delta row caller id command reply hist v none room d is c = absurd c
-effect h (Some t) new delta row caller id command reply hist v none room d is c =
-    (reply, (none, (λ reading reads. (d reading reads).reply_is), room, hist, latest_follows h hist), view_grows h t new delta row caller id command reply v d c is)
-||||||| base
-pub effect : (h : List Entry) (tables : Option Tables) (new : Tables) (delta : Delta) (row : AnswerRow) (caller : ℕ) (id : List ℕ) (command : Command) (reply : Reply) →
-    IsHistory h → Views h tables → stored h (record { caller = caller; id = id }) ≡ None → length h < most_requests → ((reading : Reading) → Reads reading h → IsDecided reading h caller command delta reply) →
-    row ≡ answer_row (entry_of caller id command reply) (length h + 1) → Shows tables (λ was. IsCommitted was delta row new) → HasEffect h (Write caller id command) new
-effect h None new delta row caller id command reply hist v none room d is c = absurd c
-effect h (Some t) new delta row caller id command reply hist v none room d is c =
-    (reply, (none, (λ reading reads. (d reading reads).reply_is), room, hist), view_grows h t new delta row caller id command reply v d c is)
-=======
 pub effect : (h : List Entry) (tables : Option Tables) (new : Tables) (delta : Delta) (row : AnswerRow) (caller epoch : ℕ) (id : List ℕ) (command : Command) (reply : Reply) →
     IsHistory h → Views h tables → IsFirst h (record { caller = caller; epoch = epoch; id = id }) → length h < most_requests → ((reading : Reading) → Reads reading h → IsDecidedIn reading h caller epoch command delta reply) →
     row ≡ answer_row (entry_of caller epoch id command reply) (length h + 1) → Shows tables (λ was. IsCommitted was delta row new) → HasEffect h (Write caller epoch id command) new
 effect h None new delta row caller epoch id command reply hist v first room d is c = absurd c
 effect h (Some t) new delta row caller epoch id command reply hist v first room d is c =
-    (reply, (first, (λ reading reads. (d reading reads).reply_is), room, hist), view_grows h t new delta row caller epoch id command reply v first.1 d c is)
->>>>>>> epochs
+    (reply, (first, (λ reading reads. (d reading reads).reply_is), room, hist, latest_follows h hist), view_grows h t new delta row caller epoch id command reply v first.1 d c is)
 
 -- a first arrival that was committed
-<<<<<<< ours
-pub first_served : (h : List Entry) (delta : Delta) (row : AnswerRow) (caller : ℕ) (id : List ℕ) (command : Command) (reply : Reply) (old new : Shown) →
-    IsHistory h → Views h old.tables → IsFirst h (record { caller = caller; id = id }) → length h < most_requests → ((reading : Reading) → Reads reading h → IsDecided reading h caller command delta reply) →
-    row ≡ answer_row (entry_of caller id command reply) (length h + 1) → Shows old.tables (λ t. Shows new.tables (IsCommitted t delta row)) →
-    StopLeavesOwnTables new → new.faults ≡ old.faults → ((t : Tables) → new.stops t → old.stops t ⊎ HasEffect h (Write caller id command) t) →
-    IsServed h (Write caller id command) reply old new
-first_served h delta row caller id command reply old new hist v none room d is c alone same stops =
-    let answer : IsAnswer h caller command reply = λ reading reads. (d reading reads).reply_is in
-    let s : IsDoneOrRefused reply = answer_given h caller command reply hist answer in
-    let grown = new_history h caller id command reply s none in
-||||||| base
-pub first_served : (h : List Entry) (delta : Delta) (row : AnswerRow) (caller : ℕ) (id : List ℕ) (command : Command) (reply : Reply) (old new : Shown) →
-    IsHistory h → Views h old.tables → stored h (record { caller = caller; id = id }) ≡ None → length h < most_requests → ((reading : Reading) → Reads reading h → IsDecided reading h caller command delta reply) →
-    row ≡ answer_row (entry_of caller id command reply) (length h + 1) → Shows old.tables (λ t. Shows new.tables (IsCommitted t delta row)) →
-    StopLeavesOwnTables new → new.faults ≡ old.faults → ((t : Tables) → new.stops t → old.stops t ⊎ HasEffect h (Write caller id command) t) →
-    IsServed h (Write caller id command) reply old new
-first_served h delta row caller id command reply old new hist v none room d is c alone same stops =
-    let answer : IsAnswer h caller command reply = λ reading reads. (d reading reads).reply_is in
-    let s : IsDoneOrRefused reply = answer_given h caller command reply hist answer in
-    let grown = new_history h caller id command reply s none in
-=======
 pub first_served : (h : List Entry) (delta : Delta) (row : AnswerRow) (caller epoch : ℕ) (id : List ℕ) (command : Command) (reply : Reply) (old new : Shown) →
     IsHistory h → Views h old.tables → IsFirst h (record { caller = caller; epoch = epoch; id = id }) → length h < most_requests → ((reading : Reading) → Reads reading h → IsDecidedIn reading h caller epoch command delta reply) →
     row ≡ answer_row (entry_of caller epoch id command reply) (length h + 1) → Shows old.tables (λ t. Shows new.tables (IsCommitted t delta row)) →
@@ -258,7 +193,6 @@ first_served h delta row caller epoch id command reply old new hist v first room
     let answer : IsAnswer h caller epoch command reply = λ reading reads. (d reading reads).reply_is in
     let s : IsDoneOrRefused reply = answer_given h caller epoch command reply hist answer in
     let grown = new_history h caller epoch id command reply s first in
->>>>>>> epochs
     record {
 <<<<<<< ours
       right = right_from_told h (Write caller id command) reply old.faults new.faults (inl s)
@@ -300,13 +234,7 @@ old_served h caller epoch id command reply e old new hist v opened some kind tol
       history = subst IsHistory (sym stays) hist;
       view = subst (λ x. Views x new.tables) (sym stays) v;
       stops = λ t x. inl (adds t x);
-<<<<<<< ours
-      alone = λ (n : IsFirst h (record { caller = caller; id = id })) s. absurd (cc);
-||||||| base
-      alone = λ (n : stored h (record { caller = caller; id = id }) ≡ None) s. absurd (cc);
-=======
       alone = λ (n : IsFirst h (record { caller = caller; epoch = epoch; id = id })) s. absurd (let none = n.0 in cc);
->>>>>>> epochs
     }
 
 -- a request whose epoch is closed
@@ -328,22 +256,10 @@ closed_served h caller epoch id command old new hist v there stays quiet adds =
     found (Some t) v there = let r = reading_of h hist in ap (nat_lt epoch) (sym ((v r.0 r.1).count_is ClosedEpochs)) ∙ there
 
 -- a request whose identity is stored
-<<<<<<< ours
-pub repeat_served : (h : List Entry) (row : AnswerRow) (caller : ℕ) (id : List ℕ) (command : Command) (result : Result Reply Cause) (old new : Shown) →
-    IsHistory h → Views h old.tables → Shows old.tables (λ t. Answers t (record { caller = caller; id = id }) (Some (Answered row))) → IsToldAgain row (content_text command) result →
-    new.tables ≡ old.tables → new.faults ≡ old.faults → AddsNoStop old new → IsServed h (Write caller id command) (reply_of result) old new
-repeat_served h row caller id command result old new hist v there told stays quiet adds =
-||||||| base
-pub repeat_served : (h : List Entry) (row : AnswerRow) (caller : ℕ) (id : List ℕ) (command : Command) (result : Result Reply Cause) (old new : Shown) →
-    IsHistory h → Views h old.tables → Shows old.tables (λ t. t.answer (record { caller = caller; id = id }) ≡ Some (Answered row)) → IsToldAgain row (content_text command) result →
-    new.tables ≡ old.tables → new.faults ≡ old.faults → AddsNoStop old new → IsServed h (Write caller id command) (reply_of result) old new
-repeat_served h row caller id command result old new hist v there told stays quiet adds =
-=======
 pub repeat_served : (h : List Entry) (row : AnswerRow) (caller epoch : ℕ) (id : List ℕ) (command : Command) (result : Result Reply Cause) (old new : Shown) →
     IsHistory h → Views h old.tables → Shows old.tables (λ t. Answers t (record { caller = caller; epoch = epoch; id = id }) (Some (Answered row))) → IsToldAgain row (content_text command) result →
     new.tables ≡ old.tables → new.faults ≡ old.faults → AddsNoStop old new → IsServed h (Write caller epoch id command) (reply_of result) old new
 repeat_served h row caller epoch id command result old new hist v there told stays quiet adds =
->>>>>>> epochs
     let r = found old.tables v there in
     again result r told (views_stay h old.tables new.tables stays v)
   where
@@ -543,40 +459,9 @@ alone_since h s hist v alone t x = ([], hist, subst (Views h) (alone t x) v)
 -- a command that was not decided
 pub undecided_lawful : (h : List Entry) (caller epoch : ℕ) (id : List ℕ) (command : Command) (file : Option File) (rows : Rows) (cause : Cause) (before after : ℕ) → IsHistory h →
     ((reading : Reading) → Reads reading h → AreEnough reading h caller (OfCommand command) file rows) →
-<<<<<<< ours
-    IsFirst h (record { caller = caller; id = id }) → IsUndecided caller command file rows cause → after ≡ before → IsLawful h (Write caller id command) cause before after
-undecided_lawful h caller id command file rows Memory before after hist l none u same = same
-undecided_lawful h caller id command file rows Pattern before after hist l none u same = (none, (λ reading reads. reads_pattern reading h hist caller command file rows (l reading reads) u), same)
-undecided_lawful h caller id command file rows Damaged before after hist l none u same = let r = reading_of h hist in absurd (u r.0 h hist (l r.0 r.1))
-undecided_lawful h caller id command file rows Store before after hist l none u same = absurd u
-undecided_lawful h caller id command file rows Full before after hist l none u same = absurd u
-
-pub undecided_keeps : (caller : ℕ) (id : List ℕ) (command : Command) (file : Option File) (rows : Rows) (cause : Cause) (old new : Option Tables) → IsUndecided caller command file rows cause → new ≡ old →
-    KeepsUntaken (Write caller id command) (NotTaken cause) old new
-undecided_keeps caller id command file rows Memory old new u same = (tt, same)
-undecided_keeps caller id command file rows Pattern old new u same = (tt, same)
-undecided_keeps caller id command file rows Damaged old new u same = (tt, same)
-undecided_keeps caller id command file rows Store old new u same = absurd u
-undecided_keeps caller id command file rows Full old new u same = absurd u
-||||||| base
-    stored h (record { caller = caller; id = id }) ≡ None → IsUndecided caller command file rows cause → after ≡ before → IsLawful h (Write caller id command) cause before after
-undecided_lawful h caller id command file rows Memory before after hist l none u same = same
-undecided_lawful h caller id command file rows Pattern before after hist l none u same = (none, (λ reading reads. inl u), same)
-undecided_lawful h caller id command file rows Damaged before after hist l none u same = let r = reading_of h hist in absurd (u r.0 h hist (l r.0 r.1))
-undecided_lawful h caller id command file rows Store before after hist l none u same = absurd u
-undecided_lawful h caller id command file rows Full before after hist l none u same = absurd u
-
-pub undecided_keeps : (caller : ℕ) (id : List ℕ) (command : Command) (file : Option File) (rows : Rows) (cause : Cause) (old new : Option Tables) → IsUndecided caller command file rows cause → new ≡ old →
-    KeepsUntaken (Write caller id command) (NotTaken cause) old new
-undecided_keeps caller id command file rows Memory old new u same = (tt, same)
-undecided_keeps caller id command file rows Pattern old new u same = (tt, same)
-undecided_keeps caller id command file rows Damaged old new u same = (tt, same)
-undecided_keeps caller id command file rows Store old new u same = absurd u
-undecided_keeps caller id command file rows Full old new u same = absurd u
-=======
     IsFirst h (record { caller = caller; epoch = epoch; id = id }) → IsUndecided caller command file rows cause → after ≡ before → IsLawful h (Write caller epoch id command) cause before after
 undecided_lawful h caller epoch id command file rows Memory before after hist l none u same = same
-undecided_lawful h caller epoch id command file rows Pattern before after hist l none u same = (none, (λ reading reads. inl u), same)
+undecided_lawful h caller epoch id command file rows Pattern before after hist l none u same = (none, (λ reading reads. reads_pattern reading h hist caller command file rows (l reading reads) u), same)
 undecided_lawful h caller epoch id command file rows Damaged before after hist l none u same = let r = reading_of h hist in absurd (u r.0 h hist (l r.0 r.1))
 undecided_lawful h caller epoch id command file rows Store before after hist l none u same = absurd u
 undecided_lawful h caller epoch id command file rows Full before after hist l none u same = absurd u
@@ -588,7 +473,6 @@ undecided_keeps caller epoch id command file rows Pattern old new u same = (tt, 
 undecided_keeps caller epoch id command file rows Damaged old new u same = (tt, same)
 undecided_keeps caller epoch id command file rows Store old new u same = absurd u
 undecided_keeps caller epoch id command file rows Full old new u same = absurd u
->>>>>>> epochs
 
 pub undecided_counts : (caller : ℕ) (command : Command) (file : Option File) (rows : Rows) (cause : Cause) (before after : ℕ) → IsUndecided caller command file rows cause → after ≡ before → CountsReply (NotTaken cause) before after
 undecided_counts caller command file rows Memory before after u same = same
@@ -598,27 +482,6 @@ undecided_counts caller command file rows Store before after u same = absurd u
 undecided_counts caller command file rows Full before after u same = absurd u
 
 -- why not all was gathered
-<<<<<<< ours
-ungathered_lawful : (h : List Entry) (caller : ℕ) (id : List ℕ) (command : Command) (tables : Option Tables) (cause : Cause) (before after : ℕ) → IsHistory h → Views h tables →
-    IsFirst h (record { caller = caller; id = id }) → IsUngathered (OfCommand command) tables cause → CountsReply (NotTaken cause) before after → IsLawful h (Write caller id command) cause before after
-ungathered_lawful h caller id command tables Memory before after hist v none u counted = counted
-ungathered_lawful h caller id command tables Store before after hist v none u counted = counted
-ungathered_lawful h caller id command None Damaged before after hist v none u counted = absurd u
-ungathered_lawful h caller id command (Some t) Damaged before after hist v none u counted = absurd (u h hist v)
-ungathered_lawful h caller id command None Pattern before after hist v none u counted = absurd u
-ungathered_lawful h caller id command (Some t) Pattern before after hist v none u counted = (none, (λ reading reads. inr (u reading h reads v)), counted)
-ungathered_lawful h caller id command tables Full before after hist v none u counted = absurd u
-||||||| base
-ungathered_lawful : (h : List Entry) (caller : ℕ) (id : List ℕ) (command : Command) (tables : Option Tables) (cause : Cause) (before after : ℕ) → IsHistory h → Views h tables →
-    stored h (record { caller = caller; id = id }) ≡ None → IsUngathered (OfCommand command) tables cause → CountsReply (NotTaken cause) before after → IsLawful h (Write caller id command) cause before after
-ungathered_lawful h caller id command tables Memory before after hist v none u counted = counted
-ungathered_lawful h caller id command tables Store before after hist v none u counted = counted
-ungathered_lawful h caller id command None Damaged before after hist v none u counted = absurd u
-ungathered_lawful h caller id command (Some t) Damaged before after hist v none u counted = absurd (u h hist v)
-ungathered_lawful h caller id command None Pattern before after hist v none u counted = absurd u
-ungathered_lawful h caller id command (Some t) Pattern before after hist v none u counted = (none, (λ reading reads. inr (u reading h reads v)), counted)
-ungathered_lawful h caller id command tables Full before after hist v none u counted = absurd u
-=======
 ungathered_lawful : (h : List Entry) (caller epoch : ℕ) (id : List ℕ) (command : Command) (tables : Option Tables) (cause : Cause) (before after : ℕ) → IsHistory h → Views h tables →
     IsFirst h (record { caller = caller; epoch = epoch; id = id }) → IsUngathered (OfCommand command) tables cause → CountsReply (NotTaken cause) before after → IsLawful h (Write caller epoch id command) cause before after
 ungathered_lawful h caller epoch id command tables Memory before after hist v none u counted = counted
@@ -628,7 +491,6 @@ ungathered_lawful h caller epoch id command (Some t) Damaged before after hist v
 ungathered_lawful h caller epoch id command None Pattern before after hist v none u counted = absurd u
 ungathered_lawful h caller epoch id command (Some t) Pattern before after hist v none u counted = (none, (λ reading reads. inr (u reading h reads v)), counted)
 ungathered_lawful h caller epoch id command tables Full before after hist v none u counted = absurd u
->>>>>>> epochs
 
 unread_lawful : (h : List Entry) (caller : ℕ) (query : Query) (tables : Option Tables) (cause : Cause) (before after : ℕ) → IsHistory h → Views h tables →
     IsUngathered (OfQuery query) tables cause → CountsReply (NotTaken cause) before after → IsLawful h (Read caller query) cause before after
@@ -650,28 +512,12 @@ views_left_by h Store old new (inl e) v = subst (Views h) (sym e) v
 views_left_by h Store old new (inr e) v = subst (Views h) (sym e) tt
 
 -- a command for which not all was gathered
-<<<<<<< ours
-pub ungathered_served : (h : List Entry) (caller : ℕ) (id : List ℕ) (command : Command) (cause : Cause) (old new : Shown) → IsHistory h → Views h old.tables →
-    IsFirst h (record { caller = caller; id = id }) → IsUngathered (OfCommand command) old.tables cause → LeavesBy cause old.tables new.tables →
-    CountsReply (NotTaken cause) old.faults new.faults → AddsNoStop old new → IsServed h (Write caller id command) (NotTaken cause) old new
-ungathered_served h caller id command cause old new hist v none u left counted adds =
-    not_taken_served h (Write caller id command) cause old new hist (views_left_by h cause old.tables new.tables left v)
-    (ungathered_lawful h caller id command old.tables cause old.faults new.faults hist v none u counted) (λ t x. inl (adds t x))
-||||||| base
-pub ungathered_served : (h : List Entry) (caller : ℕ) (id : List ℕ) (command : Command) (cause : Cause) (old new : Shown) → IsHistory h → Views h old.tables →
-    stored h (record { caller = caller; id = id }) ≡ None → IsUngathered (OfCommand command) old.tables cause → LeavesBy cause old.tables new.tables →
-    CountsReply (NotTaken cause) old.faults new.faults → AddsNoStop old new → IsServed h (Write caller id command) (NotTaken cause) old new
-ungathered_served h caller id command cause old new hist v none u left counted adds =
-    not_taken_served h (Write caller id command) cause old new hist (views_left_by h cause old.tables new.tables left v)
-    (ungathered_lawful h caller id command old.tables cause old.faults new.faults hist v none u counted) (λ t x. inl (adds t x))
-=======
 pub ungathered_served : (h : List Entry) (caller epoch : ℕ) (id : List ℕ) (command : Command) (cause : Cause) (old new : Shown) → IsHistory h → Views h old.tables →
     IsFirst h (record { caller = caller; epoch = epoch; id = id }) → IsUngathered (OfCommand command) old.tables cause → LeavesBy cause old.tables new.tables →
     CountsReply (NotTaken cause) old.faults new.faults → AddsNoStop old new → IsServed h (Write caller epoch id command) (NotTaken cause) old new
 ungathered_served h caller epoch id command cause old new hist v none u left counted adds =
     not_taken_served h (Write caller epoch id command) cause old new hist (views_left_by h cause old.tables new.tables left v)
     (ungathered_lawful h caller epoch id command old.tables cause old.faults new.faults hist v none u counted) (λ t x. inl (adds t x))
->>>>>>> epochs
 
 -- and a question
 pub unread_served : (h : List Entry) (caller : ℕ) (query : Query) (cause : Cause) (old new : Shown) → IsHistory h → Views h old.tables →

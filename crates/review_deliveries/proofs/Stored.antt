@@ -36,18 +36,10 @@ use Rattle.review_changes.specs.Facts.{AreStanding, IsFirstUnsatisfied, is_unsat
 use Rattle.review_changes.specs.Status.{status_of}
 use Rattle.review_changes.specs.Change.{Change, Setting, current, said}
 use Rattle.review_change_laws.proofs.Sound.{Passes, all_pass, later_pass}
-<<<<<<< ours
-use Rattle.review_rows.specs.Answer.{IsHistory, IsAnswer, IsAnswerBy, IsAnswerWithoutParents, IsOutcome, IsOf, IsRequestOutcome, IsUploadAnswer, checks, comment_numbers, file_checks, first_refusal, given_checks, numbers_after, of_change, puts_parent, refused_by, refused_or, request_checks, review_checks, submit_checks, upload_checks}
+use Rattle.review_rows.specs.Answer.{IsHistory, IsAnswer, IsAnswerBy, IsAnswerWithoutParents, IsOutcome, IsOf, IsRequestOutcome, IsUploadAnswer, checks, comment_numbers, file_checks, first_refusal, given_checks, numbers_after, of_change, puts_parent, refused_by, refused_or, request_checks, review_checks, submit_checks, upload_checks, IsAnswerIn, epoch_checks}
 use Rattle.review_ancestors.proofs.Effective.{line_read}
 use Rattle.review_rows.specs.Changes.{Reading, Reads, change, change_count, file_of, setting_of, texts_of}
 use Rattle.review_rows.specs.Lines.{most_depth}
-||||||| base
-use Rattle.review_rows.specs.Answer.{IsHistory, IsAnswer, IsAnswerBy, IsOutcome, IsOf, IsRequestOutcome, IsUploadAnswer, checks, comment_numbers, file_checks, first_refusal, given_checks, numbers_after, of_change, refused_by, refused_or, request_checks, review_checks, submit_checks, upload_checks}
-use Rattle.review_rows.specs.Changes.{Reading, Reads, change, change_count, file_of, setting_of}
-=======
-use Rattle.review_rows.specs.Answer.{IsHistory, IsAnswer, IsAnswerBy, IsOutcome, IsOf, IsRequestOutcome, IsUploadAnswer, checks, comment_numbers, file_checks, first_refusal, given_checks, numbers_after, of_change, refused_by, refused_or, request_checks, review_checks, submit_checks, upload_checks, IsAnswerIn, epoch_checks}
-use Rattle.review_rows.specs.Changes.{Reading, Reads, change, change_count, file_of, setting_of}
->>>>>>> epochs
 use Rattle.review_rows.specs.Links.{link_for}
 use Rattle.review_rows.specs.Submits.{IsSubmitAnswer, branch_after, checked_reply, judged_after, refusal_of}
 use Rattle.review_rows.proofs.Readings.{reading_of}
@@ -267,10 +259,9 @@ answer_stored_in reading h caller epoch (CloseEpoch least) reply history reads i
     at (Some r) some is = subst IsStored (sym is) (first_stored ((is_account h caller, UnknownCaller) ∷ checks reading h caller (CloseEpoch least)) r (tt, checks_stored reading h caller (CloseEpoch least)) some)
 
 -- each answer after a history is stored
-<<<<<<< ours
-pub answer_stored : (h : List Entry) (caller : ℕ) (command : Command) (reply : Reply) → IsHistory h → IsAnswer h caller command reply → IsStored reply
-answer_stored h caller command reply history is =
-    let r = reading_of h history in answer_stored_by r.0 h caller command reply history r.1 (is r.0 r.1)
+pub answer_stored : (h : List Entry) (caller epoch : ℕ) (command : Command) (reply : Reply) → IsHistory h → IsAnswer h caller epoch command reply → IsStored reply
+answer_stored h caller epoch command reply history is =
+    let r = reading_of h history in answer_stored_in r.0 h caller epoch command reply history r.1 (is r.0 r.1)
 
 -- and so is that of version 1 to a text that names a parent
 old_stored : (h : List Entry) (caller : ℕ) (command : Command) (reply : Reply) → IsHistory h → IsAnswerWithoutParents h caller command reply → IsStored reply
@@ -287,12 +278,3 @@ entry_stored e h history = by (nat_lt e.version 2 && puts_parent e.command) hist
     by : (b : Bool) → MatchBool b (IsAnswerWithoutParents h e.identity.caller e.command e.reply) (IsAnswer h e.identity.caller e.command e.reply) → IsStored e.reply
     by true is = old_stored h e.identity.caller e.command e.reply history.3 is
     by false is = answer_stored h e.identity.caller e.command e.reply history.3 is
-||||||| base
-pub answer_stored : (h : List Entry) (caller : ℕ) (command : Command) (reply : Reply) → IsHistory h → IsAnswer h caller command reply → IsStored reply
-answer_stored h caller command reply history is =
-    let r = reading_of h history in answer_stored_by r.0 h caller command reply history r.1 (is r.0 r.1)
-=======
-pub answer_stored : (h : List Entry) (caller epoch : ℕ) (command : Command) (reply : Reply) → IsHistory h → IsAnswer h caller epoch command reply → IsStored reply
-answer_stored h caller epoch command reply history is =
-    let r = reading_of h history in answer_stored_in r.0 h caller epoch command reply history r.1 (is r.0 r.1)
->>>>>>> epochs

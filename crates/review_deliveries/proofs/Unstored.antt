@@ -25,52 +25,17 @@ use Rattle.review_deliveries.proofs.Served.{undecided_lawful, undecided_keeps}
 -- it is not taken for a lawful cause
 pub unstored_lawful : (h : List Entry) (caller epoch : ℕ) (id : List ℕ) (command : Command) (file : Option File) (rows : Rows) (cause : Cause) (before after : ℕ) → IsHistory h →
     ((reading : Reading) → Reads reading h → AreEnough reading h caller (OfCommand command) file rows) → number_of (known rows Requests) ≡ length h →
-<<<<<<< ours
-    IsFirst h (record { caller = caller; id = id }) → IsUnstored caller command file rows cause → after ≡ before → IsLawful h (Write caller id command) cause before after
-unstored_lawful h caller id command file rows Memory before after hist enough many none u same = undecided_lawful h caller id command file rows Memory before after hist enough none u same
-unstored_lawful h caller id command file rows Pattern before after hist enough many none u same = undecided_lawful h caller id command file rows Pattern before after hist enough none u same
-unstored_lawful h caller id command file rows Damaged before after hist enough many none u same = undecided_lawful h caller id command file rows Damaged before after hist enough none u same
-unstored_lawful h caller id command file rows Store before after hist enough many none u same = absurd u
-unstored_lawful h caller id command file rows Full before after hist enough many none u same =
-||||||| base
-    stored h (record { caller = caller; id = id }) ≡ None → IsUnstored caller command file rows cause → after ≡ before → IsLawful h (Write caller id command) cause before after
-unstored_lawful h caller id command file rows Memory before after hist enough many none u same = undecided_lawful h caller id command file rows Memory before after hist enough none u same
-unstored_lawful h caller id command file rows Pattern before after hist enough many none u same = undecided_lawful h caller id command file rows Pattern before after hist enough none u same
-unstored_lawful h caller id command file rows Damaged before after hist enough many none u same = undecided_lawful h caller id command file rows Damaged before after hist enough none u same
-unstored_lawful h caller id command file rows Store before after hist enough many none u same = absurd u
-unstored_lawful h caller id command file rows Full before after hist enough many none u same =
-=======
     IsFirst h (record { caller = caller; epoch = epoch; id = id }) → IsUnstored caller command file rows cause → after ≡ before → IsLawful h (Write caller epoch id command) cause before after
 unstored_lawful h caller epoch id command file rows Memory before after hist enough many none u same = undecided_lawful h caller epoch id command file rows Memory before after hist enough none u same
 unstored_lawful h caller epoch id command file rows Pattern before after hist enough many none u same = undecided_lawful h caller epoch id command file rows Pattern before after hist enough none u same
 unstored_lawful h caller epoch id command file rows Damaged before after hist enough many none u same = undecided_lawful h caller epoch id command file rows Damaged before after hist enough none u same
 unstored_lawful h caller epoch id command file rows Store before after hist enough many none u same = absurd u
 unstored_lawful h caller epoch id command file rows Full before after hist enough many none u same =
->>>>>>> epochs
     let most = history_length h hist in
     let least : most_requests ≤ number_of (known rows Requests) = u in
     (none, omega arith, same)
 
 -- it leaves the tables
-<<<<<<< ours
-pub unstored_keeps : (caller : ℕ) (id : List ℕ) (command : Command) (file : Option File) (rows : Rows) (cause : Cause) (old new : Option Tables) →
-    Shows old (λ t. Answers t (record { caller = caller; id = id }) None) → Shows old (λ t. Agrees t rows) → next file rows caller (OfCommand command) ≡ [] →
-    IsUnstored caller command file rows cause → new ≡ old → KeepsUntaken (Write caller id command) (NotTaken cause) old new
-unstored_keeps caller id command file rows Memory old new none agree left u same = undecided_keeps caller id command file rows Memory old new u same
-unstored_keeps caller id command file rows Pattern old new none agree left u same = undecided_keeps caller id command file rows Pattern old new u same
-unstored_keeps caller id command file rows Damaged old new none agree left u same = undecided_keeps caller id command file rows Damaged old new u same
-unstored_keeps caller id command file rows Store old new none agree left u same = absurd u
-unstored_keeps caller id command file rows Full old new none agree left u same = full_keeps caller id command file rows old new none agree left u same
-||||||| base
-pub unstored_keeps : (caller : ℕ) (id : List ℕ) (command : Command) (file : Option File) (rows : Rows) (cause : Cause) (old new : Option Tables) →
-    Shows old (λ t. t.answer (record { caller = caller; id = id }) ≡ None) → Shows old (λ t. Agrees t rows) → next file rows caller (OfCommand command) ≡ [] →
-    IsUnstored caller command file rows cause → new ≡ old → KeepsUntaken (Write caller id command) (NotTaken cause) old new
-unstored_keeps caller id command file rows Memory old new none agree left u same = undecided_keeps caller id command file rows Memory old new u same
-unstored_keeps caller id command file rows Pattern old new none agree left u same = undecided_keeps caller id command file rows Pattern old new u same
-unstored_keeps caller id command file rows Damaged old new none agree left u same = undecided_keeps caller id command file rows Damaged old new u same
-unstored_keeps caller id command file rows Store old new none agree left u same = absurd u
-unstored_keeps caller id command file rows Full old new none agree left u same = full_keeps caller id command file rows old new none agree left u same
-=======
 pub unstored_keeps : (caller epoch : ℕ) (id : List ℕ) (command : Command) (file : Option File) (rows : Rows) (cause : Cause) (old new : Option Tables) →
     Shows old (λ t. Answers t (record { caller = caller; epoch = epoch; id = id }) None) → Shows old (λ t. Agrees t rows) → next file rows caller (OfCommand command) ≡ [] →
     IsUnstored caller command file rows cause → new ≡ old → KeepsUntaken (Write caller epoch id command) (NotTaken cause) old new
@@ -79,7 +44,6 @@ unstored_keeps caller epoch id command file rows Pattern old new none agree left
 unstored_keeps caller epoch id command file rows Damaged old new none agree left u same = undecided_keeps caller epoch id command file rows Damaged old new u same
 unstored_keeps caller epoch id command file rows Store old new none agree left u same = absurd u
 unstored_keeps caller epoch id command file rows Full old new none agree left u same = full_keeps caller epoch id command file rows old new none agree left u same
->>>>>>> epochs
 
 -- it counts no fault
 pub unstored_counts : (caller : ℕ) (command : Command) (file : Option File) (rows : Rows) (cause : Cause) (before after : ℕ) → IsUnstored caller command file rows cause → after ≡ before →

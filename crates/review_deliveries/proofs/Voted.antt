@@ -11,27 +11,9 @@ use Rattle.review_words.specs.declared.command.ChangeCommand.TheVariants as on
 use Rattle.review_words.specs.declared.reply.Answer.{Answer}
 use Rattle.review_words.specs.declared.reply.Refusal.TheVariants.{UnknownCaller}
 use Rattle.review_words.specs.declared.reply.Reply.{Reply}
-<<<<<<< ours
-use Rattle.review_words.specs.declared.reply.Reply.TheVariants.{Done, Refused, IdentityReused, NotTaken}
+use Rattle.review_words.specs.declared.reply.Reply.TheVariants.{Done, Refused, IdentityReused, EpochClosed, NotTaken}
 use Rattle.review_words.specs.History.{Entry, accepted, if_done, account_count, counted, is_account}
 use Rattle.review_changes.specs.Change.{Change, Copying, Setting, after, begun, carried, copying, current, given_or, reviewed}
-||||||| base
-use Rattle.review_words.specs.declared.reply.Reply.TheVariants.{Done, Refused, IdentityReused, NotTaken}
-use Rattle.review_words.specs.History.{Entry, accepted, if_done, account_count, counted, file_text, is_account, is_project, project_count, text_put}
-use Rattle.review_project.specs.Rights.{has_values, is_covered}
-use Rattle.review_project.specs.View.{LabelView}
-use Rattle.review_expr.specs.declared.expr.Expr.{Expr}
-use Rattle.review_project_laws.proofs.Together.{same_covers}
-use Rattle.review_changes.specs.Change.{Change, Copying, Setting, after, begun, carried, copying, current, given_or, label_in, reviewed}
-=======
-use Rattle.review_words.specs.declared.reply.Reply.TheVariants.{Done, Refused, IdentityReused, EpochClosed, NotTaken}
-use Rattle.review_words.specs.History.{Entry, accepted, if_done, account_count, counted, file_text, is_account, is_project, project_count, text_put}
-use Rattle.review_project.specs.Rights.{has_values, is_covered}
-use Rattle.review_project.specs.View.{LabelView}
-use Rattle.review_expr.specs.declared.expr.Expr.{Expr}
-use Rattle.review_project_laws.proofs.Together.{same_covers}
-use Rattle.review_changes.specs.Change.{Change, Copying, Setting, after, begun, carried, copying, current, given_or, label_in, reviewed}
->>>>>>> epochs
 use Rattle.review_changes.specs.Votes.{voted}
 use Rattle.review_change_laws.proofs.Joining.{joining_keeps}
 <<<<<<< ours

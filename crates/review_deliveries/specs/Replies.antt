@@ -1,11 +1,5 @@
 -- Deliveries that each act once: which are first arrivals, what history they leave, and which replies are right.
-<<<<<<< ours
-use Rattle.std.specs.Prelude.{ℕ, ◌<◌, ◌≤◌, ◌≡◌, List, [], ◌∷◌, ◌++◌, Option, Some, None, Bool, ◌||◌, is_some, length, take, slice_index_or, Result, Ok, Err, ◌+◌, if◌then◌else◌, ◌⊎◌}
-||||||| base
-use Rattle.std.specs.Prelude.{ℕ, ◌<◌, ◌≤◌, ◌≡◌, List, [], ◌∷◌, ◌++◌, Option, Some, None, Bool, ◌||◌, is_some, length, take, slice_index_or, Result, Ok, Err, ◌+◌, if◌then◌else◌, ◌⊎◌, MatchOption}
-=======
-use Rattle.std.specs.Prelude.{ℕ, ◌<◌, ◌≤◌, ◌≡◌, List, [], ◌∷◌, ◌++◌, Option, Some, None, Bool, true, false, nat_lt, ◌||◌, is_some, length, take, slice_index_or, Result, Ok, Err, ◌+◌, if◌then◌else◌, ◌⊎◌, MatchOption}
->>>>>>> epochs
+use Rattle.std.specs.Prelude.{ℕ, ◌<◌, ◌≤◌, ◌≡◌, List, [], ◌∷◌, ◌++◌, Option, Some, None, Bool, ◌||◌, is_some, length, take, slice_index_or, Result, Ok, Err, ◌+◌, if◌then◌else◌, ◌⊎◌, true, false, nat_lt}
 use Rattle.review_words.specs.declared.command.Command.{Command}
 use Rattle.review_words.specs.declared.command.Delivery.{Delivery}
 use Rattle.review_words.specs.declared.command.Delivery.TheVariants.{Write, Read}
@@ -13,13 +7,7 @@ use Rattle.review_words.specs.declared.reply.Reply.{Reply}
 use Rattle.review_words.specs.declared.reply.Reply.TheVariants.{Done, Refused, IdentityReused, EpochClosed, NotTaken}
 use Rattle.review_words.specs.declared.reply.NotTaken.{NotTaken as Cause}
 use Rattle.review_words.specs.declared.reply.NotTaken.TheVariants.{Memory, Store, Damaged, Pattern, Full}
-<<<<<<< ours
-use Rattle.review_words.specs.History.{Entry, Identity, IsFirst, entry_of, stored, is_same, latest}
-||||||| base
-use Rattle.review_words.specs.History.{Entry, Identity, stored, is_same}
-=======
-use Rattle.review_words.specs.History.{Entry, Identity, stored, is_same, is_closed, if_done}
->>>>>>> epochs
+use Rattle.review_words.specs.History.{Entry, Identity, IsFirst, entry_of, stored, is_same, latest, is_closed, if_done}
 use Rattle.review_words.specs.Texts.{content_text, reply_text, IsStored}
 use Rattle.review_rows.specs.Answer.{IsHistory, IsFirst, IsAnswer, most_requests}
 use Rattle.review_rows.specs.Questions.{IsQueryAnswer}
@@ -108,21 +96,17 @@ pub record IsToldOfStored (e : Entry) (command : Command) (reply : Reply) : Type
   pub equal : command ≡ e.command → reply ≡ e.reply
   pub other : (command ≡ e.command → ⊥) → reply ≡ IdentityReused
 
-<<<<<<< ours
 -- what a write is told, by the entry that has its identity: where there is none, the answer to its command
 abbrev pub IsToldWhere : Option Entry → List Entry → ℕ → Command → Reply → Type 0
 IsToldWhere None h caller command reply = IsAnswer h caller command reply
 IsToldWhere (Some e) h caller command reply = IsToldOfStored e command reply
 
-||||||| base
-=======
 -- what a write is told, by whether its epoch is closed and what is stored under its identity
 abbrev pub IsToldWhere : Bool → Option Entry → List Entry → ℕ → ℕ → Command → Reply → Type 0
 IsToldWhere true o h caller epoch command reply = reply ≡ EpochClosed
 IsToldWhere false None h caller epoch command reply = IsAnswer h caller epoch command reply
 IsToldWhere false (Some e) h caller epoch command reply = IsToldOfStored e command reply
 
->>>>>>> epochs
 -- what a delivery is told after the history
 abbrev pub IsTold : List Entry → Delivery → Reply → Type 0
 <<<<<<< ours
@@ -157,13 +141,7 @@ CountsFollow from (c ∷ cs) to = (c.0 ≡ from) × CountsFollow c.1 cs to
 
 -- a first arrival of an open epoch
 abbrev pub IsNew : List Entry → Delivery → Type 0
-<<<<<<< ours
-IsNew h (Write caller id command) = IsFirst h (record { caller = caller; id = id })
-||||||| base
-IsNew h (Write caller id command) = stored h (record { caller = caller; id = id }) ≡ None
-=======
 IsNew h (Write caller epoch id command) = IsFirst h (record { caller = caller; epoch = epoch; id = id })
->>>>>>> epochs
 IsNew h (Read caller query) = ⊥
 
 -- the tables have the whole effect of a first arrival, and its answer
@@ -268,17 +246,9 @@ KeepsRows _ t u = Unit {0}
 
 -- the request is stored beside the others under the next number, and a refusal does nothing else
 pub record StoresRequest (i : Identity) (command : Command) (reply : Reply) (t u : Tables) : Type 0 where
-<<<<<<< ours
   pub new : Answers t i None
-  pub answer_is : (j : Identity) → u.answer j ≡ (if is_same i j then Some (Answered (answer_row (record { identity = i; version = latest; command = command; reply = reply }) (t.requests + 1))) else t.answer j)
-||||||| base
-  pub new : t.answer i ≡ None
-  pub answer_is : (j : Identity) → u.answer j ≡ (if is_same i j then Some (Answered (answer_row (record { identity = i; command = command; reply = reply }) (t.requests + 1))) else t.answer j)
-=======
-  pub new : Answers t i None
-  pub answer_is : (j : Identity) → u.answer j ≡ (if is_same i j then Some (Answered (answer_row (record { identity = i; command = command; reply = reply }) (t.requests + 1)))
+  pub answer_is : (j : Identity) → u.answer j ≡ (if is_same i j then Some (Answered (answer_row (record { identity = i; version = latest; command = command; reply = reply }) (t.requests + 1)))
       else (if is_below (closing (if_done reply command)) j.epoch then None else t.answer j))
->>>>>>> epochs
   pub version : u.version ≡ t.version
   pub requests : u.requests ≡ t.requests + 1
   pub rows : KeepsRows reply t u

@@ -1,69 +1,27 @@
 //! One delivery.
-<<<<<<< ours
-ghost use Rattle.std.specs.Prelude.{◌≡◌, ◌≤◌, ◌<◌, ◌+◌, ◌⊎◌, ℕ, List, [], ◌∷◌, None, IfErr, IfOk, OnOk, length, string_bytes, option_copied};
-||||||| base
-ghost use Rattle.std.specs.Prelude.{◌≡◌, ◌≤◌, ◌<◌, ◌+◌, ◌⊎◌, ℕ, List, [], ◌∷◌, None, IfErr, IfOk, OnOk, length, string_bytes};
-=======
-ghost use Rattle.std.specs.Prelude.{◌≡◌, false, ◌≤◌, ◌<◌, ◌+◌, ◌⊎◌, ℕ, List, [], ◌∷◌, None, IfErr, IfOk, OnOk, length, string_bytes};
->>>>>>> epochs
+ghost use Rattle.std.specs.Prelude.{◌≡◌, ◌≤◌, ◌<◌, ◌+◌, ◌⊎◌, ℕ, List, [], ◌∷◌, None, IfErr, IfOk, OnOk, length, string_bytes, option_copied, false};
 ghost use Rattle.review_words.specs.Texts.{IsStored, content_text};
-<<<<<<< ours
-ghost use Rattle.review_words.specs.History.{Entry, IsFirst};
-||||||| base
-ghost use Rattle.review_words.specs.History.{Entry, stored};
-=======
-ghost use Rattle.review_words.specs.History.{Entry, if_done};
->>>>>>> epochs
+ghost use Rattle.review_words.specs.History.{Entry, IsFirst, if_done};
 ghost use Rattle.review_words.specs.declared.command.Delivery.TheVariants.{Write, Read};
-<<<<<<< ours
-ghost use Rattle.review_rows.specs.Answer.{IsHistory, most_requests};
-||||||| base
-ghost use Rattle.review_file.specs.Texts.{file_read};
-ghost use Rattle.review_rows.specs.Answer.{IsHistory, most_requests};
-=======
-ghost use Rattle.review_file.specs.Texts.{file_read};
 ghost use Rattle.review_rows.specs.Answer.{IsHistory, IsFirst, most_requests};
->>>>>>> epochs
 ghost use Rattle.review_rows.specs.Changes.{Reading};
 ghost use Rattle.review_rows.specs.Decisions.{RestsOn};
 ghost use Rattle.review_rows.specs.declared.rows.Want.{Want};
 ghost use Rattle.review_rows.specs.declared.rows.Want.TheVariants as want;
 ghost use Rattle.review_rows.specs.Known.{known, number_of};
-<<<<<<< ours
-ghost use Rattle.review_rows.specs.Rows.{HasNoEffect, Tables, kept_row};
-ghost use Rattle.review_rows.specs.Shelf.{Answers, BlamesTables, CountsFaults, IsCommitted, LeavesUndone, Shows, StopLeavesOwnTables, Views};
-||||||| base
-ghost use Rattle.review_rows.specs.Rows.{HasNoEffect, Tables, kept_row};
-ghost use Rattle.review_rows.specs.Shelf.{BlamesTables, CountsFaults, IsCommitted, LeavesUndone, Shows, StopLeavesOwnTables, Views};
-=======
 ghost use Rattle.review_rows.specs.Rows.{HasNoEffect, Tables, closing, is_below, kept_row};
 ghost use Rattle.review_rows.specs.Shelf.{Answers, BlamesTables, CountsFaults, IsCommitted, LeavesUndone, Shows, StopLeavesOwnTables, Views};
->>>>>>> epochs
 ghost use Rattle.review_rows.specs.Steps.{OfCommand};
-<<<<<<< ours
-ghost use Rattle.review_rows.specs.View.{AreEnough, IsDecided};
-ghost use Rattle.review_deliveries.specs.Delivered.{IsDelivered};
-||||||| base
-ghost use Rattle.review_rows.specs.View.{AreEnough, IsDecided};
-=======
 ghost use Rattle.review_rows.specs.View.{AreEnough, IsDecidedIn};
->>>>>>> epochs
+ghost use Rattle.review_deliveries.specs.Delivered.{IsDelivered};
 ghost use Rattle.review_deliveries.specs.Gathered.{IsUnstored};
 ghost use Rattle.review_deliveries.specs.Kept.{row_for};
 ghost use Rattle.review_deliveries.specs.Replies.{IsServed, IsToldAgain, KeepsUntaken, StoresOnce, CountsReply, reply_of};
 
 use crate::gathering::gathered;
 use crate::rules::Rules;
-<<<<<<< ours
 use review_file::ProjectFile;
 use review_rows::{Delta, Kept, Matter, Recalled, Rows, Shelf, ShelfFault};
-||||||| base
-use review_file::ReadText;
-use review_rows::{Delta, Kept, Matter, Rows, Shelf, ShelfFault};
-=======
-use review_file::ReadText;
-use review_rows::{Delta, Kept, Matter, Recalled, Rows, Shelf, ShelfFault};
->>>>>>> epochs
 use review_texts::{BadReply, content_text, read_reply, reply_text};
 use review_words::{AccountNo, Command, Delivery, Epoch, NotTaken, Query, Reply, RequestId};
 use std::alloc::{AllocError, Global};
@@ -150,19 +108,9 @@ fn write<S: Shelf, R: Rules>(
     ensures counted { CountsReply (reply_of result) (S.state shelf.old).faults (S.state shelf.new).faults }
 {
     let content = content_text(alloc, command)?;
-<<<<<<< ours
-    match shelf.recall(alloc, caller, id)? {
-        Recalled::Kept(kept) => repeated(alloc, &kept, content.as_str()),
-        Recalled::Fresh => {
-||||||| base
-    match shelf.recall(alloc, caller, id)? {
-        Some(kept) => repeated(alloc, &kept, content.as_str()),
-        None => {
-=======
     match shelf.recall(alloc, caller, epoch, id)? {
         Recalled::Kept(kept) => repeated(alloc, &kept, content.as_str()),
         Recalled::Fresh => {
->>>>>>> epochs
             let mut rows = Rows::new(alloc);
             first_arrival(
                 alloc, shelf, rules, &mut rows, caller, epoch, id, command, content,
@@ -221,42 +169,18 @@ fn first_arrival<S: Shelf, R: Rules>(
     requires content { string_bytes content ≡ content_text command.now }
     ensures honest { (S.state shelf.new).is_honest → (S.state shelf.old).is_honest }
     ensures served { (S.state shelf.new).is_honest → (h : List Entry) → IsHistory h → Views h (S.state shelf.old).tables →
-<<<<<<< ours
-        IsFirst h (record { caller = caller; id = id.now }) →
-        IsServed h (Write caller id.now command.now) (reply_of result) (S.state shelf.old) (S.state shelf.new) }
-    ensures unchanged { (S.state shelf.new).is_honest → Shows (S.state shelf.old).tables (λ t. Answers t (record { caller = caller; id = id.now }) None) →
-        KeepsUntaken (Write caller id.now command.now) (reply_of result) (S.state shelf.old).tables (S.state shelf.new).tables }
-    ensures once { (S.state shelf.new).is_honest → Shows (S.state shelf.old).tables (λ t. Answers t (record { caller = caller; id = id.now }) None) →
-        StoresOnce (Write caller id.now command.now) (reply_of result) (S.state shelf.old).tables (S.state shelf.new).tables }
-||||||| base
-        stored h (record { caller = caller; id = id.now }) ≡ None →
-        IsServed h (Write caller id.now command.now) (reply_of result) (S.state shelf.old) (S.state shelf.new) }
-    ensures unchanged { (S.state shelf.new).is_honest → Shows (S.state shelf.old).tables (λ t. t.answer (record { caller = caller; id = id.now }) ≡ None) →
-        KeepsUntaken (Write caller id.now command.now) (reply_of result) (S.state shelf.old).tables (S.state shelf.new).tables }
-    ensures once { (S.state shelf.new).is_honest → Shows (S.state shelf.old).tables (λ t. t.answer (record { caller = caller; id = id.now }) ≡ None) →
-        StoresOnce (Write caller id.now command.now) (reply_of result) (S.state shelf.old).tables (S.state shelf.new).tables }
-=======
         IsFirst h (record { caller = caller; epoch = epoch; id = id.now }) →
         IsServed h (Write caller epoch id.now command.now) (reply_of result) (S.state shelf.old) (S.state shelf.new) }
     ensures unchanged { (S.state shelf.new).is_honest → Shows (S.state shelf.old).tables (λ t. Answers t (record { caller = caller; epoch = epoch; id = id.now }) None) →
         KeepsUntaken (Write caller epoch id.now command.now) (reply_of result) (S.state shelf.old).tables (S.state shelf.new).tables }
     ensures once { (S.state shelf.new).is_honest → Shows (S.state shelf.old).tables (λ t. Answers t (record { caller = caller; epoch = epoch; id = id.now }) None) →
         StoresOnce (Write caller epoch id.now command.now) (reply_of result) (S.state shelf.old).tables (S.state shelf.new).tables }
->>>>>>> epochs
     ensures counted { CountsReply (reply_of result) (S.state shelf.old).faults (S.state shelf.new).faults }
 {
     let matter = Matter::Command(command);
     let read = gathered(alloc, shelf, rules, rows, caller, matter)?;
-<<<<<<< ours
-    let decided = decide(alloc, rules, read.as_ref(), rows, caller, command)?;
-    store(alloc, shelf, caller, id, &decided, content)?;
-||||||| base
-    let decided = decide(alloc, rules, read, rows, caller, command)?;
-    store(alloc, shelf, caller, id, &decided, content)?;
-=======
-    let decided = decide(alloc, rules, read, rows, caller, epoch, command)?;
+    let decided = decide(alloc, rules, read.as_ref(), rows, caller, epoch, command)?;
     store(alloc, shelf, caller, epoch, id, &decided, content)?;
->>>>>>> epochs
     Ok(decided.reply)
 }
 
@@ -280,24 +204,12 @@ fn decide<R: Rules>(
     command: &Command,
 ) -> Result<Decided, NotTaken>
     ensures request { IfOk result (λ d. (d.request ≡ number_of (known rows.now want.Requests) + 1) × (d.request ≤ most_requests)) }
-<<<<<<< ours
-    ensures decided { IfOk result (λ d. (reading : Reading) (h : List Entry) → length h < most_requests → RestsOn (OfCommand command.now) h → AreEnough reading h caller (OfCommand command.now) (option_copied read.entry) rows.now → IsDecided reading h caller command.now d.delta d.reply) }
-||||||| base
-    ensures decided { IfOk result (λ d. (reading : Reading) (h : List Entry) → length h < most_requests → RestsOn (OfCommand command.now) h → AreEnough reading h caller (OfCommand command.now) (file_read read) rows.now → IsDecided reading h caller command.now d.delta d.reply) }
-=======
-    ensures decided { IfOk result (λ d. (reading : Reading) (h : List Entry) → length h < most_requests → RestsOn (OfCommand command.now) h → AreEnough reading h caller (OfCommand command.now) (file_read read) rows.now → IsDecidedIn reading h caller epoch command.now d.delta d.reply) }
->>>>>>> epochs
+    ensures decided { IfOk result (λ d. (reading : Reading) (h : List Entry) → length h < most_requests → RestsOn (OfCommand command.now) h → AreEnough reading h caller (OfCommand command.now) (option_copied read.entry) rows.now → IsDecidedIn reading h caller epoch command.now d.delta d.reply) }
     ensures stored { IfOk result (λ d. IsStored d.reply) }
     ensures refused { IfOk result (λ d. HasNoEffect d.reply d.delta) }
-<<<<<<< ours
-    ensures cause { IfErr result (IsUnstored caller command.now (option_copied read.entry) rows.now) }
-||||||| base
-    ensures cause { IfErr result (IsUnstored caller command.now (file_read read) rows.now) }
-=======
     ensures closes { IfOk result (λ d. d.delta.epoch ≡ closing (if_done d.reply command.now)) }
     ensures own { IfOk result (λ d. is_below d.delta.epoch epoch ≡ false) }
-    ensures cause { IfErr result (IsUnstored caller command.now (file_read read) rows.now) }
->>>>>>> epochs
+    ensures cause { IfErr result (IsUnstored caller command.now (option_copied read.entry) rows.now) }
 {
     let requests = rows.requests();
     if requests >= MOST_REQUESTS {

@@ -8,33 +8,15 @@ use std::alloc::{AllocError, Global};
 /// What a desk is told of commands and questions, from the rows that decide them and the project file by which they are judged. It may
 /// keep what it worked out before, of which no answer may depend.
 pub trait Rules {
-<<<<<<< ours
-    ghost use Rattle.std.specs.Prelude.{◌≡◌, ◌<◌, List, length, IfOk, IfErr, option_copied};
-||||||| base
-    ghost use Rattle.std.specs.Prelude.{◌≡◌, ◌<◌, List, length, IfOk, IfErr, option_copied};
-    ghost use Rattle.review_file.specs.Texts.{file_read};
-=======
     ghost use Rattle.std.specs.Prelude.{◌≡◌, false, ◌<◌, List, length, IfOk, IfErr, option_copied};
-    ghost use Rattle.review_file.specs.Texts.{file_read};
->>>>>>> epochs
     ghost use Rattle.review_words.specs.Texts.{IsStored};
     ghost use Rattle.review_words.specs.History.{Entry, if_done};
     ghost use Rattle.review_rows.specs.Answer.{most_requests};
     ghost use Rattle.review_rows.specs.Questions.{IsQueryAnswerBy};
     ghost use Rattle.review_rows.specs.Changes.{Reading};
-<<<<<<< ours
-    ghost use Rattle.review_rows.specs.Rows.{HasNoEffect};
-    ghost use Rattle.review_rows.specs.Steps.{HasComeTo, HasFile, next, texts_for, topic_of, wants_in, unless_none, OfCommand, OfQuery};
-    ghost use Rattle.review_rows.specs.View.{AreEnough, IsDecided};
-||||||| base
-    ghost use Rattle.review_rows.specs.Rows.{HasNoEffect};
-    ghost use Rattle.review_rows.specs.Steps.{HasComeTo, HasFile, next, text_for, topic_of, wants_in, unless_none, OfCommand, OfQuery};
-    ghost use Rattle.review_rows.specs.View.{AreEnough, IsDecided};
-=======
     ghost use Rattle.review_rows.specs.Rows.{HasNoEffect, closing, is_below};
-    ghost use Rattle.review_rows.specs.Steps.{HasComeTo, HasFile, next, text_for, topic_of, wants_in, unless_none, OfCommand, OfQuery};
+    ghost use Rattle.review_rows.specs.Steps.{HasComeTo, HasFile, next, texts_for, topic_of, wants_in, unless_none, OfCommand, OfQuery};
     ghost use Rattle.review_rows.specs.View.{AreEnough, IsDecidedIn};
->>>>>>> epochs
     ghost use Rattle.review_rows.specs.Decisions.{IsUndecided, IsUnread, IsUnshown, NamesEachOnce, IsDoneOrRefused, RestsOn};
 
     /// What a command or a question asks of the tables next, where this file was read; nothing where the rows decide it. A look for a chain
@@ -74,16 +56,8 @@ pub trait Rules {
         epoch: Epoch,
         command: &Command,
     ) -> Result<(Delta, Reply), NotTaken>
-<<<<<<< ours
-        ensures decided { IfOk result (λ r. (reading : Reading) (h : List Entry) → length h < most_requests → RestsOn (OfCommand command.now) h → AreEnough reading h caller (OfCommand command.now) (option_copied read.entry) rows.now → IsDecided reading h caller command.now r.0 r.1) }
+        ensures decided { IfOk result (λ r. (reading : Reading) (h : List Entry) → length h < most_requests → RestsOn (OfCommand command.now) h → AreEnough reading h caller (OfCommand command.now) (option_copied read.entry) rows.now → IsDecidedIn reading h caller epoch command.now r.0 r.1) }
         ensures cause { IfErr result (IsUndecided caller command.now (option_copied read.entry) rows.now) }
-||||||| base
-        ensures decided { IfOk result (λ r. (reading : Reading) (h : List Entry) → length h < most_requests → RestsOn (OfCommand command.now) h → AreEnough reading h caller (OfCommand command.now) (file_read read) rows.now → IsDecided reading h caller command.now r.0 r.1) }
-        ensures cause { IfErr result (IsUndecided caller command.now (file_read read) rows.now) }
-=======
-        ensures decided { IfOk result (λ r. (reading : Reading) (h : List Entry) → length h < most_requests → RestsOn (OfCommand command.now) h → AreEnough reading h caller (OfCommand command.now) (file_read read) rows.now → IsDecidedIn reading h caller epoch command.now r.0 r.1) }
-        ensures cause { IfErr result (IsUndecided caller command.now (file_read read) rows.now) }
->>>>>>> epochs
         ensures stored { IfOk result (λ r. IsStored r.1) }
         ensures refused { IfOk result (λ r. HasNoEffect r.1 r.0) }
         ensures closes { IfOk result (λ r. r.0.epoch ≡ closing (if_done r.1 command.now)) }

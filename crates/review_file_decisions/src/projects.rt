@@ -248,34 +248,12 @@ fn refusal_by(covered: Option<bool>, has_room: bool) -> Option<Refusal>
     }
 }
 
-<<<<<<< ours
 // The change that puts the row of a project.
 fn put_row(alloc: Global, put: Put<ProjectName, StoredFile>) -> (Delta, Reply)
     ensures reply { result.1 ≡ Done Nothing }
     ensures delta { PutsFile put.key put.row result.0 }
-    ensures once { NamesEachOnce result.0 }
-||||||| base
-// The change that puts the file of a project.
-fn put_text(
-    alloc: Global,
-    project: &ProjectName,
-    file: &FileText,
-) -> Result<(Delta, Reply), AllocError>
-    ensures reply { IfOk result (λ r. r.1 ≡ Done Nothing) }
-    ensures delta { IfOk result (λ r. PutsFile project.now file.now r.0) }
-    ensures once { IfOk result (λ r. NamesEachOnce r.0) }
-=======
-// The change that puts the file of a project.
-fn put_text(
-    alloc: Global,
-    project: &ProjectName,
-    file: &FileText,
-) -> Result<(Delta, Reply), AllocError>
-    ensures reply { IfOk result (λ r. r.1 ≡ Done Nothing) }
-    ensures delta { IfOk result (λ r. PutsFile project.now file.now r.0) }
     ensures epoch { IfOk result (λ r. r.0.epoch ≡ None) }
-    ensures once { IfOk result (λ r. NamesEachOnce r.0) }
->>>>>>> epochs
+    ensures once { NamesEachOnce result.0 }
 {
     let mut delta = nothing(alloc);
     delta.file = Some(put);

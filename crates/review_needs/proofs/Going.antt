@@ -1,17 +1,7 @@
 -- Looks for a chain that go on.
-<<<<<<< ours
 use Rattle.std.proofs.Common.{List, ap, ◌≡◌, ℕ, true, [], Option, Some, None, refl, sym, ◌∙◌, subst}
 use Rattle.std.specs.Prelude.{◌&&◌, not, is_some, IfSome}
-use Rattle.review_words.specs.declared.command.Command.TheVariants.{CreateAccount, PutGroup, PutProject, RecordBase, CreateChange, OnChange, Submit}
-||||||| base
-use Rattle.std.proofs.Common.{◌≡◌, ℕ, true, [], Option, Some, None, refl, sym, ◌∙◌, subst}
-use Rattle.std.specs.Prelude.{◌&&◌, not, IfSome}
-use Rattle.review_words.specs.declared.command.Command.TheVariants.{CreateAccount, PutGroup, PutProject, RecordBase, CreateChange, OnChange, Submit}
-=======
-use Rattle.std.proofs.Common.{◌≡◌, ℕ, true, [], Option, Some, None, refl, sym, ◌∙◌, subst}
-use Rattle.std.specs.Prelude.{◌&&◌, not, IfSome}
 use Rattle.review_words.specs.declared.command.Command.TheVariants.{CreateAccount, PutGroup, PutProject, RecordBase, CloseEpoch, CreateChange, OnChange, Submit}
->>>>>>> epochs
 use Rattle.review_changes.specs.Change.{Change, is_open}
 use Rattle.review_chain.specs.declared.walks.Walked.{Walked}
 use Rattle.review_chain.specs.Branches.{Branch}

@@ -13,17 +13,9 @@ use Rattle.review_words.specs.declared.faults.FileFault.TheVariants.{UnknownKey}
 use Rattle.review_words.specs.declared.reply.Refusal.{Refusal}
 use Rattle.review_words.specs.declared.reply.Refusal.TheVariants.{BadFile}
 use Rattle.review_words.specs.declared.reply.Reply.{Reply}
-<<<<<<< ours
-use Rattle.review_words.specs.declared.reply.Reply.TheVariants.{Done, Refused, IdentityReused, NotTaken}
+use Rattle.review_words.specs.declared.reply.Reply.TheVariants.{Done, Refused, IdentityReused, EpochClosed, NotTaken}
 use Rattle.review_project.specs.Inherited.{no_file}
 use Rattle.review_rows.specs.Answer.{IsAnswer, IsAnswerBy, IsAnswerIn, IsAnswerWithoutParents, IsHistory, IsFaultAnswer, IsFileAnswer, puts_parent, refused_by}
-||||||| base
-use Rattle.review_words.specs.declared.reply.Reply.TheVariants.{Done, Refused, IdentityReused, NotTaken}
-use Rattle.review_rows.specs.Answer.{IsAnswerBy, IsHistory, IsFaultAnswer, IsFileAnswer, refused_by}
-=======
-use Rattle.review_words.specs.declared.reply.Reply.TheVariants.{Done, Refused, IdentityReused, EpochClosed, NotTaken}
-use Rattle.review_rows.specs.Answer.{IsAnswerBy, IsHistory, IsFaultAnswer, IsFileAnswer, refused_by}
->>>>>>> epochs
 use Rattle.review_rows.specs.Changes.{Reading, Reads, IsReadRight}
 use Rattle.review_rows.specs.Files.{File, IsRead}
 use Rattle.review_rows.proofs.Epochs.{IsDoneBy, done_by}

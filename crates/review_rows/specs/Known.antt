@@ -21,12 +21,8 @@ use Rattle.review_rows.specs.declared.rows.Counted.TheVariants as counted
 use Rattle.review_rows.specs.declared.rows.Want.{Want}
 use Rattle.review_rows.specs.declared.rows.Want.TheVariants as want
 use Rattle.review_rows.specs.declared.rows.Rows.{Rows}
-<<<<<<< ours
 use Rattle.review_rows.specs.declared.rows.StoredFile.{StoredFile}
-||||||| base
-=======
 use Rattle.review_words.specs.Epochs.{last_epoch}
->>>>>>> epochs
 use Rattle.review_rows.specs.Limits.{most_projects, most_bases}
 use Rattle.review_rows.specs.Rows.{Key, AccountKey, MemberKey, FileKey, BaseKey, PartKey, APart, Row, AccountRow, MemberRow, FileRow, BaseRow, Count, Projects, BasesOf, ClosedEpochs, Tables, member_cmp, branch_cmp, base_cmp, member_row}
 

@@ -1,11 +1,5 @@
 -- Rows of all tables as one type, read at a key: what tables hold, and what a delta changes.
-<<<<<<< ours
-use Rattle.std.specs.Prelude.{ℕ, ℤ, ◌+◌, ◌≡◌, List, [], ◌∷◌, Option, Some, None, Bool, true, ◌==◌, is_some, option_map, if◌then◌else◌, string_bytes}
-||||||| base
-use Rattle.std.specs.Prelude.{ℕ, ℤ, ◌+◌, ◌≡◌, List, [], ◌∷◌, Option, Some, None, ◌&&◌, ◌==◌, is_some, option_map, if◌then◌else◌, string_bytes}
-=======
-use Rattle.std.specs.Prelude.{ℕ, ℤ, ◌+◌, ◌≡◌, List, [], ◌∷◌, Option, Some, None, Bool, true, false, nat_lt, unwrap_or, ◌&&◌, ◌==◌, is_some, option_map, if◌then◌else◌, string_bytes}
->>>>>>> epochs
+use Rattle.std.specs.Prelude.{ℕ, ℤ, ◌+◌, ◌≡◌, List, [], ◌∷◌, Option, Some, None, Bool, true, ◌==◌, is_some, option_map, if◌then◌else◌, string_bytes, false, nat_lt, unwrap_or}
 use Rattle.std.specs.declared.cmp.Ordering.{Ordering}
 use Rattle.std.specs.Ordering.{nat_cmp, ordering_then}
 use Rattle.std.specs.Cmp.Lexicographic.{slice_cmp}
@@ -145,17 +139,9 @@ count_put test (Some put) row n = if test put.key then (if is_some (row put.key)
 
 -- a count after a delta, where the rows were these and the count this one before
 abbrev pub count_after : Delta → (Key → Option Row) → Count → ℕ → ℕ
-<<<<<<< ours
 count_after delta row Projects n = count_put (λ p. true) delta.file (λ p. row (FileKey p)) n
 count_after delta row (BasesOf project) n = count_put (λ k. bytes_eq k.project project) delta.base (λ k. row (BaseKey k.project k.branch k.place)) n
-||||||| base
-count_after delta row Projects n = projects_after delta.file row n
-count_after delta row (BasesOf project) n = bases_after delta.base row project n
-=======
-count_after delta row Projects n = projects_after delta.file row n
-count_after delta row (BasesOf project) n = bases_after delta.base row project n
 count_after delta row ClosedEpochs n = unwrap_or delta.epoch n
->>>>>>> epochs
 
 -- whether an epoch is below the one that is named, if one is
 abbrev pub is_below : Option ℕ → ℕ → Bool

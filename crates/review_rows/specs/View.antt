@@ -1,32 +1,16 @@
 -- The tables of a history, and what was decided.
 use Rattle.std.specs.Prelude.{ℕ, ◌+◌, ◌≡◌, List, [], ◌∷◌, Option, Some, None, length, option_map, if◌then◌else◌}
 use Rattle.review_words.specs.Texts.{content_text, reply_text}
-<<<<<<< ours
-use Rattle.review_words.specs.History.{Entry, Identity, entry_of, is_same, latest, name_of, is_listed, project_count, bases, base_count}
-||||||| base
-use Rattle.review_words.specs.History.{Entry, Identity, is_same, name_of, is_listed, file_text, project_count, bases, base_count}
-=======
-use Rattle.review_words.specs.History.{Entry, Identity, is_same, is_closed, least_open, name_of, is_listed, file_text, project_count, bases, base_count}
->>>>>>> epochs
+use Rattle.review_words.specs.History.{Entry, Identity, entry_of, is_same, latest, name_of, is_listed, project_count, bases, base_count, is_closed, least_open}
 use Rattle.review_words.specs.declared.command.Command.{Command}
 use Rattle.review_words.specs.declared.reply.Reply.{Reply}
 use Rattle.review_rows.specs.declared.rows.Delta.{Delta}
 use Rattle.review_rows.specs.declared.rows.Rows.{Rows}
 use Rattle.review_rows.specs.Rows.{Key, AccountKey, MemberKey, FileKey, BaseKey, PartKey, OddKey, Row, AccountRow, MemberRow, FileRow, BaseRow, APart, Count, Projects, BasesOf, ClosedEpochs, AnswerRow, Stored, Answered, Tables, after, count_after}
 use Rattle.review_rows.specs.Known.{at_place, part_of, Agrees}
-<<<<<<< ours
 use Rattle.review_rows.specs.Steps.{Topic, HasFile, next, texts_for}
-use Rattle.review_rows.specs.Answer.{IsAnswerBy}
-use Rattle.review_rows.specs.Changes.{Reading, Reads, change, own_of}
-||||||| base
-use Rattle.review_rows.specs.Steps.{Topic, HasFile, next, text_for}
-use Rattle.review_rows.specs.Answer.{IsAnswerBy}
-use Rattle.review_rows.specs.Changes.{Reading, Reads, change}
-=======
-use Rattle.review_rows.specs.Steps.{Topic, HasFile, next, text_for}
 use Rattle.review_rows.specs.Answer.{IsAnswerBy, IsAnswerIn}
-use Rattle.review_rows.specs.Changes.{Reading, Reads, change}
->>>>>>> epochs
+use Rattle.review_rows.specs.Changes.{Reading, Reads, change, own_of}
 use Rattle.review_rows.specs.Files.{File}
 
 -- the row of a key that the history says, by what is read of the texts that were put
@@ -53,17 +37,11 @@ abbrev pub stored_answer : List Entry → Identity → Option Stored
 stored_answer [] i = None
 stored_answer (e ∷ h) i = if is_same e.identity i then Some (Answered (answer_row e (length h + 1))) else stored_answer h i
 
-<<<<<<< ours
--- the version of the tables: that of the desk that keeps them
-||||||| base
--- the version of the tables
-=======
 -- what is kept under an identity: nothing once its epoch is closed
 abbrev pub kept_answer : List Entry → Identity → Option Stored
 kept_answer h i = if is_closed h i.epoch then None else stored_answer h i
 
--- the version of the tables
->>>>>>> epochs
+-- the version of the tables: that of the desk that keeps them
 abbrev pub tables_version : ℕ
 tables_version = latest
 

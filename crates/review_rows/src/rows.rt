@@ -243,7 +243,6 @@ pub struct Kept {
     pub content: String,
     pub reply: String,
 }
-<<<<<<< ours
 
 /// What is known of the identity of a request.
 #[derive(Debug, Drop)]
@@ -253,8 +252,6 @@ pub enum Recalled {
     /// No request is stored under it.
     Fresh,
 }
-||||||| base
-=======
 
 /// What is known of an identity.
 #[derive(Debug, Drop)]
@@ -266,4 +263,3 @@ pub enum Recalled {
     /// Its epoch is closed.
     Closed,
 }
->>>>>>> epochs

@@ -19,20 +19,10 @@ use Rattle.review_words.specs.History.{Identity, is_same}
 use Rattle.review_rows.specs.declared.rows.MemberKey.{MemberKey as Member}
 use Rattle.review_rows.specs.declared.rows.Delta.{Delta}
 use Rattle.review_rows.specs.declared.rows.Kept.{Kept}
-<<<<<<< ours
 use Rattle.review_rows.specs.declared.rows.PlaceKey.{PlaceKey}
 use Rattle.review_rows.specs.declared.rows.Put.{Put}
 use Rattle.review_rows.specs.declared.rows.StoredFile.{StoredFile}
-use Rattle.review_rows.specs.Rows.{Key, AccountKey, MemberKey, FileKey, BaseKey, PartKey, OddKey, Row, AccountRow, FileRow, BaseRow, APart, Count, Projects, BasesOf, AnswerRow, Answered, Tables, member_cmp, member_row, member_change, account_change, after_put, count_put, place_cmp, after, count_after, kept_row}
-||||||| base
-use Rattle.review_rows.specs.declared.rows.BaseRow.{BaseRow as PlacedBase}
-use Rattle.review_rows.specs.declared.rows.ProjectRow.{ProjectRow}
-use Rattle.review_rows.specs.Rows.{Key, AccountKey, MemberKey, FileKey, BaseKey, PartKey, OddKey, Row, AccountRow, FileRow, BaseRow, APart, Count, Projects, BasesOf, AnswerRow, Answered, Tables, member_cmp, member_row, member_change, account_change, file_after, base_after, projects_after, bases_after, after, count_after, kept_row}
-=======
-use Rattle.review_rows.specs.declared.rows.BaseRow.{BaseRow as PlacedBase}
-use Rattle.review_rows.specs.declared.rows.ProjectRow.{ProjectRow}
-use Rattle.review_rows.specs.Rows.{Key, AccountKey, MemberKey, FileKey, BaseKey, PartKey, OddKey, Row, AccountRow, FileRow, BaseRow, APart, Count, Projects, BasesOf, ClosedEpochs, AnswerRow, Answered, Tables, member_cmp, member_row, member_change, account_change, file_after, base_after, projects_after, bases_after, after, count_after, kept_row}
->>>>>>> epochs
+use Rattle.review_rows.specs.Rows.{Key, AccountKey, MemberKey, FileKey, BaseKey, PartKey, OddKey, Row, AccountRow, FileRow, BaseRow, APart, Count, Projects, BasesOf, ClosedEpochs, AnswerRow, Answered, Tables, member_cmp, member_row, member_change, account_change, after_put, count_put, place_cmp, after, count_after, kept_row}
 use Rattle.review_rows.specs.Shelf.{IsCommitted}
 use Rattle.review_changes.specs.Parts.{PartRow}
 use Rattle.review_rows.specs.Rows.{edited}
@@ -43,20 +33,8 @@ use Rattle.review_shelves.specs.declared.keys.AnswerKey.{AnswerKey}
 use Rattle.review_shelves.specs.declared.keys.NameKey.{NameKey}
 use Rattle.review_shelves.specs.declared.keys.StoredAnswer.{StoredAnswer}
 use Rattle.review_shelves.specs.declared.tables.MemoryTables.{MemoryTables}
-<<<<<<< ours
-use Rattle.review_shelves.specs.Desk.{Desk, desk_of, tables_of, row_of, count_of, stored_row, file_changes, answer_cmp, name_cmp, IsNumber, AreInUse, IsIndexed, IsNumbered, IsBounded, IsSound, IsGiven, IsHeld, AreIndexed, KeepsNames, AreChangesOf, AreApplied, IsWithBase, HasRoom, HasRoomOnlyFor, with_branches, with_changes}
-use Rattle.review_kept_branches.specs.Branches.{BranchesView, total_in}
-||||||| base
-use Rattle.review_shelves.specs.Desk.{Desk, desk_of, tables_of, row_of, count_of, stored_row, file_changes, answer_cmp, name_cmp, IsNumber, AreInUse, IsIndexed, IsNumbered, IsBounded, IsSound, IsGiven, IsHeld, AreIndexed, KeepsNames, AreChangesOf, AreApplied, IsWithBase, HasRoom, HasRoomOnlyFor, with_branches, with_changes}
-use Rattle.review_kept_branches.specs.Branches.{BranchesView, place_cmp, base_at, total_in, place_of}
-use Rattle.review_kept_branches.specs.declared.keys.PlaceKey.{PlaceKey}
-use Rattle.review_kept_branches.proofs.Based.{at_place_of}
-=======
 use Rattle.review_shelves.specs.Desk.{beside_epoch, key_of, Desk, desk_of, tables_of, row_of, count_of, stored_row, file_changes, answer_cmp, name_cmp, IsNumber, AreInUse, IsIndexed, IsNumbered, IsBounded, IsSound, IsGiven, IsHeld, AreIndexed, KeepsNames, AreChangesOf, AreApplied, IsWithBase, HasRoom, HasRoomOnlyFor, with_branches, with_changes}
-use Rattle.review_kept_branches.specs.Branches.{BranchesView, place_cmp, base_at, total_in, place_of}
-use Rattle.review_kept_branches.specs.declared.keys.PlaceKey.{PlaceKey}
-use Rattle.review_kept_branches.proofs.Based.{at_place_of}
->>>>>>> epochs
+use Rattle.review_kept_branches.specs.Branches.{BranchesView, total_in}
 use Rattle.review_shelves.proofs.Orders.{exact_member, exact_answer, at_answer}
 
 -- names that are listed stay so
@@ -177,13 +155,7 @@ total_after (Some base) old new put p =
     (sym (some_based (row_in place_cmp old.branches.bases base.key)))
 
 pub committed : (delta : Delta) (kept : Kept) (changes : Changes) (projects : ℕ) (old new : Desk) → AreChangesOf delta kept changes → ArePrepared old.changes delta.changes.items changes.edits →
-<<<<<<< ours
-    AreApplied old changes projects new → IsWithBase delta.base old.branches new.branches → projects ≡ count_put (λ p. true) delta.file (files_of (row_of old)) old.projects → IsCommitted (tables_of old) delta (kept_row kept) (tables_of new)
-||||||| base
-    AreApplied old changes projects new → IsWithBase delta.base old.branches new.branches → projects ≡ projects_after delta.file (row_of old) old.projects → IsCommitted (tables_of old) delta (kept_row kept) (tables_of new)
-=======
-    AreApplied old changes projects new → IsWithBase delta.base old.branches new.branches → projects ≡ projects_after delta.file (row_of old) old.projects → IsCommitted (tables_of old) (beside_epoch delta) (kept_row kept) (tables_of new)
->>>>>>> epochs
+    AreApplied old changes projects new → IsWithBase delta.base old.branches new.branches → projects ≡ count_put (λ p. true) delta.file (files_of (row_of old)) old.projects → IsCommitted (tables_of old) (beside_epoch delta) (kept_row kept) (tables_of new)
 committed delta kept changes projects old new copies prepared applied based number = record {
   row_is = rows;
   count_is = counts;
@@ -301,13 +273,7 @@ made_sound delta kept changes given projects (Err e) old new copies are keeps li
 }
 
 pub made_committed : (delta : Delta) (kept : Kept) (changes : Changes) (projects : ℕ) (r : Result (Unit {0}) AllocError) (old made new : Desk) → AreChangesOf delta kept changes →
-<<<<<<< ours
-    ArePrepared old.changes delta.changes.items changes.edits → OnOk r (AreApplied old changes projects made) → OnOk r (IsWithBase delta.base old.branches made.branches) → projects ≡ count_put (λ p. true) delta.file (files_of (row_of old)) old.projects → new ≡ made → OnOk r (IsCommitted (tables_of old) delta (kept_row kept) (tables_of new))
-||||||| base
-    ArePrepared old.changes delta.changes.items changes.edits → OnOk r (AreApplied old changes projects made) → OnOk r (IsWithBase delta.base old.branches made.branches) → projects ≡ projects_after delta.file (row_of old) old.projects → new ≡ made → OnOk r (IsCommitted (tables_of old) delta (kept_row kept) (tables_of new))
-=======
-    ArePrepared old.changes delta.changes.items changes.edits → OnOk r (AreApplied old changes projects made) → OnOk r (IsWithBase delta.base old.branches made.branches) → projects ≡ projects_after delta.file (row_of old) old.projects → new ≡ made → OnOk r (IsCommitted (tables_of old) (beside_epoch delta) (kept_row kept) (tables_of new))
->>>>>>> epochs
+    ArePrepared old.changes delta.changes.items changes.edits → OnOk r (AreApplied old changes projects made) → OnOk r (IsWithBase delta.base old.branches made.branches) → projects ≡ count_put (λ p. true) delta.file (files_of (row_of old)) old.projects → new ≡ made → OnOk r (IsCommitted (tables_of old) (beside_epoch delta) (kept_row kept) (tables_of new))
 made_committed delta kept changes projects (Ok u) old made new copies prepared done based number same =
     subst (λ d. IsCommitted (tables_of old) (beside_epoch delta) (kept_row kept) (tables_of d)) (sym same) (committed delta kept changes projects old made copies prepared done based number)
 made_committed delta kept changes projects (Err e) old made new copies prepared done based number same = tt

@@ -1,11 +1,5 @@
 //! The tables of a desk in memory, and what changes in them.
-<<<<<<< ours
-ghost use Rattle.std.specs.Prelude.{◌≡◌, Some, IfOk, OnOk, OnErr, ◌<◌, ◌^◌, ◌-◌, IsTrue, ◌↔◌, [], true};
-||||||| base
-ghost use Rattle.std.specs.Prelude.{◌≡◌, Some, IfOk, OnOk, OnErr, ◌<◌, ◌^◌, ◌-◌, IsTrue, ◌↔◌, []};
-=======
-ghost use Rattle.std.specs.Prelude.{◌≡◌, ◌++◌, Some, None, unwrap_or, map, if◌then◌else◌, IfOk, OnOk, OnErr, ◌<◌, ◌^◌, ◌-◌, IsTrue, ◌↔◌, []};
->>>>>>> epochs
+ghost use Rattle.std.specs.Prelude.{◌≡◌, Some, IfOk, OnOk, OnErr, ◌<◌, ◌^◌, ◌-◌, IsTrue, ◌↔◌, [], true, ◌++◌, None, unwrap_or, map, if◌then◌else◌};
 ghost use Rattle.std.specs.List.{All};
 ghost use Rattle.std.specs.Map.Iter.{deref_pair};
 ghost use Rattle.review_shelves.specs.declared.keys.AnswerKey.{AnswerKey};
@@ -25,13 +19,7 @@ use crate::changes::{Changes, names_given, names_held};
 use crate::keys::{AnswerKey, NameKey, StoredAnswer};
 use review_kept_branches::Branches;
 use review_kept_changes::{KeptChanges, Prepared};
-<<<<<<< ours
 use review_rows::{Delta, Kept, MemberKey, PlaceKey, Put, Recalled, StoredFile};
-||||||| base
-use review_rows::{BaseRow, Delta, Kept, MemberKey, ProjectRow};
-=======
-use review_rows::{BaseRow, Delta, Kept, MemberKey, ProjectRow, Recalled};
->>>>>>> epochs
 use review_table::{Key, Table};
 use review_words::{
 <<<<<<< ours
@@ -85,13 +73,7 @@ impl MemoryTables {
         })
     }
 
-<<<<<<< ours
-    /// The stored request of an identity, or that none is stored under it.
-||||||| base
-    /// The stored request of an identity.
-=======
-    /// What is known of an identity.
->>>>>>> epochs
+    /// What is known of an identity, or that none is stored under it.
     pub fn recall(
         &self,
         alloc: Global,
@@ -120,16 +102,8 @@ impl MemoryTables {
         let Some(stored) = self.answers.get(&key) else {
             return Ok(Recalled::Fresh);
         };
-<<<<<<< ours
-        let AnswerKey { caller, id } = key;
-        Ok(Recalled::Kept(Kept {
-||||||| base
-        let AnswerKey { caller, id } = key;
-        Ok(Some(Kept {
-=======
         let AnswerKey { epoch, caller, id } = key;
         Ok(Recalled::Kept(Kept {
->>>>>>> epochs
             caller,
             epoch,
             id,

@@ -4,13 +4,7 @@ use Rattle.std.specs.Prelude.{option_map, unwrap_or}
 use Rattle.std.specs.List.{AllByRecursion}
 use Rattle.std.specs.Ordering.{nat_cmp}
 use Rattle.review_table.specs.Rows.{after_change, change_of}
-<<<<<<< ours
-use Rattle.review_words.specs.History.{Entry, entry_of, base_count, project_count}
-||||||| base
-use Rattle.review_words.specs.History.{Entry, base_count, project_count}
-=======
-use Rattle.review_words.specs.History.{Entry, base_count, least_open, project_count}
->>>>>>> epochs
+use Rattle.review_words.specs.History.{Entry, entry_of, base_count, project_count, least_open}
 use Rattle.review_words.specs.declared.command.Command.TheVariants.{Submit}
 use Rattle.review_words.specs.declared.reply.Answer.TheVariants.{Submitted}
 use Rattle.review_words.specs.declared.reply.Reply.TheVariants.{Done}
@@ -20,14 +14,8 @@ use Rattle.review_changes.specs.Parts.{Part, PartRow, part_row}
 use Rattle.review_rows.specs.Answer.{IsAnswerBy}
 use Rattle.review_rows.specs.Changes.{Reading, change, joined, joining, joining_at, place_in}
 use Rattle.review_rows.specs.Known.{part_of}
-<<<<<<< ours
-use Rattle.review_rows.specs.Rows.{Key, AccountKey, MemberKey, FileKey, BaseKey, PartKey, OddKey, APart, Count, Projects, BasesOf, account_change, member_change, edited, after, count_after, part_change, member_cmp}
+use Rattle.review_rows.specs.Rows.{Key, AccountKey, MemberKey, FileKey, BaseKey, PartKey, OddKey, APart, Count, Projects, BasesOf, ClosedEpochs, account_change, member_change, edited, after, count_after, part_change, member_cmp}
 use Rattle.review_rows.proofs.Puts.{no_base, no_base_more, no_file, no_project}
-||||||| base
-use Rattle.review_rows.specs.Rows.{Key, AccountKey, MemberKey, FileKey, BaseKey, PartKey, OddKey, APart, Count, Projects, BasesOf, account_change, member_change, file_after, base_after, edited, projects_after, bases_after, after, count_after, part_change, member_cmp}
-=======
-use Rattle.review_rows.specs.Rows.{Key, AccountKey, MemberKey, FileKey, BaseKey, PartKey, OddKey, APart, Count, Projects, BasesOf, ClosedEpochs, account_change, member_change, file_after, base_after, edited, projects_after, bases_after, after, count_after, part_change, member_cmp}
->>>>>>> epochs
 use Rattle.review_rows.specs.View.{IsDecided, counted, fact}
 use Rattle.review_rows.specs.declared.rows.ChangeEdit.{ChangeEdit}
 use Rattle.review_rows.specs.declared.rows.Delta.{Delta}
@@ -122,52 +110,24 @@ entry_of caller epoch id n chain = record { identity = record { caller = caller;
 >>>>>>> epochs
 rows_turn : (reading : Reading) (h : List Entry) (caller n : ℕ) (rows : Rows) (project branch : List ℕ) (chain : List ℕ) (last : ℕ) (edits : List ChangeEdit) (delta : Delta) →
     AllByRecursion (IsMember rows project branch) chain → last ≡ length (joined h project branch) → AreJoinEdits rows (length h + 1) (places_from (last + 1) chain) edits → EditsChanges edits delta →
-<<<<<<< ours
-    ((k : ℕ) (x : Change) → change_at rows k ≡ Some x → change reading h k ≡ Some x) → (id : List ℕ) (k : Key) → fact reading (entry_of caller id (Submit n) (Done (Submitted chain)) ∷ h) k ≡ after delta k (fact reading h k)
-rows_turn reading h caller n rows project branch chain last edits delta all many are only known id (AccountKey a) =
-||||||| base
-    ((k : ℕ) (x : Change) → change_at rows k ≡ Some x → change reading h k ≡ Some x) → (id : List ℕ) (k : Key) → fact reading (entry_of caller id n chain ∷ h) k ≡ after delta k (fact reading h k)
-rows_turn reading h caller n rows project branch chain last edits delta all many are only known id (AccountKey a) =
-=======
-    ((k : ℕ) (x : Change) → change_at rows k ≡ Some x → change reading h k ≡ Some x) → (epoch : ℕ) (id : List ℕ) (k : Key) → fact reading (entry_of caller epoch id n chain ∷ h) k ≡ after delta k (fact reading h k)
+    ((k : ℕ) (x : Change) → change_at rows k ≡ Some x → change reading h k ≡ Some x) → (epoch : ℕ) (id : List ℕ) (k : Key) → fact reading (entry_of caller epoch id (Submit n) (Done (Submitted chain)) ∷ h) k ≡ after delta k (fact reading h k)
 rows_turn reading h caller n rows project branch chain last edits delta all many are only known epoch id (AccountKey a) =
->>>>>>> epochs
     sym (ap (λ l. after_change (account_change (change_of nat_cmp l a)) (fact reading h (AccountKey a))) only.accounts)
 rows_turn reading h caller n rows project branch chain last edits delta all many are only known epoch id (MemberKey g a) =
     sym (ap (λ l. after_change (member_change (change_of member_cmp l (record { group = g; account = a }))) (fact reading h (MemberKey g a))) only.members)
-<<<<<<< ours
-rows_turn reading h caller n rows project branch chain last edits delta all many are only known id (FileKey q) = sym (no_file delta only.file q (fact reading h (FileKey q)))
-rows_turn reading h caller n rows project branch chain last edits delta all many are only known id (BaseKey q b a) = sym (no_base delta only.base q b a (fact reading h (BaseKey q b a)))
-rows_turn reading h caller n rows project branch chain last edits delta all many are only known id (PartKey k part) =
-||||||| base
-rows_turn reading h caller n rows project branch chain last edits delta all many are only known id (FileKey q) = sym (ap (λ o. file_after o q (fact reading h (FileKey q))) only.file)
-rows_turn reading h caller n rows project branch chain last edits delta all many are only known id (BaseKey q b a) = sym (ap (λ o. base_after o q b a (fact reading h (BaseKey q b a))) only.base)
-rows_turn reading h caller n rows project branch chain last edits delta all many are only known id (PartKey k part) =
-=======
-rows_turn reading h caller n rows project branch chain last edits delta all many are only known epoch id (FileKey q) = sym (ap (λ o. file_after o q (fact reading h (FileKey q))) only.file)
-rows_turn reading h caller n rows project branch chain last edits delta all many are only known epoch id (BaseKey q b a) = sym (ap (λ o. base_after o q b a (fact reading h (BaseKey q b a))) only.base)
+rows_turn reading h caller n rows project branch chain last edits delta all many are only known epoch id (FileKey q) = sym (no_file delta only.file q (fact reading h (FileKey q)))
+rows_turn reading h caller n rows project branch chain last edits delta all many are only known epoch id (BaseKey q b a) = sym (no_base delta only.base q b a (fact reading h (BaseKey q b a)))
 rows_turn reading h caller n rows project branch chain last edits delta all many are only known epoch id (PartKey k part) =
->>>>>>> epochs
     ap (λ o. option_map APart (part_of o part)) (sym (joining_is reading h rows project branch chain last k all many (known k)))
     ∙ (sym (edits_turn rows (length h + 1) chain last k part edits (change reading h k) are (known k))
     ∙ sym (ap (λ es. after_change (option_map (option_map APart) (edited es k part)) (fact reading h (PartKey k part))) only.changes))
 rows_turn reading h caller n rows project branch chain last edits delta all many are only known epoch id (OddKey o) = refl
 
 counts_turn : (reading : Reading) (h : List Entry) (caller n : ℕ) (chain : List ℕ) (edits : List ChangeEdit) (delta : Delta) → EditsChanges edits delta →
-<<<<<<< ours
-    (id : List ℕ) (k : Count) → counted (entry_of caller id (Submit n) (Done (Submitted chain)) ∷ h) k ≡ count_after delta (fact reading h) k (counted h k)
-counts_turn reading h caller n chain edits delta only id Projects = sym (no_project delta only.file (fact reading h) (project_count h))
-counts_turn reading h caller n chain edits delta only id (BasesOf q) = sym (no_base_more delta only.base (fact reading h) q (base_count h q))
-||||||| base
-    (id : List ℕ) (k : Count) → counted (entry_of caller id n chain ∷ h) k ≡ count_after delta (fact reading h) k (counted h k)
-counts_turn reading h caller n chain edits delta only id Projects = sym (ap (λ o. projects_after o (fact reading h) (project_count h)) only.file)
-counts_turn reading h caller n chain edits delta only id (BasesOf q) = sym (ap (λ o. bases_after o (fact reading h) q (base_count h q)) only.base)
-=======
-    (epoch : ℕ) (id : List ℕ) (k : Count) → counted (entry_of caller epoch id n chain ∷ h) k ≡ count_after delta (fact reading h) k (counted h k)
-counts_turn reading h caller n chain edits delta only epoch id Projects = sym (ap (λ o. projects_after o (fact reading h) (project_count h)) only.file)
-counts_turn reading h caller n chain edits delta only epoch id (BasesOf q) = sym (ap (λ o. bases_after o (fact reading h) q (base_count h q)) only.base)
+    (epoch : ℕ) (id : List ℕ) (k : Count) → counted (entry_of caller epoch id (Submit n) (Done (Submitted chain)) ∷ h) k ≡ count_after delta (fact reading h) k (counted h k)
+counts_turn reading h caller n chain edits delta only epoch id Projects = sym (no_project delta only.file (fact reading h) (project_count h))
+counts_turn reading h caller n chain edits delta only epoch id (BasesOf q) = sym (no_base_more delta only.base (fact reading h) q (base_count h q))
 counts_turn reading h caller n chain edits delta only epoch id ClosedEpochs = sym (ap (λ o. unwrap_or o (least_open h)) only.epoch)
->>>>>>> epochs
 
 -- a submit of a chain that joins is decided
 pub joined_decided : (reading : Reading) (h : List Entry) (caller n : ℕ) (rows : Rows) (project branch : List ℕ) (chain : List ℕ) (last : ℕ) (edits : List ChangeEdit) (delta : Delta) →

@@ -19,13 +19,7 @@ use Rattle.review_words.specs.declared.reply.Reply.{Reply}
 use Rattle.review_words.specs.declared.reply.Reply.TheVariants.{Done, Refused, IdentityReused, EpochClosed, NotTaken}
 use Rattle.review_words.specs.declared.reply.Answer.TheVariants.{Account, Nothing, Change, Patch, Reviewed, Submitted, Branch, Shown, Requirements, Threads, Attention}
 use Rattle.review_words.specs.declared.reply.Refusal.{Refusal}
-<<<<<<< ours
-use Rattle.review_words.specs.declared.reply.Refusal.TheVariants.{UnknownCaller, NotAdmin, NoProject, NoBranch, NoChange, NoPatchSet, NoAccount, NoComment, NotAllowed, Closed, SameState, WorkInProgress, StalePatchSet, NoLabel, ValueOut, VoteRestricted, CommitKnown, UnknownParent, ChainOutdated, ChainAbandoned, ChainWip, ChainTooLong, RequirementUnsatisfied, NotEligible, NameTaken, BadFile, LabelNarrowed, Limit, NoParent, ParentFixed, ParentDepth}
-||||||| base
-use Rattle.review_words.specs.declared.reply.Refusal.TheVariants.{UnknownCaller, NotAdmin, NoProject, NoBranch, NoChange, NoPatchSet, NoAccount, NoComment, NotAllowed, Closed, SameState, WorkInProgress, StalePatchSet, NoLabel, ValueOut, VoteRestricted, CommitKnown, UnknownParent, ChainOutdated, ChainAbandoned, ChainWip, ChainTooLong, RequirementUnsatisfied, NotEligible, NameTaken, BadFile, LabelNarrowed, Limit}
-=======
-use Rattle.review_words.specs.declared.reply.Refusal.TheVariants.{UnknownCaller, NotAdmin, NoProject, NoBranch, NoChange, NoPatchSet, NoAccount, NoComment, NotAllowed, Closed, SameState, WorkInProgress, StalePatchSet, NoLabel, ValueOut, VoteRestricted, CommitKnown, UnknownParent, ChainOutdated, ChainAbandoned, ChainWip, ChainTooLong, RequirementUnsatisfied, NotEligible, NameTaken, BadFile, LabelNarrowed, Limit, EpochAhead}
->>>>>>> epochs
+use Rattle.review_words.specs.declared.reply.Refusal.TheVariants.{UnknownCaller, NotAdmin, NoProject, NoBranch, NoChange, NoPatchSet, NoAccount, NoComment, NotAllowed, Closed, SameState, WorkInProgress, StalePatchSet, NoLabel, ValueOut, VoteRestricted, CommitKnown, UnknownParent, ChainOutdated, ChainAbandoned, ChainWip, ChainTooLong, RequirementUnsatisfied, NotEligible, NameTaken, BadFile, LabelNarrowed, Limit, NoParent, ParentFixed, ParentDepth, EpochAhead}
 use Rattle.review_words.specs.declared.faults.ExprCode.{ExprCode}
 use Rattle.review_words.specs.declared.faults.ExprCode.TheVariants as code
 use Rattle.review_words.specs.declared.faults.FileFault.{FileFault}
@@ -105,14 +99,10 @@ refused_back NameTaken s = rw (number_back 25 (omega arith)) refl
 refused_back (BadFile f) s = rw (number_back 26 (omega arith), file_back f s) refl
 refused_back LabelNarrowed s = rw (number_back 27 (omega arith)) refl
 refused_back Limit s = rw (number_back 28 (omega arith)) refl
-<<<<<<< ours
 refused_back NoParent s = rw (number_back 29 (omega arith)) refl
 refused_back ParentFixed s = rw (number_back 30 (omega arith)) refl
 refused_back ParentDepth s = rw (number_back 31 (omega arith)) refl
-||||||| base
-=======
 refused_back EpochAhead s = rw (number_back 32 (omega arith)) refl
->>>>>>> epochs
 
 numbers_back : (most : ℕ) (ns : List ℕ) → most < 18446744073709551616 → AllByRecursion (λ n. (1 ≤ n) × (n ≤ most)) ns → numbers_in most (map numeral ns) ≡ Some ns
 numbers_back most [] small s = refl
@@ -207,14 +197,10 @@ below NameTaken = omega arith
 below (BadFile f) = omega arith
 below LabelNarrowed = omega arith
 below Limit = omega arith
-<<<<<<< ours
 below NoParent = omega arith
 below ParentFixed = omega arith
 below ParentDepth = omega arith
-||||||| base
-=======
 below EpochAhead = omega arith
->>>>>>> epochs
 
 short_label : (name : List ℕ) → is_label name ≡ true → length name < 1000000000
 unfolding is_label
@@ -260,14 +246,10 @@ short_refusal NameTaken s = tt
 short_refusal (BadFile f) s = (short_numeral (file_fault_number f) (fault_below f), short_expr f s)
 short_refusal LabelNarrowed s = tt
 short_refusal Limit s = tt
-<<<<<<< ours
 short_refusal NoParent s = tt
 short_refusal ParentFixed s = tt
 short_refusal ParentDepth s = tt
-||||||| base
-=======
 short_refusal EpochAhead s = tt
->>>>>>> epochs
 
 short_numbers : (most : ℕ) (ns : List ℕ) → most < 18446744073709551616 → AllByRecursion (λ n. (1 ≤ n) × (n ≤ most)) ns → AreShort (map numeral ns)
 short_numbers most [] small s = tt

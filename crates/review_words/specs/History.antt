@@ -1,11 +1,5 @@
 -- Histories of taken requests, the newest first, and the settings that they leave.
-<<<<<<< ours
-use Rattle.std.specs.Prelude.{ℕ, ◌+◌, ◌≡◌, List, [], ◌∷◌, ◌++◌, length, Option, Some, None, Bool, ◌&&◌, ◌||◌, ◌==◌, nat_le, if◌then◌else◌, is_some}
-||||||| base
-use Rattle.std.specs.Prelude.{ℕ, ◌+◌, List, [], ◌∷◌, ◌++◌, length, Option, Some, None, Bool, ◌&&◌, ◌||◌, ◌==◌, nat_le, if◌then◌else◌, is_some}
-=======
-use Rattle.std.specs.Prelude.{ℕ, ◌+◌, List, [], ◌∷◌, ◌++◌, length, Option, Some, None, Bool, ◌&&◌, ◌||◌, ◌==◌, nat_le, nat_lt, if◌then◌else◌, is_some}
->>>>>>> epochs
+use Rattle.std.specs.Prelude.{ℕ, ◌+◌, ◌≡◌, List, [], ◌∷◌, ◌++◌, length, Option, Some, None, Bool, ◌&&◌, ◌||◌, ◌==◌, nat_le, if◌then◌else◌, is_some, nat_lt}
 use Rattle.std.specs.Str.{bytes_eq}
 use Rattle.std.specs.List.{list_any}
 use Rattle.review_names.specs.Names.{administrators, admin_name}
@@ -71,13 +65,10 @@ abbrev pub stored : List Entry → Identity → Option Entry
 stored [] i = None
 stored (e ∷ h) i = if is_same e.identity i then Some e else stored h i
 
-<<<<<<< ours
 -- no entry of the history has this identity
 abbrev pub IsFirst : List Entry → Identity → Type 0
 IsFirst h i = stored h i ≡ None
 
-||||||| base
-=======
 -- the least open epoch, once this command is done
 abbrev pub raised : Option Command → ℕ → ℕ
 raised (Some (CloseEpoch epoch)) least = if nat_lt least epoch then epoch else least
@@ -92,7 +83,6 @@ least_open (e ∷ h) = raised (accepted e) (least_open h)
 abbrev pub is_closed : List Entry → ℕ → Bool
 is_closed h epoch = nat_lt epoch (least_open h)
 
->>>>>>> epochs
 -- one account more, where the command makes one
 abbrev pub counted : Option Command → ℕ → ℕ
 counted (Some (CreateAccount name)) n = n + 1

@@ -75,13 +75,7 @@ returns-clause-decided c = λ reading had h there_is l.
     let empty = c.nothing-delta.ensures in
     base_decided h a.caller a.project.now a.branch.now a.commit.now c.saturating_add-place.result _ place
     there_is admin there free room empty.accounts empty.members empty.file
-<<<<<<< ours
     (λ i. Some (record {
       key = record { project = (c.in_ok-base.ensures i).project; branch = (c.in_ok-base.ensures i).branch; place = c.saturating_add-place.result };
       row = (c.in_ok-base.ensures i).commit;
-    })) empty.changes
-||||||| base
-    (λ i. Some (record { project = (c.in_ok-base.ensures i).project; branch = (c.in_ok-base.ensures i).branch; place = c.saturating_add-place.result; commit = (c.in_ok-base.ensures i).commit })) empty.changes
-=======
-    (λ i. Some (record { project = (c.in_ok-base.ensures i).project; branch = (c.in_ok-base.ensures i).branch; place = c.saturating_add-place.result; commit = (c.in_ok-base.ensures i).commit })) empty.changes empty.epoch
->>>>>>> epochs
+    })) empty.changes empty.epoch

@@ -34,25 +34,11 @@ returns-clause-served g c = λ honest h hist v fresh.
     let enough = subst (λ f. IsAllAsked a.caller (OfCommand a.command.now) f c.gathered.new.rows) (sym c.as_ref.ensures.value) x.enough in
     let number : c.in_ok-decided.decided.request ≡ length h + 1 = c.in_ok-decided.ensures.request.0 ∙ ap (λ n. n + 1) (requests_told h old.tables a.caller a.command.now file c.gathered.new.rows hist v (x.found between (inl c.requires.nothing)) enough) in
     let room : length h < most_requests = let p = c.in_ok-decided.ensures.request.1 in let q = number in omega arith in
-<<<<<<< ours
-    let d : (reading : Reading) → Reads reading h → IsDecided reading h a.caller a.command.now c.in_ok-decided.decided.delta c.in_ok-decided.decided.reply = λ reading reads.
-    c.in_ok-decided.ensures.decided reading h room (rests_on h (OfCommand a.command.now) hist) (enough_shown reading h old.tables a.caller (OfCommand a.command.now) file c.gathered.new.rows reads v (x.found between (inl c.requires.nothing)) enough) in
-    let row : AnswerRow = row_for a.caller a.id.now c.in_ok-decided.decided (string_bytes a.content) in
-    let is : row ≡ answer_row (entry_of a.caller a.id.now a.command.now c.in_ok-decided.decided.reply) (length h + 1) =
-    λ i. record { identity = record { caller = a.caller; id = a.id.now }; request = number i; content = c.requires.content i; reply = reply_text c.in_ok-decided.decided.reply } in
-||||||| base
-    let d : (reading : Reading) → Reads reading h → IsDecided reading h a.caller a.command.now c.in_ok-decided.decided.delta c.in_ok-decided.decided.reply = λ reading reads.
-    c.in_ok-decided.ensures.decided reading h room (rests_on h (OfCommand a.command.now) hist) (enough_shown reading h old.tables a.caller (OfCommand a.command.now) file c.gathered.new.rows reads v (x.found between (inl c.requires.nothing)) x.enough) in
-    let row : AnswerRow = row_for a.caller a.id.now c.in_ok-decided.decided (string_bytes a.content) in
-    let is : row ≡ answer_row (entry_of a.caller a.id.now a.command.now c.in_ok-decided.decided.reply) (length h + 1) =
-    λ i. record { identity = record { caller = a.caller; id = a.id.now }; request = number i; content = c.requires.content i; reply = reply_text c.in_ok-decided.decided.reply } in
-=======
     let d : (reading : Reading) → Reads reading h → IsDecidedIn reading h a.caller a.epoch a.command.now c.in_ok-decided.decided.delta c.in_ok-decided.decided.reply = λ reading reads.
-    c.in_ok-decided.ensures.decided reading h room (rests_on h (OfCommand a.command.now) hist) (enough_shown reading h old.tables a.caller (OfCommand a.command.now) file c.gathered.new.rows reads v (x.found between (inl c.requires.nothing)) x.enough) in
+    c.in_ok-decided.ensures.decided reading h room (rests_on h (OfCommand a.command.now) hist) (enough_shown reading h old.tables a.caller (OfCommand a.command.now) file c.gathered.new.rows reads v (x.found between (inl c.requires.nothing)) enough) in
     let row : AnswerRow = row_for a.caller a.epoch a.id.now c.in_ok-decided.decided (string_bytes a.content) in
     let is : row ≡ answer_row (entry_of a.caller a.epoch a.id.now a.command.now c.in_ok-decided.decided.reply) (length h + 1) =
     λ i. record { identity = record { caller = a.caller; epoch = a.epoch; id = a.id.now }; request = number i; content = c.requires.content i; reply = reply_text c.in_ok-decided.decided.reply } in
->>>>>>> epochs
     let view = views_stay h old.tables mid.tables (x.tables between) v in
     after_read h (Write a.caller a.epoch a.id.now a.command.now) c.in_ok-decided.decided.reply old mid new x.counted (x.stops between)
     (first_served h c.in_ok-decided.decided.delta row a.caller a.epoch a.id.now a.command.now c.in_ok-decided.decided.reply mid new hist view fresh room d is (y.done honest) (y.alone honest) y.counted
@@ -78,25 +64,11 @@ returns-in_err-store-clause-served g c = λ honest h hist v fresh.
     let enough = subst (λ f. IsAllAsked a.caller (OfCommand a.command.now) f c.gathered.new.rows) (sym c.as_ref.ensures.value) x.enough in
     let number : c.in_ok-decided.decided.request ≡ length h + 1 = c.in_ok-decided.ensures.request.0 ∙ ap (λ n. n + 1) (requests_told h old.tables a.caller a.command.now file c.gathered.new.rows hist v (x.found between (inl c.requires.nothing)) enough) in
     let room : length h < most_requests = let p = c.in_ok-decided.ensures.request.1 in let q = number in omega arith in
-<<<<<<< ours
-    let d : (reading : Reading) → Reads reading h → IsDecided reading h a.caller a.command.now c.in_ok-decided.decided.delta c.in_ok-decided.decided.reply = λ reading reads.
-    c.in_ok-decided.ensures.decided reading h room (rests_on h (OfCommand a.command.now) hist) (enough_shown reading h old.tables a.caller (OfCommand a.command.now) file c.gathered.new.rows reads v (x.found between (inl c.requires.nothing)) enough) in
-    let row : AnswerRow = row_for a.caller a.id.now c.in_ok-decided.decided (string_bytes a.content) in
-    let is : row ≡ answer_row (entry_of a.caller a.id.now a.command.now c.in_ok-decided.decided.reply) (length h + 1) =
-    λ i. record { identity = record { caller = a.caller; id = a.id.now }; request = number i; content = c.requires.content i; reply = reply_text c.in_ok-decided.decided.reply } in
-||||||| base
-    let d : (reading : Reading) → Reads reading h → IsDecided reading h a.caller a.command.now c.in_ok-decided.decided.delta c.in_ok-decided.decided.reply = λ reading reads.
-    c.in_ok-decided.ensures.decided reading h room (rests_on h (OfCommand a.command.now) hist) (enough_shown reading h old.tables a.caller (OfCommand a.command.now) file c.gathered.new.rows reads v (x.found between (inl c.requires.nothing)) x.enough) in
-    let row : AnswerRow = row_for a.caller a.id.now c.in_ok-decided.decided (string_bytes a.content) in
-    let is : row ≡ answer_row (entry_of a.caller a.id.now a.command.now c.in_ok-decided.decided.reply) (length h + 1) =
-    λ i. record { identity = record { caller = a.caller; id = a.id.now }; request = number i; content = c.requires.content i; reply = reply_text c.in_ok-decided.decided.reply } in
-=======
     let d : (reading : Reading) → Reads reading h → IsDecidedIn reading h a.caller a.epoch a.command.now c.in_ok-decided.decided.delta c.in_ok-decided.decided.reply = λ reading reads.
-    c.in_ok-decided.ensures.decided reading h room (rests_on h (OfCommand a.command.now) hist) (enough_shown reading h old.tables a.caller (OfCommand a.command.now) file c.gathered.new.rows reads v (x.found between (inl c.requires.nothing)) x.enough) in
+    c.in_ok-decided.ensures.decided reading h room (rests_on h (OfCommand a.command.now) hist) (enough_shown reading h old.tables a.caller (OfCommand a.command.now) file c.gathered.new.rows reads v (x.found between (inl c.requires.nothing)) enough) in
     let row : AnswerRow = row_for a.caller a.epoch a.id.now c.in_ok-decided.decided (string_bytes a.content) in
     let is : row ≡ answer_row (entry_of a.caller a.epoch a.id.now a.command.now c.in_ok-decided.decided.reply) (length h + 1) =
     λ i. record { identity = record { caller = a.caller; epoch = a.epoch; id = a.id.now }; request = number i; content = c.requires.content i; reply = reply_text c.in_ok-decided.decided.reply } in
->>>>>>> epochs
     let view = views_stay h old.tables mid.tables (x.tables between) v in
     subst (λ r. IsServed h (Write a.caller a.epoch a.id.now a.command.now) r old new) (err_reply c.from_residual-in_err-store.result (cause_of fault) c.from_residual-in_err-store.ensures)
     (after_read h (Write a.caller a.epoch a.id.now a.command.now) (NotTaken (cause_of fault)) old mid new x.counted (x.stops between)
@@ -109,31 +81,13 @@ pub returns-clause-once : goal.returns-clause-once
 returns-clause-once g c = λ honest none.
     let y = c.in_ok-store.ensures in
     let a = c.args in
-<<<<<<< ours
     let enough = subst (λ f. IsAllAsked a.caller (OfCommand a.command.now) f c.gathered.new.rows) (sym c.as_ref.ensures.value) c.in_ok-read.ensures.enough in
-    let i : Identity = record { caller = a.caller; id = a.id.now } in
-    stores_once a.caller a.id.now a.command.now c.in_ok-decided.decided.reply (g.S.Shelf.state a.shelf.now).tables (g.S.Shelf.state c.store.new.shelf).tables
-    (stored_shown i a.command.now c.in_ok-decided.decided.reply c.in_ok-decided.decided.delta (option_copied c.as_ref.result) c.gathered.new.rows _
-||||||| base
-    let i : Identity = record { caller = a.caller; id = a.id.now } in
-    stores_once a.caller a.id.now a.command.now c.in_ok-decided.decided.reply (g.S.Shelf.state a.shelf.now).tables (g.S.Shelf.state c.store.new.shelf).tables
-    (stored_shown i a.command.now c.in_ok-decided.decided.reply c.in_ok-decided.decided.delta (file_read c.in_ok-read.read) c.gathered.new.rows _
-=======
     let i : Identity = record { caller = a.caller; epoch = a.epoch; id = a.id.now } in
     stores_once a.caller a.epoch a.id.now a.command.now c.in_ok-decided.decided.reply (g.S.Shelf.state a.shelf.now).tables (g.S.Shelf.state c.store.new.shelf).tables
-    (stored_shown i a.command.now c.in_ok-decided.decided.reply c.in_ok-decided.decided.delta (file_read c.in_ok-read.read) c.gathered.new.rows _
->>>>>>> epochs
+    (stored_shown i a.command.now c.in_ok-decided.decided.reply c.in_ok-decided.decided.delta (option_copied c.as_ref.result) c.gathered.new.rows _
     (g.S.Shelf.state a.shelf.now).tables (g.S.Shelf.state c.gathered.new.shelf).tables (g.S.Shelf.state c.store.new.shelf).tables
-<<<<<<< ours
-    (c.in_ok-read.ensures.tables (y.honest honest)) none (c.in_ok-read.ensures.found (y.honest honest) (inl c.requires.nothing)) enough.0 c.in_ok-decided.ensures.refused (y.done honest)
-    (λ n e k. record { identity = record { caller = a.caller; id = a.id.now }; request = (c.in_ok-decided.ensures.request.0 ∙ ap (λ m. m + 1) e) k; content = c.requires.content k; reply = reply_text c.in_ok-decided.decided.reply }))
-||||||| base
-    (c.in_ok-read.ensures.tables (y.honest honest)) none (c.in_ok-read.ensures.found (y.honest honest) (inl c.requires.nothing)) c.in_ok-read.ensures.enough.0 c.in_ok-decided.ensures.refused (y.done honest)
-    (λ n e k. record { identity = record { caller = a.caller; id = a.id.now }; request = (c.in_ok-decided.ensures.request.0 ∙ ap (λ m. m + 1) e) k; content = c.requires.content k; reply = reply_text c.in_ok-decided.decided.reply }))
-=======
-    (c.in_ok-read.ensures.tables (y.honest honest)) none (c.in_ok-read.ensures.found (y.honest honest) (inl c.requires.nothing)) c.in_ok-read.ensures.enough.0 c.in_ok-decided.ensures.refused c.in_ok-decided.ensures.closes c.in_ok-decided.ensures.own (y.done honest)
+    (c.in_ok-read.ensures.tables (y.honest honest)) none (c.in_ok-read.ensures.found (y.honest honest) (inl c.requires.nothing)) enough.0 c.in_ok-decided.ensures.refused c.in_ok-decided.ensures.closes c.in_ok-decided.ensures.own (y.done honest)
     (λ n e k. record { identity = record { caller = a.caller; epoch = a.epoch; id = a.id.now }; request = (c.in_ok-decided.ensures.request.0 ∙ ap (λ m. m + 1) e) k; content = c.requires.content k; reply = reply_text c.in_ok-decided.decided.reply }))
->>>>>>> epochs
 
 pub returns-in_err-decided-clause-served : goal.returns-in_err-decided-clause-served
 returns-in_err-decided-clause-served g c = λ honest h hist v fresh.
@@ -145,25 +99,11 @@ returns-in_err-decided-clause-served g c = λ honest h hist v fresh.
     let file = option_copied c.as_ref.result in
     let enough = subst (λ f. IsAllAsked a.caller (OfCommand a.command.now) f c.gathered.new.rows) (sym c.as_ref.ensures.value) x.enough in
     let has = λ (reading : Reading) (reads : Reads reading h).
-<<<<<<< ours
     enough_shown reading h old.tables a.caller (OfCommand a.command.now) file c.gathered.new.rows reads v (x.found honest (inl c.requires.nothing)) enough in
-    subst (λ r. IsServed h (Write a.caller a.id.now a.command.now) r old new) (err_reply c.from_residual-in_err-decided.result cause c.from_residual-in_err-decided.ensures)
-    (not_taken_served h (Write a.caller a.id.now a.command.now) cause old new hist (views_stay h old.tables new.tables (x.tables honest) v)
-    (unstored_lawful h a.caller a.id.now a.command.now file c.gathered.new.rows cause old.faults new.faults hist has
-    (requests_told h old.tables a.caller a.command.now file c.gathered.new.rows hist v (x.found honest (inl c.requires.nothing)) enough) fresh c.in_err-decided.ensures.cause x.counted)
-||||||| base
-    enough_shown reading h old.tables a.caller (OfCommand a.command.now) file c.gathered.new.rows reads v (x.found honest (inl c.requires.nothing)) x.enough in
-    subst (λ r. IsServed h (Write a.caller a.id.now a.command.now) r old new) (err_reply c.from_residual-in_err-decided.result cause c.from_residual-in_err-decided.ensures)
-    (not_taken_served h (Write a.caller a.id.now a.command.now) cause old new hist (views_stay h old.tables new.tables (x.tables honest) v)
-    (unstored_lawful h a.caller a.id.now a.command.now file c.gathered.new.rows cause old.faults new.faults hist has
-    (requests_told h old.tables a.caller a.command.now file c.gathered.new.rows hist v (x.found honest (inl c.requires.nothing)) x.enough) fresh c.in_err-decided.ensures.cause x.counted)
-=======
-    enough_shown reading h old.tables a.caller (OfCommand a.command.now) file c.gathered.new.rows reads v (x.found honest (inl c.requires.nothing)) x.enough in
     subst (λ r. IsServed h (Write a.caller a.epoch a.id.now a.command.now) r old new) (err_reply c.from_residual-in_err-decided.result cause c.from_residual-in_err-decided.ensures)
     (not_taken_served h (Write a.caller a.epoch a.id.now a.command.now) cause old new hist (views_stay h old.tables new.tables (x.tables honest) v)
     (unstored_lawful h a.caller a.epoch a.id.now a.command.now file c.gathered.new.rows cause old.faults new.faults hist has
-    (requests_told h old.tables a.caller a.command.now file c.gathered.new.rows hist v (x.found honest (inl c.requires.nothing)) x.enough) fresh c.in_err-decided.ensures.cause x.counted)
->>>>>>> epochs
+    (requests_told h old.tables a.caller a.command.now file c.gathered.new.rows hist v (x.found honest (inl c.requires.nothing)) enough) fresh c.in_err-decided.ensures.cause x.counted)
     (λ t y. inl (x.stops honest t y)))
 
 pub returns-in_err-decided-clause-unchanged : goal.returns-in_err-decided-clause-unchanged
@@ -173,16 +113,8 @@ returns-in_err-decided-clause-unchanged g c = λ honest none.
     let cause = c.in_err-decided.field-0.0 in
     let old = (g.S.Shelf.state a.shelf.now).tables in
     let new = (g.S.Shelf.state c.gathered.new.shelf).tables in
-<<<<<<< ours
-    subst (λ r. KeepsUntaken (Write a.caller a.id.now a.command.now) r old new) (err_reply c.from_residual-in_err-decided.result cause c.from_residual-in_err-decided.ensures)
-    (unstored_keeps a.caller a.id.now a.command.now (option_copied c.as_ref.result) c.gathered.new.rows cause old new none (c.in_ok-read.ensures.found honest (inl c.requires.nothing)) enough.0
-||||||| base
-    subst (λ r. KeepsUntaken (Write a.caller a.id.now a.command.now) r old new) (err_reply c.from_residual-in_err-decided.result cause c.from_residual-in_err-decided.ensures)
-    (unstored_keeps a.caller a.id.now a.command.now (file_read c.in_ok-read.read) c.gathered.new.rows cause old new none (c.in_ok-read.ensures.found honest (inl c.requires.nothing)) c.in_ok-read.ensures.enough.0
-=======
     subst (λ r. KeepsUntaken (Write a.caller a.epoch a.id.now a.command.now) r old new) (err_reply c.from_residual-in_err-decided.result cause c.from_residual-in_err-decided.ensures)
-    (unstored_keeps a.caller a.epoch a.id.now a.command.now (file_read c.in_ok-read.read) c.gathered.new.rows cause old new none (c.in_ok-read.ensures.found honest (inl c.requires.nothing)) c.in_ok-read.ensures.enough.0
->>>>>>> epochs
+    (unstored_keeps a.caller a.epoch a.id.now a.command.now (option_copied c.as_ref.result) c.gathered.new.rows cause old new none (c.in_ok-read.ensures.found honest (inl c.requires.nothing)) enough.0
     c.in_err-decided.ensures.cause (c.in_ok-read.ensures.tables honest))
 
 pub returns-in_err-decided-clause-counted : goal.returns-in_err-decided-clause-counted

@@ -12,19 +12,9 @@ pub returns-in-Kept-clause-served : goal.returns-in-Kept-clause-served
 returns-in-Kept-clause-served g c = λ honest h hist v.
     let x = c.in_ok-kept.ensures in
     let old = g.S.Shelf.state c.args.shelf.now in
-<<<<<<< ours
-    let found = subst (λ k. Shows old.tables (λ t. IsRecalled t (record { caller = c.args.caller; id = c.args.id.now }) k)) c.in-Kept.is (x.found honest) in
-    let told = subst (λ text. IsToldAgain (kept_row c.in-Kept.kept) text c.repeated.result) (c.as_str.ensures.value ∙ c.in_ok-content.ensures) c.repeated.ensures in
-    repeat_served h (kept_row c.in-Kept.kept) c.args.caller c.args.id.now c.args.command.now c.repeated.result old (g.S.Shelf.state c.recall.new.self) hist v found told (x.tables honest) x.counted (x.stops honest)
-||||||| base
-    let found = subst (λ k. Shows old.tables (λ t. IsRecalled t (record { caller = c.args.caller; id = c.args.id.now }) k)) c.in-Some.is (x.found honest) in
-    let told = subst (λ text. IsToldAgain (kept_row c.in-Some.kept) text c.repeated.result) (c.as_str.ensures.value ∙ c.in_ok-content.ensures) c.repeated.ensures in
-    repeat_served h (kept_row c.in-Some.kept) c.args.caller c.args.id.now c.args.command.now c.repeated.result old (g.S.Shelf.state c.recall.new.self) hist v found told (x.tables honest) x.counted (x.stops honest)
-=======
     let found = subst (λ k. Shows old.tables (λ t. IsRecalled t (record { caller = c.args.caller; epoch = c.args.epoch; id = c.args.id.now }) k)) c.in-Kept.is (x.found honest) in
     let told = subst (λ text. IsToldAgain (kept_row c.in-Kept.kept) text c.repeated.result) (c.as_str.ensures.value ∙ c.in_ok-content.ensures) c.repeated.ensures in
     repeat_served h (kept_row c.in-Kept.kept) c.args.caller c.args.epoch c.args.id.now c.args.command.now c.repeated.result old (g.S.Shelf.state c.recall.new.self) hist v found told (x.tables honest) x.counted (x.stops honest)
->>>>>>> epochs
 
 pub returns-in-Fresh-clause-served : goal.returns-in-Fresh-clause-served
 returns-in-Fresh-clause-served g c = λ honest h hist v.
@@ -32,56 +22,26 @@ returns-in-Fresh-clause-served g c = λ honest h hist v.
     let old = g.S.Shelf.state c.args.shelf.now in
     let mid = g.S.Shelf.state c.recall.new.self in
     let between = c.first_arrival.ensures.honest honest in
-<<<<<<< ours
-    let found = subst (λ k. Shows old.tables (λ t. IsRecalled t (record { caller = c.args.caller; id = c.args.id.now }) k)) c.in-Fresh.is (x.found between) in
-    let fresh = unrecalled h old.tables (record { caller = c.args.caller; id = c.args.id.now }) hist v found in
-    after_read h (Write c.args.caller c.args.id.now c.args.command.now) (reply_of c.first_arrival.result) old mid (g.S.Shelf.state c.first_arrival.new.shelf) x.counted (x.stops between)
-||||||| base
-    let found = subst (λ k. Shows old.tables (λ t. IsRecalled t (record { caller = c.args.caller; id = c.args.id.now }) k)) c.in-None.is (x.found between) in
-    let fresh = unrecalled h old.tables (record { caller = c.args.caller; id = c.args.id.now }) hist v found in
-    after_read h (Write c.args.caller c.args.id.now c.args.command.now) (reply_of c.first_arrival.result) old mid (g.S.Shelf.state c.first_arrival.new.shelf) x.counted (x.stops between)
-=======
     let found = subst (λ k. Shows old.tables (λ t. IsRecalled t (record { caller = c.args.caller; epoch = c.args.epoch; id = c.args.id.now }) k)) c.in-Fresh.is (x.found between) in
     let fresh = unrecalled h old.tables (record { caller = c.args.caller; epoch = c.args.epoch; id = c.args.id.now }) hist v found in
     after_read h (Write c.args.caller c.args.epoch c.args.id.now c.args.command.now) (reply_of c.first_arrival.result) old mid (g.S.Shelf.state c.first_arrival.new.shelf) x.counted (x.stops between)
->>>>>>> epochs
     (c.first_arrival.ensures.served honest h hist (views_stay h old.tables mid.tables (x.tables between) v) fresh)
 
 pub returns-in-Kept-clause-once : goal.returns-in-Kept-clause-once
 returns-in-Kept-clause-once g c = λ honest.
     let x = c.in_ok-kept.ensures in
     let old = g.S.Shelf.state c.args.shelf.now in
-<<<<<<< ours
-    let found = subst (λ k. Shows old.tables (λ t. IsRecalled t (record { caller = c.args.caller; id = c.args.id.now }) k)) c.in-Kept.is (x.found honest) in
-    let told = subst (λ text. IsToldAgain (kept_row c.in-Kept.kept) text c.repeated.result) (c.as_str.ensures.value ∙ c.in_ok-content.ensures) c.repeated.ensures in
-    repeated c.args.caller c.args.id.now c.args.command.now c.repeated.result (kept_row c.in-Kept.kept) old.tables (g.S.Shelf.state c.recall.new.self).tables found told (x.tables honest)
-||||||| base
-    let found = subst (λ k. Shows old.tables (λ t. IsRecalled t (record { caller = c.args.caller; id = c.args.id.now }) k)) c.in-Some.is (x.found honest) in
-    let told = subst (λ text. IsToldAgain (kept_row c.in-Some.kept) text c.repeated.result) (c.as_str.ensures.value ∙ c.in_ok-content.ensures) c.repeated.ensures in
-    repeated c.args.caller c.args.id.now c.args.command.now c.repeated.result (kept_row c.in-Some.kept) old.tables (g.S.Shelf.state c.recall.new.self).tables found told (x.tables honest)
-=======
     let found = subst (λ k. Shows old.tables (λ t. IsRecalled t (record { caller = c.args.caller; epoch = c.args.epoch; id = c.args.id.now }) k)) c.in-Kept.is (x.found honest) in
     let told = subst (λ text. IsToldAgain (kept_row c.in-Kept.kept) text c.repeated.result) (c.as_str.ensures.value ∙ c.in_ok-content.ensures) c.repeated.ensures in
     repeated c.args.caller c.args.epoch c.args.id.now c.args.command.now c.repeated.result (kept_row c.in-Kept.kept) old.tables (g.S.Shelf.state c.recall.new.self).tables found told (x.tables honest)
->>>>>>> epochs
 
 pub returns-in-Kept-clause-unchanged : goal.returns-in-Kept-clause-unchanged
 returns-in-Kept-clause-unchanged g c = λ honest.
     let x = c.in_ok-kept.ensures in
     let old = g.S.Shelf.state c.args.shelf.now in
-<<<<<<< ours
-    let found = subst (λ k. Shows old.tables (λ t. IsRecalled t (record { caller = c.args.caller; id = c.args.id.now }) k)) c.in-Kept.is (x.found honest) in
-    let told = subst (λ text. IsToldAgain (kept_row c.in-Kept.kept) text c.repeated.result) (c.as_str.ensures.value ∙ c.in_ok-content.ensures) c.repeated.ensures in
-    repeat_keeps c.args.caller c.args.id.now c.args.command.now c.repeated.result (kept_row c.in-Kept.kept) old.tables (g.S.Shelf.state c.recall.new.self).tables found told (x.tables honest)
-||||||| base
-    let found = subst (λ k. Shows old.tables (λ t. IsRecalled t (record { caller = c.args.caller; id = c.args.id.now }) k)) c.in-Some.is (x.found honest) in
-    let told = subst (λ text. IsToldAgain (kept_row c.in-Some.kept) text c.repeated.result) (c.as_str.ensures.value ∙ c.in_ok-content.ensures) c.repeated.ensures in
-    repeat_keeps c.args.caller c.args.id.now c.args.command.now c.repeated.result (kept_row c.in-Some.kept) old.tables (g.S.Shelf.state c.recall.new.self).tables found told (x.tables honest)
-=======
     let found = subst (λ k. Shows old.tables (λ t. IsRecalled t (record { caller = c.args.caller; epoch = c.args.epoch; id = c.args.id.now }) k)) c.in-Kept.is (x.found honest) in
     let told = subst (λ text. IsToldAgain (kept_row c.in-Kept.kept) text c.repeated.result) (c.as_str.ensures.value ∙ c.in_ok-content.ensures) c.repeated.ensures in
     repeat_keeps c.args.caller c.args.epoch c.args.id.now c.args.command.now c.repeated.result (kept_row c.in-Kept.kept) old.tables (g.S.Shelf.state c.recall.new.self).tables found told (x.tables honest)
->>>>>>> epochs
 
 pub returns-in-Fresh-clause-unchanged : goal.returns-in-Fresh-clause-unchanged
 returns-in-Fresh-clause-unchanged g c = λ honest.
@@ -90,19 +50,9 @@ returns-in-Fresh-clause-unchanged g c = λ honest.
     let old = g.S.Shelf.state c.args.shelf.now in
     let between = c.first_arrival.ensures.honest honest in
     let stays = x.tables between in
-<<<<<<< ours
-    let found = subst (λ k. Shows old.tables (λ t. IsRecalled t i k)) c.in-Fresh.is (x.found between) in
-    let none = subst (λ t. Shows t (λ u. Answers u i None)) (sym stays) found in
-    subst (λ t. KeepsUntaken (Write c.args.caller c.args.id.now c.args.command.now) (reply_of c.first_arrival.result) t (g.S.Shelf.state c.first_arrival.new.shelf).tables) stays
-||||||| base
-    let found = subst (λ k. Shows old.tables (λ t. IsRecalled t i k)) c.in-None.is (x.found between) in
-    let none = subst (λ t. Shows t (λ u. u.answer i ≡ None)) (sym stays) found in
-    subst (λ t. KeepsUntaken (Write c.args.caller c.args.id.now c.args.command.now) (reply_of c.first_arrival.result) t (g.S.Shelf.state c.first_arrival.new.shelf).tables) stays
-=======
     let found = subst (λ k. Shows old.tables (λ t. IsRecalled t i k)) c.in-Fresh.is (x.found between) in
     let none = subst (λ t. Shows t (λ u. Answers u i None)) (sym stays) found in
     subst (λ t. KeepsUntaken (Write c.args.caller c.args.epoch c.args.id.now c.args.command.now) (reply_of c.first_arrival.result) t (g.S.Shelf.state c.first_arrival.new.shelf).tables) stays
->>>>>>> epochs
     (c.first_arrival.ensures.unchanged honest none)
 
 pub returns-in-Fresh-clause-once : goal.returns-in-Fresh-clause-once
@@ -112,19 +62,9 @@ returns-in-Fresh-clause-once g c = λ honest.
     let old = g.S.Shelf.state c.args.shelf.now in
     let between = c.first_arrival.ensures.honest honest in
     let stays = x.tables between in
-<<<<<<< ours
-    let found = subst (λ k. Shows old.tables (λ t. IsRecalled t i k)) c.in-Fresh.is (x.found between) in
-    let none = subst (λ t. Shows t (λ u. Answers u i None)) (sym stays) found in
-    subst (λ t. StoresOnce (Write c.args.caller c.args.id.now c.args.command.now) (reply_of c.first_arrival.result) t (g.S.Shelf.state c.first_arrival.new.shelf).tables) stays
-||||||| base
-    let found = subst (λ k. Shows old.tables (λ t. IsRecalled t i k)) c.in-None.is (x.found between) in
-    let none = subst (λ t. Shows t (λ u. u.answer i ≡ None)) (sym stays) found in
-    subst (λ t. StoresOnce (Write c.args.caller c.args.id.now c.args.command.now) (reply_of c.first_arrival.result) t (g.S.Shelf.state c.first_arrival.new.shelf).tables) stays
-=======
     let found = subst (λ k. Shows old.tables (λ t. IsRecalled t i k)) c.in-Fresh.is (x.found between) in
     let none = subst (λ t. Shows t (λ u. Answers u i None)) (sym stays) found in
     subst (λ t. StoresOnce (Write c.args.caller c.args.epoch c.args.id.now c.args.command.now) (reply_of c.first_arrival.result) t (g.S.Shelf.state c.first_arrival.new.shelf).tables) stays
->>>>>>> epochs
     (c.first_arrival.ensures.once honest none)
 
 pub returns-in-Closed-clause-served : goal.returns-in-Closed-clause-served
