@@ -129,47 +129,12 @@ empty_changes delta e = record { answers = e.epoch; rows = rows; counts = counts
     rows (OddKey o) was = refl
 
     counts : (row : Key → Option Row) (c : Count) (n : ℕ) → count_after delta row c n ≡ n
-<<<<<<< ours
     counts row Projects n = no_project delta e.file row n
     counts row (BasesOf project) n = no_base_more delta e.base row project n
-
-refused_same : (reading : Reading) (h : List Entry) (caller : ℕ) (id : List ℕ) (command : Command) (refusal : Refusal) (k : Key) →
-    fact reading (entry_of caller id command (Refused refusal) ∷ h) k ≡ fact reading h k
-refused_same reading h caller id command refusal (AccountKey number) = refl
-refused_same reading h caller id command refusal (MemberKey group account) = refl
-refused_same reading h caller id command refusal (FileKey project) = refl
-refused_same reading h caller id command refusal (BaseKey project branch place) = refl
-refused_same reading h caller id command refusal (PartKey n part) = refl
-refused_same reading h caller id command refusal (OddKey o) = refl
-
-refused_count : (h : List Entry) (caller : ℕ) (id : List ℕ) (command : Command) (refusal : Refusal) (c : Count) →
-    counted (entry_of caller id command (Refused refusal) ∷ h) c ≡ counted h c
-refused_count h caller id command refusal Projects = refl
-refused_count h caller id command refusal (BasesOf project) = refl
-||||||| base
-    counts row Projects n = ap (λ o. projects_after o row n) e.file
-    counts row (BasesOf project) n = ap (λ o. bases_after o row project n) e.base
-
-refused_same : (reading : Reading) (h : List Entry) (caller : ℕ) (id : List ℕ) (command : Command) (refusal : Refusal) (k : Key) →
-    fact reading (record { identity = record { caller = caller; id = id }; command = command; reply = Refused refusal } ∷ h) k ≡ fact reading h k
-refused_same reading h caller id command refusal (AccountKey number) = refl
-refused_same reading h caller id command refusal (MemberKey group account) = refl
-refused_same reading h caller id command refusal (FileKey project) = refl
-refused_same reading h caller id command refusal (BaseKey project branch place) = refl
-refused_same reading h caller id command refusal (PartKey n part) = refl
-refused_same reading h caller id command refusal (OddKey o) = refl
-
-refused_count : (h : List Entry) (caller : ℕ) (id : List ℕ) (command : Command) (refusal : Refusal) (c : Count) →
-    counted (record { identity = record { caller = caller; id = id }; command = command; reply = Refused refusal } ∷ h) c ≡ counted h c
-refused_count h caller id command refusal Projects = refl
-refused_count h caller id command refusal (BasesOf project) = refl
-=======
-    counts row Projects n = ap (λ o. projects_after o row n) e.file
-    counts row (BasesOf project) n = ap (λ o. bases_after o row project n) e.base
     counts row ClosedEpochs n = ap (λ o. unwrap_or o n) e.epoch
 
 pub refused_same : (reading : Reading) (h : List Entry) (caller epoch : ℕ) (id : List ℕ) (command : Command) (refusal : Refusal) (k : Key) →
-    fact reading (record { identity = record { caller = caller; epoch = epoch; id = id }; command = command; reply = Refused refusal } ∷ h) k ≡ fact reading h k
+    fact reading (entry_of caller epoch id command (Refused refusal) ∷ h) k ≡ fact reading h k
 refused_same reading h caller epoch id command refusal (AccountKey number) = refl
 refused_same reading h caller epoch id command refusal (MemberKey group account) = refl
 refused_same reading h caller epoch id command refusal (FileKey project) = refl
@@ -178,11 +143,10 @@ refused_same reading h caller epoch id command refusal (PartKey n part) = refl
 refused_same reading h caller epoch id command refusal (OddKey o) = refl
 
 pub refused_count : (h : List Entry) (caller epoch : ℕ) (id : List ℕ) (command : Command) (refusal : Refusal) (c : Count) →
-    counted (record { identity = record { caller = caller; epoch = epoch; id = id }; command = command; reply = Refused refusal } ∷ h) c ≡ counted h c
+    counted (entry_of caller epoch id command (Refused refusal) ∷ h) c ≡ counted h c
 refused_count h caller epoch id command refusal Projects = refl
 refused_count h caller epoch id command refusal (BasesOf project) = refl
 refused_count h caller epoch id command refusal ClosedEpochs = refl
->>>>>>> epochs
 
 -- a refusal changes nothing
 pub refused_decided : {reading : Reading} (h : List Entry) (caller : ℕ) (command : Command) (delta : Delta) (refusal : Refusal) →
@@ -219,31 +183,15 @@ create_decided {reading = reading} h caller name delta number a b c d n da dm df
   count_is = λ epoch id k. counts k;
 }
   where
-<<<<<<< ours
-    counts : (k : Count) → counted (entry_of caller [] (CreateAccount name) (Done (made.Account number)) ∷ h) k ≡ count_after delta (fact reading h) k (counted h k)
+    counts : (k : Count) → counted (entry_of caller 0 [] (CreateAccount name) (Done (made.Account number)) ∷ h) k ≡ count_after delta (fact reading h) k (counted h k)
     counts Projects = sym (no_project delta df (fact reading h) (project_count h))
     counts (BasesOf project) = sym (no_base_more delta db (fact reading h) project (base_count h project))
-||||||| base
-    counts : (k : Count) → counted (record { identity = record { caller = caller; id = [] }; command = CreateAccount name; reply = Done (made.Account number) } ∷ h) k ≡ count_after delta (fact reading h) k (counted h k)
-    counts Projects = sym (ap (λ o. projects_after o (fact reading h) (project_count h)) df)
-    counts (BasesOf project) = sym (ap (λ o. bases_after o (fact reading h) project (base_count h project)) db)
-=======
-    counts : (k : Count) → counted (record { identity = record { caller = caller; epoch = 0; id = [] }; command = CreateAccount name; reply = Done (made.Account number) } ∷ h) k ≡ count_after delta (fact reading h) k (counted h k)
-    counts Projects = sym (ap (λ o. projects_after o (fact reading h) (project_count h)) df)
-    counts (BasesOf project) = sym (ap (λ o. bases_after o (fact reading h) project (base_count h project)) db)
     counts ClosedEpochs = sym (ap (λ o. unwrap_or o (least_open h)) de)
->>>>>>> epochs
 
     here : (m : ℕ) → is_at (nat_cmp number) m ≡ (m == account_count h + 1)
     here m = unsigned_tied number m ∙ (eq_sym number m ∙ ap (λ x. m == x) n)
 
-<<<<<<< ours
-    rows : (k : Key) → fact reading (entry_of caller [] (CreateAccount name) (Done (made.Account number)) ∷ h) k ≡ after delta k (fact reading h k)
-||||||| base
-    rows : (k : Key) → fact reading (record { identity = record { caller = caller; id = [] }; command = CreateAccount name; reply = Done (made.Account number) } ∷ h) k ≡ after delta k (fact reading h k)
-=======
-    rows : (k : Key) → fact reading (record { identity = record { caller = caller; epoch = 0; id = [] }; command = CreateAccount name; reply = Done (made.Account number) } ∷ h) k ≡ after delta k (fact reading h k)
->>>>>>> epochs
+    rows : (k : Key) → fact reading (entry_of caller 0 [] (CreateAccount name) (Done (made.Account number)) ∷ h) k ≡ after delta k (fact reading h k)
     rows (AccountKey m) =
         account_row_after (m == account_count h + 1) name (name_of h m)
         ∙ sym (ap (λ l. after_change (account_change (change_of nat_cmp l m)) (fact reading h (AccountKey m))) da
@@ -265,28 +213,12 @@ put_decided {reading = reading} h caller group members rows delta l a b c d da d
   count_is = λ epoch id k. counts k;
 }
   where
-<<<<<<< ours
-    counts : (k : Count) → counted (entry_of caller [] (PutGroup group members) (Done made.Nothing) ∷ h) k ≡ count_after delta (fact reading h) k (counted h k)
+    counts : (k : Count) → counted (entry_of caller 0 [] (PutGroup group members) (Done made.Nothing) ∷ h) k ≡ count_after delta (fact reading h) k (counted h k)
     counts Projects = sym (no_project delta df (fact reading h) (project_count h))
     counts (BasesOf project) = sym (no_base_more delta db (fact reading h) project (base_count h project))
-||||||| base
-    counts : (k : Count) → counted (record { identity = record { caller = caller; id = [] }; command = PutGroup group members; reply = Done made.Nothing } ∷ h) k ≡ count_after delta (fact reading h) k (counted h k)
-    counts Projects = sym (ap (λ o. projects_after o (fact reading h) (project_count h)) df)
-    counts (BasesOf project) = sym (ap (λ o. bases_after o (fact reading h) project (base_count h project)) db)
-=======
-    counts : (k : Count) → counted (record { identity = record { caller = caller; epoch = 0; id = [] }; command = PutGroup group members; reply = Done made.Nothing } ∷ h) k ≡ count_after delta (fact reading h) k (counted h k)
-    counts Projects = sym (ap (λ o. projects_after o (fact reading h) (project_count h)) df)
-    counts (BasesOf project) = sym (ap (λ o. bases_after o (fact reading h) project (base_count h project)) db)
     counts ClosedEpochs = sym (ap (λ o. unwrap_or o (least_open h)) de)
->>>>>>> epochs
 
-<<<<<<< ours
-    each : (k : Key) → fact reading (entry_of caller [] (PutGroup group members) (Done made.Nothing) ∷ h) k ≡ after delta k (fact reading h k)
-||||||| base
-    each : (k : Key) → fact reading (record { identity = record { caller = caller; id = [] }; command = PutGroup group members; reply = Done made.Nothing } ∷ h) k ≡ after delta k (fact reading h k)
-=======
-    each : (k : Key) → fact reading (record { identity = record { caller = caller; epoch = 0; id = [] }; command = PutGroup group members; reply = Done made.Nothing } ∷ h) k ≡ after delta k (fact reading h k)
->>>>>>> epochs
+    each : (k : Key) → fact reading (entry_of caller 0 [] (PutGroup group members) (Done made.Nothing) ∷ h) k ≡ after delta k (fact reading h k)
     each (AccountKey m) = sym (ap (λ l. after_change (account_change (change_of nat_cmp l m)) (fact reading h (AccountKey m))) da)
     each (MemberKey g m) =
         members_after group members (listed_members h g) (members_of (known rows (want.Group group))) g m (held_before h caller group members rows l g m)
@@ -346,28 +278,14 @@ base_decided {reading = reading} h caller project branch commit place delta is a
     free : is_some (fact reading h (BaseKey project branch place)) ≡ false
     free = ap (λ n. is_some (option_map BaseRow (at_place (bases h project branch) n))) is ∙ ap (λ o. is_some (option_map BaseRow o)) (place_is_free (bases h project branch))
 
-<<<<<<< ours
-    counts : (k : Count) → counted (entry_of caller [] (RecordBase project branch commit) (Done made.Nothing) ∷ h) k ≡ count_after delta (fact reading h) k (counted h k)
+    counts : (k : Count) → counted (entry_of caller 0 [] (RecordBase project branch commit) (Done made.Nothing) ∷ h) k ≡ count_after delta (fact reading h) k (counted h k)
     counts Projects = sym (no_project delta df (fact reading h) (project_count h))
-||||||| base
-    counts : (k : Count) → counted (record { identity = record { caller = caller; id = [] }; command = RecordBase project branch commit; reply = Done made.Nothing } ∷ h) k ≡ count_after delta (fact reading h) k (counted h k)
-    counts Projects = sym (ap (λ o. projects_after o (fact reading h) (project_count h)) df)
-=======
-    counts : (k : Count) → counted (record { identity = record { caller = caller; epoch = 0; id = [] }; command = RecordBase project branch commit; reply = Done made.Nothing } ∷ h) k ≡ count_after delta (fact reading h) k (counted h k)
-    counts Projects = sym (ap (λ o. projects_after o (fact reading h) (project_count h)) df)
->>>>>>> epochs
     counts (BasesOf p) =
         sym (ap (λ t. cond (bytes_eq project p) (cond t (base_count h p) (base_count h p + 1)) (base_count h p)) free)
         ∙ sym (ap (λ o. count_put (λ (k : PlaceKey). bytes_eq k.project p) o (λ (k : PlaceKey). fact reading h (BaseKey k.project k.branch k.place)) (base_count h p)) db)
     counts ClosedEpochs = sym (ap (λ o. unwrap_or o (least_open h)) de)
 
-<<<<<<< ours
-    rows : (k : Key) → fact reading (entry_of caller [] (RecordBase project branch commit) (Done made.Nothing) ∷ h) k ≡ after delta k (fact reading h k)
-||||||| base
-    rows : (k : Key) → fact reading (record { identity = record { caller = caller; id = [] }; command = RecordBase project branch commit; reply = Done made.Nothing } ∷ h) k ≡ after delta k (fact reading h k)
-=======
-    rows : (k : Key) → fact reading (record { identity = record { caller = caller; epoch = 0; id = [] }; command = RecordBase project branch commit; reply = Done made.Nothing } ∷ h) k ≡ after delta k (fact reading h k)
->>>>>>> epochs
+    rows : (k : Key) → fact reading (entry_of caller 0 [] (RecordBase project branch commit) (Done made.Nothing) ∷ h) k ≡ after delta k (fact reading h k)
     rows (AccountKey m) = sym (ap (λ l. after_change (account_change (change_of nat_cmp l m)) (fact reading h (AccountKey m))) da)
     rows (MemberKey g m) = sym (ap (λ l. after_change (member_change (change_of member_cmp l (member_of g m))) (fact reading h (MemberKey g m))) dm)
     rows (FileKey p) = sym (no_file delta df p (fact reading h (FileKey p)))
@@ -389,32 +307,16 @@ file_decided {reading = reading} h caller project text delta is da dm df db dc d
   count_is = λ epoch id k. counts k;
 }
   where
-<<<<<<< ours
-    counts : (k : Count) → counted (entry_of caller [] (PutProject project text) (Done made.Nothing) ∷ h) k ≡ count_after delta (fact reading h) k (counted h k)
+    counts : (k : Count) → counted (entry_of caller 0 [] (PutProject project text) (Done made.Nothing) ∷ h) k ≡ count_after delta (fact reading h) k (counted h k)
     counts Projects = ap (λ b. cond b (project_count h) (project_count h + 1)) (sym (project_is reading h project)) ∙ sym (ap (λ o. count_put (λ p. true) o (λ p. fact reading h (FileKey p)) (project_count h)) df)
     counts (BasesOf p) = sym (no_base_more delta db (fact reading h) p (base_count h p))
-||||||| base
-    counts : (k : Count) → counted (record { identity = record { caller = caller; id = [] }; command = PutProject project text; reply = Done made.Nothing } ∷ h) k ≡ count_after delta (fact reading h) k (counted h k)
-    counts Projects = ap (λ b. cond b (project_count h) (project_count h + 1)) (sym (project_is reading h project)) ∙ sym (ap (λ o. projects_after o (fact reading h) (project_count h)) df)
-    counts (BasesOf p) = sym (ap (λ o. bases_after o (fact reading h) p (base_count h p)) db)
-=======
-    counts : (k : Count) → counted (record { identity = record { caller = caller; epoch = 0; id = [] }; command = PutProject project text; reply = Done made.Nothing } ∷ h) k ≡ count_after delta (fact reading h) k (counted h k)
-    counts Projects = ap (λ b. cond b (project_count h) (project_count h + 1)) (sym (project_is reading h project)) ∙ sym (ap (λ o. projects_after o (fact reading h) (project_count h)) df)
-    counts (BasesOf p) = sym (ap (λ o. bases_after o (fact reading h) p (base_count h p)) db)
     counts ClosedEpochs = sym (ap (λ o. unwrap_or o (least_open h)) de)
->>>>>>> epochs
 
     file_where : (b : Bool) (o : Option (List ℕ)) → option_map FileRow (placed (cond b (Some text) o)) ≡ cond b (Some (FileRow (record { text = text; parent = named_parent text }))) (option_map FileRow (placed o))
     file_where true o = refl
     file_where false o = refl
 
-<<<<<<< ours
-    rows : (k : Key) → fact reading (entry_of caller [] (PutProject project text) (Done made.Nothing) ∷ h) k ≡ after delta k (fact reading h k)
-||||||| base
-    rows : (k : Key) → fact reading (record { identity = record { caller = caller; id = [] }; command = PutProject project text; reply = Done made.Nothing } ∷ h) k ≡ after delta k (fact reading h k)
-=======
-    rows : (k : Key) → fact reading (record { identity = record { caller = caller; epoch = 0; id = [] }; command = PutProject project text; reply = Done made.Nothing } ∷ h) k ≡ after delta k (fact reading h k)
->>>>>>> epochs
+    rows : (k : Key) → fact reading (entry_of caller 0 [] (PutProject project text) (Done made.Nothing) ∷ h) k ≡ after delta k (fact reading h k)
     rows (AccountKey m) = sym (ap (λ l. after_change (account_change (change_of nat_cmp l m)) (fact reading h (AccountKey m))) da)
     rows (MemberKey g m) = sym (ap (λ l. after_change (member_change (change_of member_cmp l (member_of g m))) (fact reading h (MemberKey g m))) dm)
     rows (FileKey p) =

@@ -7,9 +7,9 @@ use Rattle.std.specs.Str.{bytes_eq}
 use Rattle.std.proofs.lemmas.Slice.Eq.{bytes_eq-Decides}
 use Rattle.review_words.specs.History.{Entry, accepted, if_done, is_project}
 use Rattle.review_words.specs.declared.command.Command.{Command}
-use Rattle.review_words.specs.declared.command.Command.TheVariants.{CreateAccount, PutGroup, PutProject, RecordBase, CreateChange, OnChange, Submit}
+use Rattle.review_words.specs.declared.command.Command.TheVariants.{CreateAccount, PutGroup, PutProject, RecordBase, CreateChange, OnChange, Submit, CloseEpoch}
 use Rattle.review_words.specs.declared.reply.Reply.{Reply}
-use Rattle.review_words.specs.declared.reply.Reply.TheVariants.{Done, Refused, IdentityReused, NotTaken}
+use Rattle.review_words.specs.declared.reply.Reply.TheVariants.{Done, Refused, IdentityReused, EpochClosed, NotTaken}
 use Rattle.review_project.specs.Expressions.{names_unknown_label}
 use Rattle.review_project.specs.Inherited.{inherit, inherits_unknown_label}
 use Rattle.review_project.specs.Reading.{IsRead, named_parent}
@@ -146,6 +146,7 @@ pub step_by : OneFile → (reading : Reading) (h : List Entry) (caller : ℕ) (c
     IsDoneBy reading h caller command reply → Steps reading (own_of h) (files_put (putting (if_done reply command)) (own_of h))
 step_by one reading h caller command (Refused r) sound right answer = stays reading (own_of h) sound
 step_by one reading h caller command IdentityReused sound right answer = stays reading (own_of h) sound
+step_by one reading h caller command EpochClosed sound right answer = stays reading (own_of h) sound
 step_by one reading h caller command (NotTaken cause) sound right answer = stays reading (own_of h) sound
 step_by one reading h caller (CreateAccount name) (Done a) sound right answer = stays reading (own_of h) sound
 step_by one reading h caller (PutGroup group members) (Done a) sound right answer = stays reading (own_of h) sound
@@ -155,6 +156,7 @@ step_by one reading h caller (RecordBase project branch commit) (Done a) sound r
 step_by one reading h caller (CreateChange new) (Done a) sound right answer = stays reading (own_of h) sound
 step_by one reading h caller (OnChange n request) (Done a) sound right answer = stays reading (own_of h) sound
 step_by one reading h caller (Submit n) (Done a) sound right answer = stays reading (own_of h) sound
+step_by one reading h caller (CloseEpoch epoch) (Done a) sound right answer = stays reading (own_of h) sound
 
 -- one entry more
 pub entry_step : OneFile → (reading : Reading) (e : Entry) (h : List Entry) → IsHistory (e ∷ h) → Reads reading (e ∷ h) → AreSoundFiles reading (own_of h) → Steps reading (own_of h) (own_of (e ∷ h))

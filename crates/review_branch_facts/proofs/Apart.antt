@@ -15,7 +15,6 @@ use Rattle.review_changes.specs.declared.rows.PatchRow.{PatchRow}
 use Rattle.review_rows.proofs.Readings.{IsDoneBy, done_of}
 use Rattle.review_rows.specs.Answer.{IsAnswerBy, IsHistory, checks}
 use Rattle.review_rows.specs.Changes.{Reading, Reads, change, is_known, is_sent}
-use Rattle.review_rows.proofs.Epochs.{IsDoneBy, done_by}
 use Rattle.review_change_laws.proofs.Sound.{all_pass, done_passes}
 use Rattle.review_branch_facts.specs.Patches.{HasPatch}
 use Rattle.review_branch_facts.proofs.Passing.{or_true}
@@ -108,13 +107,7 @@ pub base_not_sent : (reading : Reading) (h : List Entry) (project branch : List 
 base_not_sent reading [] project branch n k p history reads has is = let bad : None ≡ Some has.of = has.is in absurd (cc)
 base_not_sent reading (e ∷ h) project branch n k p history reads has is =
     by (λ was based. base_not_sent reading h project branch n k p history.3 reads.1 was based) (came reading e h project branch n k p history reads has)
-<<<<<<< ours
     (base_step reading h e.identity.caller project branch p.commit e.command e.reply (done_of e h history reading reads.1) is)
-||||||| base
-    (base_step reading h e.identity.caller project branch p.commit e.command e.reply (history.1 reading reads.1) is)
-=======
-    (base_step reading h e.identity.caller project branch p.commit e.command e.reply (done_by reading h e.identity.caller e.identity.epoch e.command e.reply (history.1 reading reads.1)) is)
->>>>>>> epochs
   where
     by : (HasPatch project branch k p (change reading h n) → is_base h project branch p.commit ≡ true → ⊥) → Came reading h (accepted e) project branch n k p →
         BaseCame reading h (accepted e) project branch p.commit → ⊥

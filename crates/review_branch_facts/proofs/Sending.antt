@@ -20,7 +20,6 @@ use Rattle.review_changes.specs.declared.rows.PatchRow.{PatchRow}
 use Rattle.review_rows.proofs.Readings.{IsDoneBy, done_of}
 use Rattle.review_rows.specs.Answer.{IsAnswerBy, IsHistory, checks, request_checks}
 use Rattle.review_rows.specs.Changes.{Reading, Reads, change, change_by, change_count, is_for, is_known, setting_of, submitted}
-use Rattle.review_rows.proofs.Epochs.{IsDoneBy, done_by}
 use Rattle.review_change_laws.proofs.Joining.{joining_keeps}
 use Rattle.review_change_laws.proofs.Sound.{Passes, all_pass, checks_pass, done_passes}
 use Rattle.review_branch_facts.specs.Patches.{HasPatch}
@@ -139,10 +138,4 @@ pub came : (reading : Reading) (e : Entry) (h : List Entry) (project branch : Li
 came reading e h project branch n k p history reads has =
     joining_keeps (λ c. is_for project branch c ≡ true → of_number c.patches k ≡ Some p → Came reading h (accepted e) project branch n k p) (λ place request x holds. holds)
     h (submitted (accepted e) e.reply) n (change_by reading h e.identity.caller (accepted e) n (change reading h n)) has.of
-<<<<<<< ours
     (λ x there. step_came reading h e.identity.caller project branch n k p x e.command e.reply (done_of e h history reading reads.1) there) has.is has.is_for_it has.sent
-||||||| base
-    (λ x there. step_came reading h e.identity.caller project branch n k p x e.command e.reply (history.1 reading reads.1) there) has.is has.is_for_it has.sent
-=======
-    (λ x there. step_came reading h e.identity.caller project branch n k p x e.command e.reply (done_by reading h e.identity.caller e.identity.epoch e.command e.reply (history.1 reading reads.1)) there) has.is has.is_for_it has.sent
->>>>>>> epochs

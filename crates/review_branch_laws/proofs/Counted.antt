@@ -14,7 +14,6 @@ use Rattle.review_changes.specs.Change.{Change}
 use Rattle.review_rows.proofs.Readings.{IsDoneBy, done_of}
 use Rattle.review_rows.specs.Answer.{IsAnswerBy, IsHistory, checks}
 use Rattle.review_rows.specs.Changes.{Reading, Reads, change, change_count, change_counted}
-use Rattle.review_rows.proofs.Epochs.{IsDoneBy, done_by}
 use Rattle.review_change_laws.proofs.Sound.{all_pass, done_passes}
 use Rattle.review_change_laws.proofs.There.{change_there}
 
@@ -43,13 +42,7 @@ made_by reading h caller command (NotTaken cause) answer before = before
 -- a history has at most so many changes
 pub changes_bound : (reading : Reading) (h : List Entry) → Reads reading h → IsHistory h → change_count h ≤ most_changes
 changes_bound reading [] reads history = omega arith
-<<<<<<< ours
 changes_bound reading (e ∷ h) reads history = made_by reading h e.identity.caller e.command e.reply (done_of e h history reading reads.1) (changes_bound reading h reads.1 history.3)
-||||||| base
-changes_bound reading (e ∷ h) reads history = made_by reading h e.identity.caller e.command e.reply (history.1 reading reads.1) (changes_bound reading h reads.1 history.3)
-=======
-changes_bound reading (e ∷ h) reads history = made_by reading h e.identity.caller e.command e.reply (done_by reading h e.identity.caller e.identity.epoch e.command e.reply (history.1 reading reads.1)) (changes_bound reading h reads.1 history.3)
->>>>>>> epochs
 
 -- the number of a change that is there
 pub change_bound : (reading : Reading) (h : List Entry) (n : ℕ) (c : Change) → Reads reading h → IsHistory h → change reading h n ≡ Some c → (1 ≤ n) × (n ≤ most_changes)

@@ -15,7 +15,6 @@ use Rattle.review_rows.proofs.Readings.{IsDoneBy, done_of}
 use Rattle.review_rows.specs.Answer.{IsAnswerBy, IsHistory, request_checks}
 use Rattle.review_rows.specs.Changes.{Reading, Reads, change, change_by, change_count, setting_of, submitted}
 use Rattle.review_rows.specs.Submits.{is_merged}
-use Rattle.review_rows.proofs.Epochs.{IsDoneBy, done_by}
 use Rattle.review_change_laws.proofs.Joining.{joining_keeps}
 use Rattle.review_change_laws.proofs.Sound.{Passes, checks_pass, done_passes}
 use Rattle.review_branch_laws.proofs.Placed.{merged_stays}
@@ -67,13 +66,7 @@ pub of_each : (P : Change → Type 0) (reading : Reading) → Stays P reading �
 of_each P reading s [] n c history reads is = absurd (cc)
 of_each P reading s (e ∷ h) n c history reads is =
     joining_keeps P s.joins h (submitted (accepted e) e.reply) n (change_by reading h e.identity.caller (accepted e) n (change reading h n)) c
-<<<<<<< ours
     (λ x there. step_holds P reading s h e.identity.caller n x e.command e.reply (done_of e h history reading reads.1) (λ y was. of_each P reading s h n y history.3 reads.1 was) there) is
-||||||| base
-    (λ x there. step_holds P reading s h e.identity.caller n x e.command e.reply (history.1 reading reads.1) (λ y was. of_each P reading s h n y history.3 reads.1 was) there) is
-=======
-    (λ x there. step_holds P reading s h e.identity.caller n x e.command e.reply (done_by reading h e.identity.caller e.identity.epoch e.command e.reply (history.1 reading reads.1)) (λ y was. of_each P reading s h n y history.3 reads.1 was) there) is
->>>>>>> epochs
 
 -- a change that is not merged is at place 0
 abbrev IsUnplaced : Change → Type 0

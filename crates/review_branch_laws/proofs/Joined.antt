@@ -22,7 +22,6 @@ use Rattle.review_rows.proofs.Readings.{IsDoneBy, done_of}
 use Rattle.review_rows.specs.Answer.{IsHistory}
 use Rattle.review_rows.specs.Changes.{Reading, Reads, change, change_count, is_for, is_made_for, joined, joined_by, joined_in, place_in}
 use Rattle.review_rows.specs.Submits.{branch_after, is_merged}
-use Rattle.review_rows.proofs.Epochs.{IsDoneBy, done_by}
 use Rattle.review_change_laws.proofs.There.{change_there, is_up_to}
 use Rattle.review_branch_laws.specs.Accepted.{IsAccepted}
 use Rattle.review_branch_laws.specs.Joined.{HasJoined}
@@ -103,13 +102,7 @@ pub joined_distinct : (reading : Reading) (h : List Entry) (project branch : Lis
 joined_distinct reading [] project branch history reads = none_distinct
 joined_distinct reading (e ∷ h) project branch history reads =
     more_distinct reading h (accepted e) project branch (joined_by h (accepted e) e.reply project branch) history.3 reads.1 (joined_distinct reading h project branch history.3 reads.1)
-<<<<<<< ours
     (gains reading h e.identity.caller e.command e.reply project branch (done_of e h history reading reads.1))
-||||||| base
-    (gains reading h e.identity.caller e.command e.reply project branch (history.1 reading reads.1))
-=======
-    (gains reading h e.identity.caller e.command e.reply project branch (done_by reading h e.identity.caller e.identity.epoch e.command e.reply (history.1 reading reads.1)))
->>>>>>> epochs
 
 -- ---- those that are merged
 

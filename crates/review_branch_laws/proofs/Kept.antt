@@ -20,7 +20,6 @@ use Rattle.review_changes.specs.declared.rows.PatchRow.{PatchRow}
 use Rattle.review_rows.proofs.Readings.{IsDoneBy, done_of}
 use Rattle.review_rows.specs.Answer.{IsAnswerBy, IsHistory, request_checks}
 use Rattle.review_rows.specs.Changes.{Reading, Reads, change, change_by, change_count, joining_at, place_in, setting_of, submitted}
-use Rattle.review_rows.proofs.Epochs.{IsDoneBy, done_by}
 use Rattle.review_change_laws.proofs.Sound.{Passes, checks_pass, done_passes}
 use Rattle.review_branch_laws.proofs.Placed.{none_next}
 
@@ -117,13 +116,7 @@ step_patches reading h caller n c command (NotTaken cause) answer there merged =
 pub merged_keeps : (reading : Reading) (e : Entry) (h : List Entry) (n : ℕ) (c : Change) → IsHistory (e ∷ h) → Reads reading h → change reading h n ≡ Some c → c.state ≡ Merged → KeepsPatches c (change reading (e ∷ h) n)
 merged_keeps reading e h n c history reads there merged =
     joining_patches h (place_in (submitted (accepted e) e.reply) n) (change_by reading h e.identity.caller (accepted e) n (change reading h n)) c
-<<<<<<< ours
     (step_patches reading h e.identity.caller n c e.command e.reply (done_of e h history reading reads) there merged)
-||||||| base
-    (step_patches reading h e.identity.caller n c e.command e.reply (history.1 reading reads) there merged)
-=======
-    (step_patches reading h e.identity.caller n c e.command e.reply (done_by reading h e.identity.caller e.identity.epoch e.command e.reply (history.1 reading reads)) there merged)
->>>>>>> epochs
 
 -- a submit keeps those of every change
 pub submit_keeps : (reading : Reading) (e : Entry) (h : List Entry) (m n : ℕ) (c : Change) → accepted e ≡ Some (Submit m) → change reading h n ≡ Some c → KeepsPatches c (change reading (e ∷ h) n)

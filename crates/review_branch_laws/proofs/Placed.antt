@@ -25,7 +25,6 @@ use Rattle.review_rows.proofs.Readings.{IsDoneBy, done_of}
 use Rattle.review_rows.specs.Answer.{IsAnswerBy, IsHistory, request_checks}
 use Rattle.review_rows.specs.Changes.{Reading, Reads, change, change_by, change_count, is_for, is_made_for, joined, joined_by, joined_in, joining, joining_at, place_in, setting_of, submitted}
 use Rattle.review_rows.specs.Submits.{branch_after, is_merged}
-use Rattle.review_rows.proofs.Epochs.{IsDoneBy, done_by}
 use Rattle.review_change_laws.proofs.Sound.{Passes, checks_pass, done_passes}
 use Rattle.review_change_laws.proofs.There.{change_there, is_up_to}
 use Rattle.review_branch_laws.specs.Accepted.{IsAccepted}
@@ -200,10 +199,4 @@ step reading h caller (OnChange m command) (Done a) project branch n answer befo
 pub placed : (reading : Reading) (h : List Entry) (project branch : List ℕ) (n : ℕ) → IsHistory h → Reads reading h → place_in (joined h project branch) n ≡ place_of project branch (change reading h n)
 placed reading [] project branch n history reads = refl
 placed reading (e ∷ h) project branch n history reads =
-<<<<<<< ours
     step reading h e.identity.caller e.command e.reply project branch n (done_of e h history reading reads.1) (placed reading h project branch n history.3 reads.1)
-||||||| base
-    step reading h e.identity.caller e.command e.reply project branch n (history.1 reading reads.1) (placed reading h project branch n history.3 reads.1)
-=======
-    step reading h e.identity.caller e.command e.reply project branch n (done_by reading h e.identity.caller e.identity.epoch e.command e.reply (history.1 reading reads.1)) (placed reading h project branch n history.3 reads.1)
->>>>>>> epochs

@@ -15,14 +15,8 @@ use Rattle.review_chain.specs.Walks.{IsReady}
 use Rattle.review_chain.proofs.Fronts.{chain_ready}
 use Rattle.review_changes.specs.Change.{Change, Setting, is_open}
 use Rattle.review_changes.specs.Facts.{AreStanding, IsFirstUnsatisfied, is_unsatisfied, unsatisfied_in}
-<<<<<<< ours
 use Rattle.review_rows.proofs.Readings.{IsDoneBy, done_of}
 use Rattle.review_rows.specs.Answer.{IsHistory}
-||||||| base
-use Rattle.review_rows.specs.Answer.{IsAnswerBy, IsHistory}
-=======
-use Rattle.review_rows.specs.Answer.{IsAnswerBy, IsAnswerIn, IsHistory}
->>>>>>> epochs
 use Rattle.review_rows.specs.Changes.{Reading, Reads, change, joined_in, setting_of}
 use Rattle.review_rows.specs.Submits.{branch_after, judged_after}
 use Rattle.review_branch_laws.specs.Accepted.{IsAccepted, MayJoin}
@@ -156,13 +150,7 @@ chain_may_join reading h m a s =
 -- a submit of a history that was done was accepted
 pub entry_accepted : (reading : Reading) (e : Entry) (h : List Entry) (m : ℕ) (a : Answer) → IsHistory (e ∷ h) → Reads reading h → e.command ≡ Submit m → e.reply ≡ Done a → IsAccepted reading h m a
 entry_accepted reading e h m a history reads command reply =
-<<<<<<< ours
     submit_accepted reading h e.identity.caller m a (subst (IsDoneBy reading h e.identity.caller (Submit m)) reply (subst (λ c. IsDoneBy reading h e.identity.caller c e.reply) command (done_of e h history reading reads)))
-||||||| base
-    submit_accepted reading h e.identity.caller m a (subst (IsAnswerBy reading h e.identity.caller (Submit m)) reply (subst (λ c. IsAnswerBy reading h e.identity.caller c e.reply) command (history.1 reading reads)))
-=======
-    submit_accepted reading h e.identity.caller m a (subst (IsAnswerIn reading h e.identity.caller e.identity.epoch (Submit m)) reply (subst (λ c. IsAnswerIn reading h e.identity.caller e.identity.epoch c e.reply) command (history.1 reading reads)))
->>>>>>> epochs
 
 -- and each change that it tells could join the branch of the change that was submitted
 pub entry_may_join : (reading : Reading) (e : Entry) (h : List Entry) (m : ℕ) (a : Answer) (c : Change) → IsHistory (e ∷ h) → Reads reading h → e.command ≡ Submit m → e.reply ≡ Done a → change reading h m ≡ Some c →

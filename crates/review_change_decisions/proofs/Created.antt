@@ -130,31 +130,15 @@ create_decided reading h caller new number patch c e delta passes n p made_is of
   count_is = λ epoch id k. counts k;
 }
   where
-<<<<<<< ours
-    counts : (k : Count) → counted (entry_of caller [] (CreateChange new) (Done (made.Change number patch)) ∷ h) k ≡ count_after delta (fact reading h) k (counted h k)
+    counts : (k : Count) → counted (entry_of caller 0 [] (CreateChange new) (Done (made.Change number patch)) ∷ h) k ≡ count_after delta (fact reading h) k (counted h k)
     counts Projects = sym (no_project delta df (fact reading h) (project_count h))
     counts (BasesOf q) = sym (no_base_more delta db (fact reading h) q (base_count h q))
-||||||| base
-    counts : (k : Count) → counted (record { identity = record { caller = caller; id = [] }; command = CreateChange new; reply = Done (made.Change number patch) } ∷ h) k ≡ count_after delta (fact reading h) k (counted h k)
-    counts Projects = sym (ap (λ o. projects_after o (fact reading h) (project_count h)) df)
-    counts (BasesOf q) = sym (ap (λ o. bases_after o (fact reading h) q (base_count h q)) db)
-=======
-    counts : (k : Count) → counted (record { identity = record { caller = caller; epoch = 0; id = [] }; command = CreateChange new; reply = Done (made.Change number patch) } ∷ h) k ≡ count_after delta (fact reading h) k (counted h k)
-    counts Projects = sym (ap (λ o. projects_after o (fact reading h) (project_count h)) df)
-    counts (BasesOf q) = sym (ap (λ o. bases_after o (fact reading h) q (base_count h q)) db)
     counts ClosedEpochs = sym (ap (λ o. unwrap_or o (least_open h)) de)
->>>>>>> epochs
 
     here : (m : ℕ) → (e.change == m) ≡ (change_count h + 1 == m)
     here m = ap (λ x. x == m) (of ∙ n)
 
-<<<<<<< ours
-    rows : (k : Key) → fact reading (entry_of caller [] (CreateChange new) (Done (made.Change number patch)) ∷ h) k ≡ after delta k (fact reading h k)
-||||||| base
-    rows : (k : Key) → fact reading (record { identity = record { caller = caller; id = [] }; command = CreateChange new; reply = Done (made.Change number patch) } ∷ h) k ≡ after delta k (fact reading h k)
-=======
-    rows : (k : Key) → fact reading (record { identity = record { caller = caller; epoch = 0; id = [] }; command = CreateChange new; reply = Done (made.Change number patch) } ∷ h) k ≡ after delta k (fact reading h k)
->>>>>>> epochs
+    rows : (k : Key) → fact reading (entry_of caller 0 [] (CreateChange new) (Done (made.Change number patch)) ∷ h) k ≡ after delta k (fact reading h k)
     rows (AccountKey m) = sym (ap (λ l. after_change (account_change (change_of nat_cmp l m)) (fact reading h (AccountKey m))) da)
     rows (MemberKey g m) = sym (ap (λ l. after_change (member_change (change_of member_cmp l (record { group = g; account = m }))) (fact reading h (MemberKey g m))) dm)
     rows (FileKey q) = sym (no_file delta df q (fact reading h (FileKey q)))

@@ -51,18 +51,6 @@ abbrev fact_with : Reading → List Entry → ℕ → Change → Key → Option 
 fact_with reading h n new (PartKey k part) = option_map APart (part_of (cond (n == k) (Some new) (change reading h k)) part)
 fact_with reading h n new key = fact reading h key
 
-<<<<<<< ours
-||||||| base
--- the entry of a command that is done
-abbrev entry_of : ℕ → List ℕ → Command → Answer → Entry
-entry_of caller id command a = record { identity = record { caller = caller; id = id }; command = command; reply = Done a }
-
-=======
--- the entry of a command that is done
-abbrev entry_of : ℕ → List ℕ → Command → Answer → Entry
-entry_of caller id command a = record { identity = record { caller = caller; epoch = 0; id = id }; command = command; reply = Done a }
-
->>>>>>> epochs
 -- the change of a number is there where it is looked for
 here : (reading : Reading) (h : List Entry) (n k : ℕ) (c : Change) → change reading h n ≡ Some c → (n == k) ≡ true → change reading h k ≡ Some c
 here reading h n k c told t = ap (change reading h) (sym (eqb-true n k t)) ∙ told
@@ -86,8 +74,8 @@ counts_made reading h n c new delta m ClosedEpochs = sym (ap (λ o. unwrap_or o 
 
 -- a command that makes of a change another is decided
 change_decided : (reading : Reading) (h : List Entry) (caller n : ℕ) (command : Command) (a : Answer) (c new : Change) (delta : Delta) → change reading h n ≡ Some c → MakesChange n c new delta →
-    IsAnswerBy reading h caller command (Done a) → ((k : Key) → fact reading (entry_of caller [] command (Done a) ∷ h) k ≡ fact_with reading h n new k) →
-    ((k : Count) → counted (entry_of caller [] command (Done a) ∷ h) k ≡ counted h k) → IsDecided reading h caller command delta (Done a)
+    IsAnswerBy reading h caller command (Done a) → ((k : Key) → fact reading (entry_of caller 0 [] command (Done a) ∷ h) k ≡ fact_with reading h n new k) →
+    ((k : Count) → counted (entry_of caller 0 [] command (Done a) ∷ h) k ≡ counted h k) → IsDecided reading h caller command delta (Done a)
 change_decided reading h caller n command a c new delta told m answer turned same = record {
   reply_is = answer;
   row_is = λ epoch id k. turned k ∙ rows_made reading h n c new delta told m k;
@@ -101,7 +89,7 @@ put_at f c o false is = refl
 
 -- the rows of the history with a request on a change that is done
 pub request_turns : (reading : Reading) (h : List Entry) (caller n : ℕ) (request : ChangeCommand) (a : Answer) (c : Change) → change reading h n ≡ Some c → (k : Key) →
-    fact reading (entry_of caller [] (OnChange n request) (Done a) ∷ h) k ≡ fact_with reading h n (change_after_request (setting_of reading h c.project) request caller (length h + 1) c) k
+    fact reading (entry_of caller 0 [] (OnChange n request) (Done a) ∷ h) k ≡ fact_with reading h n (change_after_request (setting_of reading h c.project) request caller (length h + 1) c) k
 request_turns reading h caller n request a c told (AccountKey u) = refl
 request_turns reading h caller n request a c told (MemberKey g u) = refl
 request_turns reading h caller n request a c told (FileKey q) = refl
@@ -111,7 +99,7 @@ request_turns reading h caller n request a c told (PartKey k part) =
     (put_at (λ x. change_after_request (setting_of reading h x.project) request caller (length h + 1) x) c (change reading h k) (n == k) (here reading h n k c told))
 request_turns reading h caller n request a c told (OddKey o) = refl
 
-request_counts : (h : List Entry) (caller n : ℕ) (request : ChangeCommand) (a : Answer) (k : Count) → counted (entry_of caller [] (OnChange n request) (Done a) ∷ h) k ≡ counted h k
+request_counts : (h : List Entry) (caller n : ℕ) (request : ChangeCommand) (a : Answer) (k : Count) → counted (entry_of caller 0 [] (OnChange n request) (Done a) ∷ h) k ≡ counted h k
 request_counts h caller n request a Projects = refl
 request_counts h caller n request a (BasesOf q) = refl
 request_counts h caller n request a ClosedEpochs = refl

@@ -13,7 +13,6 @@ use Rattle.review_changes.specs.Change.{Change, after, begun}
 use Rattle.review_rows.proofs.Readings.{IsDoneBy, done_of}
 use Rattle.review_rows.specs.Answer.{IsAnswerBy, IsHistory, checks}
 use Rattle.review_rows.specs.Changes.{Reading, Reads, change, change_by, change_count, setting_of, submitted}
-use Rattle.review_rows.proofs.Epochs.{IsDoneBy, done_by}
 use Rattle.review_change_laws.proofs.Joining.{joining_keeps}
 use Rattle.review_change_laws.proofs.Sound.{all_pass, done_passes}
 
@@ -64,7 +63,7 @@ project_stays reading h caller n c command (Done a) answer before is = project_b
 project_stays reading h caller n c command (Refused r) answer before is = before c is
 project_stays reading h caller n c command IdentityReused answer before is = before c is
 project_stays reading h caller n c command EpochClosed answer before is = before c is
-step reading h caller n c command (NotTaken cause) answer before is = before c is
+project_stays reading h caller n c command (NotTaken cause) answer before is = before c is
 
 pub has_project : (reading : Reading) (h : List Entry) (n : ℕ) (c : Change) → IsHistory h → Reads reading h → change reading h n ≡ Some c → is_project h c.project ≡ true
 has_project reading [] n c history reads is = absurd (cc)
@@ -72,10 +71,4 @@ has_project reading (e ∷ h) n c history reads is =
     text_stays (accepted e) c.project (file_text h c.project)
     (joining_keeps (λ x. is_project h x.project ≡ true) (λ place request x holds. holds) h (submitted (accepted e) e.reply) n
     (change_by reading h e.identity.caller (accepted e) n (change reading h n)) c
-<<<<<<< ours
     (λ x there. project_stays reading h e.identity.caller n x e.command e.reply (done_of e h history reading reads.1) (λ y was. has_project reading h n y history.3 reads.1 was) there) is)
-||||||| base
-    (λ x there. step reading h e.identity.caller n x e.command e.reply (history.1 reading reads.1) (λ y was. has_project reading h n y history.3 reads.1 was) there) is)
-=======
-    (λ x there. step reading h e.identity.caller n x e.command e.reply (done_by reading h e.identity.caller e.identity.epoch e.command e.reply (history.1 reading reads.1)) (λ y was. has_project reading h n y history.3 reads.1 was) there) is)
->>>>>>> epochs

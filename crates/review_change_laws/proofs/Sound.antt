@@ -21,7 +21,6 @@ use Rattle.review_words.specs.declared.command.ChangeCommand.TheVariants as on
 use Rattle.review_rows.proofs.Readings.{IsDoneBy, done_of}
 use Rattle.review_rows.specs.Answer.{IsAnswerBy, IsHistory, IsOutcome, first_refusal, given_checks, of_change, refused_by, request_checks}
 use Rattle.review_rows.specs.Changes.{Reading, Reads, change, change_by, change_count, setting_of, submitted}
-use Rattle.review_rows.proofs.Epochs.{IsDoneBy, done_by}
 use Rattle.review_change_laws.proofs.Joining.{joining_keeps}
 
 -- a new change is sound, and stays so
@@ -135,10 +134,4 @@ pub are_sound : BeginsSound → StaysSound → (reading : Reading) (h : List Ent
 are_sound begins stays reading [] n c history reads is = absurd (cc)
 are_sound begins stays reading (e ∷ h) n c history reads is =
     joining_keeps IsSound joined_sound h (submitted (accepted e) e.reply) n (change_by reading h e.identity.caller (accepted e) n (change reading h n)) c
-<<<<<<< ours
     (λ x there. step_sound begins stays reading h e.identity.caller n x e.command e.reply (done_of e h history reading reads.1) (λ y was. are_sound begins stays reading h n y history.3 reads.1 was) there) is
-||||||| base
-    (λ x there. step_sound begins stays reading h e.identity.caller n x e.command e.reply (history.1 reading reads.1) (λ y was. are_sound begins stays reading h n y history.3 reads.1 was) there) is
-=======
-    (λ x there. step_sound begins stays reading h e.identity.caller n x e.command e.reply (done_by reading h e.identity.caller e.identity.epoch e.command e.reply (history.1 reading reads.1)) (λ y was. are_sound begins stays reading h n y history.3 reads.1 was) there) is
->>>>>>> epochs

@@ -7,7 +7,7 @@ ghost use Rattle.review_rows.specs.Changes.{Reading};
 ghost use Rattle.review_rows.specs.Decisions.{IsUndecided, NamesEachOnce, RestsOn};
 ghost use Rattle.review_rows.specs.Rows.{HasNoEffect, closing, is_below};
 ghost use Rattle.review_rows.specs.Steps.{OfCommand};
-ghost use Rattle.review_rows.specs.View.{AreEnough, IsDecidedIn};
+ghost use Rattle.review_rows.specs.View.{AreEnough, IsDecidedAt};
 
 use review_account_decisions::{close_epoch, create_account, put_group, refused};
 use review_branch_decisions::record_base;
@@ -17,7 +17,7 @@ use review_file_decisions::put_project;
 use review_request_decisions::on_change;
 use review_rows::{Delta, Rows};
 use review_submit_decisions::submit;
-use review_words::{AccountNo, Command, NotTaken, Refusal, Reply, Epoch};
+use review_words::{AccountNo, Command, Epoch, NotTaken, Refusal, Reply};
 use std::alloc::Global;
 
 /// The reply to a command and what it changes, by this effective file of its project: the first check that fails refuses, in the order of
@@ -27,152 +27,13 @@ use std::alloc::Global;
 pub fn decide(
     alloc: Global,
     memo: &mut FileMemo,
-<<<<<<< ours
-||||||| base
-    read: Option<ReadText>,
-    rows: &Rows,
-    caller: AccountNo,
-    command: &Command,
-) -> Result<(Delta, Reply), NotTaken>
-    ensures decided { IfOk result (λ r. (reading : Reading) (h : List Entry) → length h < most_requests → RestsOn (OfCommand command.now) h → AreEnough reading h caller (OfCommand command.now) (file_read read) rows.now → IsDecided reading h caller command.now r.0 r.1) }
-    ensures cause { IfErr result (IsUndecided caller command.now (file_read read) rows.now) }
-    ensures stored { IfOk result (λ r. IsStored r.1) }
-    ensures refused { IfOk result (λ r. HasNoEffect r.1 r.0) }
-    ensures once { IfOk result (λ r. NamesEachOnce r.0) }
-{
-    let decided = decide_by(alloc, memo, file_of(&read), rows, caller, command);
-    remember(alloc, memo, read, rows, Matter::Command(command));
-    decided
-}
-
-/// The answer to a question, where this file of its project was read: the first check that fails refuses, in the order of the question's checks.
-/// It changes nothing. An error is want of memory, or Damaged, where the rows are those of no history. The file that was read is remembered again.
-pub fn show(
-    alloc: Global,
-    memo: &mut FileMemo,
-    read: Option<ReadText>,
-    rows: &Rows,
-    caller: AccountNo,
-    query: &Query,
-) -> Result<Reply, NotTaken>
-    ensures shown { IfOk result (λ r. (reading : Reading) (h : List Entry) → RestsOn (OfQuery query.now) h → AreEnough reading h caller (OfQuery query.now) (file_read read) rows.now → IsQueryAnswerBy reading h caller query.now r) }
-    ensures answered { IfOk result IsDoneOrRefused }
-    ensures cause { IfErr result (IsUnshown caller query.now (file_read read) rows.now) }
-{
-    let shown = review_questions::show(alloc, file_of(&read), rows, caller, query);
-    remember(alloc, memo, read, rows, Matter::Query(query));
-    shown
-}
-
-/// The file that was read.
-fn file_of(read: &Option<ReadText>) -> Option<&ProjectFile>
-    ensures { option_copied result ≡ file_read read.now }
-{
-    match read {
-        Some(read) => Some(read.file()),
-        None => None,
-    }
-}
-
-/// Remembers the file of the project that was asked for again, where there is memory for it.
-fn remember(
-    alloc: Global,
-    memo: &mut FileMemo,
-    read: Option<ReadText>,
-    rows: &Rows,
-    matter: Matter<'_>,
-) {
-    let Some(read) = read else {
-        return;
-    };
-    let Some(project) = project_of(rows, matter) else {
-        return;
-    };
-    let _ = memo.give_back(alloc, project, read);
-}
-
-/// The reply to a command of any caller, by this file of its project.
-fn decide_by(
-    alloc: Global,
-    memo: &mut FileMemo,
-=======
-    read: Option<ReadText>,
-    rows: &Rows,
-    caller: AccountNo,
-    epoch: Epoch,
-    command: &Command,
-) -> Result<(Delta, Reply), NotTaken>
-    ensures decided { IfOk result (λ r. (reading : Reading) (h : List Entry) → length h < most_requests → RestsOn (OfCommand command.now) h → AreEnough reading h caller (OfCommand command.now) (file_read read) rows.now → IsDecidedIn reading h caller epoch command.now r.0 r.1) }
-    ensures cause { IfErr result (IsUndecided caller command.now (file_read read) rows.now) }
-    ensures stored { IfOk result (λ r. IsStored r.1) }
-    ensures refused { IfOk result (λ r. HasNoEffect r.1 r.0) }
-    ensures closes { IfOk result (λ r. r.0.epoch ≡ closing (if_done r.1 command.now)) }
-    ensures own { IfOk result (λ r. is_below r.0.epoch epoch ≡ false) }
-    ensures once { IfOk result (λ r. NamesEachOnce r.0) }
-{
-    let decided = decide_by(alloc, memo, file_of(&read), rows, caller, epoch, command);
-    remember(alloc, memo, read, rows, Matter::Command(command));
-    decided
-}
-
-/// The answer to a question, where this file of its project was read: the first check that fails refuses, in the order of the question's checks.
-/// It changes nothing. An error is want of memory, or Damaged, where the rows are those of no history. The file that was read is remembered again.
-pub fn show(
-    alloc: Global,
-    memo: &mut FileMemo,
-    read: Option<ReadText>,
-    rows: &Rows,
-    caller: AccountNo,
-    query: &Query,
-) -> Result<Reply, NotTaken>
-    ensures shown { IfOk result (λ r. (reading : Reading) (h : List Entry) → RestsOn (OfQuery query.now) h → AreEnough reading h caller (OfQuery query.now) (file_read read) rows.now → IsQueryAnswerBy reading h caller query.now r) }
-    ensures answered { IfOk result IsDoneOrRefused }
-    ensures cause { IfErr result (IsUnshown caller query.now (file_read read) rows.now) }
-{
-    let shown = review_questions::show(alloc, file_of(&read), rows, caller, query);
-    remember(alloc, memo, read, rows, Matter::Query(query));
-    shown
-}
-
-/// The file that was read.
-fn file_of(read: &Option<ReadText>) -> Option<&ProjectFile>
-    ensures { option_copied result ≡ file_read read.now }
-{
-    match read {
-        Some(read) => Some(read.file()),
-        None => None,
-    }
-}
-
-/// Remembers the file of the project that was asked for again, where there is memory for it.
-fn remember(
-    alloc: Global,
-    memo: &mut FileMemo,
-    read: Option<ReadText>,
-    rows: &Rows,
-    matter: Matter<'_>,
-) {
-    let Some(read) = read else {
-        return;
-    };
-    let Some(project) = project_of(rows, matter) else {
-        return;
-    };
-    let _ = memo.give_back(alloc, project, read);
-}
-
-/// The reply to a command of any caller, by this file of its project.
-fn decide_by(
-    alloc: Global,
-    memo: &mut FileMemo,
->>>>>>> epochs
     had: Option<&ProjectFile>,
     rows: &Rows,
     caller: AccountNo,
     epoch: Epoch,
     command: &Command,
 ) -> Result<(Delta, Reply), NotTaken>
-    ensures decided { IfOk result (λ r. (reading : Reading) (h : List Entry) → length h < most_requests → RestsOn (OfCommand command.now) h → AreEnough reading h caller (OfCommand command.now) (option_copied had.entry) rows.now → IsDecidedIn reading h caller epoch command.now r.0 r.1) }
+    ensures decided { IfOk result (λ r. (reading : Reading) (h : List Entry) → length h < most_requests → RestsOn (OfCommand command.now) h → AreEnough reading h caller (OfCommand command.now) (option_copied had.entry) rows.now → IsDecidedAt reading h caller epoch command.now r.0 r.1) }
     ensures cause { IfErr result (IsUndecided caller command.now (option_copied had.entry) rows.now) }
     ensures stored { IfOk result (λ r. IsStored r.1) }
     ensures refused { IfOk result (λ r. HasNoEffect r.1 r.0) }
@@ -196,7 +57,7 @@ fn decide_for(
     epoch: Epoch,
     command: &Command,
 ) -> Result<(Delta, Reply), NotTaken>
-    ensures decided { IfOk result (λ r. (reading : Reading) (h : List Entry) → length h < most_requests → RestsOn (OfCommand command.now) h → is_account h caller ≡ true → AreEnough reading h caller (OfCommand command.now) (option_copied had.entry) rows.now → IsDecidedIn reading h caller epoch command.now r.0 r.1) }
+    ensures decided { IfOk result (λ r. (reading : Reading) (h : List Entry) → length h < most_requests → RestsOn (OfCommand command.now) h → is_account h caller ≡ true → AreEnough reading h caller (OfCommand command.now) (option_copied had.entry) rows.now → IsDecidedAt reading h caller epoch command.now r.0 r.1) }
     ensures cause { IfErr result (IsUndecided caller command.now (option_copied had.entry) rows.now) }
     ensures stored { IfOk result (λ r. IsStored r.1) }
     ensures refused { IfOk result (λ r. HasNoEffect r.1 r.0) }

@@ -43,7 +43,6 @@ use Rattle.review_rows.proofs.Readings.{IsDoneBy, done_of}
 use Rattle.review_vote_laws.proofs.Standing.{votes_stand}
 use Rattle.review_deliveries.proofs.Named.{AreReadRight}
 use Rattle.review_deliveries.proofs.OneFile.{spelled_once}
-use Rattle.review_rows.proofs.Epochs.{IsDoneBy, done_by}
 use Rattle.review_deliveries.proofs.Voted.{have_voters}
 use Rattle.review_deliveries.proofs.Votes.{no_more}
 
@@ -231,29 +230,7 @@ account_by reading h caller command (NotTaken cause) answer before = before
 -- a history has at most so many accounts
 accounts_bound : (reading : Reading) (h : List Entry) → Reads reading h → IsHistory h → account_count h ≤ 1000000
 accounts_bound reading [] reads history = omega arith
-<<<<<<< ours
 accounts_bound reading (e ∷ h) reads history = account_by reading h e.identity.caller e.command e.reply (done_of e h history reading reads.1) (accounts_bound reading h reads.1 history.3)
-||||||| base
-accounts_bound reading (e ∷ h) reads history = account_by reading h e.identity.caller e.command e.reply (history.1 reading reads.1) (accounts_bound reading h reads.1 history.3)
-
--- the file of a project that has one is read
-project_read : (reading : Reading) (h : List Entry) (project : List ℕ) → Reads reading h → is_project h project ≡ true → (text : List ℕ) × IsRead text (file_of reading h project)
-project_read reading h project reads there = at (file_text h project) refl there
-  where
-    at : (o : Option (List ℕ)) → file_text h project ≡ o → is_some o ≡ true → (text : List ℕ) × IsRead text (file_of reading h project)
-    at None is there = absurd (cc)
-    at (Some text) is there = (text, subst (λ o. IsRead text (reading (unwrap_or o []))) (sym is) (read_of reading h project text reads is))
-=======
-accounts_bound reading (e ∷ h) reads history = account_by reading h e.identity.caller e.command e.reply (done_by reading h e.identity.caller e.identity.epoch e.command e.reply (history.1 reading reads.1)) (accounts_bound reading h reads.1 history.3)
-
--- the file of a project that has one is read
-project_read : (reading : Reading) (h : List Entry) (project : List ℕ) → Reads reading h → is_project h project ≡ true → (text : List ℕ) × IsRead text (file_of reading h project)
-project_read reading h project reads there = at (file_text h project) refl there
-  where
-    at : (o : Option (List ℕ)) → file_text h project ≡ o → is_some o ≡ true → (text : List ℕ) × IsRead text (file_of reading h project)
-    at None is there = absurd (cc)
-    at (Some text) is there = (text, subst (λ o. IsRead text (reading (unwrap_or o []))) (sym is) (read_of reading h project text reads is))
->>>>>>> epochs
 
 -- a vote that is carried was there
 carried_vote : (b : Bool) (v : ℤ) → voted (cond b v (pos 0)) ≡ true → voted v ≡ true

@@ -82,7 +82,7 @@ judged_by reading h rows (PutProject given text) project agree there is =
     let here : is_project h given ≡ true = ap (is_project h) same ∙ there in
     ap (λ b. cond b (Some given) (named_parent text)) here ∙ is
 judged_by reading h rows (RecordBase given branch commit) project agree there is = absurd (cc)
-judged_by reading h rows (CloseEpoch epoch) project agree is = absurd (cc)
+judged_by reading h rows (CloseEpoch epoch) project agree there is = absurd (cc)
 judged_by reading h rows (CreateChange new) project agree there is = is
 judged_by reading h rows (OnChange n command) project agree there is = judged_by_change (needs_file command) reading h rows n project agree is
 judged_by reading h rows (Submit n) project agree there is = judged_by_change true reading h rows n project agree is
@@ -112,6 +112,7 @@ parent_is rows topic project f is has = by topic is ∙ ap (option_and_then (λ 
     by (OfCommand (CreateChange new)) is = ap (option_and_then (known_parent rows)) is
     by (OfCommand (OnChange n command)) is = ap (option_and_then (known_parent rows)) is
     by (OfCommand (Submit n)) is = ap (option_and_then (known_parent rows)) is
+    by (OfCommand (CloseEpoch epoch)) is = absurd (cc)
 
 -- the project whose line has texts, with what it has of its own
 record HasTexts (rows : Rows) (topic : Topic) : Type 0 where

@@ -26,25 +26,17 @@ use Rattle.review_rows.specs.Steps.{Topic, OfCommand}
 use Rattle.review_rows.specs.Changes.{Reading, Reads, change}
 use Rattle.review_rows.specs.Decisions.{IsDoneOrRefused}
 use Rattle.review_rows.specs.Files.{File}
-use Rattle.review_rows.specs.Answer.{IsHistory, IsFirst, IsAnswer, IsAnswerBy, IsAnswerIn, epoch_checks, IsOf, IsOutcome, IsRequestOutcome, IsUploadAnswer, file_checks, first_refusal, refused_by, refused_or, most_requests}
+use Rattle.review_rows.specs.Answer.{IsHistory, IsAnswer, IsAnswerBy, IsAnswerAt, epoch_checks, IsOf, IsOutcome, IsRequestOutcome, IsUploadAnswer, file_checks, first_refusal, refused_by, refused_or, most_requests}
 use Rattle.review_rows.specs.Submits.{IsSubmitAnswer, checked_reply}
-use Rattle.review_rows.specs.View.{AreEnough, IsView, IsViewBy, IsDecidedIn, view, fact, stored_answer, kept_answer, answer_row}
+use Rattle.review_rows.specs.View.{AreEnough, IsView, IsViewBy, IsDecidedAt, view, fact, stored_answer, kept_answer, answer_row}
 use Rattle.review_rows.specs.Shelf.{IsCommitted, Answers, Shows, Views}
 use Rattle.review_rows.proofs.Asked.{requests_are}
 use Rattle.review_rows.proofs.Epochs.{closed_stays, own_open}
 use Rattle.review_rows.proofs.Readings.{reading_of}
 use Rattle.review_rows.proofs.Requested.{IsToldDone, sent_or_done}
-use Rattle.review_words.specs.declared.command.Delivery.TheVariants.{Write}
 use Rattle.review_deliveries.specs.Gathered.{IsAllAsked}
-<<<<<<< ours
-use Rattle.review_deliveries.specs.Replies.{IsTold, IsToldWhere}
+use Rattle.review_deliveries.specs.Replies.{IsTold, IsToldWhere, with_entries as hist}
 use Rattle.review_deliveries.proofs.Stored.{entry_stored}
-||||||| base
-use Rattle.review_deliveries.proofs.Stored.{answer_stored}
-=======
-use Rattle.review_deliveries.specs.Replies.{IsTold, IsToldWhere, IsToldOfStored, with_entries as hist}
-use Rattle.review_deliveries.proofs.Stored.{answer_stored}
->>>>>>> epochs
 
 pub same_from : (a b : Identity) → is_same a b ≡ true → a ≡ b
 same_from a b t =
@@ -111,14 +103,14 @@ answer_given_by reading h caller command reply is = at (refused_by reading h cal
     at None is = outcome_given reading h caller command reply is
     at (Some r) is = subst IsDoneOrRefused (sym is) tt
 
-closing_given : (reading : Reading) (h : List Entry) (caller epoch least : ℕ) (reply : Reply) → IsAnswerIn reading h caller epoch (CloseEpoch least) reply → IsDoneOrRefused reply
+closing_given : (reading : Reading) (h : List Entry) (caller epoch least : ℕ) (reply : Reply) → IsAnswerAt reading h caller epoch (CloseEpoch least) reply → IsDoneOrRefused reply
 closing_given reading h caller epoch least reply is = at (refused_by reading h caller (CloseEpoch least)) is
   where
     at : (o : Option Refusal) → MatchOption o (reply ≡ refused_or (first_refusal (epoch_checks h epoch least)) Nothing) (λ refusal. reply ≡ Refused refusal) → IsDoneOrRefused reply
     at None is = subst IsDoneOrRefused (sym is) (file_given (first_refusal (epoch_checks h epoch least)))
     at (Some r) is = subst IsDoneOrRefused (sym is) tt
 
-pub answer_given_in : (reading : Reading) (h : List Entry) (caller epoch : ℕ) (command : Command) (reply : Reply) → IsAnswerIn reading h caller epoch command reply → IsDoneOrRefused reply
+pub answer_given_in : (reading : Reading) (h : List Entry) (caller epoch : ℕ) (command : Command) (reply : Reply) → IsAnswerAt reading h caller epoch command reply → IsDoneOrRefused reply
 answer_given_in reading h caller epoch (CreateAccount name) reply is = answer_given_by reading h caller (CreateAccount name) reply is
 answer_given_in reading h caller epoch (PutGroup group members) reply is = answer_given_by reading h caller (PutGroup group members) reply is
 answer_given_in reading h caller epoch (PutProject project text) reply is = answer_given_by reading h caller (PutProject project text) reply is
@@ -131,15 +123,6 @@ answer_given_in reading h caller epoch (CloseEpoch least) reply is = closing_giv
 pub answer_given : (h : List Entry) (caller epoch : ℕ) (command : Command) (reply : Reply) → IsHistory h → IsAnswer h caller epoch command reply → IsDoneOrRefused reply
 answer_given h caller epoch command reply history is =
     let r = reading_of h history in answer_given_in r.0 h caller epoch command reply (is r.0 r.1)
-
--- what a write is told, by the entry of its identity or by none, and back
-pub told_where : (h : List Entry) (caller : ℕ) (id : List ℕ) (command : Command) (reply : Reply) (o : Option Entry) → stored h (record { caller = caller; id = id }) ≡ o →
-    IsTold h (Write caller id command) reply → IsToldWhere o h caller command reply
-told_where h caller id command reply o is told = subst (λ o. IsToldWhere o h caller command reply) is told
-
-pub where_told : (h : List Entry) (caller : ℕ) (id : List ℕ) (command : Command) (reply : Reply) (o : Option Entry) → stored h (record { caller = caller; id = id }) ≡ o →
-    IsToldWhere o h caller command reply → IsTold h (Write caller id command) reply
-where_told h caller id command reply o is told = subst (λ o. IsToldWhere o h caller command reply) (sym is) told
 
 -- a reply that is stored is done or refused
 pub stored_given : (reply : Reply) → IsStored reply → IsDoneOrRefused reply
@@ -172,13 +155,7 @@ recalled (e ∷ h) a i hist there =
       stored_here e h i t,
       sym (ap (λ (r : AnswerRow). r.content) row),
       sym (ap (λ (r : AnswerRow). r.reply) row),
-<<<<<<< ours
       entry_stored e h hist,
-||||||| base
-      answer_stored h e.identity.caller e.command e.reply hist.3 hist.1,
-=======
-      answer_stored h e.identity.caller e.identity.epoch e.command e.reply hist.3 hist.1,
->>>>>>> epochs
     ))
     (λ (f : is_same e.identity i ≡ false).
     let r = recalled h a i hist.3 (sym (ap (λ b. cond b (Some (Answered (answer_row e (length h + 1)))) (stored_answer h i)) f) ∙ there) in
@@ -186,7 +163,7 @@ recalled (e ∷ h) a i hist there =
     (cases_Bool (is_same e.identity i))
 
 -- an identity with no stored answer is new
-pub not_recalled : (h : List Entry) (i : Identity) → stored_answer h i ≡ None → IsFirst h i
+pub not_recalled : (h : List Entry) (i : Identity) → stored_answer h i ≡ None → stored h i ≡ None
 not_recalled [] i none = refl
 not_recalled (e ∷ h) i none =
     ⊎_elim
@@ -203,7 +180,7 @@ stored_stays (m ∷ more) h i e hist some =
     let there = stored_stays more h i e hist.3 some in
     ⊎_elim
     (λ (t : is_same m.identity i ≡ true).
-    let none : IsFirst (more ++ h) i = subst (IsFirst (more ++ h)) (same_from m.identity i t) hist.0.0 in
+    let none : stored (more ++ h) i ≡ None = subst (λ j. stored (more ++ h) j ≡ None) (same_from m.identity i t) hist.0.0 in
     absurd (cc))
     (λ (f : is_same m.identity i ≡ false). stored_there m (more ++ h) i f ∙ there)
     (cases_Bool (is_same m.identity i))
@@ -213,21 +190,6 @@ pub earlier : (more h : List Entry) → IsHistory (more ++ h) → IsHistory h
 earlier [] h history = history
 earlier (e ∷ more) h history = earlier more h history.3
 
-<<<<<<< ours
--- a commit of what was decided gives the tables of the history with the entry
-pub view_grows : (h : List Entry) (t new : Tables) (delta : Delta) (row : AnswerRow) (caller : ℕ) (id : List ℕ) (command : Command) (reply : Reply) →
-    IsView h t → ((reading : Reading) → Reads reading h → IsDecided reading h caller command delta reply) → IsCommitted t delta row new →
-    row ≡ answer_row (entry_of caller id command reply) (length h + 1) →
-    IsView (entry_of caller id command reply ∷ h) new
-view_grows h t new delta row caller id command reply view decided c is reading reads =
-||||||| base
--- a commit of what was decided gives the tables of the history with the entry
-pub view_grows : (h : List Entry) (t new : Tables) (delta : Delta) (row : AnswerRow) (caller : ℕ) (id : List ℕ) (command : Command) (reply : Reply) →
-    IsView h t → ((reading : Reading) → Reads reading h → IsDecided reading h caller command delta reply) → IsCommitted t delta row new →
-    row ≡ answer_row (record { identity = record { caller = caller; id = id }; command = command; reply = reply }) (length h + 1) →
-    IsView (record { identity = record { caller = caller; id = id }; command = command; reply = reply } ∷ h) new
-view_grows h t new delta row caller id command reply view decided c is reading reads =
-=======
 -- what is kept under an identity whose epoch is open is what is stored under it
 pub kept_open : (h : List Entry) (i : Identity) → is_closed h i.epoch ≡ false → kept_answer h i ≡ stored_answer h i
 kept_open h i opened = ap (λ b. cond b None (stored_answer h i)) opened
@@ -281,14 +243,13 @@ kept_with e h o i is opened =
 
 -- a commit of what was decided gives the tables of the history with the entry, where the epoch of the request was open
 pub view_grows : (h : List Entry) (t new : Tables) (delta : Delta) (row : AnswerRow) (caller epoch : ℕ) (id : List ℕ) (command : Command) (reply : Reply) →
-    IsView h t → is_closed h epoch ≡ false → ((reading : Reading) → Reads reading h → IsDecidedIn reading h caller epoch command delta reply) → IsCommitted t delta row new →
-    row ≡ answer_row (record { identity = record { caller = caller; epoch = epoch; id = id }; command = command; reply = reply }) (length h + 1) →
-    IsView (record { identity = record { caller = caller; epoch = epoch; id = id }; command = command; reply = reply } ∷ h) new
+    IsView h t → is_closed h epoch ≡ false → ((reading : Reading) → Reads reading h → IsDecidedAt reading h caller epoch command delta reply) → IsCommitted t delta row new →
+    row ≡ answer_row (entry_of caller epoch id command reply) (length h + 1) →
+    IsView (entry_of caller epoch id command reply ∷ h) new
 view_grows h t new delta row caller epoch id command reply view opened decided c is reading reads =
-    let e : Entry = record { identity = record { caller = caller; epoch = epoch; id = id }; command = command; reply = reply } in
->>>>>>> epochs
+    let e : Entry = entry_of caller epoch id command reply in
     let v : IsViewBy reading h t = view reading reads.1 in
-    let d : IsDecidedIn reading h caller epoch command delta reply = decided reading reads.1 in
+    let d : IsDecidedAt reading h caller epoch command delta reply = decided reading reads.1 in
     let row : t.row ≡ fact reading h = λ i k. v.row_is k i in
     record {
       row_is = λ k. c.row_is k ∙ (ap (after delta k) (v.row_is k) ∙ sym (d.row_is id k));

@@ -24,7 +24,7 @@ use Rattle.review_words.specs.declared.command.ChangeCommand.TheVariants as chan
 use Rattle.review_changes.specs.Votes.{voted}
 use Rattle.review_rows.specs.Changes.{Reading, change, depth, file_of, setting_of}
 use Rattle.review_rows.specs.Files.{File, covers, HasDeepPattern}
-use Rattle.review_rows.specs.Answer.{IsAnswerBy, IsAnswerIn, epoch_checks, IsOf, IsOutcome, IsRequestOutcome, IsUploadAnswer, file_checks, file_with, first_refusal, keeps_parent, puts_unknown_label, refused_by, refused_or}
+use Rattle.review_rows.specs.Answer.{IsAnswerBy, IsAnswerAt, epoch_checks, IsOf, IsOutcome, IsRequestOutcome, IsUploadAnswer, file_checks, file_with, first_refusal, keeps_parent, puts_unknown_label, refused_by, refused_or}
 use Rattle.review_rows.specs.Limits.{most_projects}
 use Rattle.review_rows.specs.Lines.{most_depth}
 use Rattle.review_rows.proofs.Readings.{reading_of}
@@ -116,8 +116,8 @@ one_answer_by one reading h caller command r s a b = at (refused_by reading h ca
     at None a b = one_outcome one reading h caller command r s a b
     at (Some x) a b = inl (a ∙ sym b)
 
-pub one_answer_in : OneStanding → (reading : Reading) (h : List Entry) (caller epoch : ℕ) (command : Command) (r s : Reply) → IsAnswerIn reading h caller epoch command r →
-    IsAnswerIn reading h caller epoch command s → (r ≡ s) ⊎ (IsFree command × (RefusesBadValue r ⊎ RefusesBadValue s))
+pub one_answer_in : OneStanding → (reading : Reading) (h : List Entry) (caller epoch : ℕ) (command : Command) (r s : Reply) → IsAnswerAt reading h caller epoch command r →
+    IsAnswerAt reading h caller epoch command s → (r ≡ s) ⊎ (IsFree command × (RefusesBadValue r ⊎ RefusesBadValue s))
 one_answer_in one reading h caller epoch (CreateAccount name) r s a b = one_answer_by one reading h caller (CreateAccount name) r s a b
 one_answer_in one reading h caller epoch (PutGroup group members) r s a b = one_answer_by one reading h caller (PutGroup group members) r s a b
 one_answer_in one reading h caller epoch (PutProject project text) r s a b = one_answer_by one reading h caller (PutProject project text) r s a b

@@ -5,7 +5,7 @@ use Rattle.std.specs.List.{AllByRecursion}
 use Rattle.std.specs.Option.{option_map_or}
 use Rattle.review_words.specs.History.{Entry, is_project}
 use Rattle.review_words.specs.declared.command.Command.{Command}
-use Rattle.review_words.specs.declared.command.Command.TheVariants.{CreateAccount, PutGroup, PutProject, RecordBase, CreateChange, OnChange, Submit}
+use Rattle.review_words.specs.declared.command.Command.TheVariants.{CreateAccount, PutGroup, PutProject, RecordBase, CreateChange, OnChange, Submit, CloseEpoch}
 use Rattle.review_project.specs.Reading.{named_parent}
 use Rattle.review_ancestors.specs.Ends.{ends}
 use Rattle.review_ancestors.proofs.Ending.{line_whole}
@@ -66,3 +66,4 @@ reads_pattern reading h history caller (RecordBase project branch commit) file r
 reads_pattern reading h history caller (CreateChange new) file rows enough (inr some) = absurd some
 reads_pattern reading h history caller (OnChange n command) file rows enough (inr some) = absurd some
 reads_pattern reading h history caller (Submit n) file rows enough (inr some) = absurd some
+reads_pattern reading h history caller (CloseEpoch epoch) file rows enough (inr some) = absurd some

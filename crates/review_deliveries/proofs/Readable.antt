@@ -15,24 +15,12 @@ use Rattle.review_words.specs.declared.reply.Refusal.TheVariants.{BadFile}
 use Rattle.review_words.specs.declared.reply.Reply.{Reply}
 use Rattle.review_words.specs.declared.reply.Reply.TheVariants.{Done, Refused, IdentityReused, EpochClosed, NotTaken}
 use Rattle.review_rows.specs.Answer.{IsAnswer, IsAnswerBy, IsFaultAnswer, IsFileAnswer, refused_by}
+use Rattle.review_rows.proofs.Epochs.{IsDoneBy, done_by}
 use Rattle.review_rows.specs.Changes.{Reading, Reads, IsReadRight}
 use Rattle.review_rows.specs.Files.{File, IsRead}
-<<<<<<< ours
 use Rattle.review_deliveries.specs.Replies.{IsTold, history_after}
-use Rattle.review_deliveries.proofs.Histories.{answer_given_by, told_where}
-use Rattle.review_deliveries.proofs.Served.{new_history, same_history}
-||||||| base
-use Rattle.review_deliveries.specs.Replies.{IsTold, IsToldOfStored, entry_of, history_after}
-use Rattle.review_deliveries.proofs.Histories.{answer_given_by}
-use Rattle.review_deliveries.proofs.Served.{new_history, same_history}
-use Rattle.review_deliveries.proofs.Voted.{not_fault}
-=======
-use Rattle.review_rows.proofs.Epochs.{IsDoneBy, done_by}
-use Rattle.review_deliveries.specs.Replies.{IsTold, IsToldOfStored, entry_of, history_after}
 use Rattle.review_deliveries.proofs.Histories.{answer_given_in, told_where}
 use Rattle.review_deliveries.proofs.Served.{new_history, same_history, closed_history}
-use Rattle.review_deliveries.proofs.Voted.{not_fault}
->>>>>>> epochs
 
 -- something is read of each text that was put, which is right
 abbrev pub HasReading : List Entry → Type 0
@@ -100,24 +88,11 @@ pub read_on : (h : List Entry) (d : Delivery) (reply : Reply) → HasReading h �
 read_on h (Read caller query) reply reading told = reading
 read_on h (Write caller epoch id command) reply reading told = at (is_closed h epoch) (stored h (record { caller = caller; epoch = epoch; id = id })) refl refl
   where
-<<<<<<< ours
-    at : (o : Option Entry) → stored h (record { caller = caller; id = id }) ≡ o → HasReading (history_after h (Write caller id command ∷ []) (reply ∷ []))
-    at (Some e) some = subst HasReading (sym (same_history h caller id command reply e some)) reading
-    at None none =
-        let answer : IsAnswer h caller command reply = told_where h caller id command reply None none told in
-||||||| base
-    at : (o : Option Entry) → stored h (record { caller = caller; id = id }) ≡ o → HasReading (history_after h (Write caller id command ∷ []) (reply ∷ []))
-    at (Some e) some = subst HasReading (sym (same_history h caller id command reply e some)) reading
-    at None none =
-        let answer : IsAnswer h caller command reply =
-        subst (λ o. MatchOption o (IsAnswer h caller command reply) (λ e. IsToldOfStored e command reply)) none told in
-=======
     at : (b : Bool) (o : Option Entry) → is_closed h epoch ≡ b → stored h (record { caller = caller; epoch = epoch; id = id }) ≡ o → HasReading (history_after h (Write caller epoch id command ∷ []) (reply ∷ []))
     at true o closed is = subst HasReading (sym (closed_history h caller epoch id command reply closed)) reading
     at false (Some e) opened some = subst HasReading (sym (same_history h caller epoch id command reply e some)) reading
     at false None opened none =
         let answer : IsAnswer h caller epoch command reply = told_where h caller epoch id command reply false None opened none told in
->>>>>>> epochs
         let by = answer reading.0 reading.1 in
         subst HasReading (sym (new_history h caller epoch id command reply (answer_given_in reading.0 h caller epoch command reply by) (none, opened)))
         (read_more h caller epoch id command reply reading.0 reading.1 (done_by reading.0 h caller epoch command reply by))

@@ -113,29 +113,6 @@ stands g h more caller epoch id command r hist is opened a = at (stored g (recor
 
     at : (o : Option Entry) → stored g (record { caller = caller; epoch = epoch; id = id }) ≡ o → (e : Entry) × (stored h (record { caller = caller; epoch = epoch; id = id }) ≡ Some e) × IsToldOfStored e command r
     at None none =
-<<<<<<< ours
-        let e : Entry = entry_of caller id command r in
-        let answered = told_where g caller id command r None none a in
-        let past : IsHistory (history_after g (Write caller id command ∷ []) (r ∷ [])) = earlier more (history_after g (Write caller id command ∷ []) (r ∷ [])) (subst IsHistory is hist) in
-        let kept : IsDoneOrRefused r = answer_given g caller command r (began g (Write caller id command ∷ []) (r ∷ []) past) answered in
-        let some = there e (ap (λ x. stored x (record { caller = caller; id = id })) (new_history g caller id command r kept none)
-        ∙ stored_here e g (record { caller = caller; id = id }) (same_to (record { caller = caller; id = id }) (record { caller = caller; id = id }) refl)) in
-        (sym ((told_where h caller id command s (Some e) some b).equal refl), same_history h caller id command s e some)
-    at (Some e) old =
-        let some = there e (ap (λ x. stored x (record { caller = caller; id = id })) (same_history g caller id command r e old) ∙ old) in
-        (one_repeat e command r s (told_where g caller id command r (Some e) old a) (told_where h caller id command s (Some e) some b), same_history h caller id command s e some)
-||||||| base
-        let e : Entry = entry_of caller id command r in
-        let answered = told_at g caller id command r None none a in
-        let past : IsHistory (history_after g (Write caller id command ∷ []) (r ∷ [])) = earlier more (history_after g (Write caller id command ∷ []) (r ∷ [])) (subst IsHistory is hist) in
-        let kept : IsDoneOrRefused r = answer_given g caller command r (began g (Write caller id command ∷ []) (r ∷ []) past) answered in
-        let some = there e (ap (λ x. stored x (record { caller = caller; id = id })) (new_history g caller id command r kept none)
-        ∙ stored_here e g (record { caller = caller; id = id }) (same_to (record { caller = caller; id = id }) (record { caller = caller; id = id }) refl)) in
-        (sym ((told_at h caller id command s (Some e) some b).equal refl), same_history h caller id command s e some)
-    at (Some e) old =
-        let some = there e (ap (λ x. stored x (record { caller = caller; id = id })) (same_history g caller id command r e old) ∙ old) in
-        (one_repeat e command r s (told_at g caller id command r (Some e) old a) (told_at h caller id command s (Some e) some b), same_history h caller id command s e some)
-=======
         let e : Entry = entry_of caller epoch id command r in
         let answered = told_where g caller epoch id command r false None opened none a in
         let past : IsHistory (history_after g (Write caller epoch id command ∷ []) (r ∷ [])) = earlier more (history_after g (Write caller epoch id command ∷ []) (r ∷ [])) (subst IsHistory is hist) in
@@ -169,7 +146,6 @@ again g h more (Write caller epoch id command) r s hist is a b = at (is_closed h
         let e = stands g h more caller epoch id command r hist is (open_then opened) a in
         let told = told_where h caller epoch id command s false (Some e.0) opened e.1 b in
         (one_repeat e.0 command s r told e.2 ∙ sym (ap (λ x. cond x EpochClosed r) opened), same_history h caller epoch id command s e.0 e.1)
->>>>>>> epochs
 
 restart_told : OneStanding → (h0 h : List Entry) (ds1 ds2 : List Delivery) (rs1 rs2 ss : List Reply) →
     IsHistory h → h ≡ history_after h0 ds1 rs1 → length rs1 ≡ length ds1 → AreSettled ds2 → AreTold h0 (ds1 ++ ds2) (rs1 ++ rs2) → AreTold h (ds1 ++ ds2) ss →
@@ -265,47 +241,11 @@ told_by : (g h more : List Entry) (d : Delivery) (r : Reply) → IsHistory h →
 told_by g h more (Read caller query) r hist is a = tt
 told_by g h more (Write caller epoch id command) r hist is a = at (is_closed g epoch) refl
   where
-<<<<<<< ours
-    stays : (e : Entry) → stored (history_after g (Write caller id command ∷ []) (r ∷ [])) (record { caller = caller; id = id }) ≡ Some e → IsToldOfStored e command r → IsToldBy h (Write caller id command) r
-    stays e some told =
-        let there : stored h (record { caller = caller; id = id }) ≡ Some e =
-        subst (λ x. stored x (record { caller = caller; id = id }) ≡ Some e) (sym is)
-        (stored_stays more (history_after g (Write caller id command ∷ []) (r ∷ [])) (record { caller = caller; id = id }) e (subst IsHistory is hist) some) in
-        subst (λ o. MatchOption o ⊥ (λ e. IsToldOfStored e command r)) (sym there) told
-
-    at : (o : Option Entry) → stored g (record { caller = caller; id = id }) ≡ o → IsToldBy h (Write caller id command) r
-    at None none =
-        let e : Entry = entry_of caller id command r in
-        let past : IsHistory (history_after g (Write caller id command ∷ []) (r ∷ [])) = earlier more (history_after g (Write caller id command ∷ []) (r ∷ [])) (subst IsHistory is hist) in
-        let kept : IsDoneOrRefused r = answer_given g caller command r (began g (Write caller id command ∷ []) (r ∷ []) past) (told_where g caller id command r None none a) in
-        stays e (ap (λ x. stored x (record { caller = caller; id = id })) (new_history g caller id command r kept none)
-        ∙ stored_here e g (record { caller = caller; id = id }) (same_to (record { caller = caller; id = id }) (record { caller = caller; id = id }) refl))
-        (record { equal = λ _. refl; other = λ n. absurd (n refl) })
-    at (Some e) old = stays e (ap (λ x. stored x (record { caller = caller; id = id })) (same_history g caller id command r e old) ∙ old) (told_where g caller id command r (Some e) old a)
-||||||| base
-    stays : (e : Entry) → stored (history_after g (Write caller id command ∷ []) (r ∷ [])) (record { caller = caller; id = id }) ≡ Some e → IsToldOfStored e command r → IsToldBy h (Write caller id command) r
-    stays e some told =
-        let there : stored h (record { caller = caller; id = id }) ≡ Some e =
-        subst (λ x. stored x (record { caller = caller; id = id }) ≡ Some e) (sym is)
-        (stored_stays more (history_after g (Write caller id command ∷ []) (r ∷ [])) (record { caller = caller; id = id }) e (subst IsHistory is hist) some) in
-        subst (λ o. MatchOption o ⊥ (λ e. IsToldOfStored e command r)) (sym there) told
-
-    at : (o : Option Entry) → stored g (record { caller = caller; id = id }) ≡ o → IsToldBy h (Write caller id command) r
-    at None none =
-        let e : Entry = entry_of caller id command r in
-        let past : IsHistory (history_after g (Write caller id command ∷ []) (r ∷ [])) = earlier more (history_after g (Write caller id command ∷ []) (r ∷ [])) (subst IsHistory is hist) in
-        let kept : IsDoneOrRefused r = answer_given g caller command r (began g (Write caller id command ∷ []) (r ∷ []) past) (told_at g caller id command r None none a) in
-        stays e (ap (λ x. stored x (record { caller = caller; id = id })) (new_history g caller id command r kept none)
-        ∙ stored_here e g (record { caller = caller; id = id }) (same_to (record { caller = caller; id = id }) (record { caller = caller; id = id }) refl))
-        (record { equal = λ _. refl; other = λ n. absurd (n refl) })
-    at (Some e) old = stays e (ap (λ x. stored x (record { caller = caller; id = id })) (same_history g caller id command r e old) ∙ old) (told_at g caller id command r (Some e) old a)
-=======
     at : (c : Bool) → is_closed g epoch ≡ c → IsToldBy h (Write caller epoch id command) r
     at true closed = inl (told_where g caller epoch id command r true (stored g (record { caller = caller; epoch = epoch; id = id })) closed refl a)
     at false opened =
         let e = stands g h more caller epoch id command r hist is opened a in
         inr (subst (λ o. MatchOption o ⊥ (λ e. IsToldOfStored e command r)) (sym e.1) e.2)
->>>>>>> epochs
 
 all_told_by : (g h : List Entry) (ds : List Delivery) (rs : List Reply) → IsHistory h → h ≡ history_after g ds rs → AreTold g ds rs → AreToldBy h ds rs
 all_told_by g h [] rs hist is a = tt
@@ -483,26 +423,11 @@ effect_told : (g : List Entry) (d : Delivery) (t : Tables) → HasEffect g d t �
 effect_told g (Read caller query) t effect = absurd effect
 effect_told g (Write caller epoch id command) t effect =
     let r = effect.0 in
-<<<<<<< ours
-    let none : IsFirst g (record { caller = caller; id = id }) = effect.1.0 in
-    let answer : IsAnswer g caller command r = effect.1.1 in
-    let kept : IsDoneOrRefused r = answer_given g caller command r effect.1.3 answer in
-    let now : history_after g (Write caller id command ∷ []) (r ∷ []) ≡ entry_of caller id command r ∷ g = new_history g caller id command r kept none in
-    let told : IsTold g (Write caller id command) r = where_told g caller id command r None none answer in
-||||||| base
-    let none : stored g (record { caller = caller; id = id }) ≡ None = effect.1.0 in
-    let answer : IsAnswer g caller command r = effect.1.1 in
-    let kept : IsDoneOrRefused r = answer_given g caller command r effect.1.3 answer in
-    let now : history_after g (Write caller id command ∷ []) (r ∷ []) ≡ entry_of caller id command r ∷ g = new_history g caller id command r kept none in
-    let told : IsTold g (Write caller id command) r =
-    subst (λ (o : Option Entry). MatchOption o (IsAnswer g caller command r) (λ e. IsToldOfStored e command r)) (sym none) answer in
-=======
     let new : IsFirst g (record { caller = caller; epoch = epoch; id = id }) = effect.1.0 in
     let answer : IsAnswer g caller epoch command r = effect.1.1 in
     let kept : IsDoneOrRefused r = answer_given g caller epoch command r effect.1.3 answer in
     let now : history_after g (Write caller epoch id command ∷ []) (r ∷ []) ≡ entry_of caller epoch id command r ∷ g = new_history g caller epoch id command r kept new in
     let told : IsTold g (Write caller epoch id command) r = where_told g caller epoch id command r false None new.1 new.0 answer in
->>>>>>> epochs
     let P : List Entry → Type 0 = λ h. IsHistory h × IsView h t in
     let made : P (history_after g (Write caller epoch id command ∷ []) (r ∷ [])) = subst P (sym now) (effect.1, effect.2) in
     (r, answer_taken r kept, told, made.0, made.1)

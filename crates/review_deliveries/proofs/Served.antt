@@ -24,7 +24,7 @@ use Rattle.review_rows.specs.Rows.{AnswerRow, Answered, Tables, ClosedEpochs}
 use Rattle.review_rows.specs.Steps.{OfCommand, OfQuery}
 use Rattle.review_rows.specs.Answer.{IsHistory, IsFirst, IsAnswer, most_requests}
 use Rattle.review_rows.specs.Questions.{IsQueryAnswer, IsQueryAnswerBy}
-use Rattle.review_rows.specs.View.{AreEnough, IsView, IsDecidedIn, answer_row}
+use Rattle.review_rows.specs.View.{AreEnough, IsView, IsDecidedAt, answer_row}
 use Rattle.review_rows.specs.Shelf.{Answers, IsCommitted, Shown, Shows, Views, LeavesBy, StopLeavesOwnTables, AddsNoStop, IsCounted, Blames, cause_of, IsClosedIn}
 use Rattle.review_rows.specs.Decisions.{IsUndecided, IsUnshown, IsDoneOrRefused, RestsOn}
 use Rattle.review_rows.specs.Changes.{Reading, Reads}
@@ -35,46 +35,7 @@ use Rattle.review_deliveries.specs.Gathered.{IsAllAsked, IsUngathered}
 use Rattle.review_deliveries.specs.Replies.{history_after, has_identity, with_entries as hist, IsRight, IsTold, IsToldOfStored, IsServed, IsToldAgain, IsLawful, reply_of, IsNew, HasEffect, StopGoesOnFrom, StopHasEntry, IsEntered, GoesOn, KeepsUntaken, CountsReply}
 use Rattle.review_deliveries.proofs.Patterns.{reads_pattern}
 use Rattle.review_deliveries.proofs.Resting.{rests_on}
-<<<<<<< ours
-use Rattle.review_deliveries.proofs.Histories.{told_where, where_told, latest_follows, recalled, not_recalled, view_grows, answer_given, stored_given, enough_shown, stored_stays, stored_here, same_to}
-
--- a new identity adds its entry, and an old one nothing
-pub new_history : (h : List Entry) (caller : ℕ) (id : List ℕ) (command : Command) (reply : Reply) → IsDoneOrRefused reply → IsFirst h (record { caller = caller; id = id }) →
-    history_after h (Write caller id command ∷ []) (reply ∷ []) ≡ entry_of caller id command reply ∷ h
-new_history h caller id command (Done a) s none =
-    let e : Entry = entry_of caller id command (Done a) in
-    ap (λ o. hist h (cond (is_some o || false) [] (e ∷ []))) none
-new_history h caller id command (Refused a) s none =
-    let e : Entry = entry_of caller id command (Refused a) in
-    ap (λ o. hist h (cond (is_some o || false) [] (e ∷ []))) none
-new_history h caller id command IdentityReused s none = absurd s
-new_history h caller id command (NotTaken c) s none = absurd s
-
-pub same_history : (h : List Entry) (caller : ℕ) (id : List ℕ) (command : Command) (reply : Reply) (old : Entry) → stored h (record { caller = caller; id = id }) ≡ Some old →
-    history_after h (Write caller id command ∷ []) (reply ∷ []) ≡ h
-same_history h caller id command (Done a) old some =
-    let e : Entry = entry_of caller id command (Done a) in
-||||||| base
-use Rattle.review_deliveries.proofs.Histories.{recalled, not_recalled, view_grows, answer_given, stored_given, enough_shown, stored_stays, stored_here, same_to, stored_identity}
-
--- a new identity adds its entry, and an old one nothing
-pub new_history : (h : List Entry) (caller : ℕ) (id : List ℕ) (command : Command) (reply : Reply) → IsDoneOrRefused reply → stored h (record { caller = caller; id = id }) ≡ None →
-    history_after h (Write caller id command ∷ []) (reply ∷ []) ≡ entry_of caller id command reply ∷ h
-new_history h caller id command (Done a) s none =
-    let e : Entry = entry_of caller id command (Done a) in
-    ap (λ o. hist h (cond (is_some o || false) [] (e ∷ []))) none
-new_history h caller id command (Refused a) s none =
-    let e : Entry = entry_of caller id command (Refused a) in
-    ap (λ o. hist h (cond (is_some o || false) [] (e ∷ []))) none
-new_history h caller id command IdentityReused s none = absurd s
-new_history h caller id command (NotTaken c) s none = absurd s
-
-pub same_history : (h : List Entry) (caller : ℕ) (id : List ℕ) (command : Command) (reply : Reply) (old : Entry) → stored h (record { caller = caller; id = id }) ≡ Some old →
-    history_after h (Write caller id command ∷ []) (reply ∷ []) ≡ h
-same_history h caller id command (Done a) old some =
-    let e : Entry = entry_of caller id command (Done a) in
-=======
-use Rattle.review_deliveries.proofs.Histories.{answers_are, passed_over, told_where, where_told, recalled, not_recalled, view_grows, answer_given, stored_given, enough_shown, stored_stays, stored_here, same_to, stored_identity}
+use Rattle.review_deliveries.proofs.Histories.{answers_are, passed_over, told_where, where_told, latest_follows, recalled, not_recalled, view_grows, answer_given, stored_given, enough_shown, stored_stays, stored_here, same_to}
 
 -- a new identity of an open epoch adds its entry, an old one nothing, and one of a closed epoch nothing
 pub new_history : (h : List Entry) (caller epoch : ℕ) (id : List ℕ) (command : Command) (reply : Reply) → IsDoneOrRefused reply → IsFirst h (record { caller = caller; epoch = epoch; id = id }) →
@@ -93,7 +54,6 @@ pub same_history : (h : List Entry) (caller epoch : ℕ) (id : List ℕ) (comman
     history_after h (Write caller epoch id command ∷ []) (reply ∷ []) ≡ h
 same_history h caller epoch id command (Done a) old some =
     let e : Entry = entry_of caller epoch id command (Done a) in
->>>>>>> epochs
     ap (λ o. hist h (cond (is_some o || false) [] (e ∷ []))) some
 same_history h caller epoch id command (Refused a) old some =
     let e : Entry = entry_of caller epoch id command (Refused a) in
@@ -177,7 +137,7 @@ fault_served h d f old new hist v stays blame counted stops =
 
 -- what a commit of what was decided leaves has the whole effect
 pub effect : (h : List Entry) (tables : Option Tables) (new : Tables) (delta : Delta) (row : AnswerRow) (caller epoch : ℕ) (id : List ℕ) (command : Command) (reply : Reply) →
-    IsHistory h → Views h tables → IsFirst h (record { caller = caller; epoch = epoch; id = id }) → length h < most_requests → ((reading : Reading) → Reads reading h → IsDecidedIn reading h caller epoch command delta reply) →
+    IsHistory h → Views h tables → IsFirst h (record { caller = caller; epoch = epoch; id = id }) → length h < most_requests → ((reading : Reading) → Reads reading h → IsDecidedAt reading h caller epoch command delta reply) →
     row ≡ answer_row (entry_of caller epoch id command reply) (length h + 1) → Shows tables (λ was. IsCommitted was delta row new) → HasEffect h (Write caller epoch id command) new
 effect h None new delta row caller epoch id command reply hist v first room d is c = absurd c
 effect h (Some t) new delta row caller epoch id command reply hist v first room d is c =
@@ -185,7 +145,7 @@ effect h (Some t) new delta row caller epoch id command reply hist v first room 
 
 -- a first arrival that was committed
 pub first_served : (h : List Entry) (delta : Delta) (row : AnswerRow) (caller epoch : ℕ) (id : List ℕ) (command : Command) (reply : Reply) (old new : Shown) →
-    IsHistory h → Views h old.tables → IsFirst h (record { caller = caller; epoch = epoch; id = id }) → length h < most_requests → ((reading : Reading) → Reads reading h → IsDecidedIn reading h caller epoch command delta reply) →
+    IsHistory h → Views h old.tables → IsFirst h (record { caller = caller; epoch = epoch; id = id }) → length h < most_requests → ((reading : Reading) → Reads reading h → IsDecidedAt reading h caller epoch command delta reply) →
     row ≡ answer_row (entry_of caller epoch id command reply) (length h + 1) → Shows old.tables (λ t. Shows new.tables (IsCommitted t delta row)) →
     StopLeavesOwnTables new → new.faults ≡ old.faults → ((t : Tables) → new.stops t → old.stops t ⊎ HasEffect h (Write caller epoch id command) t) →
     IsServed h (Write caller epoch id command) reply old new
@@ -194,19 +154,9 @@ first_served h delta row caller epoch id command reply old new hist v first room
     let s : IsDoneOrRefused reply = answer_given h caller epoch command reply hist answer in
     let grown = new_history h caller epoch id command reply s first in
     record {
-<<<<<<< ours
-      right = right_from_told h (Write caller id command) reply old.faults new.faults (inl s)
-          (where_told h caller id command reply None none answer) same;
-      history = subst IsHistory (sym grown) (none, answer, room, hist, latest_follows h hist);
-||||||| base
-      right = right_from_told h (Write caller id command) reply old.faults new.faults (inl s)
-          (subst (λ o. MatchOption o (IsAnswer h caller command reply) (λ e. IsToldOfStored e command reply)) (sym none) answer) same;
-      history = subst IsHistory (sym grown) (none, answer, room, hist);
-=======
       right = right_from_told h (Write caller epoch id command) reply old.faults new.faults (inl s)
           (where_told h caller epoch id command reply false None first.1 first.0 answer) same;
-      history = subst IsHistory (sym grown) (first, answer, room, hist);
->>>>>>> epochs
+      history = subst IsHistory (sym grown) (first, answer, room, hist, latest_follows h hist);
       view = subst (λ x. Views x new.tables) (sym grown) (shown old.tables new.tables v c);
       stops = stops;
       alone = λ n r. alone;
@@ -223,14 +173,7 @@ old_served : (h : List Entry) (caller epoch : ℕ) (id : List ℕ) (command : Co
 old_served h caller epoch id command reply e old new hist v opened some kind told same adds =
     let stays = same_history h caller epoch id command reply e some in
     record {
-<<<<<<< ours
-      right = right_from_told h (Write caller id command) reply old.faults new.faults kind (where_told h caller id command reply (Some e) some told) same;
-||||||| base
-      right = right_from_told h (Write caller id command) reply old.faults new.faults kind
-          (subst (λ o. MatchOption o (IsAnswer h caller command reply) (λ e. IsToldOfStored e command reply)) (sym some) told) same;
-=======
       right = right_from_told h (Write caller epoch id command) reply old.faults new.faults kind (where_told h caller epoch id command reply false (Some e) opened some told) same;
->>>>>>> epochs
       history = subst IsHistory (sym stays) hist;
       view = subst (λ x. Views x new.tables) (sym stays) v;
       stops = λ t x. inl (adds t x);
@@ -269,15 +212,7 @@ repeat_served h row caller epoch id command result old new hist v there told sta
     IsFound : Type 0
     IsFound = (e : Entry) × (stored h (record { caller = caller; epoch = epoch; id = id }) ≡ Some e) × (row.content ≡ content_text e.command) × (row.reply ≡ reply_text e.reply) × IsStored e.reply × (is_closed h epoch ≡ false)
 
-<<<<<<< ours
-    found : (tables : Option Tables) → Views h tables → Shows tables (λ t. Answers t (record { caller = caller; id = id }) (Some (Answered row))) →
-        (e : Entry) × (stored h (record { caller = caller; id = id }) ≡ Some e) × (row.content ≡ content_text e.command) × (row.reply ≡ reply_text e.reply) × IsStored e.reply
-||||||| base
-    found : (tables : Option Tables) → Views h tables → Shows tables (λ t. t.answer (record { caller = caller; id = id }) ≡ Some (Answered row)) →
-        (e : Entry) × (stored h (record { caller = caller; id = id }) ≡ Some e) × (row.content ≡ content_text e.command) × (row.reply ≡ reply_text e.reply) × IsStored e.reply
-=======
     found : (tables : Option Tables) → Views h tables → Shows tables (λ t. Answers t (record { caller = caller; epoch = epoch; id = id }) (Some (Answered row))) → IsFound
->>>>>>> epochs
     found None v there = absurd there
     found (Some t) v there =
         let r = reading_of h hist in
@@ -304,31 +239,6 @@ grows_or_stays : (h : List Entry) (d : Delivery) (reply : Reply) (before after :
 grows_or_stays h (Read caller query) reply before after history right = inr refl
 grows_or_stays h (Write caller epoch id command) reply before after history right = at (is_closed h epoch) (stored h (record { caller = caller; epoch = epoch; id = id })) refl refl reply right
   where
-<<<<<<< ours
-    kept : IsFirst h (record { caller = caller; id = id }) → (reply : Reply) → IsTold h (Write caller id command) reply → IsDoneOrRefused reply
-    kept none reply told =
-        answer_given h caller command reply history (told_where h caller id command reply None none told)
-
-    at : (o : Option Entry) → stored h (record { caller = caller; id = id }) ≡ o → (reply : Reply) → IsRight h (Write caller id command) reply before after →
-        (IsFirst h (record { caller = caller; id = id }) × IsDoneOrRefused reply) ⊎ (history_after h (Write caller id command ∷ []) (reply ∷ []) ≡ h)
-    at (Some e) some reply right = inr (same_history h caller id command reply e some)
-    at None none (Done a) right = inl (none, kept none (Done a) right.0)
-    at None none (Refused r) right = inl (none, kept none (Refused r) right.0)
-    at None none (NotTaken c) right = inr refl
-    at None none IdentityReused right = absurd (kept none IdentityReused right.0)
-||||||| base
-    kept : stored h (record { caller = caller; id = id }) ≡ None → (reply : Reply) → IsTold h (Write caller id command) reply → IsDoneOrRefused reply
-    kept none reply told =
-        answer_given h caller command reply history (subst (λ o. MatchOption o (IsAnswer h caller command reply) (λ e. IsToldOfStored e command reply)) none told)
-
-    at : (o : Option Entry) → stored h (record { caller = caller; id = id }) ≡ o → (reply : Reply) → IsRight h (Write caller id command) reply before after →
-        ((stored h (record { caller = caller; id = id }) ≡ None) × IsDoneOrRefused reply) ⊎ (history_after h (Write caller id command ∷ []) (reply ∷ []) ≡ h)
-    at (Some e) some reply right = inr (same_history h caller id command reply e some)
-    at None none (Done a) right = inl (none, kept none (Done a) right.0)
-    at None none (Refused r) right = inl (none, kept none (Refused r) right.0)
-    at None none (NotTaken c) right = inr refl
-    at None none IdentityReused right = absurd (kept none IdentityReused right.0)
-=======
     at : (b : Bool) (o : Option Entry) → is_closed h epoch ≡ b → stored h (record { caller = caller; epoch = epoch; id = id }) ≡ o → (reply : Reply) → IsRight h (Write caller epoch id command) reply before after →
         (IsFirst h (record { caller = caller; epoch = epoch; id = id }) × IsDoneOrRefused reply) ⊎ (history_after h (Write caller epoch id command ∷ []) (reply ∷ []) ≡ h)
     at true o closed is reply right = inr (closed_history h caller epoch id command reply closed)
@@ -340,7 +250,6 @@ grows_or_stays h (Write caller epoch id command) reply before after history righ
         absurd (answer_given h caller epoch command IdentityReused history (told_where h caller epoch id command IdentityReused false None opened none right.0))
     at false None opened none EpochClosed right =
         absurd (answer_given h caller epoch command EpochClosed history (told_where h caller epoch id command EpochClosed false None opened none right.0))
->>>>>>> epochs
 
 effect_goes_on : (h : List Entry) (d : Delivery) (t : Tables) → HasEffect h d t → GoesOn h t
 effect_goes_on h (Read caller query) t e = absurd e
@@ -388,45 +297,20 @@ entered : (h : List Entry) (d : Delivery) (reply : Reply) (old new : Shown) → 
 entered h (Read caller query) reply old new s r = tt
 entered h (Write caller epoch id command) reply old new s r = at (is_closed h epoch) (stored h (record { caller = caller; epoch = epoch; id = id })) refl refl
   where
-<<<<<<< ours
-    at : (o : Option Entry) → stored h (record { caller = caller; id = id }) ≡ o → IsEntered (Write caller id command) reply (history_after h (Write caller id command ∷ []) (reply ∷ []))
-    at None none =
-        subst (IsEntered (Write caller id command) reply) (sym (new_history h caller id command reply r none))
-        (entry_of caller id command reply, stored_here (entry_of caller id command reply) h (record { caller = caller; id = id }) (same_to (record { caller = caller; id = id }) (record { caller = caller; id = id }) refl), refl, refl)
-    at (Some e) some =
-        let told = told_where h caller id command reply (Some e) some (told_of h (Write caller id command) reply old.faults new.faults r s.right) in
-        subst (IsEntered (Write caller id command) reply) (sym (same_history h caller id command reply e some))
-        (let same = repeat_is e command reply r told in (e, some, same.0, same.1))
-||||||| base
-    at : (o : Option Entry) → stored h (record { caller = caller; id = id }) ≡ o → IsEntered (Write caller id command) reply (history_after h (Write caller id command ∷ []) (reply ∷ []))
-    at None none =
-        subst (IsEntered (Write caller id command) reply) (sym (new_history h caller id command reply r none))
-        (stored_here (entry_of caller id command reply) h (record { caller = caller; id = id }) (same_to (record { caller = caller; id = id }) (record { caller = caller; id = id }) refl))
-    at (Some e) some =
-        let told = subst (λ o. MatchOption o (IsAnswer h caller command reply) (λ e. IsToldOfStored e command reply)) some (told_of h (Write caller id command) reply old.faults new.faults r s.right) in
-        subst (IsEntered (Write caller id command) reply) (sym (same_history h caller id command reply e some))
-        (some ∙ ap Some (repeat_is (record { caller = caller; id = id }) e command reply r (stored_identity h (record { caller = caller; id = id }) e some) told))
-=======
     at : (b : Bool) (o : Option Entry) → is_closed h epoch ≡ b → stored h (record { caller = caller; epoch = epoch; id = id }) ≡ o → IsEntered (Write caller epoch id command) reply (history_after h (Write caller epoch id command ∷ []) (reply ∷ []))
     at true o closed is = absurd (subst IsDoneOrRefused (told_where h caller epoch id command reply true o closed is (told_of h (Write caller epoch id command) reply old.faults new.faults r s.right)) r)
     at false None opened none =
         subst (IsEntered (Write caller epoch id command) reply) (sym (new_history h caller epoch id command reply r (none, opened)))
-        (stored_here (entry_of caller epoch id command reply) h (record { caller = caller; epoch = epoch; id = id }) (same_to (record { caller = caller; epoch = epoch; id = id }) (record { caller = caller; epoch = epoch; id = id }) refl))
+        (entry_of caller epoch id command reply,
+        stored_here (entry_of caller epoch id command reply) h (record { caller = caller; epoch = epoch; id = id }) (same_to (record { caller = caller; epoch = epoch; id = id }) (record { caller = caller; epoch = epoch; id = id }) refl), refl, refl)
     at false (Some e) opened some =
         let told = told_where h caller epoch id command reply false (Some e) opened some (told_of h (Write caller epoch id command) reply old.faults new.faults r s.right) in
         subst (IsEntered (Write caller epoch id command) reply) (sym (same_history h caller epoch id command reply e some))
-        (some ∙ ap Some (repeat_is (record { caller = caller; epoch = epoch; id = id }) e command reply r (stored_identity h (record { caller = caller; epoch = epoch; id = id }) e some) told))
->>>>>>> epochs
+        (let same = repeat_is e command reply r told in (e, some, same.0, same.1))
 
 entered_stays : (more h : List Entry) (d : Delivery) (reply : Reply) → IsHistory (more ++ h) → IsEntered d reply h → IsEntered d reply (more ++ h)
 entered_stays more h (Read caller query) reply hist e = tt
-<<<<<<< ours
-entered_stays more h (Write caller id command) reply hist is = (is.0, stored_stays more h (record { caller = caller; id = id }) is.0 hist is.1, is.2, is.3)
-||||||| base
-entered_stays more h (Write caller id command) reply hist e = stored_stays more h (record { caller = caller; id = id }) (entry_of caller id command reply) hist e
-=======
-entered_stays more h (Write caller epoch id command) reply hist e = stored_stays more h (record { caller = caller; epoch = epoch; id = id }) (entry_of caller epoch id command reply) hist e
->>>>>>> epochs
+entered_stays more h (Write caller epoch id command) reply hist is = (is.0, stored_stays more h (record { caller = caller; epoch = epoch; id = id }) is.0 hist is.1, is.2, is.3)
 
 pub leaves_entered : (h : List Entry) (d : Delivery) (reply : Reply) (old new : Shown) → IsHistory h → IsServed h d reply old new → StopGoesOnFrom h old → StopHasEntry d reply new
 leaves_entered h d reply old new history s since r t x =

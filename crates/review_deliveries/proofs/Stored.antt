@@ -36,7 +36,7 @@ use Rattle.review_changes.specs.Facts.{AreStanding, IsFirstUnsatisfied, is_unsat
 use Rattle.review_changes.specs.Status.{status_of}
 use Rattle.review_changes.specs.Change.{Change, Setting, current, said}
 use Rattle.review_change_laws.proofs.Sound.{Passes, all_pass, later_pass}
-use Rattle.review_rows.specs.Answer.{IsHistory, IsAnswer, IsAnswerBy, IsAnswerWithoutParents, IsOutcome, IsOf, IsRequestOutcome, IsUploadAnswer, checks, comment_numbers, file_checks, first_refusal, given_checks, numbers_after, of_change, puts_parent, refused_by, refused_or, request_checks, review_checks, submit_checks, upload_checks, IsAnswerIn, epoch_checks}
+use Rattle.review_rows.specs.Answer.{IsHistory, IsAnswer, IsAnswerBy, IsAnswerWithoutParents, IsOutcome, IsOf, IsRequestOutcome, IsUploadAnswer, checks, comment_numbers, file_checks, first_refusal, given_checks, numbers_after, of_change, puts_parent, refused_by, refused_or, request_checks, review_checks, submit_checks, upload_checks, IsAnswerAt, epoch_checks}
 use Rattle.review_ancestors.proofs.Effective.{line_read}
 use Rattle.review_rows.specs.Changes.{Reading, Reads, change, change_count, file_of, setting_of, texts_of}
 use Rattle.review_rows.specs.Lines.{most_depth}
@@ -243,7 +243,7 @@ answer_stored_by reading h caller command reply history reads is = at (refused_b
     at None none is = outcome_stored reading h caller command reply history reads (all_pass ((is_account h caller, UnknownCaller) ∷ checks reading h caller command) none).1 is
     at (Some r) some is = subst IsStored (sym is) (first_stored ((is_account h caller, UnknownCaller) ∷ checks reading h caller command) r (tt, checks_stored reading h caller command) some)
 
-answer_stored_in : (reading : Reading) (h : List Entry) (caller epoch : ℕ) (command : Command) (reply : Reply) → IsHistory h → Reads reading h → IsAnswerIn reading h caller epoch command reply → IsStored reply
+answer_stored_in : (reading : Reading) (h : List Entry) (caller epoch : ℕ) (command : Command) (reply : Reply) → IsHistory h → Reads reading h → IsAnswerAt reading h caller epoch command reply → IsStored reply
 answer_stored_in reading h caller epoch (CreateAccount name) reply history reads is = answer_stored_by reading h caller (CreateAccount name) reply history reads is
 answer_stored_in reading h caller epoch (PutGroup group members) reply history reads is = answer_stored_by reading h caller (PutGroup group members) reply history reads is
 answer_stored_in reading h caller epoch (PutProject project text) reply history reads is = answer_stored_by reading h caller (PutProject project text) reply history reads is
@@ -275,6 +275,6 @@ old_stored h caller command reply history is = let r = reading_of h history in a
 pub entry_stored : (e : Entry) (h : List Entry) → IsHistory (e ∷ h) → IsStored e.reply
 entry_stored e h history = by (nat_lt e.version 2 && puts_parent e.command) history.1
   where
-    by : (b : Bool) → MatchBool b (IsAnswerWithoutParents h e.identity.caller e.command e.reply) (IsAnswer h e.identity.caller e.command e.reply) → IsStored e.reply
+    by : (b : Bool) → MatchBool b (IsAnswerWithoutParents h e.identity.caller e.command e.reply) (IsAnswer h e.identity.caller e.identity.epoch e.command e.reply) → IsStored e.reply
     by true is = old_stored h e.identity.caller e.command e.reply history.3 is
-    by false is = answer_stored h e.identity.caller e.command e.reply history.3 is
+    by false is = answer_stored h e.identity.caller e.identity.epoch e.command e.reply history.3 is

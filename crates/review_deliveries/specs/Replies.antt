@@ -9,27 +9,13 @@ use Rattle.review_words.specs.declared.reply.NotTaken.{NotTaken as Cause}
 use Rattle.review_words.specs.declared.reply.NotTaken.TheVariants.{Memory, Store, Damaged, Pattern, Full}
 use Rattle.review_words.specs.History.{Entry, Identity, IsFirst, entry_of, stored, is_same, latest, is_closed, if_done}
 use Rattle.review_words.specs.Texts.{content_text, reply_text, IsStored}
-use Rattle.review_rows.specs.Answer.{IsHistory, IsFirst, IsAnswer, most_requests}
+use Rattle.review_rows.specs.Answer.{IsHistory, IsAnswer, most_requests}
 use Rattle.review_rows.specs.Questions.{IsQueryAnswer}
 use Rattle.review_rows.specs.Rows.{Key, Count, Tables, AnswerRow, Answered, is_below, closing}
 use Rattle.review_rows.specs.View.{IsView, answer_row}
 use Rattle.review_rows.specs.Changes.{Reading, Reads}
 use Rattle.review_rows.specs.Decisions.{HasPatternIn, ReadsPattern, IsDoneOrRefused, asking_project}
-<<<<<<< ours
-use Rattle.review_rows.specs.Shelf.{greatest_count, Shown, Shows, Views, LeavesBy, Answers, StopLeavesOwnTables}
-||||||| base
-use Rattle.review_rows.specs.Shelf.{greatest_count, Shown, Shows, Views, LeavesBy, StopLeavesOwnTables}
-
--- a delivery that was taken, as an entry
-abbrev pub entry_of : ℕ → List ℕ → Command → Reply → Entry
-entry_of caller id command reply = record { identity = record { caller = caller; id = id }; command = command; reply = reply }
-=======
 use Rattle.review_rows.specs.Shelf.{greatest_count, Shown, Shows, Views, LeavesBy, StopLeavesOwnTables, Answers, IsClosedIn}
-
--- a delivery that was taken, as an entry
-abbrev pub entry_of : ℕ → ℕ → List ℕ → Command → Reply → Entry
-entry_of caller epoch id command reply = record { identity = record { caller = caller; epoch = epoch; id = id }; command = command; reply = reply }
->>>>>>> epochs
 
 -- these entries with that of a write in front, where it was taken
 abbrev pub with_write : Reply → Entry → List Entry → List Entry
@@ -78,16 +64,8 @@ abbrev pub IsLawful : List Entry → Delivery → Cause → ℕ → ℕ → Type
 IsLawful h d Memory before after = after ≡ before
 IsLawful h d Store before after = (before < after) ⊎ ((before ≡ greatest_count) × (after ≡ before))
 IsLawful h d Damaged before after = ⊥
-<<<<<<< ours
-IsLawful h (Write caller id command) Pattern before after = IsFirst h (record { caller = caller; id = id }) × ((reading : Reading) → Reads reading h → ReadsPattern reading h command) × (after ≡ before)
-IsLawful h (Write caller id command) Full before after = IsFirst h (record { caller = caller; id = id }) × (length h ≡ most_requests) × (after ≡ before)
-||||||| base
-IsLawful h (Write caller id command) Pattern before after = (stored h (record { caller = caller; id = id }) ≡ None) × ((reading : Reading) → Reads reading h → ReadsPattern reading h command) × (after ≡ before)
-IsLawful h (Write caller id command) Full before after = (stored h (record { caller = caller; id = id }) ≡ None) × (length h ≡ most_requests) × (after ≡ before)
-=======
 IsLawful h (Write caller epoch id command) Pattern before after = IsFirst h (record { caller = caller; epoch = epoch; id = id }) × ((reading : Reading) → Reads reading h → ReadsPattern reading h command) × (after ≡ before)
 IsLawful h (Write caller epoch id command) Full before after = IsFirst h (record { caller = caller; epoch = epoch; id = id }) × (length h ≡ most_requests) × (after ≡ before)
->>>>>>> epochs
 IsLawful h (Read caller query) Pattern before after = ((reading : Reading) → Reads reading h → HasPatternIn h (asking_project reading h query)) × (after ≡ before)
 IsLawful h (Read caller query) Full before after = ⊥
 
@@ -95,11 +73,6 @@ IsLawful h (Read caller query) Full before after = ⊥
 pub record IsToldOfStored (e : Entry) (command : Command) (reply : Reply) : Type 0 where
   pub equal : command ≡ e.command → reply ≡ e.reply
   pub other : (command ≡ e.command → ⊥) → reply ≡ IdentityReused
-
--- what a write is told, by the entry that has its identity: where there is none, the answer to its command
-abbrev pub IsToldWhere : Option Entry → List Entry → ℕ → Command → Reply → Type 0
-IsToldWhere None h caller command reply = IsAnswer h caller command reply
-IsToldWhere (Some e) h caller command reply = IsToldOfStored e command reply
 
 -- what a write is told, by whether its epoch is closed and what is stored under its identity
 abbrev pub IsToldWhere : Bool → Option Entry → List Entry → ℕ → ℕ → Command → Reply → Type 0
@@ -109,13 +82,7 @@ IsToldWhere false (Some e) h caller epoch command reply = IsToldOfStored e comma
 
 -- what a delivery is told after the history
 abbrev pub IsTold : List Entry → Delivery → Reply → Type 0
-<<<<<<< ours
-IsTold h (Write caller id command) reply = IsToldWhere (stored h (record { caller = caller; id = id })) h caller command reply
-||||||| base
-IsTold h (Write caller id command) reply = MatchOption (stored h (record { caller = caller; id = id })) (IsAnswer h caller command reply) (λ e. IsToldOfStored e command reply)
-=======
 IsTold h (Write caller epoch id command) reply = IsToldWhere (is_closed h epoch) (stored h (record { caller = caller; epoch = epoch; id = id })) h caller epoch command reply
->>>>>>> epochs
 IsTold h (Read caller query) reply = IsQueryAnswer h caller query reply
 
 -- the right reply after the history
@@ -167,13 +134,7 @@ StopGoesOnFrom h s = (t : Tables) → s.stops t → GoesOn h t
 
 -- the write is an entry, with this reply, whatever version's rules gave it
 abbrev pub IsEntered : Delivery → Reply → List Entry → Type 0
-<<<<<<< ours
-IsEntered (Write caller id command) reply h = (e : Entry) × (stored h (record { caller = caller; id = id }) ≡ Some e) × (e.command ≡ command) × (e.reply ≡ reply)
-||||||| base
-IsEntered (Write caller id command) reply h = stored h (record { caller = caller; id = id }) ≡ Some (entry_of caller id command reply)
-=======
-IsEntered (Write caller epoch id command) reply h = stored h (record { caller = caller; epoch = epoch; id = id }) ≡ Some (entry_of caller epoch id command reply)
->>>>>>> epochs
+IsEntered (Write caller epoch id command) reply h = (e : Entry) × (stored h (record { caller = caller; epoch = epoch; id = id }) ≡ Some e) × (e.command ≡ command) × (e.reply ≡ reply)
 IsEntered (Read caller query) reply h = Unit {0}
 
 -- once it was answered, a stop leaves only tables of histories that have the write

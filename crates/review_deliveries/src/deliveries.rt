@@ -12,7 +12,7 @@ ghost use Rattle.review_rows.specs.Known.{known, number_of};
 ghost use Rattle.review_rows.specs.Rows.{HasNoEffect, Tables, closing, is_below, kept_row};
 ghost use Rattle.review_rows.specs.Shelf.{Answers, BlamesTables, CountsFaults, IsCommitted, LeavesUndone, Shows, StopLeavesOwnTables, Views};
 ghost use Rattle.review_rows.specs.Steps.{OfCommand};
-ghost use Rattle.review_rows.specs.View.{AreEnough, IsDecidedIn};
+ghost use Rattle.review_rows.specs.View.{AreEnough, IsDecidedAt};
 ghost use Rattle.review_deliveries.specs.Delivered.{IsDelivered};
 ghost use Rattle.review_deliveries.specs.Gathered.{IsUnstored};
 ghost use Rattle.review_deliveries.specs.Kept.{row_for};
@@ -204,7 +204,7 @@ fn decide<R: Rules>(
     command: &Command,
 ) -> Result<Decided, NotTaken>
     ensures request { IfOk result (λ d. (d.request ≡ number_of (known rows.now want.Requests) + 1) × (d.request ≤ most_requests)) }
-    ensures decided { IfOk result (λ d. (reading : Reading) (h : List Entry) → length h < most_requests → RestsOn (OfCommand command.now) h → AreEnough reading h caller (OfCommand command.now) (option_copied read.entry) rows.now → IsDecidedIn reading h caller epoch command.now d.delta d.reply) }
+    ensures decided { IfOk result (λ d. (reading : Reading) (h : List Entry) → length h < most_requests → RestsOn (OfCommand command.now) h → AreEnough reading h caller (OfCommand command.now) (option_copied read.entry) rows.now → IsDecidedAt reading h caller epoch command.now d.delta d.reply) }
     ensures stored { IfOk result (λ d. IsStored d.reply) }
     ensures refused { IfOk result (λ d. HasNoEffect d.reply d.delta) }
     ensures closes { IfOk result (λ d. d.delta.epoch ≡ closing (if_done d.reply command.now)) }

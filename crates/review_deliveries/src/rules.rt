@@ -16,7 +16,7 @@ pub trait Rules {
     ghost use Rattle.review_rows.specs.Changes.{Reading};
     ghost use Rattle.review_rows.specs.Rows.{HasNoEffect, closing, is_below};
     ghost use Rattle.review_rows.specs.Steps.{HasComeTo, HasFile, next, texts_for, topic_of, wants_in, unless_none, OfCommand, OfQuery};
-    ghost use Rattle.review_rows.specs.View.{AreEnough, IsDecidedIn};
+    ghost use Rattle.review_rows.specs.View.{AreEnough, IsDecidedAt};
     ghost use Rattle.review_rows.specs.Decisions.{IsUndecided, IsUnread, IsUnshown, NamesEachOnce, IsDoneOrRefused, RestsOn};
 
     /// What a command or a question asks of the tables next, where this file was read; nothing where the rows decide it. A look for a chain
@@ -56,7 +56,7 @@ pub trait Rules {
         epoch: Epoch,
         command: &Command,
     ) -> Result<(Delta, Reply), NotTaken>
-        ensures decided { IfOk result (λ r. (reading : Reading) (h : List Entry) → length h < most_requests → RestsOn (OfCommand command.now) h → AreEnough reading h caller (OfCommand command.now) (option_copied read.entry) rows.now → IsDecidedIn reading h caller epoch command.now r.0 r.1) }
+        ensures decided { IfOk result (λ r. (reading : Reading) (h : List Entry) → length h < most_requests → RestsOn (OfCommand command.now) h → AreEnough reading h caller (OfCommand command.now) (option_copied read.entry) rows.now → IsDecidedAt reading h caller epoch command.now r.0 r.1) }
         ensures cause { IfErr result (IsUndecided caller command.now (option_copied read.entry) rows.now) }
         ensures stored { IfOk result (λ r. IsStored r.1) }
         ensures refused { IfOk result (λ r. HasNoEffect r.1 r.0) }

@@ -240,7 +240,7 @@ module _ (one : OneEffective) (reading : Reading) (h : List Entry) (caller : ℕ
           IsDecided reading h caller (PutProject project text) delta reply
       filed delta reply None is x =
           subst (IsDecided reading h caller (PutProject project text) delta) (sym x.0)
-          (file_decided h caller project text delta (answered None is) x.1.accounts x.1.members (x.1.file_is ∙ ap (λ p. Some (record { key = project; row = record { text = text; parent = p } })) named) x.1.base x.1.changes)
+          (file_decided h caller project text delta (answered None is) x.1.accounts x.1.members (x.1.file_is ∙ ap (λ p. Some (record { key = project; row = record { text = text; parent = p } })) named) x.1.base x.1.changes x.1.epoch)
       filed delta reply (Some r) is x =
           subst (IsDecided reading h caller (PutProject project text) delta) (sym x.0) (refused_decided h caller (PutProject project text) delta r x.1 (answered (Some r) is))
 
@@ -277,7 +277,6 @@ fault_decided reading h caller project text r fault known admin empty faulty is 
     (refused_decided h caller (PutProject project text) r.0 (BadFile fault) empty
     (outcome_answer reading h caller (PutProject project text) (Refused (BadFile fault)) (project_refused reading h caller project text true true known admin) (inl (fault, faulty, refl))))
 
-<<<<<<< ours
 -- a file below the line of its parent, as that was read
 pub below_by : (rows : Rows) (had : Option File) (project : List ℕ) (file : StoredFile) (own : File) (result : Result (Delta × Reply) Cause) (named : Bool) (deep : ℕ) (above : Option LineView) (line : File) →
     parent_refused named deep ≡ None → named ≡ is_some file.parent → deep ≡ length (option_map_or (λ (v : LineView). v.texts) above []) → option_map_or (λ (v : LineView). v.texts) above [] ≡ texts_in rows file.parent →
@@ -295,55 +294,6 @@ below_by rows had project file own (Ok r) given deep above line passes some many
       subst (λ b. IsFilePut (cond b (Some (BadFile UnknownLabel)) (file_refused (option_map (λ f. covers f (heir view own)) had) (room_in rows))) project file r.0 r.1) (sym known)
           (subst (λ x. IsFilePut (file_refused (option_map (λ f. covers f x) had) (room_in rows)) project file r.0 r.1) is put),
     )
-||||||| base
--- a text that spells a file is put by its checks
-put_decided_by : {had : Option File} → CoversAlike → (reading : Reading) (h : List Entry) (caller : ℕ) (project text : List ℕ) (rows : Rows) (new : File) (delta : Delta) (reply : Reply) → is_account h caller ≡ true → is_admin h caller ≡ true →
-    AreEnough reading h caller (OfCommand (PutProject project text)) had rows → IsRead text new → IsFilePut (file_refused (option_map (λ f. covers f new) had) (room_in rows)) project text delta reply →
-    IsDecided reading h caller (PutProject project text) delta reply
-put_decided_by {had = had} alike reading h caller project text rows new delta reply known admin l right put = at (file_refused (option_map (λ f. covers f new) had) (room_in rows)) refl put
-  where
-    answered : (o : Option Refusal) → file_refused (option_map (λ f. covers f new) had) (room_in rows) ≡ o → IsAnswerBy reading h caller (PutProject project text) (refused_or o Nothing)
-    answered o is =
-        let loaded = file_loaded reading h caller project text rows l in
-        outcome_answer reading h caller (PutProject project text) (refused_or o Nothing) (project_refused reading h caller project text true true known admin)
-        (inr (
-          new,
-          right,
-          ap (λ x. refused_or x Nothing)
-              (sym (refused_at alike reading h project had new (room_in rows) l.reads (file_text h project) refl (subst (λ t. HasFile t had) loaded l.file_is) (room_loaded reading h caller project text rows l) ∙ is)),
-        ))
-
-    at : (o : Option Refusal) → file_refused (option_map (λ f. covers f new) had) (room_in rows) ≡ o → IsFilePut o project text delta reply → IsDecided reading h caller (PutProject project text) delta reply
-    at None is x =
-        subst (IsDecided reading h caller (PutProject project text) delta) (sym x.0)
-        (file_decided h caller project text delta (answered None is) x.1.accounts x.1.members x.1.file x.1.base x.1.changes)
-    at (Some r) is x =
-        subst (IsDecided reading h caller (PutProject project text) delta) (sym x.0) (refused_decided h caller (PutProject project text) delta r x.1 (answered (Some r) is))
-=======
--- a text that spells a file is put by its checks
-put_decided_by : {had : Option File} → CoversAlike → (reading : Reading) (h : List Entry) (caller : ℕ) (project text : List ℕ) (rows : Rows) (new : File) (delta : Delta) (reply : Reply) → is_account h caller ≡ true → is_admin h caller ≡ true →
-    AreEnough reading h caller (OfCommand (PutProject project text)) had rows → IsRead text new → IsFilePut (file_refused (option_map (λ f. covers f new) had) (room_in rows)) project text delta reply →
-    IsDecided reading h caller (PutProject project text) delta reply
-put_decided_by {had = had} alike reading h caller project text rows new delta reply known admin l right put = at (file_refused (option_map (λ f. covers f new) had) (room_in rows)) refl put
-  where
-    answered : (o : Option Refusal) → file_refused (option_map (λ f. covers f new) had) (room_in rows) ≡ o → IsAnswerBy reading h caller (PutProject project text) (refused_or o Nothing)
-    answered o is =
-        let loaded = file_loaded reading h caller project text rows l in
-        outcome_answer reading h caller (PutProject project text) (refused_or o Nothing) (project_refused reading h caller project text true true known admin)
-        (inr (
-          new,
-          right,
-          ap (λ x. refused_or x Nothing)
-              (sym (refused_at alike reading h project had new (room_in rows) l.reads (file_text h project) refl (subst (λ t. HasFile t had) loaded l.file_is) (room_loaded reading h caller project text rows l) ∙ is)),
-        ))
-
-    at : (o : Option Refusal) → file_refused (option_map (λ f. covers f new) had) (room_in rows) ≡ o → IsFilePut o project text delta reply → IsDecided reading h caller (PutProject project text) delta reply
-    at None is x =
-        subst (IsDecided reading h caller (PutProject project text) delta) (sym x.0)
-        (file_decided h caller project text delta (answered None is) x.1.accounts x.1.members x.1.file x.1.base x.1.changes x.1.epoch)
-    at (Some r) is x =
-        subst (IsDecided reading h caller (PutProject project text) delta) (sym x.0) (refused_decided h caller (PutProject project text) delta r x.1 (answered (Some r) is))
->>>>>>> epochs
 
 -- the same of results
 pub put_project_by : OneEffective → (caller : ℕ) (project text : List ℕ) (had : Option File) (rows : Rows) (own : File) (result : Result (Delta × Reply) Cause) →

@@ -1,12 +1,6 @@
 //! Decisions on the files of projects.
-<<<<<<< ours
-ghost use Rattle.std.specs.Prelude.{◌≡◌, ◌≢◌, ◌⊎◌, [], List, IfOk, IfErr, IfSome, Some, is_some, length, option_copied, option_map, true, false};
+ghost use Rattle.std.specs.Prelude.{◌≡◌, ◌≢◌, ◌⊎◌, [], List, IfOk, IfErr, IfSome, Some, None, is_some, length, option_copied, option_map, true, false};
 ghost use Rattle.std.specs.Option.{option_map_or};
-||||||| base
-ghost use Rattle.std.specs.Prelude.{◌≡◌, List, IfOk, IfErr, IfSome, Some, option_copied, option_map, true};
-=======
-ghost use Rattle.std.specs.Prelude.{◌≡◌, List, IfOk, IfErr, IfSome, Some, option_copied, option_map, true, None};
->>>>>>> epochs
 ghost use Rattle.review_words.specs.Texts.{IsStored};
 ghost use Rattle.review_words.specs.History.{Entry, is_account};
 ghost use Rattle.review_words.specs.declared.command.Command.TheVariants.{PutProject};
@@ -71,6 +65,7 @@ fn refuse_file(alloc: Global, fault: ReadFault) -> Result<(Delta, Reply), NotTak
     ensures file { IfOk result (λ r. IsEmpty r.0 × ((f : FileFault) × (fault ≡ File f) × (r.1 ≡ Refused (BadFile f)))) }
     ensures cause { IfErr result (IsReadCause fault) }
     ensures stored { IfOk result (λ r. IsStored r.1) }
+    ensures epoch { IfOk result (λ r. r.0.epoch ≡ None) }
 {
     match fault {
         ReadFault::File(fault) => Ok(refused(alloc, Refusal::BadFile(fault))),
@@ -92,6 +87,7 @@ fn put_file(
     ensures cause { IfErr result (λ cause. (cause ≡ Memory) ⊎ ((keeps_parent (own_in rows.now project.now) new.file.parent ≡ true) × IsUnread (texts_in rows.now new.file.parent) cause)) }
     ensures stored { IfOk result (λ r. IsStored r.1) }
     ensures refused { IfOk result (λ r. HasNoEffect r.1 r.0) }
+    ensures epoch { IfOk result (λ r. r.0.epoch ≡ None) }
     ensures once { IfOk result (λ r. NamesEachOnce r.0) }
 {
     let put = row_put(alloc, project, &new)?;
@@ -150,6 +146,7 @@ fn put_below(
     ensures cause { IfErr result (IsUnread (texts_in rows.now put.row.parent)) }
     ensures stored { IfOk result (λ r. IsStored r.1) }
     ensures refused { IfOk result (λ r. HasNoEffect r.1 r.0) }
+    ensures epoch { IfOk result (λ r. r.0.epoch ≡ None) }
     ensures once { IfOk result (λ r. NamesEachOnce r.0) }
 {
     let above = read_line(alloc, memo, rows, put.row.parent.as_ref())?;
@@ -252,7 +249,6 @@ fn refusal_by(covered: Option<bool>, has_room: bool) -> Option<Refusal>
 fn put_row(alloc: Global, put: Put<ProjectName, StoredFile>) -> (Delta, Reply)
     ensures reply { result.1 ≡ Done Nothing }
     ensures delta { PutsFile put.key put.row result.0 }
-    ensures epoch { IfOk result (λ r. r.0.epoch ≡ None) }
     ensures once { NamesEachOnce result.0 }
 {
     let mut delta = nothing(alloc);

@@ -21,14 +21,8 @@ use Rattle.review_words.specs.declared.reply.Answer.TheVariants.{Account, Nothin
 use Rattle.review_words.specs.declared.reply.Refusal.{Refusal}
 use Rattle.review_words.specs.declared.reply.Refusal.TheVariants.{UnknownCaller, NotAdmin, NoProject, NoBranch, NoChange, NoPatchSet, NoAccount, NoComment, NotAllowed, Closed, SameState, WorkInProgress, StalePatchSet, NoLabel, ValueOut, VoteRestricted, CommitKnown, UnknownParent, NotEligible, NameTaken, BadFile, LabelNarrowed, Limit, NoParent, ParentFixed, ParentDepth, EpochAhead}
 use Rattle.review_words.specs.declared.faults.FileFault.{FileFault}
-<<<<<<< ours
 use Rattle.review_words.specs.declared.faults.FileFault.TheVariants.{UnknownKey, UnknownLabel}
-use Rattle.review_words.specs.History.{Asking, Entry, IsFirst, asking_of, may_follow, account_count, name_taken, is_account, is_admin, is_project, project_count, base_count, is_branch}
-||||||| base
-use Rattle.review_words.specs.History.{Entry, stored, account_count, name_taken, is_account, is_admin, file_text, is_project, project_count, base_count, is_branch}
-=======
-use Rattle.review_words.specs.History.{Entry, Identity, stored, is_closed, least_open, account_count, name_taken, is_account, is_admin, file_text, is_project, project_count, base_count, is_branch}
->>>>>>> epochs
+use Rattle.review_words.specs.History.{Asking, Entry, IsFirst, asking_of, may_follow, least_open, account_count, name_taken, is_account, is_admin, is_project, project_count, base_count, is_branch}
 use Rattle.review_names.specs.Forms.{is_within, most_changes, most_patches, most_comments}
 use Rattle.review_names.specs.Names.{registered_users}
 use Rattle.review_project.specs.Inherited.{inherit, inherits_unknown_label}
@@ -239,7 +233,16 @@ IsAnswerBy reading h caller command reply = MatchOption (refused_by reading h ca
 abbrev pub epoch_checks : List Entry → ℕ → ℕ → List (Bool × Refusal)
 epoch_checks h epoch least = (nat_le least epoch, EpochAhead) ∷ (nat_lt (least_open h) least, SameState) ∷ []
 
-<<<<<<< ours
+-- What a command is told in a request of this epoch. The answer to each but CloseEpoch doesn't depend on the epoch.
+abbrev pub IsAnswerAt : Reading → List Entry → ℕ → ℕ → Command → Reply → Type 0
+IsAnswerAt reading h caller epoch (CloseEpoch least) reply =
+    MatchOption (refused_by reading h caller (CloseEpoch least)) (reply ≡ refused_or (first_refusal (epoch_checks h epoch least)) Nothing) (λ refusal. reply ≡ Refused refusal)
+IsAnswerAt reading h caller epoch command reply = IsAnswerBy reading h caller command reply
+
+-- The reply is an answer to the command of a request of this epoch, where each text that was put is read right.
+abbrev pub IsAnswer : List Entry → ℕ → ℕ → Command → Reply → Type 0
+IsAnswer h caller epoch command reply = (reading : Reading) → Reads reading h → IsAnswerAt reading h caller epoch command reply
+
 -- whether a command puts a text with the key `parent`
 abbrev pub puts_parent : Command → Bool
 puts_parent (PutProject project text) = has_parent_key text
@@ -253,39 +256,12 @@ IsAnswerWithoutParents h caller command reply =
 -- The reply is an answer to the command, asked so: by the rules of that version. Those of version 1 know no parents, and are otherwise those of version 2.
 abbrev pub IsAnswerIn : List Entry → Asking → Command → Reply → Type 0
 IsAnswerIn h asking command reply =
-    MatchBool (nat_lt asking.version 2 && puts_parent command) (IsAnswerWithoutParents h asking.caller command reply) (IsAnswer h asking.caller command reply)
+    MatchBool (nat_lt asking.version 2 && puts_parent command) (IsAnswerWithoutParents h asking.caller command reply) (IsAnswer h asking.caller asking.epoch command reply)
 
--- A history: each identity stands once, each reply is an answer after what stood before by the rules of its version, there are at most so many
--- requests, and versions never fall. Nothing is asked of the forms of names and numbers in it, so where a history is assumed, more lists are spoken of
--- than the desk can make.
-||||||| base
--- A history: each identity stands once, each reply is an answer after what stood before, and there are at most so many requests. Nothing is
--- asked of the forms of names and numbers in it, so where a history is assumed, more lists are spoken of than the desk can make.
-=======
--- What a command is told in a request of this epoch. The answer to each but CloseEpoch doesn't depend on the epoch.
-abbrev pub IsAnswerIn : Reading → List Entry → ℕ → ℕ → Command → Reply → Type 0
-IsAnswerIn reading h caller epoch (CloseEpoch least) reply =
-    MatchOption (refused_by reading h caller (CloseEpoch least)) (reply ≡ refused_or (first_refusal (epoch_checks h epoch least)) Nothing) (λ refusal. reply ≡ Refused refusal)
-IsAnswerIn reading h caller epoch command reply = IsAnswerBy reading h caller command reply
-
--- The reply is an answer to the command of a request of this epoch, where each text that was put is read right.
-abbrev pub IsAnswer : List Entry → ℕ → ℕ → Command → Reply → Type 0
-IsAnswer h caller epoch command reply = (reading : Reading) → Reads reading h → IsAnswerIn reading h caller epoch command reply
-
--- an identity that is not stored, and whose epoch is open
-abbrev pub IsFirst : List Entry → Identity → Type 0
-IsFirst h i = (stored h i ≡ None) × (is_closed h i.epoch ≡ false)
-
--- A history: each identity stands once, and its epoch was open before it, each reply is an answer after what stood before, and there are at most so many requests. Nothing is
--- asked of the forms of names and numbers in it, so where a history is assumed, more lists are spoken of than the desk can make.
->>>>>>> epochs
+-- A history: each identity stands once, and its epoch was open before it; each reply is an answer after what stood before by the rules of its version;
+-- there are at most so many requests, and versions never fall. Nothing is asked of the forms of names and numbers in it, so where a history is assumed,
+-- more lists are spoken of than the desk can make.
 abbrev pub IsHistory : List Entry → Type 0
 IsHistory [] = Unit {0}
-<<<<<<< ours
 IsHistory (e ∷ h) =
     IsFirst h e.identity × IsAnswerIn h (asking_of e) e.command e.reply × (length h < most_requests) × IsHistory h × (may_follow h e.version ≡ true)
-||||||| base
-IsHistory (e ∷ h) = (stored h e.identity ≡ None) × IsAnswer h e.identity.caller e.command e.reply × (length h < most_requests) × IsHistory h
-=======
-IsHistory (e ∷ h) = IsFirst h e.identity × IsAnswer h e.identity.caller e.identity.epoch e.command e.reply × (length h < most_requests) × IsHistory h
->>>>>>> epochs

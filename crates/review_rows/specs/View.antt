@@ -9,7 +9,7 @@ use Rattle.review_rows.specs.declared.rows.Rows.{Rows}
 use Rattle.review_rows.specs.Rows.{Key, AccountKey, MemberKey, FileKey, BaseKey, PartKey, OddKey, Row, AccountRow, MemberRow, FileRow, BaseRow, APart, Count, Projects, BasesOf, ClosedEpochs, AnswerRow, Stored, Answered, Tables, after, count_after}
 use Rattle.review_rows.specs.Known.{at_place, part_of, Agrees}
 use Rattle.review_rows.specs.Steps.{Topic, HasFile, next, texts_for}
-use Rattle.review_rows.specs.Answer.{IsAnswerBy, IsAnswerIn}
+use Rattle.review_rows.specs.Answer.{IsAnswerBy, IsAnswerAt}
 use Rattle.review_rows.specs.Changes.{Reading, Reads, change, own_of}
 use Rattle.review_rows.specs.Files.{File}
 
@@ -71,19 +71,11 @@ pub record AreEnough (reading : Reading) (h : List Entry) (caller : ℕ) (topic 
 -- The reply is an answer after the history, and the delta turns its rows and counts into those of the history with the entry. So it is for each command but CloseEpoch.
 pub record IsDecided (reading : Reading) (h : List Entry) (caller : ℕ) (command : Command) (delta : Delta) (reply : Reply) : Type 0 where
   pub reply_is : IsAnswerBy reading h caller command reply
-<<<<<<< ours
-  pub row_is : (id : List ℕ) (k : Key) → fact reading (entry_of caller id command reply ∷ h) k ≡ after delta k (fact reading h k)
-  pub count_is : (id : List ℕ) (c : Count) → counted (entry_of caller id command reply ∷ h) c ≡ count_after delta (fact reading h) c (counted h c)
-||||||| base
-  pub row_is : (id : List ℕ) (k : Key) → fact reading (record { identity = record { caller = caller; id = id }; command = command; reply = reply } ∷ h) k ≡ after delta k (fact reading h k)
-  pub count_is : (id : List ℕ) (c : Count) → counted (record { identity = record { caller = caller; id = id }; command = command; reply = reply } ∷ h) c ≡ count_after delta (fact reading h) c (counted h c)
-=======
-  pub row_is : (epoch : ℕ) (id : List ℕ) (k : Key) → fact reading (record { identity = record { caller = caller; epoch = epoch; id = id }; command = command; reply = reply } ∷ h) k ≡ after delta k (fact reading h k)
-  pub count_is : (epoch : ℕ) (id : List ℕ) (c : Count) → counted (record { identity = record { caller = caller; epoch = epoch; id = id }; command = command; reply = reply } ∷ h) c ≡ count_after delta (fact reading h) c (counted h c)
+  pub row_is : (epoch : ℕ) (id : List ℕ) (k : Key) → fact reading (entry_of caller epoch id command reply ∷ h) k ≡ after delta k (fact reading h k)
+  pub count_is : (epoch : ℕ) (id : List ℕ) (c : Count) → counted (entry_of caller epoch id command reply ∷ h) c ≡ count_after delta (fact reading h) c (counted h c)
 
 -- The same of any command, in a request of this epoch.
-pub record IsDecidedIn (reading : Reading) (h : List Entry) (caller epoch : ℕ) (command : Command) (delta : Delta) (reply : Reply) : Type 0 where
-  pub reply_is : IsAnswerIn reading h caller epoch command reply
-  pub row_is : (id : List ℕ) (k : Key) → fact reading (record { identity = record { caller = caller; epoch = epoch; id = id }; command = command; reply = reply } ∷ h) k ≡ after delta k (fact reading h k)
-  pub count_is : (id : List ℕ) (c : Count) → counted (record { identity = record { caller = caller; epoch = epoch; id = id }; command = command; reply = reply } ∷ h) c ≡ count_after delta (fact reading h) c (counted h c)
->>>>>>> epochs
+pub record IsDecidedAt (reading : Reading) (h : List Entry) (caller epoch : ℕ) (command : Command) (delta : Delta) (reply : Reply) : Type 0 where
+  pub reply_is : IsAnswerAt reading h caller epoch command reply
+  pub row_is : (id : List ℕ) (k : Key) → fact reading (entry_of caller epoch id command reply ∷ h) k ≡ after delta k (fact reading h k)
+  pub count_is : (id : List ℕ) (c : Count) → counted (entry_of caller epoch id command reply ∷ h) c ≡ count_after delta (fact reading h) c (counted h c)

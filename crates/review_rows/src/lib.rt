@@ -14,15 +14,7 @@ pub mod shelf;
 pub use links::RowLinks;
 pub use matter::Matter;
 pub use rows::{
-<<<<<<< ours
     Base, BranchKey, ChangeEdit, Counted, Delta, Kept, MemberKey, Need, PlaceKey, Put, Recalled,
     Rows, StoredFile, Want,
-||||||| base
-    Base, BaseRow, BranchKey, ChangeEdit, Counted, Delta, Kept, MemberKey, Need, ProjectRow, Rows,
-    Want,
-=======
-    Base, BaseRow, BranchKey, ChangeEdit, Counted, Delta, Kept, MemberKey, Need, ProjectRow, Recalled,
-    Rows, Want,
->>>>>>> epochs
 };
 pub use shelf::{Shelf, ShelfFault};

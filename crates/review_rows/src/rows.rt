@@ -212,16 +212,9 @@ pub struct Rows {
     pub least_epoch: Option<u32>,
 }
 
-<<<<<<< ours
 /// What a request changes: for each account and member that it names a new row, or none; the file of a project and the base at a place
-/// of a branch, neither of which is ever taken away; and the rows of changes.
-||||||| base
-/// What a request changes: for each key that it names a new row, or none; the file of a project, a base of a branch, and the rows of
-/// changes.
-=======
-/// What a request changes: for each key that it names a new row, or none; the file of a project, a base of a branch, the rows of
-/// changes, and the least open epoch, with which the kept answers of lower epochs are given up.
->>>>>>> epochs
+/// of a branch, neither of which is ever taken away; the rows of changes; and the least open epoch, with which the kept answers of lower epochs
+/// are given up.
 #[derive(Drop)]
 pub struct Delta {
     pub accounts: Vec<Change<AccountNo, AccountName>>,

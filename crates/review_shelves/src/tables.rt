@@ -22,13 +22,7 @@ use review_kept_changes::{KeptChanges, Prepared};
 use review_rows::{Delta, Kept, MemberKey, PlaceKey, Put, Recalled, StoredFile};
 use review_table::{Key, Table};
 use review_words::{
-<<<<<<< ours
-    AccountName, AccountNo, CommitName, ProjectName, RequestId, admin_name, administrators,
-||||||| base
-    AccountName, AccountNo, FileText, ProjectName, RequestId, admin_name, administrators,
-=======
-    AccountName, AccountNo, Epoch, FileText, ProjectName, RequestId, admin_name, administrators,
->>>>>>> epochs
+    AccountName, AccountNo, CommitName, Epoch, ProjectName, RequestId, admin_name, administrators,
 };
 use std::alloc::{AllocError, Global};
 
@@ -80,16 +74,8 @@ impl MemoryTables {
         caller: AccountNo,
         epoch: Epoch,
         id: &RequestId,
-<<<<<<< ours
-    ) -> Result<Recalled, AllocError>
-        ensures { IfOk result (λ recalled. IsRecalled (tables_of (desk_of self.now)) (record { caller = caller; id = id.now }) recalled) }
-||||||| base
-    ) -> Result<Option<Kept>, AllocError>
-        ensures { IfOk result (λ kept. IsRecalled (tables_of (desk_of self.now)) (record { caller = caller; id = id.now }) kept) }
-=======
     ) -> Result<Recalled, AllocError>
         ensures { IfOk result (IsRecalled (tables_of (desk_of self.now)) (record { caller = caller; epoch = epoch; id = id.now })) }
->>>>>>> epochs
     {
         if epoch.get() < self.least {
             return Ok(Recalled::Closed);

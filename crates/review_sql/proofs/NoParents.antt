@@ -11,13 +11,13 @@ use Rattle.review_project.specs.Reading.{has_parent_key, named_parent}
 use Rattle.review_project.specs.Spelled.{parent_in, project_name}
 use Rattle.review_words.specs.History.{Entry, asking_of, file_text, if_done, text_put}
 use Rattle.review_words.specs.declared.command.Command.{Command}
-use Rattle.review_words.specs.declared.command.Command.TheVariants.{CreateAccount, PutGroup, PutProject, RecordBase, CreateChange, OnChange, Submit}
+use Rattle.review_words.specs.declared.command.Command.TheVariants.{CreateAccount, PutGroup, PutProject, RecordBase, CreateChange, OnChange, Submit, CloseEpoch}
 use Rattle.review_words.specs.declared.faults.FileFault.TheVariants.{UnknownKey}
 use Rattle.review_words.specs.declared.reply.Answer.{Answer}
 use Rattle.review_words.specs.declared.reply.Refusal.{Refusal}
 use Rattle.review_words.specs.declared.reply.Refusal.TheVariants.{BadFile}
 use Rattle.review_words.specs.declared.reply.Reply.{Reply}
-use Rattle.review_words.specs.declared.reply.Reply.TheVariants.{Done, Refused, IdentityReused, NotTaken}
+use Rattle.review_words.specs.declared.reply.Reply.TheVariants.{Done, Refused, IdentityReused, EpochClosed, NotTaken}
 use Rattle.review_rows.specs.Answer.{IsAnswerIn, IsAnswerWithoutParents, IsHistory, refused_by}
 use Rattle.review_rows.specs.Changes.{own_of, placed}
 use Rattle.review_rows.proofs.Readings.{reading_of}
@@ -75,8 +75,10 @@ module _ (h : List Entry) (e : Entry) (first : e.version ≡ 1) (history : IsHis
   next (Done a) (CreateChange new) answer = was
   next (Done a) (OnChange n request) answer = was
   next (Done a) (Submit n) answer = was
+  next (Done a) (CloseEpoch epoch) answer = was
   next (Refused r) command answer = was
   next IdentityReused command answer = was
+  next EpochClosed command answer = was
   next (NotTaken cause) command answer = was
 
 pub no_parents : (h : List Entry) → IsHistory h → AllByRecursion (λ e. e.version ≡ 1) h → (project : List ℕ) → own_of h project ≡ option_map file_without_parent (file_text h project)

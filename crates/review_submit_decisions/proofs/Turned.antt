@@ -96,18 +96,6 @@ joining_is reading h rows project branch chain last k all many known = by (place
         ∙ (ap (λ n. Some (joined_at (n + j) (length h + 1) m.of)) count
         ∙ (sym (ap (λ c. joining_at h (Some j) c) there) ∙ sym (ap (λ o. joining_at h o (change reading h k)) some))))
 
-<<<<<<< ours
-||||||| base
--- the entry of a submit of a chain that joins
-abbrev entry_of : ℕ → List ℕ → ℕ → List ℕ → Entry
-entry_of caller id n chain = record { identity = record { caller = caller; id = id }; command = Submit n; reply = Done (Submitted chain) }
-
-=======
--- the entry of a submit of a chain that joins
-abbrev entry_of : ℕ → ℕ → List ℕ → ℕ → List ℕ → Entry
-entry_of caller epoch id n chain = record { identity = record { caller = caller; epoch = epoch; id = id }; command = Submit n; reply = Done (Submitted chain) }
-
->>>>>>> epochs
 rows_turn : (reading : Reading) (h : List Entry) (caller n : ℕ) (rows : Rows) (project branch : List ℕ) (chain : List ℕ) (last : ℕ) (edits : List ChangeEdit) (delta : Delta) →
     AllByRecursion (IsMember rows project branch) chain → last ≡ length (joined h project branch) → AreJoinEdits rows (length h + 1) (places_from (last + 1) chain) edits → EditsChanges edits delta →
     ((k : ℕ) (x : Change) → change_at rows k ≡ Some x → change reading h k ≡ Some x) → (epoch : ℕ) (id : List ℕ) (k : Key) → fact reading (entry_of caller epoch id (Submit n) (Done (Submitted chain)) ∷ h) k ≡ after delta k (fact reading h k)

@@ -10,12 +10,12 @@ use Rattle.review_words.specs.declared.changes.Review.{Review as ReviewOf}
 use Rattle.review_words.specs.declared.command.ChangeCommand.{ChangeCommand}
 use Rattle.review_words.specs.declared.command.ChangeCommand.TheVariants as on
 use Rattle.review_words.specs.declared.command.Command.{Command}
-use Rattle.review_words.specs.declared.command.Command.TheVariants.{CreateAccount, PutGroup, PutProject, RecordBase, CreateChange, OnChange, Submit}
+use Rattle.review_words.specs.declared.command.Command.TheVariants.{CreateAccount, PutGroup, PutProject, RecordBase, CreateChange, OnChange, Submit, CloseEpoch}
 use Rattle.review_words.specs.declared.reply.Answer.{Answer}
 use Rattle.review_words.specs.declared.reply.Refusal.{Refusal}
 use Rattle.review_words.specs.declared.reply.Refusal.TheVariants.{UnknownCaller, NoComment, Limit}
 use Rattle.review_words.specs.declared.reply.Reply.{Reply}
-use Rattle.review_words.specs.declared.reply.Reply.TheVariants.{Done, Refused, IdentityReused, NotTaken}
+use Rattle.review_words.specs.declared.reply.Reply.TheVariants.{Done, Refused, IdentityReused, EpochClosed, NotTaken}
 use Rattle.review_inheritance.proofs.Named.{all_true}
 use Rattle.review_inheritance.proofs.Trees.{OneFile}
 use Rattle.review_changes.specs.Change.{Change, Copying, Setting, after, begun, copying, current, given_or, joined_at, reviewed, vote_by}
@@ -114,12 +114,14 @@ done_stands reading h caller n c (OnChange m command) a answer before is =
     votes_after reading h caller (length h + 1) command x pass stands)
     is
 done_stands reading h caller n c (Submit m) a answer before is = before c is
+done_stands reading h caller n c (CloseEpoch epoch) a answer before is = before c is
 
 step_stands : (reading : Reading) (h : List Entry) (caller n : ℕ) (c : Change) (command : Command) (reply : Reply) → IsDoneBy reading h caller command reply →
     ((x : Change) → change reading h n ≡ Some x → Stands reading h x) → change_by reading h caller (if_done reply command) n (change reading h n) ≡ Some c → Stands reading h c
 step_stands reading h caller n c command (Done a) answer before is = done_stands reading h caller n c command a answer before is
 step_stands reading h caller n c command (Refused r) answer before is = before c is
 step_stands reading h caller n c command IdentityReused answer before is = before c is
+step_stands reading h caller n c command EpochClosed answer before is = before c is
 step_stands reading h caller n c command (NotTaken cause) answer before is = before c is
 
 -- Each vote of a history is on a label of its project's effective file, with a value of it.

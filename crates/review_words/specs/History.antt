@@ -1,5 +1,5 @@
 -- Histories of taken requests, the newest first, and the settings that they leave.
-use Rattle.std.specs.Prelude.{ℕ, ◌+◌, ◌≡◌, List, [], ◌∷◌, ◌++◌, length, Option, Some, None, Bool, ◌&&◌, ◌||◌, ◌==◌, nat_le, if◌then◌else◌, is_some, nat_lt}
+use Rattle.std.specs.Prelude.{ℕ, ◌+◌, ◌≡◌, List, [], ◌∷◌, ◌++◌, length, Option, Some, None, Bool, false, ◌&&◌, ◌||◌, ◌==◌, nat_le, nat_lt, if◌then◌else◌, is_some}
 use Rattle.std.specs.Str.{bytes_eq}
 use Rattle.std.specs.List.{list_any}
 use Rattle.review_names.specs.Names.{administrators, admin_name}
@@ -25,22 +25,23 @@ pub record Entry : Type 0 where
   pub command : Command
   pub reply : Reply
 
--- what an answer may depend on, beside the command and what went before: who asked, and the version of the desk whose rules answered
+-- what an answer may depend on, beside the command and what went before: who asked, in which epoch, and the version of the desk whose rules answered
 pub record Asking : Type 0 where
   pub caller : ℕ
+  pub epoch : ℕ
   pub version : ℕ
 
 -- the asking of an entry
 abbrev pub asking_of : Entry → Asking
-asking_of e = record { caller = e.identity.caller; version = e.version }
+asking_of e = record { caller = e.identity.caller; epoch = e.identity.epoch; version = e.version }
 
 -- the latest version of the desk, whose rules answer requests from now on; in version 1 projects had no parents
 abbrev pub latest : ℕ
 latest = 2
 
 -- a request that is taken from now on, as an entry
-abbrev pub entry_of : ℕ → List ℕ → Command → Reply → Entry
-entry_of caller id command reply = record { identity = record { caller = caller; id = id }; version = latest; command = command; reply = reply }
+abbrev pub entry_of : ℕ → ℕ → List ℕ → Command → Reply → Entry
+entry_of caller epoch id command reply = record { identity = record { caller = caller; epoch = epoch; id = id }; version = latest; command = command; reply = reply }
 
 -- the version of the newest entry; the first version where there is none
 abbrev pub version_of : List Entry → ℕ
@@ -65,10 +66,6 @@ abbrev pub stored : List Entry → Identity → Option Entry
 stored [] i = None
 stored (e ∷ h) i = if is_same e.identity i then Some e else stored h i
 
--- no entry of the history has this identity
-abbrev pub IsFirst : List Entry → Identity → Type 0
-IsFirst h i = stored h i ≡ None
-
 -- the least open epoch, once this command is done
 abbrev pub raised : Option Command → ℕ → ℕ
 raised (Some (CloseEpoch epoch)) least = if nat_lt least epoch then epoch else least
@@ -82,6 +79,10 @@ least_open (e ∷ h) = raised (accepted e) (least_open h)
 -- whether an epoch is closed
 abbrev pub is_closed : List Entry → ℕ → Bool
 is_closed h epoch = nat_lt epoch (least_open h)
+
+-- no entry of the history has this identity, and its epoch is open
+abbrev pub IsFirst : List Entry → Identity → Type 0
+IsFirst h i = (stored h i ≡ None) × (is_closed h i.epoch ≡ false)
 
 -- one account more, where the command makes one
 abbrev pub counted : Option Command → ℕ → ℕ

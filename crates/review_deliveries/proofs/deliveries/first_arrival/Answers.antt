@@ -6,7 +6,7 @@ use Rattle.std.specs.Prelude.{option_copied, string_bytes}
 use Rattle.review_rows.specs.Rows.{AnswerRow}
 use Rattle.review_deliveries.specs.Gathered.{IsAllAsked}
 use Rattle.review_deliveries.specs.Kept.{row_for}
-use Rattle.review_rows.specs.View.{IsDecidedIn, answer_row}
+use Rattle.review_rows.specs.View.{IsDecidedAt, answer_row}
 use Rattle.review_rows.specs.Changes.{Reading, Reads}
 use Rattle.review_rows.specs.Steps.{OfCommand}
 use Rattle.review_rows.specs.Shelf.{IsCommitted, IsCounted, Shows, cause_of}
@@ -34,7 +34,7 @@ returns-clause-served g c = λ honest h hist v fresh.
     let enough = subst (λ f. IsAllAsked a.caller (OfCommand a.command.now) f c.gathered.new.rows) (sym c.as_ref.ensures.value) x.enough in
     let number : c.in_ok-decided.decided.request ≡ length h + 1 = c.in_ok-decided.ensures.request.0 ∙ ap (λ n. n + 1) (requests_told h old.tables a.caller a.command.now file c.gathered.new.rows hist v (x.found between (inl c.requires.nothing)) enough) in
     let room : length h < most_requests = let p = c.in_ok-decided.ensures.request.1 in let q = number in omega arith in
-    let d : (reading : Reading) → Reads reading h → IsDecidedIn reading h a.caller a.epoch a.command.now c.in_ok-decided.decided.delta c.in_ok-decided.decided.reply = λ reading reads.
+    let d : (reading : Reading) → Reads reading h → IsDecidedAt reading h a.caller a.epoch a.command.now c.in_ok-decided.decided.delta c.in_ok-decided.decided.reply = λ reading reads.
     c.in_ok-decided.ensures.decided reading h room (rests_on h (OfCommand a.command.now) hist) (enough_shown reading h old.tables a.caller (OfCommand a.command.now) file c.gathered.new.rows reads v (x.found between (inl c.requires.nothing)) enough) in
     let row : AnswerRow = row_for a.caller a.epoch a.id.now c.in_ok-decided.decided (string_bytes a.content) in
     let is : row ≡ answer_row (entry_of a.caller a.epoch a.id.now a.command.now c.in_ok-decided.decided.reply) (length h + 1) =
@@ -64,7 +64,7 @@ returns-in_err-store-clause-served g c = λ honest h hist v fresh.
     let enough = subst (λ f. IsAllAsked a.caller (OfCommand a.command.now) f c.gathered.new.rows) (sym c.as_ref.ensures.value) x.enough in
     let number : c.in_ok-decided.decided.request ≡ length h + 1 = c.in_ok-decided.ensures.request.0 ∙ ap (λ n. n + 1) (requests_told h old.tables a.caller a.command.now file c.gathered.new.rows hist v (x.found between (inl c.requires.nothing)) enough) in
     let room : length h < most_requests = let p = c.in_ok-decided.ensures.request.1 in let q = number in omega arith in
-    let d : (reading : Reading) → Reads reading h → IsDecidedIn reading h a.caller a.epoch a.command.now c.in_ok-decided.decided.delta c.in_ok-decided.decided.reply = λ reading reads.
+    let d : (reading : Reading) → Reads reading h → IsDecidedAt reading h a.caller a.epoch a.command.now c.in_ok-decided.decided.delta c.in_ok-decided.decided.reply = λ reading reads.
     c.in_ok-decided.ensures.decided reading h room (rests_on h (OfCommand a.command.now) hist) (enough_shown reading h old.tables a.caller (OfCommand a.command.now) file c.gathered.new.rows reads v (x.found between (inl c.requires.nothing)) enough) in
     let row : AnswerRow = row_for a.caller a.epoch a.id.now c.in_ok-decided.decided (string_bytes a.content) in
     let is : row ≡ answer_row (entry_of a.caller a.epoch a.id.now a.command.now c.in_ok-decided.decided.reply) (length h + 1) =
