@@ -1,7 +1,7 @@
 -- The tables of a history, and what was decided.
 use Rattle.std.specs.Prelude.{ℕ, ◌+◌, ◌≡◌, List, [], ◌∷◌, Option, Some, None, length, option_map, if◌then◌else◌}
 use Rattle.review_words.specs.Texts.{content_text, reply_text}
-use Rattle.review_words.specs.History.{Entry, Identity, entry_of, is_same, latest, name_of, is_listed, project_count, bases, base_count}
+use Rattle.review_words.specs.History.{Entry, Identity, entry_of, is_same, name_of, is_listed, project_count, bases, base_count}
 use Rattle.review_words.specs.declared.command.Command.{Command}
 use Rattle.review_words.specs.declared.reply.Reply.{Reply}
 use Rattle.review_rows.specs.declared.rows.Delta.{Delta}
@@ -36,9 +36,9 @@ abbrev pub stored_answer : List Entry → Identity → Option Stored
 stored_answer [] i = None
 stored_answer (e ∷ h) i = if is_same e.identity i then Some (Answered (answer_row e (length h + 1))) else stored_answer h i
 
--- the version of the tables: that of the desk that keeps them
+-- the version of the tables, which changes with their form and not with the rules by which requests are answered
 abbrev pub tables_version : ℕ
-tables_version = latest
+tables_version = 3
 
 -- the tables of a history, by what is read of the texts that were put
 abbrev pub view : Reading → List Entry → Tables
