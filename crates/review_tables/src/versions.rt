@@ -1,5 +1,5 @@
 //! The versions of the tables.
-ghost use Rattle.std.specs.Prelude.{◌≡◌};
+ghost use Rattle.std.specs.Prelude.{◌≡◌, MatchOption};
 ghost use Rattle.review_tables.specs.Versions.{version_of};
 
 /// A version of the tables.
@@ -11,6 +11,19 @@ pub enum TablesVersion {
     Second,
     /// The identity of a stored request has an epoch, and there is a least open epoch.
     Third,
+}
+
+impl TablesVersion {
+    /// The version among the earlier ones; none where it is the latest.
+    pub fn earlier(self) -> Option<EarlierVersion>
+        ensures { MatchOption result (self ≡ TablesVersion.Third) (λ version. self ≡ version_of version) }
+    {
+        match self {
+            TablesVersion::First => Some(EarlierVersion::First),
+            TablesVersion::Second => Some(EarlierVersion::Second),
+            TablesVersion::Third => None,
+        }
+    }
 }
 
 /// A version before the latest.
