@@ -1,7 +1,7 @@
 -- The tables of a history, and what was decided.
 use Rattle.std.specs.Prelude.{ℕ, ◌+◌, ◌≡◌, List, [], ◌∷◌, Option, Some, None, length, option_map, if◌then◌else◌}
 use Rattle.review_words.specs.Texts.{content_text, reply_text}
-use Rattle.review_words.specs.History.{Entry, Identity, entry_of, is_same, latest, name_of, is_listed, project_count, bases, base_count, is_closed, least_open}
+use Rattle.review_words.specs.History.{Entry, Identity, entry_of, is_same, name_of, is_listed, project_count, bases, base_count, is_closed, least_open}
 use Rattle.review_words.specs.declared.command.Command.{Command}
 use Rattle.review_words.specs.declared.reply.Reply.{Reply}
 use Rattle.review_rows.specs.declared.rows.Delta.{Delta}
@@ -42,8 +42,9 @@ abbrev pub kept_answer : List Entry → Identity → Option Stored
 kept_answer h i = if is_closed h i.epoch then None else stored_answer h i
 
 -- the version of the tables: that of the desk that keeps them
+-- the version of the tables, which changes with their form and not with the rules by which requests are answered
 abbrev pub tables_version : ℕ
-tables_version = latest
+tables_version = 3
 
 -- the tables of a history, by what is read of the texts that were put
 abbrev pub view : Reading → List Entry → Tables
