@@ -1,9 +1,7 @@
 -- A look at tables that is taken back.
-use Rattle.std.proofs.Common.{◌≡◌, ◌≢◌, ◌∙◌, ◌⊎◌, inl, inr, ℕ, List, [], ◌∷◌, Some, None, Bool, eqb, eqb-true, true, false, Ok, Err, Result, IfOk, IfErr, IsTrue, refl, sym, subst, arith}
+use Rattle.std.proofs.Common.{◌≡◌, ◌≢◌, ◌∙◌, ◌⊎◌, inl, inr, ℕ, List, Some, None, Bool, true, false, Ok, Err, Result, IfOk, IfErr, IsTrue, refl, sym, subst, arith}
 use Rattle.std.specs.Bool.{Decides}
-use Rattle.std.specs.List.{AllByRecursion, list_any}
-use Rattle.std.proofs.lemmas.Bool.{or_cases}
-use Rattle.sqlite_schema.specs.declared.schema.Table.{Table}
+use Rattle.std.specs.List.{AllByRecursion}
 use Rattle.sqlite_trees.specs.Tree.{Trees}
 use Rattle.sqlite.specs.State.{State, HasCleanDisk, Survives, IsRolledBack}
 use Rattle.sqlite.specs.declared.error.Error.{Error}
@@ -105,3 +103,20 @@ module _ (s : State) (said : Said) (version : TablesVersion) (it : IsSaid s.now 
 
   pub tables_there : (requests : ℕ) → said.requests ≡ Some requests → AreAllRead version s.now.schema × SaysLeast version s.now → IsThere version s.now requests
   tables_there requests some whole = record { rows = it.rows; shown = it.shown; version_is = sym it.version_is ∙ is; requests_are = sym it.requests_are ∙ some; tables = whole.0; least = whole.1 }
+
+-- ---- all columns are there, and then the least open epoch was asked
+
+module _ (version : TablesVersion) (s t : State) (r : Result Bool Error) (same : t.now ≡ s.now) where
+  pub whole_after : AreAllRead version s.now.schema → IfOk r (λ is. is ≡ true → SaysLeast version t.now) → IfOk r (λ is. is ≡ true → AreAllRead version s.now.schema × SaysLeast version s.now)
+  whole_after all least = by r least
+    where
+      by : (q : Result Bool Error) → IfOk q (λ is. is ≡ true → SaysLeast version t.now) → IfOk q (λ is. is ≡ true → AreAllRead version s.now.schema × SaysLeast version s.now)
+      by (Ok is) it = λ holds. (all, subst (SaysLeast version) same (it holds))
+      by (Err e) it = tt
+
+  pub part_after : IfOk r (λ is. is ≡ false → LacksLeast version t.now) → IfOk r (λ is. is ≡ false → (AreAllRead version s.now.schema → ⊥) ⊎ LacksLeast version s.now)
+  part_after lacks = by r lacks
+    where
+      by : (q : Result Bool Error) → IfOk q (λ is. is ≡ false → LacksLeast version t.now) → IfOk q (λ is. is ≡ false → (AreAllRead version s.now.schema → ⊥) ⊎ LacksLeast version s.now)
+      by (Ok is) it = λ fails. inr (subst (LacksLeast version) same (it fails))
+      by (Err e) it = tt

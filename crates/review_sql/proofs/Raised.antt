@@ -165,11 +165,14 @@ module _ {S : Type 0} (g : Ghosts S) (is_ours : Bool) (c0 c1 c2 : Held S) (stays
   -- tables of an earlier version were made those of version 3
   pub brought_earlier : (version : EarlierVersion) (r : Result ℕ DeskFault) → IfOk r (IsRaised g version is_ours c1 c2) → IfOk r (IsBrought g is_ours c0 c2)
   brought_earlier version (Err e) it = tt
-  brought_earlier version (Ok requests) it = inl (version, record {
-    form = λ clean ours. sym (ap (λ (d : Database). d.schema) (same clean)) ∙ it.form clean ours;
-    there = λ clean. subst (λ (d : Database). IsThere (version_of version) d requests) (same clean) (it.there clean);
-    acts = stays_acts (Upgrades version is_ours requests) (state g c0) (state g c1) (state g c2) (Ok (tt {0})) stays it.acts;
-  })
+  brought_earlier version (Ok requests) it = inl (
+    version,
+    record {
+      form = λ clean ours. sym (ap (λ (d : Database). d.schema) (same clean)) ∙ it.form clean ours;
+      there = λ clean. subst (λ (d : Database). IsThere (version_of version) d requests) (same clean) (it.there clean);
+      acts = stays_acts (Upgrades version is_ours requests) (state g c0) (state g c1) (state g c2) (Ok (tt {0})) stays it.acts;
+    },
+  )
     where
       same : HasCleanDisk (state g c2) → (state g c1).now ≡ (state g c0).now
       same clean = (stays.kept (it.acts.done clean).0).1

@@ -165,16 +165,34 @@ module _ (version : EarlierVersion) (requests : ℕ) (old mid new : Trees) (stay
         let rest = before.1.1.1.1.1 in
         all_keyed keyed_tables new (
           stay_keyed 0 accounts.keyed (kept 0 refl refl (λ e. omega (arith, e))) before.0,
-          (stay_keyed 2 members.keyed (kept 2 refl refl (λ e. omega (arith, e))) before.1.0,
-          (ap (list_any (λ r. not (project_keyed r))) files_after ∙ keyed_stays old mid version moved stay files_keyed,
-          (stay_keyed 6 bases.keyed (kept 6 refl refl (λ e. omega (arith, e))) before.1.1.1.0,
-          (ap (list_any (λ r. not (answer_keyed r))) stored_after ∙ answers_keyed (old 22) (mid 28) (stored_moved old mid version moved) stored_keyed,
-          (stay_keyed 9 headers.keyed (kept 9 refl refl (λ e. omega (arith, e))) rest.0,
-          (stay_keyed 11 patches.keyed (kept 11 refl refl (λ e. omega (arith, e))) rest.1.0,
-          (stay_keyed 14 votes.keyed (kept 14 refl refl (λ e. omega (arith, e))) rest.1.1.0,
-          (stay_keyed 16 roles.keyed (kept 16 refl refl (λ e. omega (arith, e))) rest.1.1.1.0,
-          (stay_keyed 18 comments.keyed (kept 18 refl refl (λ e. omega (arith, e))) rest.1.1.1.1.0,
-          (stay_keyed 20 calls.keyed (kept 20 refl refl (λ e. omega (arith, e))) rest.1.1.1.1.1.0, tt)))))))))),
+          (
+            stay_keyed 2 members.keyed (kept 2 refl refl (λ e. omega (arith, e))) before.1.0,
+            (
+              ap (list_any (λ r. not (project_keyed r))) files_after ∙ keyed_stays old mid version moved stay files_keyed,
+              (
+                stay_keyed 6 bases.keyed (kept 6 refl refl (λ e. omega (arith, e))) before.1.1.1.0,
+                (
+                  ap (list_any (λ r. not (answer_keyed r))) stored_after ∙ answers_keyed (old 22) (mid 28) (stored_moved old mid version moved) stored_keyed,
+                  (
+                    stay_keyed 9 headers.keyed (kept 9 refl refl (λ e. omega (arith, e))) rest.0,
+                    (
+                      stay_keyed 11 patches.keyed (kept 11 refl refl (λ e. omega (arith, e))) rest.1.0,
+                      (
+                        stay_keyed 14 votes.keyed (kept 14 refl refl (λ e. omega (arith, e))) rest.1.1.0,
+                        (
+                          stay_keyed 16 roles.keyed (kept 16 refl refl (λ e. omega (arith, e))) rest.1.1.1.0,
+                          (
+                            stay_keyed 18 comments.keyed (kept 18 refl refl (λ e. omega (arith, e))) rest.1.1.1.1.0,
+                            (stay_keyed 20 calls.keyed (kept 20 refl refl (λ e. omega (arith, e))) rest.1.1.1.1.1.0, tt),
+                          ),
+                        ),
+                      ),
+                    ),
+                  ),
+                ),
+              ),
+            ),
+          ),
         )
 
     file_row : (project : List ℕ) → told FileRow (row_at projects new project) ≡ option_map FileRow (own_of h project)

@@ -6,6 +6,7 @@ ghost use Rattle.sqlite.specs.State.{HasCleanDisk};
 ghost use Rattle.review_sql.specs.Shelf.{AreAllRead, Stays};
 ghost use Rattle.review_sql.specs.Said.{LacksLeast, SaysLeast, ShowsDesk, ShowsEpochs, number_of_one, version_in, requests_in, IsSaid, IsThere, SaysVersion};
 ghost use Rattle.review_sql.specs.Opened.{AreAllApart, Peeks, IsLacking, IsSeen, IsRefused};
+ghost use Rattle.review_records.specs.Forms.{first_epoch};
 ghost use Rattle.review_tables.specs.Versions.{schema_at, version_number};
 
 use crate::faults::DeskFault;
@@ -98,6 +99,13 @@ pub fn version_of(said: Said) -> Result<TablesVersion, DeskFault>
     }
 }
 
+// Whether rows of the table `epochs` say that the first epoch is the least open.
+fn is_first_least(rows: &[Row]) -> bool
+    ensures { Decides result (number_of_one 0 rows.now ≡ Some first_epoch) }
+{
+    number_of_one(rows, 0) == Some(u64::from(FIRST_EPOCH))
+}
+
 // Whether the table of the epochs says that the first one is the least open, where the version has that table.
 fn says_least<S: Alter>(conn: &mut Connection<S>, version: TablesVersion) -> Result<bool, Error>
     requires mode { conn.old.in_transaction ≡ false }
@@ -110,7 +118,7 @@ fn says_least<S: Alter>(conn: &mut Connection<S>, version: TablesVersion) -> Res
         TablesVersion::First | TablesVersion::Second => Ok(true),
         TablesVersion::Third => {
             let rows = epochs_rows(conn)?;
-            Ok(number_of_one(&rows, 0) == Some(u64::from(FIRST_EPOCH)))
+            Ok(is_first_least(&rows))
         }
     }
 }

@@ -43,7 +43,7 @@ returns-in-Some-None-clause-damaged g c honest =
     let same : old ≡ c.args.self.now.conn = ap (λ (k : ShelfView _). k.conn) c.self.view_is in
     let is : c.in-Ok.found ≡ Some None = search rules in
     let it = c.in-Ok.ensures.serves.found honest.0 (desk_if_open g.S.Store old last g.O.Origin.IS_OURS c.self.inside.requests c.self.invariant honest.1) in
-    let odd : answer_in (state g.S.Store old).now.trees i ≡ Some OddAnswer = ap (stored_as i) (sym it.3 ∙ is) in
+    let odd : answer_in (state g.S.Store old).now.trees i ≡ Some OddAnswer = ap (stored_as i) (sym (rw c.new-key.ensures at it.3) ∙ is) in
     subst (λ (h : Held _). Shows (tables_of g.S.Store h) IsDamaged) same (shown_now g.S.Store old last IsDamaged it.0 (odd_is_damage (tables_at (state g.S.Store old).now.trees) i odd))
 
 pub returns-in-Some-None-clause-stops : goal.returns-in-Some-None-clause-stops
