@@ -1,5 +1,7 @@
 //! What is seen of a desk before it is opened.
 
+use review_words::Epoch;
+
 /// What the table `desk` says: a version, and how many requests there are, each where its one row has a number there.
 #[derive(Clone, Copy, Debug, PartialEq, Eq)]
 pub struct Said {
@@ -7,9 +9,16 @@ pub struct Said {
     pub requests: Option<u64>,
 }
 
-/// What a desk is opened with: whether its tables are ours, and how many requests are stored.
+/// What a desk says of itself: how many requests are stored, and which epoch is the least open one.
+#[derive(Clone, Copy, Debug, PartialEq, Eq)]
+pub struct Numbers {
+    pub requests: u64,
+    pub least: Epoch,
+}
+
+/// What a desk is opened with: whether its tables are ours, and what it says of itself.
 #[derive(Clone, Copy, Debug, PartialEq, Eq)]
 pub struct Seen {
     pub is_ours: bool,
-    pub requests: u64,
+    pub numbers: Numbers,
 }

@@ -11,7 +11,7 @@ use Rattle.review_sql.proofs.migrating.upgrade.Goals as goal
 
 pub returns-in-Ok-true-clause-raised : goal.returns-in-Ok-true-clause-raised
 returns-in-Ok-true-clause-raised g c =
-    let R = Upgrades c.args.version c.args.is_ours c.in_ok-seen.seen.requests in
+    let R = Upgrades c.args.version c.args.is_ours c.in_ok-seen.seen.numbers in
     let s0 = state g.S.Store c.args.conn.now in
     let s1 = state g.S.Store c.see_tables.new.conn in
     let s2 = state g.S.Store c.raise.new.conn in
@@ -20,7 +20,7 @@ returns-in-Ok-true-clause-raised g c =
     let ours : IsTrue c.args.is_ours → c.in_ok-seen.seen.is_ours ≡ true = λ yes. search (rules, yes) in
     record {
       form = λ clean given. c.in_ok-seen.ensures.form.0 (ours given) ∙ ap schema_at c.version.ensures;
-      there = λ clean. subst (λ v. IsThere v s0.now c.in_ok-seen.seen.requests) c.version.ensures (c.in_ok-seen.ensures.there (acts.done clean).0);
+      there = λ clean. subst (λ v. IsThere v s0.now c.in_ok-seen.seen.numbers) c.version.ensures (c.in_ok-seen.ensures.there (acts.done clean).0);
       acts = stays_acts R s0 s1 s2 (Ok (tt {0})) c.see_tables.ensures.stays acts;
     }
 
@@ -29,15 +29,15 @@ returns-in_err-seen-clause-refused g c = not_migrated_if c.args.is_ours c.from_r
 
 pub returns-in-Ok-false-clause-refused : goal.returns-in-Ok-false-clause-refused
 returns-in-Ok-false-clause-refused g c =
-    let R = Upgrades c.args.version c.args.is_ours c.in_ok-seen.seen.requests in
+    let R = Upgrades c.args.version c.args.is_ours c.in_ok-seen.seen.numbers in
     let s0 = state g.S.Store c.args.conn.now in
     let s1 = state g.S.Store c.see_tables.new.conn in
     let s2 = state g.S.Store c.raise.new.conn in
     let whole : c.in-Ok-false.field-0 ≡ false = search rules in
     let acts = subst (λ b. Transacts R s1 s2 (if_whole (Ok b))) whole c.in-Ok-false.ensures.acts in
     let ours : IsTrue c.args.is_ours → c.in_ok-seen.seen.is_ours ≡ true = λ yes. search (rules, yes) in
-    taken_back c.args.version c.args.is_ours c.in_ok-seen.seen.requests NotOurs s0 s1 s2 InvalidQuery ((λ is. cc), (λ is. cc)) c.see_tables.ensures.stays
-    (λ is_open. subst (λ v. IsThere v s0.now c.in_ok-seen.seen.requests) c.version.ensures (c.in_ok-seen.ensures.there is_open)) (λ given. c.in_ok-seen.ensures.form.0 (ours given) ∙ ap schema_at c.version.ensures) acts
+    taken_back c.args.version c.args.is_ours c.in_ok-seen.seen.numbers NotOurs s0 s1 s2 InvalidQuery ((λ is. cc), (λ is. cc)) c.see_tables.ensures.stays
+    (λ is_open. subst (λ v. IsThere v s0.now c.in_ok-seen.seen.numbers) c.version.ensures (c.in_ok-seen.ensures.there is_open)) (λ given. c.in_ok-seen.ensures.form.0 (ours given) ∙ ap schema_at c.version.ensures) acts
 
 pub returns-in-Err-clause-refused : goal.returns-in-Err-clause-refused
 returns-in-Err-clause-refused g c =
@@ -45,5 +45,5 @@ returns-in-Err-clause-refused g c =
     let s1 = state g.S.Store c.see_tables.new.conn in
     let s2 = state g.S.Store c.raise.new.conn in
     let ours : IsTrue c.args.is_ours → c.in_ok-seen.seen.is_ours ≡ true = λ yes. search (rules, yes) in
-    taken_back c.args.version c.args.is_ours c.in_ok-seen.seen.requests c.of.result s0 s1 s2 c.in-Err.error (c.of.ensures.plain.0, c.of.ensures.plain.1) c.see_tables.ensures.stays
-    (λ is_open. subst (λ v. IsThere v s0.now c.in_ok-seen.seen.requests) c.version.ensures (c.in_ok-seen.ensures.there is_open)) (λ given. c.in_ok-seen.ensures.form.0 (ours given) ∙ ap schema_at c.version.ensures) c.in-Err.ensures.acts
+    taken_back c.args.version c.args.is_ours c.in_ok-seen.seen.numbers c.of.result s0 s1 s2 c.in-Err.error (c.of.ensures.plain.0, c.of.ensures.plain.1) c.see_tables.ensures.stays
+    (λ is_open. subst (λ v. IsThere v s0.now c.in_ok-seen.seen.numbers) c.version.ensures (c.in_ok-seen.ensures.there is_open)) (λ given. c.in_ok-seen.ensures.form.0 (ours given) ∙ ap schema_at c.version.ensures) c.in-Err.ensures.acts

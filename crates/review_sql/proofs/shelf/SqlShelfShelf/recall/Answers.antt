@@ -12,7 +12,7 @@ use Rattle.review_sql.proofs.shelf.SqlShelfShelf.recall.Goals as goal
 pub invariant_of-self : goal.invariant_of-self
 invariant_of-self g c =
     let last = c.find_stored.new.conn in
-    holds_read g.S.Store c.self.inside.conn last g.O.Origin.IS_OURS c.self.inside.requests c.self.invariant _ c.find_stored.result c.find_stored.ensures.mode (λ is_open. clean_if_open (g.S.Store.view last.store) (g.met.S.Store.shut_if_dirty last.store) is_open) c.find_stored.ensures.serves
+    holds_read g.S.Store c.self.inside.conn last g.O.Origin.IS_OURS c.self.inside.numbers c.self.invariant _ c.find_stored.result c.find_stored.ensures.mode (λ is_open. clean_if_open (g.S.Store.view last.store) (g.met.S.Store.shut_if_dirty last.store) is_open) c.find_stored.ensures.serves
 
 pub returns-in-Err-clause-stops : goal.returns-in-Err-clause-stops
 returns-in-Err-clause-stops g c honest =
@@ -23,7 +23,7 @@ returns-in-Err-clause-stops g c honest =
     let auto : IsTrue c.is_autocommit-settled.result = c.is_autocommit-settled.ensures.value ∙ ap not c.self.invariant.autocommit in
     let clean = clean_still g.S.Store mid last c.told.ensures.stays honest.0 in
     subst (λ (h : Held _). (t : Tables) → stops_of g.S.Store last t → stops_of g.S.Store h t) same
-    (λ t left. stops_read g.S.Store old mid g.O.Origin.IS_OURS c.self.inside.requests c.self.invariant _ c.find_stored.result (λ was. c.is_autocommit-settled.ensures.settled auto was) (g.met.S.Store.stays old.store) c.find_stored.ensures.serves honest.1 clean t
+    (λ t left. stops_read g.S.Store old mid g.O.Origin.IS_OURS c.self.inside.numbers c.self.invariant _ c.find_stored.result (λ was. c.is_autocommit-settled.ensures.settled auto was) (g.met.S.Store.stays old.store) c.find_stored.ensures.serves honest.1 clean t
     (stops_still g.S.Store mid last c.told.ensures.stays honest.0 t left))
 
 pub returns-in-Some-Some-clause-stops : goal.returns-in-Some-Some-clause-stops
@@ -33,7 +33,7 @@ returns-in-Some-Some-clause-stops g c honest =
     let same : old ≡ c.args.self.now.conn = ap (λ (k : ShelfView _). k.conn) c.self.view_is in
     let auto : IsTrue c.is_autocommit-settled.result = c.is_autocommit-settled.ensures.value ∙ ap not c.self.invariant.autocommit in
     subst (λ (h : Held _). (t : Tables) → stops_of g.S.Store last t → stops_of g.S.Store h t) same
-    (stops_read g.S.Store old last g.O.Origin.IS_OURS c.self.inside.requests c.self.invariant _ c.find_stored.result (λ was. c.is_autocommit-settled.ensures.settled auto was) (g.met.S.Store.stays old.store) c.find_stored.ensures.serves honest.1 honest.0)
+    (stops_read g.S.Store old last g.O.Origin.IS_OURS c.self.inside.numbers c.self.invariant _ c.find_stored.result (λ was. c.is_autocommit-settled.ensures.settled auto was) (g.met.S.Store.stays old.store) c.find_stored.ensures.serves honest.1 honest.0)
 
 pub returns-in-Some-None-clause-damaged : goal.returns-in-Some-None-clause-damaged
 returns-in-Some-None-clause-damaged g c honest =
@@ -42,7 +42,7 @@ returns-in-Some-None-clause-damaged g c honest =
     let i : Identity = record { caller = c.args.caller; id = c.in_ok-copy.field-0 } in
     let same : old ≡ c.args.self.now.conn = ap (λ (k : ShelfView _). k.conn) c.self.view_is in
     let is : c.in-Ok.found ≡ Some None = search rules in
-    let it = c.in-Ok.ensures.serves.found honest.0 (desk_if_open g.S.Store old last g.O.Origin.IS_OURS c.self.inside.requests c.self.invariant honest.1) in
+    let it = c.in-Ok.ensures.serves.found honest.0 (desk_if_open g.S.Store old last g.O.Origin.IS_OURS c.self.inside.numbers c.self.invariant honest.1) in
     let odd : answer_in (state g.S.Store old).now.trees i ≡ Some OddAnswer = ap (stored_as i) (sym (rw c.new-key.ensures at it.3) ∙ is) in
     subst (λ (h : Held _). Shows (tables_of g.S.Store h) IsDamaged) same (shown_now g.S.Store old last IsDamaged it.0 (odd_is_damage (tables_at (state g.S.Store old).now.trees) i odd))
 
@@ -53,7 +53,7 @@ returns-in-Some-None-clause-stops g c honest =
     let same : old ≡ c.args.self.now.conn = ap (λ (k : ShelfView _). k.conn) c.self.view_is in
     let auto : IsTrue c.is_autocommit-settled.result = c.is_autocommit-settled.ensures.value ∙ ap not c.self.invariant.autocommit in
     subst (λ (h : Held _). (t : Tables) → stops_of g.S.Store last t → stops_of g.S.Store h t) same
-    (stops_read g.S.Store old last g.O.Origin.IS_OURS c.self.inside.requests c.self.invariant _ c.find_stored.result (λ was. c.is_autocommit-settled.ensures.settled auto was) (g.met.S.Store.stays old.store) c.find_stored.ensures.serves honest.1 honest.0)
+    (stops_read g.S.Store old last g.O.Origin.IS_OURS c.self.inside.numbers c.self.invariant _ c.find_stored.result (λ was. c.is_autocommit-settled.ensures.settled auto was) (g.met.S.Store.stays old.store) c.find_stored.ensures.serves honest.1 honest.0)
 
 pub returns-in-None-clause-stops : goal.returns-in-None-clause-stops
 returns-in-None-clause-stops g c honest =
@@ -62,4 +62,4 @@ returns-in-None-clause-stops g c honest =
     let same : old ≡ c.args.self.now.conn = ap (λ (k : ShelfView _). k.conn) c.self.view_is in
     let auto : IsTrue c.is_autocommit-settled.result = c.is_autocommit-settled.ensures.value ∙ ap not c.self.invariant.autocommit in
     subst (λ (h : Held _). (t : Tables) → stops_of g.S.Store last t → stops_of g.S.Store h t) same
-    (stops_read g.S.Store old last g.O.Origin.IS_OURS c.self.inside.requests c.self.invariant _ c.find_stored.result (λ was. c.is_autocommit-settled.ensures.settled auto was) (g.met.S.Store.stays old.store) c.find_stored.ensures.serves honest.1 honest.0)
+    (stops_read g.S.Store old last g.O.Origin.IS_OURS c.self.inside.numbers c.self.invariant _ c.find_stored.result (λ was. c.is_autocommit-settled.ensures.settled auto was) (g.met.S.Store.stays old.store) c.find_stored.ensures.serves honest.1 honest.0)
