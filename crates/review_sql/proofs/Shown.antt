@@ -1,5 +1,5 @@
 -- What a connection shows as a shelf.
-use Rattle.std.proofs.Common.{◌≡◌, ◌≢◌, ◌∙◌, ◌⊎◌, inl, inr, ℕ, ◌+◌, List, [], ◌∷◌, Bool, Option, Some, None, true, false, Ok, Err, Result, OnOk, IsTrue, refl, sym, ap, subst, arith}
+use Rattle.std.proofs.Common.{◌≡◌, ◌≢◌, ◌∙◌, ◌⊎◌, inl, inr, ℕ, ◌+◌, List, [], ◌∷◌, Bool, Option, Some, None, true, false, Ok, Err, Result, OnOk, IsTrue, refl, sym, ap, subst, arith, cond}
 use Rattle.std.proofs.lemmas.Bool.{cases_Bool}
 use Rattle.sqlite_trees.specs.declared.store.Store.{Ghosts}
 use Rattle.sqlite_trees.specs.Tree.{Trees}
@@ -7,18 +7,18 @@ use Rattle.sqlite.specs.Effect.{Database}
 use Rattle.sqlite.specs.State.{HasCleanDisk}
 use Rattle.sqlite.specs.Held.{Held, state}
 use Rattle.sqlite.specs.declared.error.Error.{Error}
-use Rattle.review_words.specs.History.{Entry, Identity, is_same}
+use Rattle.review_words.specs.History.{Entry, Identity, is_same, is_closed}
 use Rattle.review_rows.specs.Rows.{Tables, OddAnswer, kept_row}
 use Rattle.review_rows.specs.declared.rows.Delta.{Delta}
 use Rattle.review_rows.specs.declared.rows.Kept.{Kept as Request}
-use Rattle.review_rows.specs.View.{stored_answer}
+use Rattle.review_rows.specs.View.{stored_answer, kept_answer}
 use Rattle.review_rows.proofs.Readings.{reading_of}
 use Rattle.review_rows.specs.declared.shelf.ShelfFault.{ShelfFault}
 use Rattle.review_rows.specs.declared.shelf.ShelfFault.TheVariants.{Memory, Store, Damaged}
 use Rattle.review_rows.specs.Shelf.{Blames, LeavesBy, StaysOrShuts, Shows, IsCommitted, IsDamaged, cause_of}
 use Rattle.review_statements.specs.Ran.{IsReady, IsDeskIfOpen, Serves, Transacts}
 use Rattle.review_lookups.specs.Tables.{tables_at}
-use Rattle.review_sql.specs.Numbers.{IsDesk}
+use Rattle.review_sql.specs.Numbers.{IsDesk, more}
 use Rattle.review_sql.specs.declared.seen.Numbers.{Numbers}
 use Rattle.review_sql.specs.Commits.{AreSingle, Commits}
 use Rattle.review_sql.specs.Shelf.{Holds, Stays, tables_of, stops_of}
@@ -28,8 +28,16 @@ pub not_odd : (h : List Entry) (i : Identity) → stored_answer h i ≡ Some Odd
 not_odd [] i is = cc
 not_odd (e ∷ h) i is = elim (cases_Bool (is_same e.identity i)) [ inl same ↦ (let it = rw same at is in cc) | inr other ↦ not_odd h i (rw other at is) ]
 
+-- nor is one that is kept
+pub not_kept_odd : (h : List Entry) (i : Identity) → kept_answer h i ≡ Some OddAnswer → ⊥
+not_kept_odd h i is = by (is_closed h i.epoch) is
+  where
+    by : (b : Bool) → cond b None (stored_answer h i) ≡ Some OddAnswer → ⊥
+    by true odd = cc
+    by false odd = not_odd h i odd
+
 pub odd_is_damage : (t : Tables) (i : Identity) → t.answer i ≡ Some OddAnswer → IsDamaged t
-odd_is_damage t i odd h history view = let read = reading_of h history in not_odd h i (sym ((view read.0 read.1).answer_is i) ∙ odd)
+odd_is_damage t i odd h history view = let read = reading_of h history in not_kept_odd h i (sym ((view read.0 read.1).answer_is i) ∙ odd)
 
 module _ {S : Type 0} (g : Ghosts S) (old new : Held S) where
   pub stays : (IsTrue (state g new).is_open → IsTrue (state g old).is_open × ((state g new).now ≡ (state g old).now)) → StaysOrShuts (tables_of g old) (tables_of g new)
@@ -89,7 +97,7 @@ module _ {S : Type 0} (g : Ghosts S) (old new : Held S) where
       done_as : r ≡ Ok (tt {0}) → HasCleanDisk (state g new) → IsTrue (state g old).is_open × IsTrue (state g new).is_open × Commits delta kept numbers (state g old).now (state g new).now
       done_as is clean = subst (λ q. OnOk q (IsTrue (state g old).is_open × IsTrue (state g new).is_open × Commits delta kept numbers (state g old).now (state g new).now)) is (acts.done clean)
 
-      pub holds_committed : r ≡ Ok (tt {0}) → new.in_transaction ≡ false → (IsTrue (state g new).is_open → HasCleanDisk (state g new)) → Holds g new is_ours (numbers + 1)
+      pub holds_committed : r ≡ Ok (tt {0}) → new.in_transaction ≡ false → (IsTrue (state g new).is_open → HasCleanDisk (state g new)) → Holds g new is_ours (more numbers delta.epoch)
       holds_committed is mode clean = record {
         autocommit = mode;
         ready = λ ours is_open.

@@ -37,7 +37,7 @@ use Rattle.review_sql.specs.Changes.{SetsDesk, SetsLeast}
 use Rattle.review_sql.specs.Migrated.{KeepsRows, Upgrades}
 use Rattle.review_sql.specs.Opened.{AreAllApart}
 use Rattle.review_sql.proofs.Edits.{part_same}
-use Rattle.review_sql.proofs.Shown.{not_odd}
+use Rattle.review_sql.proofs.Shown.{not_kept_odd}
 
 -- what tells no odd row reads as what is told
 pub told_file : (found : Option (Option StoredFile)) (file : Option StoredFile) → told FileRow found ≡ option_map FileRow file → found ≡ option_map Some file
@@ -240,7 +240,7 @@ module _ (version : EarlierVersion) (numbers : Numbers) (old mid new : Trees) (s
 
         by : (found : Option (Option Rest)) → row_at earlier_answers old (earlier_key i.caller i.id) ≡ found → i.epoch ≡ first_epoch → stored_as i found ≡ kept_answer h i → answer_in mid i ≡ kept_answer h i
         by None is first told = moved_so None first is ∙ told
-        by (Some None) is first told = absurd (not_odd h i (sym told))
+        by (Some None) is first told = absurd (not_kept_odd h i (sym told))
         by (Some (Some a)) is first told = moved_so (Some a) first is ∙ told
 
     pub shows : IsEarlierDesk version numbers.requests old → IsViewBy reading h (tables_at new)

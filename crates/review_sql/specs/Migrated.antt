@@ -73,7 +73,7 @@ pub record IsKept (is_ours : Bool) (old new : State) (numbers : Numbers) : Type 
   pub seen : IsTrue new.is_open → IsSeen old (record { is_ours = has_form; numbers = numbers })
 
 -- tables of an earlier version were made those of version 3, or tables of version 3 were kept
-abbrev pub IsBrought : {S : Type 0} → Ghosts S → Bool → Held S → Held S → ℕ → Type 0
+abbrev pub IsBrought : {S : Type 0} → Ghosts S → Bool → Held S → Held S → Numbers → Type 0
 IsBrought g is_ours old new numbers = ((version : EarlierVersion) × IsRaised g version is_ours old new numbers) ⊎ IsKept is_ours (state g old) (state g new) numbers
 
 -- Of tables of an earlier version those of version 3 were made. Where they are ours, these keep the rows, and view the same history, if the old ones view it as that version keeps it; and a stop within it leaves what one could leave before, or

@@ -7,6 +7,7 @@ use Rattle.review_table.specs.declared.table.Change.{Change}
 use Rattle.review_rows.specs.declared.rows.ChangeEdit.{ChangeEdit}
 use Rattle.review_rows.specs.declared.rows.Delta.{Delta}
 use Rattle.review_rows.specs.declared.rows.Kept.{Kept}
+use Rattle.review_rows.specs.Rows.{kept_row}
 use Rattle.review_statements.specs.Content.{has_key, is_below}
 use Rattle.review_statements.specs.Desk.{is_tree}
 use Rattle.review_statements.specs.Search.{Search}

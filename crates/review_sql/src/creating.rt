@@ -13,7 +13,7 @@ use review_rows::MemberKey;
 use review_tables::changes::{change, set};
 use review_tables::creating::create_tables;
 use review_tables::versions::TablesVersion;
-use review_words::{AccountNo, admin_name, administrators};
+use review_words::{AccountNo, Epoch, admin_name, administrators};
 use sqlite::{Alter, Connection, Error, Transaction};
 use std::alloc::Global;
 

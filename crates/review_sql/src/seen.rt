@@ -16,6 +16,21 @@ pub struct Numbers {
     pub least: Epoch,
 }
 
+impl Numbers {
+    ghost use Rattle.std.specs.Prelude.{◌≡◌, ◌+◌, ◌<◌, ◌^◌, IfSome};
+    ghost use Rattle.review_sql.specs.Numbers.{more};
+
+    /// The same once one request more is stored, with this epoch as the least open one, if one is named; nothing where the last number is given.
+    pub fn more(self, epoch: Option<Epoch>) -> Option<Numbers>
+        ensures more { IfSome result (λ numbers. numbers ≡ more self epoch) }
+        ensures room { IfSome result (λ numbers. self.requests + 1 < 2 ^ 64) }
+    {
+        let requests = self.requests.checked_add(1)?;
+        let least = epoch.unwrap_or(self.least);
+        Some(Numbers { requests, least })
+    }
+}
+
 /// What a desk is opened with: whether its tables are ours, and what it says of itself.
 #[derive(Clone, Copy, Debug, PartialEq, Eq)]
 pub struct Seen {

@@ -1,10 +1,11 @@
 //! A shelf in SQLite.
-ghost use Rattle.std.specs.Prelude.{◌≡◌, ◌≢◌, ◌≤◌, ◌⊎◌, true, false, IfOk, IfErr, IsTrue, min};
+ghost use Rattle.std.specs.Prelude.{ℕ, ◌≡◌, ◌≢◌, ◌≤◌, ◌⊎◌, Some, None, true, false, IfOk, IfErr, IsTrue, min};
 ghost use Rattle.std.specs.Bool.{Decides};
 ghost use Rattle.sqlite.specs.Held.{state};
 ghost use Rattle.sqlite.specs.State.{HasCleanDisk};
-ghost use Rattle.review_rows.specs.Rows.{kept_row};
-ghost use Rattle.review_rows.specs.Shelf.{IsCounted, greatest_count};
+ghost use Rattle.review_rows.specs.Rows.{ClosedEpochs, Tables, kept_row};
+ghost use Rattle.review_rows.specs.Shelf.{CountsFaults, IsCounted, IsRecalled, greatest_count};
+ghost use Rattle.review_lookups.specs.Tables.{stored_as};
 ghost use Rattle.review_statements.specs.Desk.{schema_0};
 ghost use Rattle.review_sql.specs.Shelf.{Stays, answer_of};
 
@@ -306,17 +307,9 @@ impl<S: Alter, O: Origin> Shelf for SqlShelf<S, O> {
             id: id.copy(alloc)?,
         };
         let _settled = self.conn.is_autocommit();
-        let found = match find_stored(&mut self.conn, alloc, &key) {
-            Ok(found) => found,
-            Err(error) => return Err(told(&mut self.conn, &mut self.faults, error)),
-        };
-        if epoch.get() < self.numbers.least.get() {
-            return Ok(Recalled::Closed);
-        }
-        match found {
-            Some(Some(row)) => Ok(Recalled::Kept(kept_of(key, row))),
-            Some(None) => Err(ShelfFault::Damaged),
-            None => Ok(Recalled::Fresh),
+        match find_stored(&mut self.conn, alloc, &key) {
+            Ok(found) => recalled(key, found, self.numbers.least),
+            Err(error) => Err(told(&mut self.conn, &mut self.faults, error)),
         }
     }
 
@@ -330,17 +323,14 @@ impl<S: Alter, O: Origin> Shelf for SqlShelf<S, O> {
 
     fn commit(&mut self, alloc: Global, delta: &Delta, kept: &Kept) -> Result<(), ShelfFault> {
         let numbers = self.numbers;
-        let Some(requests) = numbers.requests.checked_add(1) else {
+        let Some(more) = numbers.more(delta.epoch) else {
             return Err(refuse(&mut self.faults));
         };
         let _live = self.conn.schema();
         match transact(&mut self.conn, alloc, delta, kept, numbers) {
             Ok(()) => {
                 let _settled = self.conn.is_autocommit();
-                self.numbers = Numbers {
-                    requests,
-                    least: delta.epoch.unwrap_or(numbers.least),
-                };
+                self.numbers = more;
                 Ok(())
             }
             Err(error) => Err(told(&mut self.conn, &mut self.faults, error)),
@@ -352,6 +342,27 @@ impl<S: Alter, O: Origin> Shelf for SqlShelf<S, O> {
     }
 
     ghost fits = { λ k. count_fits k.faults };
+}
+
+// What is told of an identity, where this is what its key has and this epoch is the least open one.
+#[tactic(auto, using(crate::proofs::Recalled::closed_told, crate::proofs::Recalled::open_told))]
+fn recalled(
+    key: RequestKey,
+    found: Option<Option<Answered>>,
+    least: Epoch,
+) -> Result<Recalled, ShelfFault>
+    ensures told { (t : Tables) → t.count ClosedEpochs ≡ least → t.answer (record { caller = key.caller; epoch = key.epoch; id = key.id }) ≡ stored_as (record { caller = key.caller; epoch = key.epoch; id = key.id }) found → IfOk result (IsRecalled t (record { caller = key.caller; epoch = key.epoch; id = key.id })) }
+    ensures damaged { IfErr result (λ e. (e ≡ ShelfFault.Damaged) × (found ≡ Some None)) }
+    ensures counted { (n : ℕ) → CountsFaults result n n }
+{
+    if key.epoch.get() < least.get() {
+        return Ok(Recalled::Closed);
+    }
+    match found {
+        Some(Some(row)) => Ok(Recalled::Kept(kept_of(key, row))),
+        Some(None) => Err(ShelfFault::Damaged),
+        None => Ok(Recalled::Fresh),
+    }
 }
 
 // A stored request with its identity.
