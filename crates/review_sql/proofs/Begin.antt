@@ -1,5 +1,6 @@
 -- A desk before its first request.
-use Rattle.std.proofs.Common.{◌≡◌, ◌≢◌, ◌∙◌, ◌==◌, ℕ, List, [], ◌∷◌, Some, None, option_map, cond, true, refl, sym, ap, subst, arith, inl, inr, length, eqb-true}
+use Rattle.std.specs.Prelude.{nat_lt}
+use Rattle.std.proofs.Common.{◌≡◌, ◌≢◌, ◌∙◌, ◌==◌, ℕ, List, [], ◌∷◌, Some, None, option_map, cond, true, refl, sym, ap, subst, arith, inl, inr, length, eqb-true, Bool, Option, false}
 use Rattle.std.specs.Str.{bytes_eq}
 use Rattle.std.proofs.lemmas.Bool.{cases_Bool, both_ways, eqb-false}
 use Rattle.sqlite_value.specs.declared.value.Value.TheVariants.{Text}
@@ -8,7 +9,7 @@ use Rattle.sqlite.specs.Effect.{Database}
 use Rattle.review_names.specs.Names.{admin_name, administrators}
 use Rattle.review_words.specs.History.{is_listed}
 use Rattle.review_rows.specs.declared.rows.MemberKey.{MemberKey}
-use Rattle.review_rows.specs.Rows.{Key, AccountKey, MemberKey as OfMember, FileKey, BaseKey, PartKey, OddKey, AccountRow, MemberRow, FileRow, BaseRow, APart, OddRow, Count, Projects, BasesOf, ClosedEpochs}
+use Rattle.review_rows.specs.Rows.{Key, AccountKey, MemberKey as OfMember, FileKey, BaseKey, PartKey, OddKey, AccountRow, MemberRow, FileRow, BaseRow, APart, OddRow, Count, Projects, BasesOf, ClosedEpochs, Stored}
 use Rattle.review_rows.specs.Changes.{Reading}
 use Rattle.review_rows.specs.View.{IsView, fact, counted}
 use Rattle.review_statements.specs.Desk.{schema_0, desk_schema, is_tree}
@@ -89,11 +90,15 @@ module _ (a b : Trees) (blank : (t : ℕ) → is_tree t ≡ true → a t ≡ [])
   pub first_desk : IsDesk (record { requests = 0; least = 0 }) b
   first_desk = record { desk_is = h.2.here; least_is = ap (λ l. only (reads epochs) (rows_at (epochs.at tt) l)) (h.2.others 31 refl (λ e. omega (arith, e))) ∙ h.1.2.here }
 
+  neither : (closed : Bool) → cond {A = Option Stored} closed None None ≡ None
+  neither true = refl
+  neither false = refl
+
   pub first_view : IsView [] (tables_at b)
   first_view reading right = record {
     row_is = rows reading;
     count_is = counts;
-    answer_is = λ i. ap (λ l. stored_as i (only (reads answers) (rows_at (answers.at (request_key i)) l))) (untouched 28 refl (λ e. omega (arith, e)) (λ e. omega (arith, e)) (λ e. omega (arith, e)) (λ e. omega (arith, e)));
+    answer_is = λ i. ap (λ l. stored_as i (only (reads answers) (rows_at (answers.at (request_key i)) l))) (untouched 28 refl (λ e. omega (arith, e)) (λ e. omega (arith, e)) (λ e. omega (arith, e)) (λ e. omega (arith, e))) ∙ sym (neither (nat_lt i.epoch 0));
     version = (λ k. version_in (first_desk.least_is k) (h.2.here k));
     requests = ap (number_of (λ d. d.requests)) h.2.here;
   }

@@ -1,5 +1,5 @@
 -- What the statements of a commit do together.
-use Rattle.std.proofs.Common.{◌≡◌, ◌≢◌, ◌∙◌, ◌+◌, ◌≤◌, ℕ, List, [], ◌∷◌, Option, Some, None, option_map, cond, Ordering, Less, Equal, Greater, true, false, Bool, is_some, not, pos, refl, sym, ap, subst, arith, inl, inr, length, filter, eqb-true, eq-eqb}
+use Rattle.std.proofs.Common.{◌≡◌, ◌≢◌, ◌∙◌, ◌+◌, ◌≤◌, ℕ, List, [], ◌∷◌, Option, Some, None, option_map, cond, Ordering, Less, Equal, Greater, true, false, Bool, is_some, not, pos, refl, sym, ap, subst, arith, inl, inr, length, filter, eqb-true, eq-eqb, ◌&&◌}
 use Rattle.std.specs.Prelude.{nat_lt, unwrap_or}
 use Rattle.std.specs.Str.{bytes_eq}
 use Rattle.std.specs.BTreeMap.{is_at}
@@ -24,7 +24,7 @@ use Rattle.review_rows.specs.Shelf.{IsCommitted}
 use Rattle.review_rows.proofs.Puts.{exact_place, place_total}
 use Rattle.review_rows.specs.declared.rows.PlaceKey.{PlaceKey}
 use Rattle.review_rows.specs.declared.rows.StoredFile.{StoredFile}
-use Rattle.review_statements.specs.Content.{SparesOthers, Then, has_key, is_below}
+use Rattle.review_statements.specs.Content.{SparesOthers, Then, has_key, is_below, is_value}
 use Rattle.review_statements.specs.Desk.{is_tree}
 use Rattle.review_statements.specs.Ran.{OnDesk}
 use Rattle.review_statements.specs.Search.{row_at, rows_at, only, reads, Search}
@@ -155,14 +155,14 @@ filter_twice p q false [] each = refl
 filter_twice p q b (r ∷ rows) each = elim (cases_Bool (q r)) [
   | inl asked ↦ one b asked (each r asked) (filter_twice p q b rows each)
   | inr other ↦ elim (cases_Bool (p r)) [
-    | inl stays ↦ rw (other, stays) (rw other (filter_twice p q b rows each))
-    | inr goes ↦ rw (other, goes) (filter_twice p q b rows each)
+    | inl stays ↦ rw (stays, other) (filter_twice p q b rows each)
+    | inr goes ↦ rw (goes, other) (filter_twice p q b rows each)
   ]
 ]
   where
     one : (b : Bool) → q r ≡ true → p r ≡ b → filter q (filter p rows) ≡ cond b (filter q rows) [] → filter q (filter p (r ∷ rows)) ≡ cond b (filter q (r ∷ rows)) []
-    one true asked stays same = rw (asked, stays) (rw asked (ap (λ l. r ∷ l) same))
-    one false asked goes same = rw (asked, goes) same
+    one true asked stays same = rw (stays, asked) (ap (λ l. r ∷ l) same)
+    one false asked goes same = rw goes same
 
 lt_by : (a b : Bool) → is_lt (cond a Less (cond b Greater Equal)) ≡ a
 lt_by true b = refl
@@ -172,6 +172,13 @@ lt_by false false = refl
 -- an integer is below another where the numbers are
 below_is : (epoch least : ℕ) → is_below (Int (pos epoch)) (pos least) ≡ nat_lt epoch least
 below_is epoch least = ap is_lt (value_cmp-Int (pos epoch) (pos least)) ∙ lt_by (nat_lt epoch least) (nat_lt least epoch)
+
+-- a stored request of an identity has its epoch
+epoch_of : (i : Identity) (r : Raw) → has_key (answers.at (request_key i)) r ≡ true → column r 2 ≡ Int (pos i.epoch)
+epoch_of i r has =
+    let p = and_parts (is_value (column r 1) (Int (pos i.caller))) (is_value (column r 2) (Int (pos i.epoch)) && (is_value (column r 3) (Text i.id) && true)) has in
+    let q = and_parts (is_value (column r 2) (Int (pos i.epoch))) (is_value (column r 3) (Text i.id) && true) p.1 in
+    int_is (column r 2) (pos i.epoch) q.0
 
 module _ (epoch : Option ℕ) (old new : Trees) (h : GivesUp epoch old new) where
   given_up_spares : (t : ℕ) → is_tree t ≡ true → t ≢ 28 → t ≢ 31 → new t ≡ old t
@@ -203,9 +210,7 @@ module _ (epoch : Option ℕ) (old new : Trees) (h : GivesUp epoch old new) wher
 
       gone : (least : ℕ) (b : Bool) → nat_lt i.epoch least ≡ b → new 28 ≡ filter (λ r. not (is_below (column r 2) (pos least))) (old 28) → answer_in new i ≡ cond b None (answer_in old i)
       gone least b is rows =
-          let each : (r : Raw) → has_key at r ≡ true → not (is_below (column r 2) (pos least)) ≡ not b = λ r has.
-          let p = and_parts _ _ (and_parts _ _ has).1 in
-          ap (λ v. not (is_below v (pos least))) (int_is (column r 2) (pos i.epoch) p.0) ∙ ap not (below_is i.epoch least ∙ is) in
+          let each : (r : Raw) → has_key at r ≡ true → not (is_below (column r 2) (pos least)) ≡ not b = λ r has. ap (λ v. not (is_below v (pos least))) (epoch_of i r has) ∙ ap not (below_is i.epoch least ∙ is) in
           ap (λ l. stored_as i (only (reads answers) (rows_at at l))) rows
           ∙ (ap (λ l. stored_as i (only (reads answers) l)) (filter_twice (λ r. not (is_below (column r 2) (pos least))) (has_key at) (not b) (old 28) each) ∙ either b)
         where

@@ -26,7 +26,7 @@ module _ {S : Type 0} (g : Ghosts S) (c0 c1 c2 : Held S) (is_ours : Bool) (decid
   blank : c1.schema ≡ schema_0 → IsBlank schema_0 (state g c1).now
   blank is = record { schema_is = is; empty = tt }
 
-  pub holds_made : c2.in_transaction ≡ false → (IsTrue (state g c2).is_open → HasCleanDisk (state g c2)) → Holds g c2 is_ours 0
+  pub holds_made : c2.in_transaction ≡ false → (IsTrue (state g c2).is_open → HasCleanDisk (state g c2)) → Holds g c2 is_ours (record { requests = 0; least = 0 })
   holds_made mode clean = record {
     autocommit = mode;
     ready = λ ours is_open.
@@ -36,7 +36,7 @@ module _ {S : Type 0} (g : Ghosts S) (c0 c1 c2 : Held S) (is_ours : Bool) (decid
   }
 
   pub is_created : Stays (state g c0) (state g c1) → (HasCleanDisk (state g c1) → IsAnyThere c0.schema → ⊥) → (IsTrue (state g c2).is_open → (state g c2).now ≡ (state g c2).committed)
-      → ((db : Trees) → IsTrue (state g c2).is_open → (state g c2).may_leave db → db ≡ (state g c2).committed.trees) → IsCreated g is_ours c0 (record { conn = c2; requests = 0; faults = 0 })
+      → ((db : Trees) → IsTrue (state g c2).is_open → (state g c2).may_leave db → db ≡ (state g c2).committed.trees) → IsCreated g is_ours c0 (record { conn = c2; numbers = record { requests = 0; least = 0 }; faults = 0 })
   is_created stays none settled law = record {
     faults = refl;
     view = λ clean none.

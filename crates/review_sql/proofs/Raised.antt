@@ -125,7 +125,7 @@ pub taken_back : {X : Type 0} (version : EarlierVersion) (is_ours : Bool) (numbe
 taken_back version is_ours numbers fault r s t e plain stays there form acts = unmigrated is_ours fault r t
     (λ is_open. let u = acts.undone is_open in let was = stays.kept u.0 in (was.0, u.1 ∙ was.1))
     (survives_then r s t _ _ _ (λ _ db h. absurd h)
-    (λ clean db h. let was = stays.kept h.0 in record { version = version; is_open = was.0; requests = numbers; there = there h.0; form = form; after = h.1.0; left = h.1.1; upgrades = subst (λ (d : Database). Upgrades version is_ours numbers d h.1.0) was.1 h.1.2 }) stays.survives acts.survives)
+    (λ clean db h. let was = stays.kept h.0 in record { version = version; is_open = was.0; numbers = numbers; there = there h.0; form = form; after = h.1.0; left = h.1.1; upgrades = subst (λ (d : Database). Upgrades version is_ours numbers d h.1.0) was.1 h.1.2 }) stays.survives acts.survives)
     (λ is. absurd (elim is [ inl no_desk ↦ plain.0 no_desk | inr other ↦ plain.1 other ]))
 
 pub unmigrated_then : (is_ours : Bool) (fault : DeskFault) (s0 s1 s2 : State) → Stays s0 s1 → IsNotMigrated is_ours fault s1 s2 → IsNotMigrated is_ours fault s0 s2
@@ -135,12 +135,12 @@ unmigrated_then is_ours fault s0 s1 s2 stays it = unmigrated is_ours fault s0 s2
     (λ clean db h. let was = stays.kept h.is_open in record {
       version = h.version;
       is_open = was.0;
-      requests = h.requests;
-      there = subst (λ (d : Database). IsThere (version_of h.version) d h.requests) was.1 h.there;
+      numbers = h.numbers;
+      there = subst (λ (d : Database). IsThere (version_of h.version) d h.numbers) was.1 h.there;
       form = λ ours. sym (ap (λ (d : Database). d.schema) was.1) ∙ h.form ours;
       after = h.after;
       left = h.left;
-      upgrades = subst (λ (d : Database). Upgrades h.version is_ours h.requests d h.after) was.1 h.upgrades;
+      upgrades = subst (λ (d : Database). Upgrades h.version is_ours h.numbers d h.after) was.1 h.upgrades;
     }) stays.survives it.survives)
     (λ is. stays_then s0 s1 s2 stays (it.no_earlier is))
 
@@ -164,7 +164,7 @@ unfit_seen s seen not it = unfit_others s.now Third seen.numbers it.there (λ ha
 
 module _ {S : Type 0} (g : Ghosts S) (is_ours : Bool) (c0 c1 c2 : Held S) (stays : Stays (state g c0) (state g c1)) where
   -- tables of an earlier version were made those of version 3
-  pub brought_earlier : (version : EarlierVersion) (r : Result ℕ DeskFault) → IfOk r (IsRaised g version is_ours c1 c2) → IfOk r (IsBrought g is_ours c0 c2)
+  pub brought_earlier : (version : EarlierVersion) (r : Result Numbers DeskFault) → IfOk r (IsRaised g version is_ours c1 c2) → IfOk r (IsBrought g is_ours c0 c2)
   brought_earlier version (Err e) it = tt
   brought_earlier version (Ok numbers) it = inl (
     version,
@@ -178,19 +178,19 @@ module _ {S : Type 0} (g : Ghosts S) (is_ours : Bool) (c0 c1 c2 : Held S) (stays
       same : HasCleanDisk (state g c2) → (state g c1).now ≡ (state g c0).now
       same clean = (stays.kept (it.acts.done clean).0).1
 
-  pub unmigrated_earlier : (r : Result ℕ DeskFault) → IfErr r (λ e. IsNotMigrated is_ours e (state g c1) (state g c2)) → IfErr r (λ e. IsNotMigrated is_ours e (state g c0) (state g c2))
+  pub unmigrated_earlier : (r : Result Numbers DeskFault) → IfErr r (λ e. IsNotMigrated is_ours e (state g c1) (state g c2)) → IfErr r (λ e. IsNotMigrated is_ours e (state g c0) (state g c2))
   unmigrated_earlier (Ok numbers) it = tt
   unmigrated_earlier (Err e) it = unmigrated_then is_ours e (state g c0) (state g c1) (state g c2) stays it
 
-  pub unfit_earlier : (r : Result ℕ DeskFault) → IfErr r (λ e. IsNotMigrated is_ours e (state g c1) (state g c2)) → IfErr r (IsUnfit (state g c1).now) → IsTrue (state g c2).is_open → IfErr r (IsUnfit (state g c0).now)
+  pub unfit_earlier : (r : Result Numbers DeskFault) → IfErr r (λ e. IsNotMigrated is_ours e (state g c1) (state g c2)) → IfErr r (IsUnfit (state g c1).now) → IsTrue (state g c2).is_open → IfErr r (IsUnfit (state g c0).now)
   unfit_earlier (Ok numbers) left it is_open = tt
   unfit_earlier (Err e) left it is_open = subst (λ (d : Database). IsUnfit d e) (stays.kept (left.undone is_open).0).1 it
 
   -- tables of version 3 stay
-  pub unmigrated_latest : (r : Result ℕ DeskFault) → Stays (state g c1) (state g c2) → IfErr r (λ e. IsNotMigrated is_ours e (state g c0) (state g c2))
+  pub unmigrated_latest : (r : Result Numbers DeskFault) → Stays (state g c1) (state g c2) → IfErr r (λ e. IsNotMigrated is_ours e (state g c0) (state g c2))
   unmigrated_latest r more = not_migrated_if is_ours r (state g c0) (state g c2) (stays_then (state g c0) (state g c1) (state g c2) stays more)
 
-  pub unfit_latest : (r : Result ℕ DeskFault) → Stays (state g c1) (state g c2) → IfErr r (IsUnfit (state g c1).now) → IsTrue (state g c2).is_open → IfErr r (IsUnfit (state g c0).now)
+  pub unfit_latest : (r : Result Numbers DeskFault) → Stays (state g c1) (state g c2) → IfErr r (IsUnfit (state g c1).now) → IsTrue (state g c2).is_open → IfErr r (IsUnfit (state g c0).now)
   unfit_latest r more it is_open = subst (λ (d : Database). IfErr r (IsUnfit d)) (stays.kept (more.kept is_open).0).1 it
 
 -- ---- the shelf

@@ -1,4 +1,5 @@
 -- What the tables `desk` and `epochs` say where the tables are of our form, and where there is none.
+use Rattle.review_tables.specs.declared.versions.EarlierVersion.TheVariants as earlier
 use Rattle.review_words.specs.Epochs.{is_epoch}
 use Rattle.std.proofs.Common.{◌≡◌, ◌≢◌, ◌∙◌, inl, inr, ℕ, List, [], ◌∷◌, map, filter, Option, Some, None, Ok, Err, true, false, codes, refl, sym, ap, subst, arith}
 use Rattle.std.specs.Result.{is_ok}

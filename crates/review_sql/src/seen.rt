@@ -20,10 +20,20 @@ impl Numbers {
     ghost use Rattle.std.specs.Prelude.{◌≡◌, ◌+◌, ◌<◌, ◌^◌, IfSome};
     ghost use Rattle.review_sql.specs.Numbers.{more};
 
+    /// What a desk without requests says.
+    pub fn first() -> Numbers
+        ensures { result ≡ record { requests = 0; least = 0 } }
+    {
+        Numbers {
+            requests: 0,
+            least: Epoch::first(),
+        }
+    }
+
     /// The same once one request more is stored, with this epoch as the least open one, if one is named; nothing where the last number is given.
-    pub fn more(self, epoch: Option<Epoch>) -> Option<Numbers>
-        ensures more { IfSome result (λ numbers. numbers ≡ more self epoch) }
-        ensures room { IfSome result (λ numbers. self.requests + 1 < 2 ^ 64) }
+    pub fn more(&self, epoch: Option<Epoch>) -> Option<Numbers>
+        ensures more { IfSome result (λ numbers. numbers ≡ more self.now epoch) }
+        ensures room { IfSome result (λ numbers. self.now.requests + 1 < 2 ^ 64) }
     {
         let requests = self.requests.checked_add(1)?;
         let least = epoch.unwrap_or(self.least);

@@ -147,10 +147,7 @@ impl<S: Alter + Drop, O: Origin> SqlShelf<S, O> {
                 let _settled = conn.is_autocommit();
                 Ok(SqlShelf {
                     conn,
-                    numbers: Numbers {
-                        requests: 0,
-                        least: Epoch::first(),
-                    },
+                    numbers: Numbers::first(),
                     faults: 0,
                     origin: PhantomData,
                 })
@@ -327,7 +324,7 @@ impl<S: Alter, O: Origin> Shelf for SqlShelf<S, O> {
             return Err(refuse(&mut self.faults));
         };
         let _live = self.conn.schema();
-        match transact(&mut self.conn, alloc, delta, kept, numbers) {
+        match transact(&mut self.conn, alloc, delta, kept, &numbers) {
             Ok(()) => {
                 let _settled = self.conn.is_autocommit();
                 self.numbers = more;

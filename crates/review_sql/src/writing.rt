@@ -158,11 +158,11 @@ fn write<S: Alter>(
     alloc: Global,
     delta: &Delta,
     kept: &Kept,
-    numbers: Numbers,
+    numbers: &Numbers,
 ) -> Result<(), Error>
-    requires { numbers.requests + 1 < 2 ^ 64 }
+    requires { numbers.now.requests + 1 < 2 ^ 64 }
     ensures same_reference { tx.new.conn.ghost_name ≡ tx.old.conn.ghost_name }
-    ensures ran { Within (Commits delta.now kept.now numbers) (state S.Store tx.old.conn.now) (state S.Store tx.new.conn.now) result }
+    ensures ran { Within (Commits delta.now kept.now numbers.now) (state S.Store tx.old.conn.now) (state S.Store tx.new.conn.now) result }
     ensures open { Opens (state S.Store tx.old.conn.now) (state S.Store tx.new.conn.now) result }
 {
     write_delta(tx, alloc, delta)?;
@@ -181,12 +181,12 @@ pub fn transact<S: Alter>(
     alloc: Global,
     delta: &Delta,
     kept: &Kept,
-    numbers: Numbers,
+    numbers: &Numbers,
 ) -> Result<(), Error>
     requires mode { conn.old.in_transaction ≡ false }
-    requires fits { numbers.requests + 1 < 2 ^ 64 }
+    requires fits { numbers.now.requests + 1 < 2 ^ 64 }
     ensures mode { conn.new.in_transaction ≡ false }
-    ensures acts { Transacts (Commits delta.now kept.now numbers) (state S.Store conn.old) (state S.Store conn.new) result }
+    ensures acts { Transacts (Commits delta.now kept.now numbers.now) (state S.Store conn.old) (state S.Store conn.new) result }
 {
     let _settled = conn.is_autocommit();
     let mut tx = conn.transaction();

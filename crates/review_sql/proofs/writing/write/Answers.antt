@@ -13,4 +13,4 @@ returns-clause-ran g c =
     let s4 = state g.S.Store c.set.new.tx.conn.now in
     let both = next _ _ s0 s1 s2 _ _ c.in_ok-write_delta.ensures.ran c.in_ok-put.ensures.ran in
     let three = next _ _ s0 s2 s3 _ _ both c.in_ok-give_up.ensures.ran in
-    retold _ (Commits c.args.delta.now c.args.kept.now c.args.numbers) s0 s4 c.set.result (commits c.args.delta.now c.args.kept.now c.args.numbers) (next _ _ s0 s3 s4 _ c.set.result three c.set.ensures.ran)
+    retold _ (Commits c.args.delta.now c.args.kept.now c.args.numbers.now) s0 s4 c.set.result (commits c.args.delta.now c.args.kept.now c.args.numbers.now) (next _ _ s0 s3 s4 _ c.set.result three c.set.ensures.ran)

@@ -4,10 +4,10 @@ use Rattle.sqlite.specs.Held.{Held, state}
 use Rattle.sqlite.proofs.StateLemmas.{clean_if_open}
 use Rattle.review_words.specs.History.{Identity}
 use Rattle.review_rows.specs.Rows.{Tables}
-use Rattle.review_rows.specs.Shelf.{BlamesTables, IsRecalled, KeepsTables, Shows}
+use Rattle.review_rows.specs.Shelf.{BlamesTables, IsRecalled, KeepsTables, Shows, LeavesBy, cause_of}
 use Rattle.review_sql.specs.Shelf.{ShelfView, tables_of, stops_of}
 use Rattle.review_sql.proofs.Recalled.{blames_recalled, keeps_recalled, shows_recalled}
-use Rattle.review_sql.proofs.Shown.{holds_read, stops_read, desk_if_open, same_shown, clean_still, stops_still}
+use Rattle.review_sql.proofs.Shown.{holds_read, stops_read, desk_if_open, same_shown, clean_still, stops_still, leaves}
 use Rattle.review_sql.proofs.shelf.SqlShelfShelf.recall.Goals as goal
 
 pub invariant_of-self : goal.invariant_of-self
@@ -22,8 +22,10 @@ returns-in-Ok-clause-found g c honest =
     let i : Identity = record { caller = c.args.caller; epoch = c.args.epoch; id = c.in_ok-copy.field-0 } in
     let same : old ≡ c.args.self.now.conn = ap (λ (k : ShelfView _). k.conn) c.self.view_is in
     let it = c.in-Ok.ensures.serves.found honest.0 (desk_if_open g.S.Store old last g.O.Origin.IS_OURS c.self.inside.numbers c.self.invariant honest.1) in
-    subst (λ (h : Held _). IfOk c.recalled.result (λ x. Shows (tables_of g.S.Store h) (λ t. IsRecalled t i x))) same
-    (shows_recalled g.S.Store old c.self.inside.numbers i it.0 (c.self.invariant.ready honest.1 it.0).1 c.recalled.result c.in-Ok.found it.3 c.recalled.ensures.told)
+    let id_is : c.in_ok-copy.field-0 ≡ c.args.id.now = search rules in
+    subst (λ id. IfOk c.recalled.result (λ x. Shows (tables_of g.S.Store c.args.self.now.conn) (λ t. IsRecalled t (record { caller = c.args.caller; epoch = c.args.epoch; id = id }) x))) id_is
+    (subst (λ (h : Held _). IfOk c.recalled.result (λ x. Shows (tables_of g.S.Store h) (λ t. IsRecalled t i x))) same
+    (shows_recalled g.S.Store old c.self.inside.numbers i it.0 (c.self.invariant.ready honest.1 it.0).1 c.recalled.result c.in-Ok.found it.3 c.recalled.ensures.told))
 
 pub returns-in-Ok-clause-tables : goal.returns-in-Ok-clause-tables
 returns-in-Ok-clause-tables g c honest =
@@ -64,3 +66,13 @@ returns-in-Err-clause-stops g c honest =
     subst (λ (h : Held _). (t : Tables) → stops_of g.S.Store last t → stops_of g.S.Store h t) same
     (λ t left. stops_read g.S.Store old mid g.O.Origin.IS_OURS c.self.inside.numbers c.self.invariant _ c.find_stored.result (λ was. c.is_autocommit-settled.ensures.settled auto was) (g.met.S.Store.stays old.store) c.find_stored.ensures.serves honest.1 clean t
     (stops_still g.S.Store mid last c.told.ensures.stays honest.0 t left))
+
+pub returns-in-Err-clause-tables : goal.returns-in-Err-clause-tables
+returns-in-Err-clause-tables g c honest =
+    let old = c.self.inside.conn in
+    let last = c.told.new.conn in
+    let same : old ≡ c.args.self.now.conn = ap (λ (k : ShelfView _). k.conn) c.self.view_is in
+    let desk = desk_if_open g.S.Store old last g.O.Origin.IS_OURS c.self.inside.numbers c.self.invariant honest.1 in
+    subst (λ (h : Held _). LeavesBy (cause_of c.told.result) (tables_of g.S.Store h) (tables_of g.S.Store last)) same
+    (leaves g.S.Store old last (λ is_open. let k = c.told.ensures.stays.kept is_open in let u = c.in-Err.ensures.serves.undone desk k.0 in (u.0, k.1 ∙ u.1)) c.told.result c.told.ensures.sound
+    (λ is. c.told.ensures.memory is honest.0))
