@@ -11,10 +11,10 @@ from damaged_rows import Damage
 # What is made beside the tables of a desk.
 BESIDE = {
     "a table": "CREATE TABLE more (x)", "an index": "CREATE INDEX more ON accounts (name)", "a falling index": "CREATE INDEX more ON changes (number DESC)",
-    "a partial index": "CREATE INDEX more ON answers (reply) WHERE request > 5",
-    "an index of an expression": "CREATE INDEX more ON answers (length(reply))",
+    "a partial index": "CREATE INDEX more ON answers_3 (reply) WHERE request > 5",
+    "an index of an expression": "CREATE INDEX more ON answers_3 (length(reply))",
     "a view": "CREATE VIEW more AS SELECT name FROM accounts",
-    "a view of itself": "CREATE VIEW more AS SELECT * FROM more", "a trigger": "CREATE TRIGGER more AFTER INSERT ON answers BEGIN DELETE FROM accounts; END",
+    "a view of itself": "CREATE VIEW more AS SELECT * FROM more", "a trigger": "CREATE TRIGGER more AFTER INSERT ON answers_3 BEGIN DELETE FROM accounts; END",
     "a trigger that refuses": "CREATE TRIGGER more BEFORE INSERT ON desk BEGIN SELECT RAISE(ABORT, 'no'); END",
     "a generated column": "ALTER TABLE votes ADD COLUMN more INTEGER AS (value * 2) VIRTUAL",
     "a table with a stored generated column": "CREATE TABLE more (x, y AS (x || x) STORED); INSERT INTO more VALUES (1)",
@@ -45,7 +45,7 @@ SAID = {
     "another name": "UPDATE sqlite_schema SET name = 'more', tbl_name = 'more' WHERE name = 'votes'",
     "a name twice": "UPDATE sqlite_schema SET name = 'accounts', tbl_name = 'accounts' WHERE name = 'members'",
     "a name that is a blob": "UPDATE sqlite_schema SET name = x'ff' WHERE name = 'votes'",
-    "an index less": "DELETE FROM sqlite_schema WHERE type = 'index' AND tbl_name = 'answers'",
+    "an index less": "DELETE FROM sqlite_schema WHERE type = 'index' AND tbl_name = 'answers_3'",
     "no list": "DELETE FROM sqlite_schema",
     "a text of 9,000 parentheses": f"UPDATE sqlite_schema SET sql = 'CREATE TABLE votes (x CHECK ({'(' * 9000}1{')' * 9000}))' WHERE name = 'votes'",
     "a text of 500,000 bytes": f"UPDATE sqlite_schema SET sql = sql || '{' ' * 500_000}' WHERE name = 'votes'",
@@ -86,8 +86,11 @@ def texts_of(conn):
     return [(name, sql) for name, sql in conn.execute("SELECT name, sql FROM sqlite_schema WHERE type = 'table' AND sql IS NOT NULL ORDER BY rowid")]
 
 
-# A table of version 1, whose place among the others a desk of version 2 leaves free.
-PROJECTS_1 = "CREATE TABLE projects (name TEXT NOT NULL, file TEXT NOT NULL, PRIMARY KEY (name))"
+# Tables of earlier versions, whose places among the others a desk of version 3 leaves free, by the tables that they stand behind.
+EARLIER = {
+    "members": "CREATE TABLE projects (name TEXT NOT NULL, file TEXT NOT NULL, PRIMARY KEY (name))",
+    "attention": "CREATE TABLE answers (caller INTEGER NOT NULL, id TEXT NOT NULL, request INTEGER NOT NULL, content TEXT NOT NULL, reply TEXT NOT NULL, PRIMARY KEY (caller, id), UNIQUE (request))",
+}
 
 
 def made_anew(file, begin, of_text=None, journal="delete"):
@@ -99,12 +102,13 @@ def made_anew(file, begin, of_text=None, journal="delete"):
         new.execute("BEGIN")
         for name, sql in texts_of(old):
             new.execute(re.sub(of_text[0], of_text[1], sql, *of_text[2:]) if of_text else sql)
-            if name == "members":
-                new.execute(PROJECTS_1)
+            if name in EARLIER:
+                new.execute(EARLIER[name])
             columns = [row[1] for row in old.execute(f"PRAGMA table_info({name})")]
             for row in old.execute(f"SELECT * FROM {name}"):
                 new.execute(f"INSERT INTO {name} ({', '.join(columns)}) VALUES ({', '.join('?' * len(row))})", row)
         new.execute("DROP TABLE projects")
+        new.execute("DROP TABLE answers")
         new.execute("COMMIT")
     for end in ("", "-wal", "-shm"):
         if os.path.exists(file + end):
@@ -116,7 +120,7 @@ def half_written(file):
     """The file as a stop of SQLite leaves it in the middle of a transaction, its journal beside it."""
     with contextlib.closing(sqlite3.connect(file, isolation_level=None)) as conn:
         conn.executescript("PRAGMA journal_mode = delete; PRAGMA cache_size = 1; PRAGMA cache_spill = 1")
-        conn.executescript("BEGIN; UPDATE answers SET content = content || 'x'; UPDATE accounts SET name = name || 'x'")
+        conn.executescript("BEGIN; UPDATE answers_3 SET content = content || 'x'; UPDATE accounts SET name = name || 'x'")
         copies = [shutil.copyfile(file + end, f"{file}-copy{end}") for end in ("", "-journal")]
         conn.execute("ROLLBACK")
     for end, it in zip(("", "-journal"), copies):

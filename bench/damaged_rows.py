@@ -10,7 +10,7 @@ from desk_file import FIRST, TABLES
 # Which rows are of the first side, so that the other side needs none of them.
 OF_TOOLS = {
     "accounts": "number IN (2, 3)", "members": "grp = 'Core'", "projects_2": "name = 'tools'", "bases": "project = 'tools'", "changes": "project = 'tools'",
-    **{table: "change <= 14" for table in ("patches", "votes", "reviewers", "comments", "attention")}, "answers": "id LIKE 'a-%'", "desk": "1",
+    **{table: "change <= 14" for table in ("patches", "votes", "reviewers", "comments", "attention")}, "answers_3": "id LIKE 'a-%'", "epochs": "1", "desk": "1",
 }
 # By these columns rows are found: one that is damaged isn't found, as if it weren't there.
 FINDING = {
@@ -24,11 +24,14 @@ FINDING = {
     "reviewers": ("change",),
     "comments": ("change",),
     "attention": ("change",),
-    "answers": ("caller", "id"),
+    "answers_3": ("caller", "epoch", "id"),
+    "epochs": (),
     "desk": (),
 }
+# These have one row, which is of no side.
+WHOLE = ("epochs", "desk")
 # Any text is a text of these.
-FREE = (("answers", "content"), ("projects_2", "file"))
+FREE = (("answers_3", "content"), ("projects_2", "file"))
 NUMBERS = {
     "0": "0",
     "-1": "-1",
@@ -63,7 +66,7 @@ ROWS = {
     "votes": (2, 1, "Code-Review", 2, 7),
     "reviewers": (2, 77, "REVIEWER"),
     "comments": (2, 9, 1, "a", 0, 2, "m", 0, 0, 5),
-    "attention": (2, 77, "look", 5), "answers": (1, "more", 999, "x", "x"), "desk": (2, 3),
+    "attention": (2, 77, "look", 5), "answers_3": (1, 0, "more", 999, "x", "x"), "epochs": (3,), "desk": (3, 3),
 }
 # Rows that fit to no others, by the table that they stand in, and what they are.
 ODD = [
@@ -92,11 +95,13 @@ ODD = [
     ("comments", "answers to none", "UPDATE comments SET answers_to = 9"),
     ("comments", "answers to itself", "UPDATE comments SET answers_to = number"),
     ("comments", "no comment 1", "UPDATE comments SET number = number + 5"), ("attention", "a later request", "UPDATE attention SET request = 900000"),
-    ("answers", "another reply", "UPDATE answers SET reply = '7:Account,9:999999999,'"),
-    ("answers", "half a reply", "UPDATE answers SET reply = substr(reply, 1, length(reply) / 2)"),
-    ("answers", "a length beyond 2^64", "UPDATE answers SET reply = '99999999999999999999999:Account,'"),
-    ("answers", "later requests", "UPDATE answers SET request = request + 1000000"),
-    ("answers", "the next request is taken", "UPDATE answers SET request = (SELECT requests + 1 FROM desk) WHERE id = 'n2'"),
+    ("answers_3", "another reply", "UPDATE answers_3 SET reply = '7:Account,9:999999999,'"),
+    ("answers_3", "half a reply", "UPDATE answers_3 SET reply = substr(reply, 1, length(reply) / 2)"),
+    ("answers_3", "a length beyond 2^64", "UPDATE answers_3 SET reply = '99999999999999999999999:Account,'"),
+    ("answers_3", "later requests", "UPDATE answers_3 SET request = request + 1000000"),
+    ("answers_3", "the next request is taken", "UPDATE answers_3 SET request = (SELECT requests + 1 FROM desk) WHERE id = 'n2'"),
+    ("answers_3", "of a later epoch", "UPDATE answers_3 SET epoch = 1"),
+    ("epochs", "a later epoch", "UPDATE epochs SET least = 1"),
     ("desk", "too few requests", "UPDATE desk SET requests = 3"),
     ("desk", "the last request", f"UPDATE desk SET requests = {2**53 - 1}"),
     ("desk", "version 1", "UPDATE desk SET version = 1"),
@@ -121,11 +126,11 @@ MISSING = [
     ("votes", "change = 2"),
     ("reviewers", "change = 2"),
     ("comments", "change = 2 AND number = 1"),
-    ("attention", "change = 2"), ("answers", "id = 'a-c2'"), ("desk", "1"),
+    ("attention", "change = 2"), ("answers_3", "id = 'a-c2'"), ("epochs", "1"), ("desk", "1"),
 ]
 
 # Where the store itself refuses a write: to a view, and of a number that stands once.
-REFUSED, COUNTED = ("a view", "the next request is taken", "too few requests"), (("answers", "request"), ("desk", "requests"))
+REFUSED, COUNTED = ("a view", "the next request is taken", "too few requests"), (("answers_3", "request"), ("desk", "requests"))
 
 # How a damage is refused that sqlite3 doesn't do, or that finds no place in what another left.
 REFUSALS = (sqlite3.Error, sqlite3.Warning, UnicodeError, struct.error, IndexError)
@@ -177,7 +182,7 @@ def drawn_value(drawn, among):
     number, rest = drawn.choice((drawn.randrange(40), drawn.randrange(-9, 2000), drawn.randrange(2**63))), at + drawn.randrange(3)
     value = str(number) if kind == "INTEGER" else f"substr({name}, 1, {at}) || {new} || substr({name}, {rest})"
     one = drawn.choice((f" AND rowid % 7 = {drawn.randrange(7)}", ""))
-    return Damage(table, name, value, f"UPDATE OR IGNORE {table} SET {name} = {value} WHERE {OF_TOOLS[table]}{one}", table != "desk" and name not in FINDING[table])
+    return Damage(table, name, value, f"UPDATE OR IGNORE {table} SET {name} = {value} WHERE {OF_TOOLS[table]}{one}", table not in WHOLE and name not in FINDING[table])
 
 
 def is_never(table, name, what):
@@ -195,7 +200,7 @@ def of_columns(file):
                     those = f"FROM {table} WHERE {OF_TOOLS[table]}"
                     one = f" WHERE rowid = (SELECT rowid {those} ORDER BY rowid LIMIT 1 OFFSET {at} % (SELECT count(*) {those}))"
                     sql = f"UPDATE OR IGNORE {table} SET {name} = {value}{'' if at is None else one}"
-                    is_one, is_strict = at is not None and table != "desk", is_never(table, name, what)
+                    is_one, is_strict = at is not None and table not in WHOLE, is_never(table, name, what)
                     if what in LOOSE[kind]:
                         yield Damage(table, name, f"{what} that the table allows", f"{without_rules(conn, table)}; {sql}", is_one, is_strict)
                     yield Damage(table, name, what, loosened(conn, table, sql) if what in LOOSE[kind] else sql, is_one, is_strict)
@@ -204,7 +209,7 @@ def of_columns(file):
 def of_tables():
     """Rows missing, rows more, tables missing, tables of another form."""
     for table, where in MISSING:
-        yield Damage(table, None, f"missing where {where}", f"DELETE FROM {table} WHERE {where}", table != "desk")
+        yield Damage(table, None, f"missing where {where}", f"DELETE FROM {table} WHERE {where}", table not in WHOLE)
     for table, row in ROWS.items():
         for which, order in (("the first row", "ORDER BY rowid LIMIT 1"), ("the last row", "ORDER BY rowid DESC LIMIT 1"), ("all rows", "")):
             yield Damage(table, None, f"{which} missing", f"DELETE FROM {table} WHERE rowid IN (SELECT rowid FROM {table} {order})")

@@ -16,7 +16,7 @@ import tempfile
 
 TOP = os.path.dirname(os.path.dirname(os.path.realpath(__file__)))
 PROGRAM = os.environ.get("DESK_PROGRAM") or os.path.join(TOP, "crates", "review_desk", "out", "review_desk")
-TABLES = ("accounts", "members", "projects_2", "bases", "changes", "patches", "votes", "reviewers", "comments", "attention", "answers", "desk")
+TABLES = ("accounts", "members", "projects_2", "bases", "changes", "patches", "votes", "reviewers", "comments", "attention", "answers_3", "epochs", "desk")
 STORE_FAULT = b"review_desk: store fault\n"
 NO_MEMORY = re.compile(rb'"not_taken":"MEMORY"|out of memory')
 CREATED, NOT_EMPTY = (0, b"desk created\n", b""), (1, b"", b"review_desk: not empty\n")

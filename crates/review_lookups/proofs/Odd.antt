@@ -26,14 +26,14 @@ use Rattle.review_statements.specs.Search.{Search, only, reads, row_at, rows_at}
 use Rattle.review_tables.specs.Columns.{number_in}
 use Rattle.review_tables.specs.Fronts.{AreParts}
 use Rattle.review_tables.proofs.Keys.{same_text}
-use Rattle.review_records.specs.Forms.{where_is, alone, both, accounts, account_names, account_numbers, bases, base_commits, base_places, desk, branch_bases, base_parts, group_members, member_parts}
+use Rattle.review_records.specs.Forms.{where_is, alone, both, accounts, account_names, account_numbers, bases, base_commits, base_places, desk, epochs, branch_bases, base_parts, group_members, member_parts}
 use Rattle.review_records.specs.Keyed.{account_keyed, member_keyed, base_keyed, is_number, is_text, is_small}
 use Rattle.review_records.specs.Laws.{at_number, passed}
 use Rattle.review_change_records.specs.Forms.{patches, votes, roles, comments, calls, change_patches, change_votes, change_roles, change_comments, change_calls, vote_key, change_numbers}
 use Rattle.review_change_records.specs.Keyed.{header_keyed, has_change, patch_keyed, vote_keyed, comment_keyed, account_keyed as of_account}
 use Rattle.review_change_records.specs.Laws.{at_text}
 use Rattle.review_lookups.specs.Loads.{last_of}
-use Rattle.review_lookups.specs.Tables.{keyed_tables, has_unkeyed, number_of, tables_at, told, vote_told}
+use Rattle.review_lookups.specs.Tables.{keyed_tables, has_unkeyed, number_of, tables_at, version_in, told, vote_told}
 use Rattle.review_lookups.proofs.Telling.{has_in, in_has, odd_damage}
 
 -- ---- lists of rows
@@ -333,4 +333,17 @@ commit_damaged db base one =
 -- ---- the row of the desk
 
 pub desk_damaged : (db : Trees) → number_of (λ (d : DeskRow). d.version) (row_at desk db tt) ≡ 0 → IsDamaged (tables_at db)
-desk_damaged db none h history view = let read = reading_of h history in let it = sym none ∙ (view read.0 read.1).version in absurd (cc)
+desk_damaged db none h history view = let read = reading_of h history in let it = sym (none_said (row_at epochs db tt)) ∙ (view read.0 read.1).version in absurd (cc)
+  where
+    none_said : (o : Option (Option ℕ)) → version_in o (row_at desk db tt) ≡ 0
+    none_said None = refl
+    none_said (Some None) = refl
+    none_said (Some (Some least)) = none
+
+-- nor is one where no least open epoch is said
+pub epochs_damaged : (db : Trees) → (row_at epochs db tt ≡ None) ⊎ (row_at epochs db tt ≡ Some None) → IsDamaged (tables_at db)
+epochs_damaged db none h history view = let read = reading_of h history in let it = sym (none_said none) ∙ (view read.0 read.1).version in absurd (cc)
+  where
+    none_said : (row_at epochs db tt ≡ None) ⊎ (row_at epochs db tt ≡ Some None) → version_in (row_at epochs db tt) (row_at desk db tt) ≡ 0
+    none_said (inl is) = ap (λ o. version_in o (row_at desk db tt)) is
+    none_said (inr is) = ap (λ o. version_in o (row_at desk db tt)) is

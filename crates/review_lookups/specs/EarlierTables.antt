@@ -1,17 +1,17 @@
 -- A database as the tables of a desk of an earlier version.
-use Rattle.std.specs.Prelude.{ℕ, ◌≡◌, Bool, List, length, Option, Some, None, if◌then◌else◌}
+use Rattle.std.specs.Prelude.{ℕ, ◌≡◌, ◌==◌, Bool, List, length, Option, Some, None, if◌then◌else◌}
 use Rattle.sqlite_value.specs.Order.{Row as Raw}
 use Rattle.sqlite_trees.specs.Tree.{Trees}
 use Rattle.review_words.specs.History.{Identity}
 use Rattle.review_rows.specs.declared.rows.StoredFile.{StoredFile}
-use Rattle.review_rows.specs.Rows.{Key, FileKey, OddKey, Row, FileRow, OddRow, Count, Projects, Stored, Tables}
+use Rattle.review_rows.specs.Rows.{Key, FileKey, OddKey, Row, FileRow, OddRow, Count, Projects, ClosedEpochs, Stored, Tables}
 use Rattle.review_statements.specs.Search.{Search, row_at}
 use Rattle.review_tables.specs.Versions.{version_number, version_of}
 use Rattle.review_tables.specs.declared.versions.EarlierVersion.{EarlierVersion}
 use Rattle.review_tables.specs.declared.versions.EarlierVersion.TheVariants as earlier
 use Rattle.review_records.specs.declared.rows.DeskRow.{DeskRow}
-use Rattle.review_records.specs.Forms.{desk, earlier_answers, first_projects, projects, request_key}
-use Rattle.review_lookups.specs.Tables.{count_in, has_unkeyed, keyed_with, row_in, stored_as, tables_at, told}
+use Rattle.review_records.specs.Forms.{desk, earlier_answers, earlier_key, first_epoch, first_projects, projects}
+use Rattle.review_lookups.specs.Tables.{count_in, has_unkeyed, keyed_with, number_of, row_in, stored_as, tables_at, told}
 
 -- the files of the projects as a version keeps them
 abbrev pub projects_in : EarlierVersion → Search (List ℕ) StoredFile
@@ -30,14 +30,15 @@ earlier_row_in version db key = row_in db key
 
 abbrev pub earlier_count_in : EarlierVersion → Trees → Count → ℕ
 earlier_count_in version db Projects = length (db (projects_in version).tree)
+earlier_count_in version db ClosedEpochs = 0
 earlier_count_in version db count = count_in db count
 
--- a stored request, whose identity has no epoch
+-- a stored request, which is of the first epoch
 abbrev pub earlier_answer_in : Trees → Identity → Option Stored
-earlier_answer_in db i = stored_as i (row_at earlier_answers db (request_key i.caller i.id))
+earlier_answer_in db i = if i.epoch == first_epoch then stored_as i (row_at earlier_answers db (earlier_key i.caller i.id)) else None
 
 abbrev pub tables_in : EarlierVersion → Trees → Tables
-tables_in version db = record (tables_at db) { row = earlier_row_in version db; count = earlier_count_in version db; answer = earlier_answer_in db }
+tables_in version db = record (tables_at db) { row = earlier_row_in version db; count = earlier_count_in version db; answer = earlier_answer_in db; version = number_of (λ d. d.version) (row_at desk db tt) }
 
 -- the row of the desk says this version and so many requests
 abbrev pub IsEarlierDesk : EarlierVersion → ℕ → Trees → Type 0

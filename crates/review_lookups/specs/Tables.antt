@@ -1,5 +1,5 @@
 -- A database as the tables of a desk.
-use Rattle.std.specs.Prelude.{option_map, ℤ, ℕ, ◌≡◌, Bool, not, List, [], ◌∷◌, length, Option, Some, None, if◌then◌else◌}
+use Rattle.std.specs.Prelude.{option_map, ℤ, ℕ, ◌≡◌, Bool, true, not, List, [], ◌∷◌, length, Option, Some, None, if◌then◌else◌}
 use Rattle.std.specs.List.{list_any}
 use Rattle.sqlite_value.specs.Order.{Row as Raw}
 use Rattle.sqlite_value.specs.declared.value.Value.TheVariants.{Text}
@@ -7,12 +7,12 @@ use Rattle.sqlite_trees.specs.Tree.{Trees}
 use Rattle.review_words.specs.History.{Identity}
 use Rattle.review_changes.specs.Parts.{Part, TheHeader, PatchOf, VoteOf, RoleOf, CommentOf, AttentionOf, AHeader, APatch, ARole, AComment, ACall}
 use Rattle.review_rows.specs.View.{tables_version}
-use Rattle.review_rows.specs.Rows.{Key, AccountKey, MemberKey, FileKey, BaseKey, PartKey, OddKey, Row, AccountRow, MemberRow, FileRow, BaseRow, APart, OddRow, vote_row, Count, Projects, BasesOf, Stored, Answered, OddAnswer, Tables}
+use Rattle.review_rows.specs.Rows.{Key, AccountKey, MemberKey, FileKey, BaseKey, PartKey, OddKey, Row, AccountRow, MemberRow, FileRow, BaseRow, APart, OddRow, vote_row, Count, Projects, BasesOf, ClosedEpochs, Stored, Answered, OddAnswer, Tables}
 use Rattle.review_statements.specs.Search.{rows_at, row_at}
 use Rattle.review_records.specs.declared.rows.DeskRow.{DeskRow}
 use Rattle.review_records.specs.declared.rows.Answered.{Answered as Rest}
 use Rattle.review_change_records.specs.Forms.{headers, patches, votes, roles, comments, calls}
-use Rattle.review_records.specs.Forms.{accounts, members, projects, bases, answers, desk, epochs, first_epoch, request_key}
+use Rattle.review_records.specs.Forms.{accounts, members, projects, bases, answers, desk, epochs, request_key}
 
 -- a row as tables tell it; an odd one is none of its table
 abbrev pub told : {X : Type 0} → (X → Row) → Option (Option X) → Option Row
@@ -41,9 +41,10 @@ keyed_with files stored =
     (accounts.tree, accounts.keyed) ∷ (members.tree, members.keyed) ∷ files ∷ (bases.tree, bases.keyed) ∷ stored
     ∷ (headers.tree, headers.keyed) ∷ (patches.tree, patches.keyed) ∷ (votes.tree, votes.keyed) ∷ (roles.tree, roles.keyed) ∷ (comments.tree, comments.keyed) ∷ (calls.tree, calls.keyed) ∷ []
 
--- the tables of records, and which of their rows have a key
+-- The tables of records, and which of their rows have a key. A stored request is looked up by its whole identity alone, so a row without one is met by
+-- nothing, and goes where the answers of lower epochs are given up.
 abbrev pub keyed_tables : List (ℕ × (Raw → Bool))
-keyed_tables = keyed_with (projects.tree, projects.keyed) (answers.tree, answers.keyed)
+keyed_tables = keyed_with (projects.tree, projects.keyed) (answers.tree, λ r. true)
 
 -- whether a row has no key of its table, as a member with a negative number
 abbrev pub has_unkeyed : List (ℕ × (Raw → Bool)) → Trees → Bool
@@ -58,9 +59,16 @@ row_in db (BaseKey project branch place) = told BaseRow (row_at bases db (record
 row_in db (PartKey n part) = part_in db n part
 row_in db (OddKey o) = if has_unkeyed keyed_tables db then Some OddRow else None
 
+-- the least open epoch that the one row of the epochs says; 0 where it says none
+abbrev pub least_in : Option (Option ℕ) → ℕ
+least_in None = 0
+least_in (Some None) = 0
+least_in (Some (Some least)) = least
+
 abbrev pub count_in : Trees → Count → ℕ
 count_in db Projects = length (db projects.tree)
 count_in db (BasesOf project) = length (rows_at ((1, Text project) ∷ []) (db bases.tree))
+count_in db ClosedEpochs = least_in (row_at epochs db tt)
 
 -- a stored request as tables tell it
 abbrev pub stored_as : Identity → Option (Option Rest) → Option Stored
@@ -69,7 +77,7 @@ stored_as i (Some None) = Some OddAnswer
 stored_as i (Some (Some a)) = Some (Answered (record { identity = i; request = a.request; content = a.content; reply = a.reply }))
 
 abbrev pub answer_in : Trees → Identity → Option Stored
-answer_in db i = stored_as i (row_at answers db (request_key i.caller i.id))
+answer_in db i = stored_as i (row_at answers db (request_key i))
 
 -- a number of the one row; 0, which no desk has as a version, where there is none
 abbrev pub number_of : (DeskRow → ℕ) → Option (Option DeskRow) → ℕ
@@ -77,16 +85,21 @@ number_of number None = 0
 number_of number (Some None) = 0
 number_of number (Some (Some d)) = number d
 
+-- the version that the row of the desk says; 0 where the row of the epochs says no least open one
+abbrev pub version_in : Option (Option ℕ) → Option (Option DeskRow) → ℕ
+version_in (Some (Some least)) said = number_of (λ d. d.version) said
+version_in _ said = 0
+
 abbrev pub tables_at : Trees → Tables
 tables_at db = record {
   row = row_in db;
   count = count_in db;
   answer = answer_in db;
-  version = number_of (λ d. d.version) (row_at desk db tt);
+  version = version_in (row_at epochs db tt) (row_at desk db tt);
   requests = number_of (λ d. d.requests) (row_at desk db tt);
 }
 
--- The row of the desk says version 3 and so many requests, and that of the epochs that the first one is the least open.
-pub record IsDesk (requests : ℕ) (db : Trees) : Type 0 where
+-- The row of the desk says version 3 and so many requests, and that of the epochs which is the least open one.
+pub record IsDesk (requests least : ℕ) (db : Trees) : Type 0 where
   pub desk_is : row_at desk db tt ≡ Some (Some (record { version = tables_version; requests = requests }))
-  pub least_is : row_at epochs db tt ≡ Some (Some first_epoch)
+  pub least_is : row_at epochs db tt ≡ Some (Some least)

@@ -7,7 +7,7 @@ ghost use Rattle.sqlite_value.specs.declared.value.Value.TheVariants.{Text};
 ghost use Rattle.review_table.specs.Rows.{rows_of};
 ghost use Rattle.review_rows.specs.declared.rows.Want.TheVariants as want;
 ghost use Rattle.review_rows.specs.declared.rows.Counted.TheVariants as counted;
-ghost use Rattle.review_records.specs.Forms.{base_commits, branch_bases, base_parts, base_places, bases, desk, project_names, projects};
+ghost use Rattle.review_records.specs.Forms.{base_commits, branch_bases, base_parts, base_places, bases, desk, epochs, project_names, projects};
 ghost use Rattle.review_tables.specs.Fronts.{AreParts};
 ghost use Rattle.review_statements.specs.Greatest.{HasGreatest, HasOne};
 ghost use Rattle.review_statements.specs.Ran.{Looks};
@@ -23,6 +23,7 @@ use crate::learning::{
 use crate::loading::Sight;
 use review_records::bases::{self, BaseCommits, Bases, BranchBases, LastPlace};
 use review_records::desk::Desk;
+use review_records::epochs::Epochs;
 use review_records::projects::{self, ProjectNames, Projects};
 use review_records::rows::{DeskRow, PlaceNo};
 use review_rows::{Base, BranchKey, PlaceKey, Rows, StoredFile};
@@ -30,7 +31,7 @@ use review_table::{Key, Table};
 use review_tables::fronts::find_parts;
 use review_tables::greatest::find_greatest;
 use review_tables::reads::{find, find_any};
-use review_words::{Bases as DeskBases, CommitName, ProjectName};
+use review_words::{Bases as DeskBases, CommitName, Epoch, ProjectName};
 use sqlite::{Alter, Error, Transaction};
 use std::alloc::{AllocError, Global};
 
@@ -60,6 +61,34 @@ pub fn find_requests<S: Alter>(
 {
     let found = find::<Desk, S>(tx, alloc, &())?;
     Ok(tell_requests(found, rows))
+}
+
+#[tactic(auto, using(crate::proofs::Telling::has_learnt))]
+fn tell_least_epoch(found: Option<Option<Epoch>>, rows: &mut Rows) -> Sight
+    ensures told { (db : Trees) → found ≡ row_at epochs db tt → Sees (want.LeastEpoch) rows.old rows.new db result }
+    ensures learnt { result ≡ Sight.Learnt → HasLearnt (want.LeastEpoch) rows.old rows.new }
+{
+    match found {
+        Some(Some(least)) => {
+            rows.learn_least_epoch(least.get());
+            Sight::Learnt
+        }
+        Some(None) | None => Sight::Damaged,
+    }
+}
+
+/// The least open epoch.
+pub fn find_least_epoch<S: Alter>(
+    tx: &mut Transaction<'_, S>,
+    alloc: Global,
+    rows: &mut Rows,
+) -> Result<Sight, Error>
+    ensures same_reference { tx.new.conn.ghost_name ≡ tx.old.conn.ghost_name }
+    ensures looks { Looks (Sees (want.LeastEpoch) rows.old rows.new) (state S.Store tx.old.conn.now) (state S.Store tx.new.conn.now) result }
+    ensures learnt { IfOk result (λ s. s ≡ Sight.Learnt → HasLearnt (want.LeastEpoch) rows.old rows.new) }
+{
+    let found = find::<Epochs, S>(tx, alloc, &())?;
+    Ok(tell_least_epoch(found, rows))
 }
 
 #[tactic(auto, using(crate::proofs::Telling::has_learnt))]

@@ -42,6 +42,7 @@ fn find<S: Alter>(
 {
     match want {
         Want::Requests => branches::find_requests(tx, alloc, rows),
+        Want::LeastEpoch => branches::find_least_epoch(tx, alloc, rows),
         Want::Account(number) => people::find_account(tx, alloc, *number, rows),
         Want::AccountNamed(name) => people::find_holder(tx, alloc, name, rows),
         Want::LastAccount => people::find_last_account(tx, alloc, rows),

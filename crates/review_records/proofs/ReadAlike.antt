@@ -14,14 +14,15 @@ use Rattle.sqlite_value.specs.declared.value.Value.TheVariants.{Null, Int, Real,
 use Rattle.sqlite_value.specs.Order.{Row as Raw, column}
 use Rattle.sqlite_rules.specs.Cast.{as_text, cast}
 use Rattle.review_names.specs.Names.{is_account_number}
+use Rattle.review_words.specs.Epochs.{is_epoch}
 use Rattle.review_statements.specs.Content.{has_key, is_value}
 use Rattle.review_statements.specs.Moved.{AreMoved, columns_of, with_first_epoch, without_parent}
 use Rattle.review_statements.specs.Search.{Search, only, reads, rows_at}
 use Rattle.review_statements.proofs.Meaning.{cast_int}
 use Rattle.review_tables.specs.Columns.{number_in, text_in}
 use Rattle.review_tables.proofs.Keys.{itself, same_int}
-use Rattle.review_records.specs.Keyed.{answer_keyed, earlier_answer_keyed, is_number, is_small, is_text, project_keyed, where_is}
-use Rattle.review_records.specs.Forms.{answered, answers, earlier_answers, first_epoch, request_key, stored_file, first_projects, file_without_parent, stored_parent, projects}
+use Rattle.review_records.specs.Keyed.{answer_keyed, earlier_answer_keyed, is_number, is_text, project_keyed, where_is}
+use Rattle.review_records.specs.Forms.{answered, answers, earlier_answers, earlier_key, first_epoch, stored_file, first_projects, file_without_parent, stored_parent, projects}
 use Rattle.review_rows.specs.declared.rows.StoredFile.{StoredFile}
 use Rattle.review_records.specs.declared.rows.Answered.{Answered as Rest}
 use Rattle.review_records.specs.Laws.{no_text, number_is}
@@ -183,7 +184,7 @@ module _ (old new : List Raw) (moved : AreMoved with_first_epoch old new) where
       ]
 
   module _ (keyed : list_any (λ r. not (earlier_answer_keyed r)) old ≡ false) where
-    identified_before : (caller : ℕ) (id : List ℕ) (r : Raw) → earlier_answer_keyed r ≡ true → identified caller first_epoch id (with_first_epoch r) ≡ has_key (earlier_answers.at (request_key caller id)) r
+    identified_before : (caller : ℕ) (id : List ℕ) (r : Raw) → earlier_answer_keyed r ≡ true → identified caller first_epoch id (with_first_epoch r) ≡ has_key (earlier_answers.at (earlier_key caller id)) r
     identified_before caller id r is =
         let parts = and_parts _ _ is in
         (λ i. is_value (number_stays is_account_number (column r 1) parts.0 i) (Int (pos caller)) && (itself (Int (pos first_epoch)) i && (is_value (text_stays (column r 2) parts.1 i) (Text id) && true)))
@@ -201,11 +202,11 @@ module _ (old new : List Raw) (moved : AreMoved with_first_epoch old new) where
         by (Some n) None c e f g h = absurd (cc)
         by (Some n) (Some content) None e f g h = absurd (cc)
 
-    pub answer_moved : (caller : ℕ) (id : List ℕ) (stored : Option Rest) → only (reads earlier_answers) (rows_at (earlier_answers.at (request_key caller id)) old) ≡ option_map Some stored → only (reads answers) (rows_at (answers.at (request_key caller id)) new) ≡ option_map Some stored
-    answer_moved caller id = reads_alike earlier_answers answers with_first_epoch old new moved keyed (request_key caller id) (identified caller first_epoch id) (identified_before caller id) (identified_behind caller first_epoch id) answer_on
+    pub answer_moved : (caller : ℕ) (id : List ℕ) (stored : Option Rest) → only (reads earlier_answers) (rows_at (earlier_answers.at (earlier_key caller id)) old) ≡ option_map Some stored → only (reads answers) (rows_at (answers.at (earlier_key caller id)) new) ≡ option_map Some stored
+    answer_moved caller id = reads_alike earlier_answers answers with_first_epoch old new moved keyed (earlier_key caller id) (identified caller first_epoch id) (identified_before caller id) (identified_behind caller first_epoch id) answer_on
 
     pub answers_keyed : list_any (λ r. not (answer_keyed r)) new ≡ false
     answers_keyed = still_keyed earlier_answers answers with_first_epoch old new moved keyed
-        (λ columns. is_number is_account_number (column columns 0) && (is_number is_small (column columns 1) && is_text (column columns 2)))
+        (λ columns. is_number is_account_number (column columns 0) && (is_number is_epoch (column columns 1) && is_text (column columns 2)))
         (λ r is. let parts = and_parts _ _ is in and_from _ _ (ap (is_number is_account_number) (number_stays is_account_number (column r 1) parts.0) ∙ parts.0) (and_from _ _ refl (ap is_text (text_stays (column r 2) parts.1) ∙ parts.1)))
-        (λ r. (λ i. is_number is_account_number (behind r 0 i) && (is_number is_small (behind r 1 i) && is_text (behind r 2 i))))
+        (λ r. (λ i. is_number is_account_number (behind r 0 i) && (is_number is_epoch (behind r 1 i) && is_text (behind r 2 i))))

@@ -5,6 +5,8 @@ use Rattle.sqlite_value.specs.declared.value.Value.TheVariants.{Int, Text}
 use Rattle.sqlite_value.specs.Order.{column}
 use Rattle.review_names.specs.Names.{is_word}
 use Rattle.review_names.specs.Names.{is_account_number}
+use Rattle.review_words.specs.Epochs.{is_epoch}
+use Rattle.review_words.specs.History.{Identity}
 use Rattle.review_names.specs.Forms.{is_commit, is_slashed_name}
 use Rattle.review_rows.specs.declared.rows.Base.{Base}
 use Rattle.review_rows.specs.declared.rows.BranchKey.{BranchKey}
@@ -13,7 +15,6 @@ use Rattle.review_rows.specs.declared.rows.StoredFile.{StoredFile}
 use Rattle.review_records.specs.declared.rows.RequestKey.{RequestKey}
 use Rattle.review_records.specs.declared.rows.Answered.{Answered}
 use Rattle.review_records.specs.declared.rows.DeskRow.{DeskRow}
-use Rattle.review_records.specs.declared.rows.TheConstants.{FIRST_EPOCH}
 use Rattle.review_rows.specs.declared.rows.MemberKey.{MemberKey}
 use Rattle.review_tables.specs.Columns.{number_in, text_in}
 use Rattle.review_statements.specs.Desk as table
@@ -174,19 +175,23 @@ answers = record {
 }
 
 abbrev pub answer_form : Form RequestKey Answered
-answer_form = with_rowid (λ i a. Int (pos i.caller) ∷ Int (pos i.epoch) ∷ Text i.id ∷ Int (pos a.request) ∷ Text a.content ∷ Text a.reply ∷ []) (λ i. is_account_number i.caller && is_small i.epoch) (λ a. is_utf8 a.content && is_utf8 a.reply)
+answer_form = with_rowid (λ i a. Int (pos i.caller) ∷ Int (pos i.epoch) ∷ Text i.id ∷ Int (pos a.request) ∷ Text a.content ∷ Text a.reply ∷ []) (λ i. is_account_number i.caller && is_epoch i.epoch) (λ a. is_utf8 a.content && is_utf8 a.reply)
 
 -- the column of a stored request that has its epoch
 abbrev pub epoch_place : ℕ
 epoch_place = 2
 
--- the epoch of every request, and the least open one, as long as requests name none
-abbrev pub first_epoch : ℕ
-first_epoch = FIRST_EPOCH
-
 -- the key of an identity
-abbrev pub request_key : ℕ → List ℕ → RequestKey
-request_key caller id = record { caller = caller; epoch = first_epoch; id = id }
+abbrev pub request_key : Identity → RequestKey
+request_key i = record { caller = i.caller; epoch = i.epoch; id = i.id }
+
+-- the epoch of all requests of versions 1 and 2
+abbrev pub first_epoch : ℕ
+first_epoch = 0
+
+-- the key of a request of these versions
+abbrev pub earlier_key : ℕ → List ℕ → RequestKey
+earlier_key caller id = record { caller = caller; epoch = first_epoch; id = id }
 
 -- the stored requests as versions 1 and 2 keep them, whose identities have no epoch
 abbrev pub earlier_answers : Search RequestKey Answered
@@ -201,10 +206,10 @@ earlier_answers = record {
 -- ---- the least open epoch
 
 abbrev pub epochs : Search (Unit {0}) ℕ
-epochs = record { tree = table.epochs.tree; keyed = λ r. Rattle.std.specs.Prelude.true; at = λ u. []; columns = 1 ∷ []; read = λ r. where_is is_small (number_in (column r 0)) }
+epochs = record { tree = table.epochs.tree; keyed = λ r. Rattle.std.specs.Prelude.true; at = λ u. []; columns = 1 ∷ []; read = λ r. where_is is_epoch (number_in (column r 0)) }
 
 abbrev pub epochs_form : Form (Unit {0}) ℕ
-epochs_form = with_rowid (λ u least. Int (pos least) ∷ []) (λ u. Rattle.std.specs.Prelude.true) is_small
+epochs_form = with_rowid (λ u least. Int (pos least) ∷ []) (λ u. Rattle.std.specs.Prelude.true) is_epoch
 
 -- ---- the row of the desk
 

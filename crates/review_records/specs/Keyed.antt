@@ -4,6 +4,7 @@ use Rattle.sqlite_value.specs.declared.value.Value.{Value}
 use Rattle.sqlite_value.specs.declared.value.Value.TheVariants.{Null, Int, Real, Text, Blob}
 use Rattle.sqlite_value.specs.Order.{Row, column}
 use Rattle.review_names.specs.Names.{is_account_number}
+use Rattle.review_words.specs.Epochs.{is_epoch}
 use Rattle.review_tables.specs.Columns.{number_in}
 
 -- a number below 2^32
@@ -40,7 +41,7 @@ abbrev pub base_keyed : Row → Bool
 base_keyed r = is_text (column r 1) && (is_text (column r 2) && is_number is_small (column r 3))
 
 abbrev pub answer_keyed : Row → Bool
-answer_keyed r = is_number is_account_number (column r 1) && (is_number is_small (column r 2) && is_text (column r 3))
+answer_keyed r = is_number is_account_number (column r 1) && (is_number is_epoch (column r 2) && is_text (column r 3))
 
 -- the same in versions 1 and 2, where identities have no epoch
 abbrev pub earlier_answer_keyed : Row → Bool

@@ -12,6 +12,7 @@ use Rattle.sqlite_value.specs.declared.value.Value.TheVariants.{Null, Int, Real,
 use Rattle.sqlite_value.specs.declared.value.Value.{Value}
 use Rattle.sqlite_value.specs.Order.{column}
 use Rattle.review_names.specs.Names.{is_word, is_account_number}
+use Rattle.review_words.specs.Epochs.{is_epoch}
 use Rattle.review_tables.specs.Columns.{number_in, text_in}
 use Rattle.review_tables.specs.Fronts.{IsExact, IsFront}
 use Rattle.review_statements.specs.Search.{IsLawful}
@@ -117,10 +118,10 @@ answer_lawful = record {
       let id : a.id ≡ b.id = same_text (column r 3) a.id b.id (and_parts _ _ one_more.1).0 (and_parts _ _ two_more.1).0 in
       (λ k. record { caller = caller k; epoch = epoch k; id = id k });
   known = λ a r formed has.
-      let is = and_parts (is_account_number a.caller) (is_small a.epoch) formed in
+      let is = and_parts (is_account_number a.caller) (is_epoch a.epoch) formed in
       let one = and_parts _ _ has in
       let two = and_parts _ _ one.1 in
-      and_from _ _ (keyed_number is_account_number (column r 1) a.caller is.0 one.0) (and_from _ _ (keyed_number is_small (column r 2) a.epoch is.1 two.0) (keyed_text (column r 3) a.id (and_parts _ _ two.1).0));
+      and_from _ _ (keyed_number is_account_number (column r 1) a.caller is.0 one.0) (and_from _ _ (keyed_number is_epoch (column r 2) a.epoch is.1 two.0) (keyed_text (column r 3) a.id (and_parts _ _ two.1).0));
 }
 
 pub epochs_lawful : IsLawful epochs epochs_form

@@ -4,9 +4,10 @@ ghost use Rattle.sqlite.specs.Held.{state};
 ghost use Rattle.review_statements.specs.Content.{RemovesBelow};
 ghost use Rattle.review_statements.specs.Ran.{Inside, Opens};
 ghost use Rattle.review_statements.specs.Search.{SetsRow};
+ghost use Rattle.review_rows.specs.Rows.{kept_row};
 ghost use Rattle.review_records.specs.Forms.{answers, epoch_place, request_key};
 
-use crate::names::{account_number, small};
+use crate::names::{account_number, epoch_number};
 use crate::rows::{Answered, RequestKey, Text};
 use review_rows::Kept;
 use review_statements::texts;
@@ -14,6 +15,7 @@ use review_tables::bound::Bound;
 use review_tables::changes::set;
 use review_tables::columns::{number_at, text_at};
 use review_tables::table::{Lookup, Table};
+use review_words::Epoch;
 use sqlite::{Alter, Error, Row, Transaction};
 use std::alloc::{AllocError, Global};
 
@@ -39,7 +41,7 @@ impl Lookup for Answers {
     }
 
     fn bind<'a>(key: &'a RequestKey) -> Result<Bound<'a>, Error> {
-        let values = Bound::new().number(key.caller.get()).number(key.epoch);
+        let values = Bound::new().number(key.caller.get()).number(key.epoch.get());
         Ok(values.text(key.id.as_str()))
     }
 
@@ -90,7 +92,7 @@ impl Table for Answers {
 
     fn bind_key<'a>(key: &'a RequestKey) -> Result<Bound<'a>, Error> {
         let values = Bound::new().number(account_number(key.caller));
-        Ok(values.number(small(key.epoch)).text(key.id.as_str()))
+        Ok(values.number(epoch_number(key.epoch)).text(key.id.as_str()))
     }
 
     fn bind_row<'a>(
@@ -112,9 +114,13 @@ impl Table for Answers {
 
 // The identity of a request that is to be stored.
 fn key_of(alloc: Global, kept: &Kept) -> Result<RequestKey, AllocError>
-    ensures { IfOk result (λ key. key ≡ request_key kept.now.caller kept.now.id) }
+    ensures { IfOk result (λ key. key ≡ request_key (kept_row kept.now).identity) }
 {
-    Ok(RequestKey::new(kept.caller, kept.id.copy(alloc)?))
+    Ok(RequestKey {
+        caller: kept.caller,
+        epoch: kept.epoch,
+        id: kept.id.copy(alloc)?,
+    })
 }
 
 // The rest of a request that is to be stored.
@@ -131,7 +137,7 @@ fn rest_of(alloc: Global, kept: &Kept) -> Result<Answered, AllocError>
 /// Stores a request in the place of what its identity has.
 pub fn put<S: Alter>(tx: &mut Transaction<'_, S>, alloc: Global, kept: &Kept) -> Result<(), Error>
     ensures same_reference { tx.new.conn.ghost_name ≡ tx.old.conn.ghost_name }
-    ensures ran { Inside (SetsRow answers (request_key kept.now.caller kept.now.id) (Some (record { request = kept.now.request; content = string_bytes kept.now.content; reply = string_bytes kept.now.reply }))) (state S.Store tx.old.conn.now) (state S.Store tx.new.conn.now) result }
+    ensures ran { Inside (SetsRow answers (request_key (kept_row kept.now).identity) (Some (record { request = kept.now.request; content = string_bytes kept.now.content; reply = string_bytes kept.now.reply }))) (state S.Store tx.old.conn.now) (state S.Store tx.new.conn.now) result }
     ensures open { Opens (state S.Store tx.old.conn.now) (state S.Store tx.new.conn.now) result }
 {
     let key = key_of(alloc, kept)?;
@@ -140,11 +146,11 @@ pub fn put<S: Alter>(tx: &mut Transaction<'_, S>, alloc: Global, kept: &Kept) ->
 }
 
 /// Takes away the stored requests of all epochs below one.
-pub fn remove_below<S: Alter>(tx: &mut Transaction<'_, S>, epoch: u32) -> Result<usize, Error>
+pub fn remove_below<S: Alter>(tx: &mut Transaction<'_, S>, epoch: Epoch) -> Result<usize, Error>
     ensures same_reference { tx.new.conn.ghost_name ≡ tx.old.conn.ghost_name }
     ensures ran { Inside (RemovesBelow answers.tree epoch_place (pos epoch)) (state S.Store tx.old.conn.now) (state S.Store tx.new.conn.now) result }
     ensures open { Opens (state S.Store tx.old.conn.now) (state S.Store tx.new.conn.now) result }
 {
-    let values = Bound::new().number(epoch);
+    let values = Bound::new().number(epoch.get());
     tx.execute(texts::DELETE_ANSWERS_BELOW, values.as_slice())
 }

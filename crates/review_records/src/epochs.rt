@@ -1,9 +1,10 @@
 //! The least open epoch.
 
-use crate::names::{small, small_at};
+use crate::names::{epoch_at, epoch_number};
 use review_statements::texts;
 use review_tables::bound::Bound;
 use review_tables::table::{Lookup, Table};
+use review_words::Epoch;
 use sqlite::{Error, Row};
 use std::alloc::{AllocError, Global};
 
@@ -17,7 +18,7 @@ impl Lookup for Epochs {
 
     type Key = ();
 
-    type Item = u32;
+    type Item = Epoch;
 
     ghost sql = { FIND_EPOCHS.now };
 
@@ -31,8 +32,8 @@ impl Lookup for Epochs {
         Ok(Bound::new())
     }
 
-    fn read(_alloc: Global, row: &Row) -> Result<Option<u32>, AllocError> {
-        Ok(small_at(row, 0))
+    fn read(_alloc: Global, row: &Row) -> Result<Option<Epoch>, AllocError> {
+        Ok(epoch_at(row, 0))
     }
 
     ghost asks = { λ _. find_epochs };
@@ -47,7 +48,7 @@ impl Table for Epochs {
 
     type Key = ();
 
-    type Item = u32;
+    type Item = Epoch;
 
     ghost insert_sql = { INSERT_EPOCHS.now };
 
@@ -72,10 +73,10 @@ impl Table for Epochs {
     fn bind_row<'a>(
         _alloc: Global,
         _key: &'a (),
-        row: &'a u32,
+        row: &'a Epoch,
         _buffer: &'a mut String,
     ) -> Result<Bound<'a>, Error> {
-        Ok(Bound::new().number(small(*row)))
+        Ok(Bound::new().number(epoch_number(*row)))
     }
 
     ghost inserts = { λ _ least. insert_epochs (pos least) };

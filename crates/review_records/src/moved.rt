@@ -4,7 +4,7 @@ ghost use Rattle.std.specs.List.{list_any};
 ghost use Rattle.sqlite_value.specs.Order.{Row as Raw};
 ghost use Rattle.review_statements.specs.Moved.{AreMoved, with_first_epoch, without_parent};
 ghost use Rattle.review_statements.specs.Search.{only, reads, rows_at};
-ghost use Rattle.review_records.specs.Forms.{answers, earlier_answers, first_epoch, first_projects, projects, request_key};
+ghost use Rattle.review_records.specs.Forms.{answers, earlier_answers, first_epoch, first_projects, projects, earlier_key};
 ghost use Rattle.review_records.specs.declared.rows.Answered.{Answered as Rest};
 ghost use Rattle.review_rows.specs.declared.rows.StoredFile.{StoredFile};
 ghost use Rattle.review_records.specs.Keyed.{answer_keyed, earlier_answer_keyed, project_keyed};
@@ -22,7 +22,7 @@ pub fn moved_projects_read_alike()
 /// request that it had, or none; under identities of other epochs none is stored.
 pub fn moved_answers_read_alike()
     ensures stored { (old new : List Raw) → AreMoved with_first_epoch old new → list_any (λ r. not (earlier_answer_keyed r)) old ≡ false → (caller : ℕ) (id : List ℕ) (stored : Option Rest) →
-        only (reads earlier_answers) (rows_at (earlier_answers.at (request_key caller id)) old) ≡ option_map Some stored → only (reads answers) (rows_at (answers.at (request_key caller id)) new) ≡ option_map Some stored }
+        only (reads earlier_answers) (rows_at (earlier_answers.at (earlier_key caller id)) old) ≡ option_map Some stored → only (reads answers) (rows_at (answers.at (earlier_key caller id)) new) ≡ option_map Some stored }
     ensures others { (old new : List Raw) → AreMoved with_first_epoch old new → (caller epoch : ℕ) (id : List ℕ) → epoch ≢ first_epoch → rows_at (answers.at (record { caller = caller; epoch = epoch; id = id })) new ≡ [] }
     ensures keyed { (old new : List Raw) → AreMoved with_first_epoch old new → list_any (λ r. not (earlier_answer_keyed r)) old ≡ false → list_any (λ r. not (answer_keyed r)) new ≡ false }
 {}

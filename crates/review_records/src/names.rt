@@ -2,13 +2,14 @@
 ghost use Rattle.std.specs.Prelude.{◌≡◌, true, Some, IfOk, nat_le, option_map, pos};
 ghost use Rattle.sqlite_value.specs.Order.{column};
 ghost use Rattle.review_names.specs.Names.{is_account_number};
+ghost use Rattle.review_words.specs.Epochs.{is_epoch};
 ghost use Rattle.review_tables.specs.Columns.{number_in, text_in};
 ghost use Rattle.review_records.specs.Forms.{where_is};
 ghost use Rattle.review_records.specs.Keyed.{is_small};
 
 use crate::rows::PlaceNo;
 use review_tables::columns::{number_at, text_at};
-use review_words::{AccountNo, BadName, Form, Name};
+use review_words::{AccountNo, BadName, Epoch, Form, Name};
 use sqlite::Row;
 use std::alloc::{AllocError, Global};
 
@@ -40,6 +41,21 @@ pub fn account_number(account: AccountNo) -> u32
     ensures good { is_account_number account ≡ true }
 {
     account.get()
+}
+
+/// The epoch whose number is in a column; none where it is no such number.
+pub fn epoch_at(row: &Row, at: usize) -> Option<Epoch>
+    ensures { result ≡ where_is is_epoch (number_in (column row.now at)) }
+{
+    Epoch::from_number(number_at(row, at)?)
+}
+
+/// The number of an epoch.
+pub fn epoch_number(epoch: Epoch) -> u32
+    ensures number { result ≡ epoch }
+    ensures good { is_epoch epoch ≡ true }
+{
+    epoch.get()
 }
 
 /// The place whose number is in a column; none where it is no such number.

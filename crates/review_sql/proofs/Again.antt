@@ -6,6 +6,8 @@ use Rattle.sqlite.specs.Effect.{Database}
 use Rattle.sqlite.specs.State.{State}
 use Rattle.sqlite.specs.Held.{Held, state}
 use Rattle.review_statements.specs.Ran.{IsReady}
+use Rattle.review_sql.specs.Numbers.{IsDesk}
+use Rattle.review_sql.specs.declared.seen.Numbers.{Numbers}
 use Rattle.review_sql.specs.declared.faults.DeskFault.{DeskFault}
 use Rattle.review_sql.specs.declared.faults.DeskFault.TheVariants.{NotADesk, WrongVersion, Store, NotEmpty, NotOurs, Memory}
 use Rattle.review_sql.specs.Migrated.{IsNotMigrated, IsUnfit}
@@ -16,7 +18,6 @@ use Rattle.review_sql.specs.Shelf.{Holds, ShelfView, Stays}
 use Rattle.review_tables.specs.Versions.{schema_at}
 use Rattle.review_tables.specs.declared.versions.TablesVersion.{TablesVersion}
 use Rattle.review_tables.specs.declared.versions.TablesVersion.TheVariants.{First, Second, Third}
-use Rattle.review_lookups.specs.Tables.{IsDesk}
 use Rattle.review_sql.proofs.Saying.{desk_says, never_earlier, never_no_desk, never_other_version, never_there_earlier}
 use Rattle.review_sql.proofs.Shown.{stays}
 
@@ -33,28 +34,28 @@ store_or_memory NotEmpty a b c d = absurd (c refl)
 store_or_memory NotOurs a b c d = absurd (d refl)
 store_or_memory Memory a b c d = inl refl
 
-cause_left : (s : State) (requests : ℕ) (fault : DeskFault) → IsReady s.now → IsDesk requests s.now.trees → IsRefused s fault → (fault ≡ Memory) ⊎ (fault ≡ Store)
-cause_left s requests fault ready is refused =
-    store_or_memory fault (λ none. never_no_desk s.now ready.schema requests is (refused.no_desk none)) (λ other. never_other_version s.now ready.schema requests is (refused.other_version other)) refused.not_empty
+cause_left : (s : State) (numbers : Numbers) (fault : DeskFault) → IsReady s.now → IsDesk numbers s.now.trees → IsRefused s fault → (fault ≡ Memory) ⊎ (fault ≡ Store)
+cause_left s numbers fault ready is refused =
+    store_or_memory fault (λ none. never_no_desk s.now ready.schema numbers is (refused.no_desk none)) (λ other. never_other_version s.now ready.schema numbers is (refused.other_version other)) refused.not_empty
     (λ not. (refused.not_ours not).1 ready.schema (all_apart s.now ready))
 
 -- the same of what is not migrated
-unfit_left : (db : Database) (requests : ℕ) (fault : DeskFault) → IsReady db → IsDesk requests db.trees → IsUnfit db fault → (fault ≡ Memory) ⊎ (fault ≡ Store)
-unfit_left db requests fault ready is unfit =
-    store_or_memory fault (λ none. let it = unfit.no_desk none in no_desk it.0 it.1) (λ other. let it = unfit.other_version other in it.2.2.1.1.0 (same_Some _ _ (sym it.2.1 ∙ (desk_says Third db ready.schema it.0 it.1 requests is).0))) unfit.not_empty
+unfit_left : (db : Database) (numbers : Numbers) (fault : DeskFault) → IsReady db → IsDesk numbers db.trees → IsUnfit db fault → (fault ≡ Memory) ⊎ (fault ≡ Store)
+unfit_left db numbers fault ready is unfit =
+    store_or_memory fault (λ none. let it = unfit.no_desk none in no_desk it.0 it.1) (λ other. let it = unfit.other_version other in it.2.2.1.1.0 (same_Some _ _ (sym it.2.1 ∙ (desk_says Third db ready.schema it.0 it.1 numbers is).0))) unfit.not_empty
     (λ not. let it = unfit.not_ours not in not_ours it.0 it.1.0 it.1.1 it.2)
   where
     no_desk : (version : TablesVersion) → IsNone version db → ⊥
-    no_desk First none = never_earlier First (λ e. omega (arith, e)) db ready.schema requests is none
-    no_desk Second none = never_earlier Second (λ e. omega (arith, e)) db ready.schema requests is none
-    no_desk Third none = never_no_desk db ready.schema requests is none
+    no_desk First none = never_earlier First (λ e. omega (arith, e)) db ready.schema numbers is none
+    no_desk Second none = never_earlier Second (λ e. omega (arith, e)) db ready.schema numbers is none
+    no_desk Third none = never_no_desk db ready.schema numbers is none
 
-    not_ours : (version : TablesVersion) (n : ℕ) → IsThere version db n → (db.schema ≡ schema_at version → AreApartIn version db.trees → ⊥) → ⊥
-    not_ours First n there other = never_there_earlier First (λ e. omega (arith, e)) db ready.schema requests is n there
-    not_ours Second n there other = never_there_earlier Second (λ e. omega (arith, e)) db ready.schema requests is n there
+    not_ours : (version : TablesVersion) (n : Numbers) → IsThere version db n → (db.schema ≡ schema_at version → AreApartIn version db.trees → ⊥) → ⊥
+    not_ours First n there other = never_there_earlier First (λ e. omega (arith, e)) db ready.schema numbers is n there
+    not_ours Second n there other = never_there_earlier Second (λ e. omega (arith, e)) db ready.schema numbers is n there
     not_ours Third n there other = other ready.schema (all_apart db ready)
 
-module _ {S : Type 0} (g : Ghosts S) (is_ours : Bool) (old : ShelfView S) (holds : Holds g old.conn is_ours old.requests) where
+module _ {S : Type 0} (g : Ghosts S) (is_ours : Bool) (old : ShelfView S) (holds : Holds g old.conn is_ours old.numbers) where
   reopened : (new : ShelfView S) → IsOpened g old.conn new → IsReopened g is_ours old new
   reopened new it = record {
     tables = stays g old.conn new.conn it.stays.kept;
@@ -65,12 +66,12 @@ module _ {S : Type 0} (g : Ghosts S) (is_ours : Bool) (old : ShelfView S) (holds
   cause_again : (conn : Held S) (fault : DeskFault) → Stays (state g old.conn) (state g conn) → (IsTrue (state g conn).is_open → IsRefused (state g old.conn) fault) → IsTrue is_ours → IsTrue (state g conn).is_open → (fault ≡ Memory) ⊎ (fault ≡ Store)
   cause_again conn fault same why ours is_open =
       let it = holds.ready ours (same.kept is_open).0 in
-      cause_left (state g old.conn) old.requests fault it.0 it.1 (why is_open)
+      cause_left (state g old.conn) old.numbers fault it.0 it.1 (why is_open)
 
   unfit_again : (conn : Held S) (fault : DeskFault) → (IsTrue (state g conn).is_open → IsTrue (state g old.conn).is_open) → (IsTrue (state g conn).is_open → IsUnfit (state g old.conn).now fault) → IsTrue is_ours → IsTrue (state g conn).is_open → (fault ≡ Memory) ⊎ (fault ≡ Store)
   unfit_again conn fault was why ours is_open =
       let it = holds.ready ours (was is_open) in
-      unfit_left (state g old.conn).now old.requests fault it.0 it.1 (why is_open)
+      unfit_left (state g old.conn).now old.numbers fault it.0 it.1 (why is_open)
 
 module _ {S : Type 0} (g : Ghosts S) (is_ours : Bool) (conn : Held S) where
   pub goes_on : (new : ShelfView S) → IsOpened g conn new → ReopensLast g is_ours conn new

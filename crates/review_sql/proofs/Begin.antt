@@ -1,5 +1,6 @@
 -- A desk before its first request.
-use Rattle.std.proofs.Common.{◌≡◌, ◌≢◌, ◌∙◌, ◌==◌, ℕ, List, [], ◌∷◌, Some, None, option_map, cond, true, refl, sym, ap, subst, arith, inl, inr, length, eqb-true}
+use Rattle.std.specs.Prelude.{nat_lt}
+use Rattle.std.proofs.Common.{◌≡◌, ◌≢◌, ◌∙◌, ◌==◌, ℕ, List, [], ◌∷◌, Some, None, option_map, cond, true, refl, sym, ap, subst, arith, inl, inr, length, eqb-true, Bool, Option, false}
 use Rattle.std.specs.Str.{bytes_eq}
 use Rattle.std.proofs.lemmas.Bool.{cases_Bool, both_ways, eqb-false}
 use Rattle.sqlite_value.specs.declared.value.Value.TheVariants.{Text}
@@ -8,7 +9,7 @@ use Rattle.sqlite.specs.Effect.{Database}
 use Rattle.review_names.specs.Names.{admin_name, administrators}
 use Rattle.review_words.specs.History.{is_listed}
 use Rattle.review_rows.specs.declared.rows.MemberKey.{MemberKey}
-use Rattle.review_rows.specs.Rows.{Key, AccountKey, MemberKey as OfMember, FileKey, BaseKey, PartKey, OddKey, AccountRow, MemberRow, FileRow, BaseRow, APart, OddRow, Count, Projects, BasesOf}
+use Rattle.review_rows.specs.Rows.{Key, AccountKey, MemberKey as OfMember, FileKey, BaseKey, PartKey, OddKey, AccountRow, MemberRow, FileRow, BaseRow, APart, OddRow, Count, Projects, BasesOf, ClosedEpochs, Stored}
 use Rattle.review_rows.specs.Changes.{Reading}
 use Rattle.review_rows.specs.View.{IsView, fact, counted}
 use Rattle.review_statements.specs.Desk.{schema_0, desk_schema, is_tree}
@@ -17,6 +18,7 @@ use Rattle.review_statements.specs.Ran.{OnDesk}
 use Rattle.review_statements.specs.Search.{rows_at, row_at, only, reads, SetsRow}
 use Rattle.review_tables.proofs.Sequences.{Next}
 use Rattle.review_tables.proofs.Made.{ready_blank, empty_at}
+use Rattle.review_sql.specs.Numbers.{IsDesk}
 use Rattle.review_sql.specs.First.{SetsFirst, MakesDesk}
 use Rattle.review_sql.proofs.Unkeyed.{first_keeps, none_unkeyed, unkeyed_same}
 use Rattle.review_changes.specs.Parts.{Part, TheHeader, PatchOf, VoteOf, RoleOf, CommentOf, AttentionOf, AHeader, APatch, ARole, AComment, ACall}
@@ -24,7 +26,7 @@ use Rattle.review_change_records.specs.Forms.{headers, patches, votes, roles, co
 use Rattle.review_records.specs.Forms.{accounts, members, projects, bases, answers, epochs, request_key}
 use Rattle.review_change_records.specs.Laws.{same_bytes}
 use Rattle.review_lookups.proofs.Telling.{own_bytes}
-use Rattle.review_lookups.specs.Tables.{part_in, vote_told, told, row_in, count_in, stored_as, number_of, tables_at, IsDesk}
+use Rattle.review_lookups.specs.Tables.{part_in, vote_told, told, row_in, count_in, stored_as, number_of, tables_at, least_in, version_in}
 
 module _ (a b : Trees) (blank : (t : ℕ) → is_tree t ≡ true → a t ≡ []) (h : SetsFirst a b) where
   abbrev m1 : Trees
@@ -81,20 +83,25 @@ module _ (a b : Trees) (blank : (t : ℕ) → is_tree t ≡ true → a t ≡ [])
   rows reading (OddKey o) = ap (λ odd. cond odd (Some OddRow) None) (unkeyed_same a b (first_keeps a b h) ∙ none_unkeyed a blank)
 
   counts : (c : Count) → count_in b c ≡ counted [] c
+  counts ClosedEpochs = ap least_in (ap (λ l. only (reads epochs) (rows_at (epochs.at tt) l)) (h.2.others 31 refl (λ e. omega (arith, e))) ∙ h.1.2.here)
   counts Projects = ap length (untouched 26 refl (λ e. omega (arith, e)) (λ e. omega (arith, e)) (λ e. omega (arith, e)) (λ e. omega (arith, e)))
   counts (BasesOf project) = ap (λ l. length (rows_at ((1, Text project) ∷ []) l)) (untouched 6 refl (λ e. omega (arith, e)) (λ e. omega (arith, e)) (λ e. omega (arith, e)) (λ e. omega (arith, e)))
+
+  pub first_desk : IsDesk (record { requests = 0; least = 0 }) b
+  first_desk = record { desk_is = h.2.here; least_is = ap (λ l. only (reads epochs) (rows_at (epochs.at tt) l)) (h.2.others 31 refl (λ e. omega (arith, e))) ∙ h.1.2.here }
+
+  neither : (closed : Bool) → cond {A = Option Stored} closed None None ≡ None
+  neither true = refl
+  neither false = refl
 
   pub first_view : IsView [] (tables_at b)
   first_view reading right = record {
     row_is = rows reading;
     count_is = counts;
-    answer_is = λ i. ap (λ l. stored_as i (only (reads answers) (rows_at (answers.at (request_key i.caller i.id)) l))) (untouched 28 refl (λ e. omega (arith, e)) (λ e. omega (arith, e)) (λ e. omega (arith, e)) (λ e. omega (arith, e)));
-    version = ap (number_of (λ d. d.version)) h.2.here;
+    answer_is = λ i. ap (λ l. stored_as i (only (reads answers) (rows_at (answers.at (request_key i)) l))) (untouched 28 refl (λ e. omega (arith, e)) (λ e. omega (arith, e)) (λ e. omega (arith, e)) (λ e. omega (arith, e))) ∙ sym (neither (nat_lt i.epoch 0));
+    version = (λ k. version_in (first_desk.least_is k) (h.2.here k));
     requests = ap (number_of (λ d. d.requests)) h.2.here;
   }
-
-  pub first_desk : IsDesk 0 b
-  first_desk = record { desk_is = h.2.here; least_is = ap (λ l. only (reads epochs) (rows_at (epochs.at tt) l)) (h.2.others 31 refl (λ e. omega (arith, e))) ∙ h.1.2.here }
 
 pub makes_desk : (old new : Database) → Next (Grows schema_0 desk_schema) (OnDesk SetsFirst) old new → MakesDesk old new
 makes_desk old new h = record {

@@ -1,13 +1,15 @@
 -- What the statements of a commit do together.
-use Rattle.std.proofs.Common.{◌≡◌, ◌≢◌, ◌∙◌, ◌+◌, ◌≤◌, ℕ, List, [], ◌∷◌, Option, Some, None, option_map, cond, Ordering, Less, Equal, Greater, true, false, is_some, refl, sym, ap, subst, arith, inl, inr, length, filter, eqb-true, eq-eqb}
+use Rattle.std.proofs.Common.{◌≡◌, ◌≢◌, ◌∙◌, ◌+◌, ◌≤◌, ℕ, List, [], ◌∷◌, Option, Some, None, option_map, cond, Ordering, Less, Equal, Greater, true, false, Bool, is_some, not, pos, refl, sym, ap, subst, arith, inl, inr, length, filter, eqb-true, eq-eqb, ◌&&◌}
+use Rattle.std.specs.Prelude.{nat_lt, unwrap_or}
 use Rattle.std.specs.Str.{bytes_eq}
 use Rattle.std.specs.BTreeMap.{is_at}
-use Rattle.std.specs.Ordering.{nat_cmp, is_eq, ordering_then}
+use Rattle.std.specs.Ordering.{nat_cmp, is_eq, is_lt, ordering_then}
 use Rattle.std.specs.Cmp.Lexicographic.{slice_cmp}
 use Rattle.std.proofs.lemmas.Bool.{cases_Bool, and_parts, and_from, both_ways}
 use Rattle.std.proofs.lemmas.Cmp.{nat_cmp_total, tied_itself, nat_list_cmp_total}
 use Rattle.std.proofs.lemmas.Map.Lookups.{exact_unsigned, exact_bytes}
-use Rattle.sqlite_value.specs.declared.value.Value.TheVariants.{Text}
+use Rattle.sqlite_value.specs.declared.value.Value.TheVariants.{Int, Text}
+use Rattle.sqlite_value.proofs.OrderLemmas.{value_cmp-Int}
 use Rattle.sqlite_value.specs.Order.{Row as Raw, column}
 use Rattle.sqlite_trees.specs.Tree.{Trees}
 use Rattle.sqlite.specs.Effect.{Database}
@@ -17,21 +19,24 @@ use Rattle.review_rows.specs.declared.rows.Delta.{Delta}
 use Rattle.review_rows.specs.declared.rows.Kept.{Kept}
 use Rattle.review_rows.specs.declared.rows.MemberKey.{MemberKey as Member}
 use Rattle.review_rows.specs.declared.rows.Put.{Put}
-use Rattle.review_rows.specs.Rows.{Key, AccountKey, MemberKey, FileKey, BaseKey, PartKey, OddKey, Row, AccountRow, MemberRow, FileRow, BaseRow, APart, OddRow, edited, Count, Projects, BasesOf, Answered, member_cmp, member_change, account_change, after_put, count_put, place_cmp, kept_row, after, count_after}
+use Rattle.review_rows.specs.Rows.{is_below as lower, Key, AccountKey, MemberKey, FileKey, BaseKey, PartKey, OddKey, Row, AccountRow, MemberRow, FileRow, BaseRow, APart, OddRow, edited, Count, Projects, BasesOf, ClosedEpochs, Answered, member_cmp, member_change, account_change, after_put, count_put, place_cmp, kept_row, after, count_after}
 use Rattle.review_rows.specs.Shelf.{IsCommitted}
 use Rattle.review_rows.proofs.Puts.{exact_place, place_total}
 use Rattle.review_rows.specs.declared.rows.PlaceKey.{PlaceKey}
 use Rattle.review_rows.specs.declared.rows.StoredFile.{StoredFile}
-use Rattle.review_statements.specs.Content.{SparesOthers, Then, has_key}
+use Rattle.review_statements.specs.Content.{SparesOthers, Then, has_key, is_below, is_value}
 use Rattle.review_statements.specs.Desk.{is_tree}
 use Rattle.review_statements.specs.Ran.{OnDesk}
 use Rattle.review_statements.specs.Search.{row_at, rows_at, only, reads, Search}
 use Rattle.review_tables.specs.Fronts.{IsExact}
 use Rattle.review_tables.proofs.Changed.{rows_changed, rows_spare}
-use Rattle.review_tables.proofs.Keys.{equal_is, same_text}
-use Rattle.review_sql.specs.Changes.{SetsDelta, SetsKept, SetsDesk, SetsPut}
+use Rattle.review_tables.proofs.Keys.{equal_is, int_is, same_text}
+use Rattle.review_sql.specs.Numbers.{IsDesk}
+use Rattle.review_sql.specs.Changes.{GivesUp, SetsDelta, SetsKept, SetsDesk, SetsPut}
+use Rattle.review_sql.specs.Numbers.{more}
+use Rattle.review_sql.specs.declared.seen.Numbers.{Numbers}
 use Rattle.review_records.specs.Forms.{accounts, members, projects, bases, answers, epochs, request_key}
-use Rattle.review_lookups.specs.Tables.{told, row_in, count_in, answer_in, stored_as, number_of, tables_at, IsDesk}
+use Rattle.review_lookups.specs.Tables.{told, row_in, count_in, answer_in, least_in, stored_as, number_of, tables_at, version_in}
 use Rattle.review_sql.specs.Commits.{Commits, AreSingle}
 use Rattle.review_sql.proofs.Unkeyed.{commit_keeps, unkeyed_same}
 use Rattle.review_sql.proofs.Rest.{keeps_rest}
@@ -134,74 +139,157 @@ answer_row : (kept : Kept) (old new : Trees) → SetsKept kept old new → (i : 
 answer_row kept old new h i = elim (cases_Bool (is_same (kept_row kept).identity i)) [
   | inl same ↦
       let parts = and_parts _ _ same in
-      let one : (kept_row kept).identity ≡ i = (λ k. record { caller = eqb-true kept.caller i.caller parts.0 k; id = same_bytes kept.id i.id parts.1 k }) in
+      let rest = and_parts _ _ parts.1 in
+      let one : (kept_row kept).identity ≡ i = (λ k. record { caller = eqb-true kept.caller i.caller parts.0 k; epoch = eqb-true kept.epoch i.epoch rest.0 k; id = same_bytes kept.id i.id rest.1 k }) in
       rw same (subst (λ j. answer_in new j ≡ Some (Answered (kept_row kept))) one (ap (stored_as (kept_row kept).identity) h.here))
-  | inr other ↦ rw other (ap (stored_as i) (h.there (request_key i.caller i.id)
-      (λ same. both_ways (is_same (kept_row kept).identity i) other (and_from _ _ (eq-eqb kept.caller i.caller (sym (ap (λ k. k.caller) same))) (own_bytes kept.id i.id (sym (ap (λ k. k.id) same)))))))
+  | inr other ↦ rw other (ap (stored_as i) (h.there (request_key i)
+      (λ same. both_ways (is_same (kept_row kept).identity i) other (and_from _ _ (eq-eqb kept.caller i.caller (sym (ap (λ k. k.caller) same))) (and_from _ _ (eq-eqb kept.epoch i.epoch (sym (ap (λ k. k.epoch) same))) (own_bytes kept.id i.id (sym (ap (λ k. k.id) same))))))))
 ]
+
+-- ---- kept answers of lower epochs
+
+-- rows that pass one test, of those that pass another, which tells nothing more of them
+pub filter_twice : (p q : Raw → Bool) (b : Bool) (rows : List Raw) → ((r : Raw) → q r ≡ true → p r ≡ b) → filter q (filter p rows) ≡ cond b (filter q rows) []
+filter_twice p q true [] each = refl
+filter_twice p q false [] each = refl
+filter_twice p q b (r ∷ rows) each = elim (cases_Bool (q r)) [
+  | inl asked ↦ one b asked (each r asked) (filter_twice p q b rows each)
+  | inr other ↦ elim (cases_Bool (p r)) [
+    | inl stays ↦ rw (stays, other) (filter_twice p q b rows each)
+    | inr goes ↦ rw (goes, other) (filter_twice p q b rows each)
+  ]
+]
+  where
+    one : (b : Bool) → q r ≡ true → p r ≡ b → filter q (filter p rows) ≡ cond b (filter q rows) [] → filter q (filter p (r ∷ rows)) ≡ cond b (filter q (r ∷ rows)) []
+    one true asked stays same = rw (stays, asked) (ap (λ l. r ∷ l) same)
+    one false asked goes same = rw goes same
+
+lt_by : (a b : Bool) → is_lt (cond a Less (cond b Greater Equal)) ≡ a
+lt_by true b = refl
+lt_by false true = refl
+lt_by false false = refl
+
+-- an integer is below another where the numbers are
+below_is : (epoch least : ℕ) → is_below (Int (pos epoch)) (pos least) ≡ nat_lt epoch least
+below_is epoch least = ap is_lt (value_cmp-Int (pos epoch) (pos least)) ∙ lt_by (nat_lt epoch least) (nat_lt least epoch)
+
+-- a stored request of an identity has its epoch
+epoch_of : (i : Identity) (r : Raw) → has_key (answers.at (request_key i)) r ≡ true → column r 2 ≡ Int (pos i.epoch)
+epoch_of i r has =
+    let p = and_parts (is_value (column r 1) (Int (pos i.caller))) (is_value (column r 2) (Int (pos i.epoch)) && (is_value (column r 3) (Text i.id) && true)) has in
+    let q = and_parts (is_value (column r 2) (Int (pos i.epoch))) (is_value (column r 3) (Text i.id) && true) p.1 in
+    int_is (column r 2) (pos i.epoch) q.0
+
+module _ (epoch : Option ℕ) (old new : Trees) (h : GivesUp epoch old new) where
+  given_up_spares : (t : ℕ) → is_tree t ≡ true → t ≢ 28 → t ≢ 31 → new t ≡ old t
+  given_up_spares t is p q = by epoch h
+    where
+      by : (o : Option ℕ) → GivesUp o old new → new t ≡ old t
+      by None same = ap (λ (d : Trees). d t) same
+      by (Some least) it = it.2.others t is q ∙ it.1.others t is p
+
+  least_after : least_in (row_at epochs new tt) ≡ unwrap_or epoch (least_in (row_at epochs old tt))
+  least_after = by epoch h
+    where
+      by : (o : Option ℕ) → GivesUp o old new → least_in (row_at epochs new tt) ≡ unwrap_or o (least_in (row_at epochs old tt))
+      by None same = ap (λ (d : Trees). least_in (row_at epochs d tt)) same
+      by (Some least) it = ap least_in it.2.here
+
+  said_after : (least : ℕ) → row_at epochs old tt ≡ Some (Some least) → row_at epochs new tt ≡ Some (Some (unwrap_or epoch least))
+  said_after least is = by epoch h
+    where
+      by : (o : Option ℕ) → GivesUp o old new → row_at epochs new tt ≡ Some (Some (unwrap_or o least))
+      by None same = ap (λ (d : Trees). row_at epochs d tt) same ∙ is
+      by (Some n) it = it.2.here
+
+  answer_after : (i : Identity) → answer_in new i ≡ cond (lower epoch i.epoch) None (answer_in old i)
+  answer_after i = by epoch h
+    where
+      at : Rattle.review_statements.specs.Search.At
+      at = answers.at (request_key i)
+
+      gone : (least : ℕ) (b : Bool) → nat_lt i.epoch least ≡ b → new 28 ≡ filter (λ r. not (is_below (column r 2) (pos least))) (old 28) → answer_in new i ≡ cond b None (answer_in old i)
+      gone least b is rows =
+          let each : (r : Raw) → has_key at r ≡ true → not (is_below (column r 2) (pos least)) ≡ not b = λ r has. ap (λ v. not (is_below v (pos least))) (epoch_of i r has) ∙ ap not (below_is i.epoch least ∙ is) in
+          ap (λ l. stored_as i (only (reads answers) (rows_at at l))) rows
+          ∙ (ap (λ l. stored_as i (only (reads answers) l)) (filter_twice (λ r. not (is_below (column r 2) (pos least))) (has_key at) (not b) (old 28) each) ∙ either b)
+        where
+          either : (b : Bool) → stored_as i (only (reads answers) (cond (not b) (rows_at at (old 28)) [])) ≡ cond b None (answer_in old i)
+          either true = refl
+          either false = refl
+
+      by : (o : Option ℕ) → GivesUp o old new → answer_in new i ≡ cond (lower o i.epoch) None (answer_in old i)
+      by None same = ap (λ (d : Trees). answer_in d i) same
+      by (Some least) it = gone least (nat_lt i.epoch least) refl (it.2.others 28 refl (λ e. omega (arith, e)) ∙ it.1.rows)
 
 -- ---- all of it
 
-module _ (delta : Delta) (kept : Kept) (n : ℕ) (a b : Trees) (was : IsDesk n a) (h : Then (Then (SetsDelta delta) (SetsKept kept)) (SetsDesk (n + 1)) a b) where
+module _ (delta : Delta) (kept : Kept) (n : Numbers) (a b : Trees) (was : IsDesk n a) (h : Then (Then (Then (SetsDelta delta) (SetsKept kept)) (GivesUp delta.epoch)) (SetsDesk (n.requests + 1)) a b) where
+  abbrev t3 : Trees
+  t3 = h.0
+
   abbrev t2 : Trees
-  t2 = h.0
+  t2 = h.1.0
 
   abbrev t1 : Trees
-  t1 = h.1.0
+  t1 = h.1.1.0
 
   abbrev u : Trees
-  u = h.1.1.0
+  u = h.1.1.1.0
 
   abbrev d3 : Trees
-  d3 = h.1.1.1.0
+  d3 = h.1.1.1.1.0
 
   abbrev d2 : Trees
-  d2 = h.1.1.1.1.0
+  d2 = h.1.1.1.1.1.0
 
   abbrev d1 : Trees
-  d1 = h.1.1.1.1.1.0
+  d1 = h.1.1.1.1.1.1.0
 
-  last : (t : ℕ) → is_tree t ≡ true → t ≢ 28 → t ≢ 25 → b t ≡ t1 t
-  last t is p q = h.2.others t is q ∙ h.1.2.others t is p
+  last : (t : ℕ) → is_tree t ≡ true → t ≢ 28 → t ≢ 31 → t ≢ 25 → b t ≡ t1 t
+  last t is p o q = h.2.others t is q ∙ (given_up_spares delta.epoch t2 t3 h.1.2 t is p o ∙ h.1.1.2.others t is p)
 
-  late : (t : ℕ) → is_tree t ≡ true → is_part_tree t ≡ false → t ≢ 28 → t ≢ 25 → b t ≡ u t
-  late t is other p q = last t is p q ∙ edits_spare [] delta.changes.items u t1 h.1.1.2 t is other
+  late : (t : ℕ) → is_tree t ≡ true → is_part_tree t ≡ false → t ≢ 28 → t ≢ 31 → t ≢ 25 → b t ≡ u t
+  late t is other p o q = last t is p o q ∙ edits_spare [] delta.changes.items u t1 h.1.1.1.2 t is other
 
   base_spares : (t : ℕ) → is_tree t ≡ true → t ≢ 6 → u t ≡ d3 t
-  base_spares t is p = put_spares bases delta.base d3 u h.1.1.1.2 t is p
+  base_spares t is p = put_spares bases delta.base d3 u h.1.1.1.1.2 t is p
 
   file_spares : (t : ℕ) → is_tree t ≡ true → t ≢ 26 → d3 t ≡ d2 t
-  file_spares t is p = put_spares projects delta.file d2 d3 h.1.1.1.1.2 t is p
+  file_spares t is p = put_spares projects delta.file d2 d3 h.1.1.1.1.1.2 t is p
 
   member_spares : (t : ℕ) → is_tree t ≡ true → t ≢ 2 → d2 t ≡ d1 t
-  member_spares t is p = rows_spare members delta.members.items d1 d2 h.1.1.1.1.1.2 t is p
+  member_spares t is p = rows_spare members delta.members.items d1 d2 h.1.1.1.1.1.1.2 t is p
 
   account_spares : (t : ℕ) → is_tree t ≡ true → t ≢ 0 → d1 t ≡ a t
-  account_spares t is p = rows_spare accounts delta.accounts.items a d1 h.1.1.1.1.1.1 t is p
+  account_spares t is p = rows_spare accounts delta.accounts.items a d1 h.1.1.1.1.1.1.1 t is p
 
   at_0 : b 0 ≡ d1 0
-  at_0 = late 0 refl refl (λ e. omega (arith, e)) (λ e. omega (arith, e)) ∙ (base_spares 0 refl (λ e. omega (arith, e)) ∙ (file_spares 0 refl (λ e. omega (arith, e)) ∙ member_spares 0 refl (λ e. omega (arith, e))))
+  at_0 = late 0 refl refl (λ e. omega (arith, e)) (λ e. omega (arith, e)) (λ e. omega (arith, e)) ∙ (base_spares 0 refl (λ e. omega (arith, e)) ∙ (file_spares 0 refl (λ e. omega (arith, e)) ∙ member_spares 0 refl (λ e. omega (arith, e))))
 
   at_2 : b 2 ≡ d2 2
-  at_2 = late 2 refl refl (λ e. omega (arith, e)) (λ e. omega (arith, e)) ∙ (base_spares 2 refl (λ e. omega (arith, e)) ∙ file_spares 2 refl (λ e. omega (arith, e)))
+  at_2 = late 2 refl refl (λ e. omega (arith, e)) (λ e. omega (arith, e)) (λ e. omega (arith, e)) ∙ (base_spares 2 refl (λ e. omega (arith, e)) ∙ file_spares 2 refl (λ e. omega (arith, e)))
 
   was_2 : d1 2 ≡ a 2
   was_2 = account_spares 2 refl (λ e. omega (arith, e))
 
   at_26 : b 26 ≡ d3 26
-  at_26 = late 26 refl refl (λ e. omega (arith, e)) (λ e. omega (arith, e)) ∙ base_spares 26 refl (λ e. omega (arith, e))
+  at_26 = late 26 refl refl (λ e. omega (arith, e)) (λ e. omega (arith, e)) (λ e. omega (arith, e)) ∙ base_spares 26 refl (λ e. omega (arith, e))
 
   was_26 : d2 26 ≡ a 26
   was_26 = member_spares 26 refl (λ e. omega (arith, e)) ∙ account_spares 26 refl (λ e. omega (arith, e))
 
   at_6 : b 6 ≡ u 6
-  at_6 = late 6 refl refl (λ e. omega (arith, e)) (λ e. omega (arith, e))
+  at_6 = late 6 refl refl (λ e. omega (arith, e)) (λ e. omega (arith, e)) (λ e. omega (arith, e))
 
   was_6 : d3 6 ≡ a 6
   was_6 = file_spares 6 refl (λ e. omega (arith, e)) ∙ (member_spares 6 refl (λ e. omega (arith, e)) ∙ account_spares 6 refl (λ e. omega (arith, e)))
 
   was_28 : t1 28 ≡ a 28
-  was_28 = edits_spare [] delta.changes.items u t1 h.1.1.2 28 refl refl ∙ (base_spares 28 refl (λ e. omega (arith, e)) ∙ (file_spares 28 refl (λ e. omega (arith, e)) ∙ (member_spares 28 refl (λ e. omega (arith, e)) ∙ account_spares 28 refl (λ e. omega (arith, e)))))
+  was_28 = edits_spare [] delta.changes.items u t1 h.1.1.1.2 28 refl refl ∙ (base_spares 28 refl (λ e. omega (arith, e)) ∙ (file_spares 28 refl (λ e. omega (arith, e)) ∙ (member_spares 28 refl (λ e. omega (arith, e)) ∙ account_spares 28 refl (λ e. omega (arith, e)))))
+
+  was_31 : t1 31 ≡ a 31
+  was_31 = edits_spare [] delta.changes.items u t1 h.1.1.1.2 31 refl refl ∙ (base_spares 31 refl (λ e. omega (arith, e)) ∙ (file_spares 31 refl (λ e. omega (arith, e)) ∙ (member_spares 31 refl (λ e. omega (arith, e)) ∙ account_spares 31 refl (λ e. omega (arith, e)))))
 
   -- the trees of changes before edits
   early : (t : ℕ) → is_tree t ≡ true → is_part_tree t ≡ true → u t ≡ a t
@@ -213,58 +301,61 @@ module _ (delta : Delta) (kept : Kept) (n : ℕ) (a b : Trees) (was : IsDesk n a
   rows : (k : Key) → row_in b k ≡ after delta k (row_in a k)
   rows (AccountKey number) =
       ap (λ l. told AccountRow (only (reads accounts) (rows_at (accounts.at number) l))) at_0
-      ∙ (ap (told AccountRow) (rows_changed accounts nat_cmp numbers_exact delta.accounts.items a d1 h.1.1.1.1.1.1 number) ∙ told_account (change_of nat_cmp delta.accounts.items number) (row_at accounts a number))
+      ∙ (ap (told AccountRow) (rows_changed accounts nat_cmp numbers_exact delta.accounts.items a d1 h.1.1.1.1.1.1.1 number) ∙ told_account (change_of nat_cmp delta.accounts.items number) (row_at accounts a number))
   rows (MemberKey group account) =
       let k : Member = record { group = group; account = account } in
       ap (λ l. told (λ u. MemberRow) (only (reads members) (rows_at (members.at k) l))) at_2
-      ∙ (ap (told (λ u. MemberRow)) (rows_changed members member_cmp members_exact delta.members.items d1 d2 h.1.1.1.1.1.2 k) ∙ (told_member (change_of member_cmp delta.members.items k) (row_at members d1 k)
+      ∙ (ap (told (λ u. MemberRow)) (rows_changed members member_cmp members_exact delta.members.items d1 d2 h.1.1.1.1.1.1.2 k) ∙ (told_member (change_of member_cmp delta.members.items k) (row_at members d1 k)
       ∙ ap (λ l. after_change (member_change (change_of member_cmp delta.members.items k)) (told (λ u. MemberRow) (only (reads members) (rows_at (members.at k) l)))) was_2))
   rows (FileKey project) =
       ap (λ l. told FileRow (only (reads projects) (rows_at (projects.at project) l))) at_26
-      ∙ (row_put projects (slice_cmp nat_cmp) names_exact FileRow delta.file d2 d3 h.1.1.1.1.2 project ∙ ap (λ l. after_put (slice_cmp nat_cmp) FileRow delta.file project (told FileRow (only (reads projects) (rows_at (projects.at project) l)))) was_26)
+      ∙ (row_put projects (slice_cmp nat_cmp) names_exact FileRow delta.file d2 d3 h.1.1.1.1.1.2 project ∙ ap (λ l. after_put (slice_cmp nat_cmp) FileRow delta.file project (told FileRow (only (reads projects) (rows_at (projects.at project) l)))) was_26)
   rows (BaseKey project branch place) =
       let k : PlaceKey = record { project = project; branch = branch; place = place } in
       ap (λ l. told BaseRow (only (reads bases) (rows_at (bases.at k) l))) at_6
-      ∙ (row_put bases place_cmp places_exact BaseRow delta.base d3 u h.1.1.1.2 k ∙ ap (λ l. after_put place_cmp BaseRow delta.base k (told BaseRow (only (reads bases) (rows_at (bases.at k) l)))) was_6)
+      ∙ (row_put bases place_cmp places_exact BaseRow delta.base d3 u h.1.1.1.1.2 k ∙ ap (λ l. after_put place_cmp BaseRow delta.base k (told BaseRow (only (reads bases) (rows_at (bases.at k) l)))) was_6)
   rows (PartKey n part) =
-      part_same t1 b (last 9 refl (λ e. omega (arith, e)) (λ e. omega (arith, e))) (last 11 refl (λ e. omega (arith, e)) (λ e. omega (arith, e))) (last 14 refl (λ e. omega (arith, e)) (λ e. omega (arith, e)))
-      (last 16 refl (λ e. omega (arith, e)) (λ e. omega (arith, e))) (last 18 refl (λ e. omega (arith, e)) (λ e. omega (arith, e))) (last 20 refl (λ e. omega (arith, e)) (λ e. omega (arith, e))) n part
-      ∙ (parts_edited [] delta.changes.items u t1 h.1.1.2 n part
+      part_same t1 b (last 9 refl (λ e. omega (arith, e)) (λ e. omega (arith, e)) (λ e. omega (arith, e))) (last 11 refl (λ e. omega (arith, e)) (λ e. omega (arith, e)) (λ e. omega (arith, e))) (last 14 refl (λ e. omega (arith, e)) (λ e. omega (arith, e)) (λ e. omega (arith, e)))
+      (last 16 refl (λ e. omega (arith, e)) (λ e. omega (arith, e)) (λ e. omega (arith, e))) (last 18 refl (λ e. omega (arith, e)) (λ e. omega (arith, e)) (λ e. omega (arith, e))) (last 20 refl (λ e. omega (arith, e)) (λ e. omega (arith, e)) (λ e. omega (arith, e))) n part
+      ∙ (parts_edited [] delta.changes.items u t1 h.1.1.1.2 n part
       ∙ ap (λ r. after_change (option_map (option_map APart) (edited delta.changes.items n part)) r) (part_same a u (early 9 refl refl) (early 11 refl refl) (early 14 refl refl) (early 16 refl refl) (early 18 refl refl) (early 20 refl refl) n part))
-  rows (OddKey o) = ap (λ odd. cond odd (Some OddRow) None) (unkeyed_same a b (commit_keeps delta kept n a b h))
+  rows (OddKey o) = ap (λ odd. cond odd (Some OddRow) None) (unkeyed_same a b (commit_keeps delta kept n.requests a b h))
 
   counts : AreSingle a → (c : Count) → count_in b c ≡ count_after delta (row_in a) c (count_in a c)
   counts single Projects =
-      ap length at_26 ∙ (file_count delta.file d2 d3 h.1.1.1.1.2 (λ p. subst (λ l. length (rows_at (projects.at p) l) ≤ 1) (sym was_26) (single.projects_are p))
+      ap length at_26 ∙ (file_count delta.file d2 d3 h.1.1.1.1.1.2 (λ p. subst (λ l. length (rows_at (projects.at p) l) ≤ 1) (sym was_26) (single.projects_are p))
       ∙ ap (λ l. count_put (λ p. true) delta.file (λ p. told FileRow (only (reads projects) (rows_at (projects.at p) l))) (length l)) was_26)
   counts single (BasesOf project) =
       ap (λ l. length (rows_at ((1, Text project) ∷ []) l)) at_6
-      ∙ (base_count delta.base d3 u h.1.1.1.2 (λ k. subst (λ l. length (rows_at (bases.at k) l) ≤ 1) (sym was_6) (single.bases_are k)) project
+      ∙ (base_count delta.base d3 u h.1.1.1.1.2 (λ k. subst (λ l. length (rows_at (bases.at k) l) ≤ 1) (sym was_6) (single.bases_are k)) project
       ∙ ap (λ l. count_put (λ (k : PlaceKey). bytes_eq k.project project) delta.base (λ k. told BaseRow (only (reads bases) (rows_at (bases.at k) l))) (length (rows_at ((1, Text project) ∷ []) l))) was_6)
+  counts single ClosedEpochs =
+      ap (λ l. least_in (only (reads epochs) (rows_at (epochs.at tt) l))) (h.2.others 31 refl (λ e. omega (arith, e)))
+      ∙ (least_after delta.epoch t2 t3 h.1.2 ∙ ap (λ l. unwrap_or delta.epoch (least_in (only (reads epochs) (rows_at (epochs.at tt) l)))) (h.1.1.2.others 31 refl (λ e. omega (arith, e)) ∙ was_31))
+
+  least_said : row_at epochs b tt ≡ Some (Some (unwrap_or delta.epoch n.least))
+  least_said =
+      ap (λ l. only (reads epochs) (rows_at (epochs.at tt) l)) (h.2.others 31 refl (λ e. omega (arith, e)))
+      ∙ said_after delta.epoch t2 t3 h.1.2 n.least (ap (λ l. only (reads epochs) (rows_at (epochs.at tt) l)) (h.1.1.2.others 31 refl (λ e. omega (arith, e)) ∙ was_31) ∙ was.least_is)
 
   pub committed : AreSingle a → IsCommitted (tables_at a) delta (kept_row kept) (tables_at b)
   committed single = record {
     row_is = rows;
     count_is = counts single;
-    answer_is = λ i. ap (λ l. stored_as i (only (reads answers) (rows_at (answers.at (request_key i.caller i.id)) l))) (h.2.others 28 refl (λ e. omega (arith, e)))
-        ∙ (answer_row kept t1 t2 h.1.2 i ∙ ap (λ l. cond (is_same (kept_row kept).identity i) (Some (Answered (kept_row kept))) (stored_as i (only (reads answers) (rows_at (answers.at (request_key i.caller i.id)) l)))) was_28);
-    version = ap (number_of (λ d. d.version)) h.2.here ∙ sym (ap (number_of (λ d. d.version)) was.desk_is);
+    answer_is = λ i. ap (λ l. stored_as i (only (reads answers) (rows_at (answers.at (request_key i)) l))) (h.2.others 28 refl (λ e. omega (arith, e)))
+        ∙ (answer_after delta.epoch t2 t3 h.1.2 i ∙ ap (λ o. cond (lower delta.epoch i.epoch) None o)
+        (answer_row kept t1 t2 h.1.1.2 i ∙ ap (λ l. cond (is_same (kept_row kept).identity i) (Some (Answered (kept_row kept))) (stored_as i (only (reads answers) (rows_at (answers.at (request_key i)) l)))) was_28));
+    version = (λ k. version_in (least_said k) (h.2.here k)) ∙ sym (λ k. version_in (was.least_is k) (was.desk_is k));
     requests = ap (number_of (λ d. d.requests)) h.2.here ∙ sym (ap (λ o. number_of (λ d. d.requests) o + 1) was.desk_is);
   }
 
-  pub still_desk : IsDesk (n + 1) b
-  still_desk = record {
-    desk_is = h.2.here;
-    least_is = ap (λ l. only (reads epochs) (rows_at (epochs.at tt) l)) (late 31 refl refl (λ e. omega (arith, e)) (λ e. omega (arith, e)) ∙ early_31) ∙ was.least_is;
-  }
-    where
-      early_31 : u 31 ≡ a 31
-      early_31 = base_spares 31 refl (λ e. omega (arith, e)) ∙ (file_spares 31 refl (λ e. omega (arith, e)) ∙ (member_spares 31 refl (λ e. omega (arith, e)) ∙ account_spares 31 refl (λ e. omega (arith, e))))
+  pub still_desk : IsDesk (more n delta.epoch) b
+  still_desk = record { desk_is = h.2.here; least_is = least_said }
 
-pub commits : (delta : Delta) (kept : Kept) (n : ℕ) (old new : Database) → OnDesk (Then (Then (SetsDelta delta) (SetsKept kept)) (SetsDesk (n + 1))) old new → Commits delta kept n old new
+pub commits : (delta : Delta) (kept : Kept) (n : Numbers) (old new : Database) → OnDesk (Then (Then (Then (SetsDelta delta) (SetsKept kept)) (GivesUp delta.epoch)) (SetsDesk (n.requests + 1))) old new → Commits delta kept n old new
 commits delta kept n old new h = record {
   ready = h.ready;
   committed = λ ready single was. committed delta kept n old.trees new.trees was (h.changes ready) single;
   desk = λ ready was. still_desk delta kept n old.trees new.trees was (h.changes ready);
-  rest = λ ready. keeps_rest delta kept (n + 1) old.trees new.trees (h.changes ready);
+  rest = λ ready. keeps_rest delta kept (n.requests + 1) old.trees new.trees (h.changes ready);
 }

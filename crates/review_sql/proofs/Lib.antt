@@ -15,3 +15,4 @@ pub mod Unkeyed
 pub mod Upgraded
 pub mod Raised
 pub mod NoParents
+pub mod Recalled

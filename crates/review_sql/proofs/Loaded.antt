@@ -11,6 +11,7 @@ use Rattle.review_rows.specs.declared.rows.Want.{Want}
 use Rattle.review_lookups.specs.declared.loading.Loaded.{Loaded}
 use Rattle.review_lookups.specs.declared.loading.Loaded.TheVariants as loaded
 use Rattle.review_lookups.specs.Loads.{AreLoaded, WereAsked}
+use Rattle.review_sql.specs.declared.seen.Numbers.{Numbers}
 use Rattle.review_sql.specs.Shelf.{Holds, answer_of, tables_of}
 use Rattle.review_sql.proofs.Shown.{desk_if_open, same_shown, shown_now}
 
@@ -25,9 +26,9 @@ keeps_loaded loaded.NoMemory old new same = same
 keeps_loaded loaded.Damaged old new same = same
 
 -- a call that read leaves the tables
-pub tables_kept : {S : Type 0} (g : Ghosts S) (old new : Held S) (is_ours : Bool) (requests : ℕ) → Holds g old is_ours requests → IsTrue is_ours → HasCleanDisk (state g new)
+pub tables_kept : {S : Type 0} (g : Ghosts S) (old new : Held S) (is_ours : Bool) (numbers : Numbers) → Holds g old is_ours numbers → IsTrue is_ours → HasCleanDisk (state g new)
     → (found : Loaded) → Serves AreLoaded (state g old) (state g new) (Ok found) → tables_of g new ≡ tables_of g old
-tables_kept g old new is_ours requests holds ours clean found it = let f = it.found clean (desk_if_open g old new is_ours requests holds ours) in same_shown g old new f.0 f.1 f.2
+tables_kept g old new is_ours numbers holds ours clean found it = let f = it.found clean (desk_if_open g old new is_ours numbers holds ours) in same_shown g old new f.0 f.1 f.2
 
 module _ {S : Type 0} (g : Ghosts S) (conn : Held S) where
   pub shows_loaded : (found : Loaded) → IsTrue (state g conn).is_open → AreLoaded (state g conn).now.trees found → IfOk (answer_of found) (λ rows. Shows (tables_of g conn) (λ t. Agrees t rows))

@@ -9,6 +9,7 @@ use Rattle.sqlite.proofs.StateLemmas.{survives_then}
 use Rattle.review_statements.specs.Desk.{schema_0}
 use Rattle.review_tables.specs.Made.{IsBlank}
 use Rattle.review_statements.specs.Ran.{Transacts}
+use Rattle.review_sql.specs.Numbers.{IsDesk}
 use Rattle.review_sql.specs.First.{MakesDesk}
 use Rattle.review_sql.specs.Shelf.{Holds, IsAnyThere, IsUnmade, Stays}
 use Rattle.review_sql.specs.Created.{IsCreated}
@@ -19,13 +20,13 @@ use Rattle.review_sql.specs.declared.faults.DeskFault.{DeskFault}
 use Rattle.review_sql.specs.declared.faults.DeskFault.TheVariants.{NotADesk, WrongVersion, Store, NotEmpty, NotOurs, Memory}
 use Rattle.review_sql.proofs.Saying.{never_shown}
 use Rattle.sqlite_trees.specs.Tree.{Trees}
-use Rattle.review_lookups.specs.Tables.{IsDesk, tables_at}
+use Rattle.review_lookups.specs.Tables.{tables_at}
 
 module _ {S : Type 0} (g : Ghosts S) (c0 c1 c2 : Held S) (is_ours : Bool) (decided : IsTrue is_ours → c1.schema ≡ schema_0) (x : Unit {0}) (acts : Transacts MakesDesk (state g c1) (state g c2) (Ok x)) where
   blank : c1.schema ≡ schema_0 → IsBlank schema_0 (state g c1).now
   blank is = record { schema_is = is; empty = tt }
 
-  pub holds_made : c2.in_transaction ≡ false → (IsTrue (state g c2).is_open → HasCleanDisk (state g c2)) → Holds g c2 is_ours 0
+  pub holds_made : c2.in_transaction ≡ false → (IsTrue (state g c2).is_open → HasCleanDisk (state g c2)) → Holds g c2 is_ours (record { requests = 0; least = 0 })
   holds_made mode clean = record {
     autocommit = mode;
     ready = λ ours is_open.
@@ -35,7 +36,7 @@ module _ {S : Type 0} (g : Ghosts S) (c0 c1 c2 : Held S) (is_ours : Bool) (decid
   }
 
   pub is_created : Stays (state g c0) (state g c1) → (HasCleanDisk (state g c1) → IsAnyThere c0.schema → ⊥) → (IsTrue (state g c2).is_open → (state g c2).now ≡ (state g c2).committed)
-      → ((db : Trees) → IsTrue (state g c2).is_open → (state g c2).may_leave db → db ≡ (state g c2).committed.trees) → IsCreated g is_ours c0 (record { conn = c2; requests = 0; faults = 0 })
+      → ((db : Trees) → IsTrue (state g c2).is_open → (state g c2).may_leave db → db ≡ (state g c2).committed.trees) → IsCreated g is_ours c0 (record { conn = c2; numbers = record { requests = 0; least = 0 }; faults = 0 })
   is_created stays none settled law = record {
     faults = refl;
     view = λ clean none.
@@ -58,15 +59,15 @@ unmade s0 s1 s2 e stays acts = record {
 }
 
 module _ {S : Type 0} (g : Ghosts S) (c0 c1 : Held S) (seen : Seen) where
-  pub holds_opened : (is_ours : Bool) → (IsTrue is_ours → seen.is_ours ≡ true) → c1.in_transaction ≡ false → Stays (state g c0) (state g c1) → (IsTrue (state g c1).is_open → IsSeen (state g c0) seen) → Holds g c1 is_ours seen.requests
+  pub holds_opened : (is_ours : Bool) → (IsTrue is_ours → seen.is_ours ≡ true) → c1.in_transaction ≡ false → Stays (state g c0) (state g c1) → (IsTrue (state g c1).is_open → IsSeen (state g c0) seen) → Holds g c1 is_ours seen.numbers
   holds_opened is_ours seen_ours mode stays it = record {
     autocommit = mode;
     ready = λ ours is_open.
         let same = (stays.kept is_open).1 in
-        subst (λ (d : Database). IsReady d × IsDesk seen.requests d.trees) (sym same) ((it is_open).ready (seen_ours ours));
+        subst (λ (d : Database). IsReady d × IsDesk seen.numbers d.trees) (sym same) ((it is_open).ready (seen_ours ours));
   }
 
-  pub is_opened : Stays (state g c0) (state g c1) → IsOpened g c0 (record { conn = c1; requests = seen.requests; faults = 0 })
+  pub is_opened : Stays (state g c0) (state g c1) → IsOpened g c0 (record { conn = c1; numbers = seen.numbers; faults = 0 })
   is_opened stays = record { faults = refl; stays = stays }
 
   -- tables that are not ours are of another form, or two rows have one rowid
@@ -74,7 +75,7 @@ module _ {S : Type 0} (g : Ghosts S) (c0 c1 : Held S) (seen : Seen) where
   not_ours not it = record {
     no_desk = λ is. absurd (cc);
     other_version = λ is. absurd (cc);
-    not_ours = λ is. ((seen.requests, it.there), λ has all. let e = sym not ∙ it.ours has all in cc);
+    not_ours = λ is. ((seen.numbers, it.there), λ has all. let e = sym not ∙ it.ours has all in cc);
     not_empty = λ is. cc;
   }
 

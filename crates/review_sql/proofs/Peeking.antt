@@ -1,9 +1,9 @@
 -- A look at tables that is taken back.
-use Rattle.std.proofs.Common.{◌≡◌, ◌≢◌, ◌∙◌, ◌⊎◌, inl, inr, ℕ, List, [], ◌∷◌, Some, None, Bool, eqb, eqb-true, true, false, Ok, Err, Result, IfOk, IfErr, IsTrue, refl, sym, subst, arith}
+use Rattle.sqlite_value.specs.Order.{Row}
+use Rattle.sqlite.specs.Effect.{Database}
+use Rattle.std.proofs.Common.{◌≡◌, ◌≢◌, ◌∙◌, ◌⊎◌, inl, inr, ℕ, List, Some, None, Bool, true, false, Ok, Err, Result, IfOk, IfErr, IsTrue, refl, sym, subst, arith, Option, IfSome}
 use Rattle.std.specs.Bool.{Decides}
-use Rattle.std.specs.List.{AllByRecursion, list_any}
-use Rattle.std.proofs.lemmas.Bool.{or_cases}
-use Rattle.sqlite_schema.specs.declared.schema.Table.{Table}
+use Rattle.std.specs.List.{AllByRecursion}
 use Rattle.sqlite_trees.specs.Tree.{Trees}
 use Rattle.sqlite.specs.State.{State, HasCleanDisk, Survives, IsRolledBack}
 use Rattle.sqlite.specs.declared.error.Error.{Error}
@@ -12,6 +12,7 @@ use Rattle.review_statements.specs.Ran.{Looks}
 use Rattle.review_tables.proofs.Sequences.{begun, taken_back, survives_from}
 use Rattle.review_statements.specs.Content.{AreApart}
 use Rattle.review_statements.specs.Desk.{desk_schema}
+use Rattle.review_sql.specs.declared.seen.Numbers.{Numbers}
 use Rattle.review_sql.specs.declared.seen.Said.{Said}
 use Rattle.review_sql.specs.declared.seen.Seen.{Seen}
 use Rattle.review_sql.specs.declared.faults.DeskFault.{DeskFault}
@@ -19,7 +20,7 @@ use Rattle.review_sql.specs.declared.faults.DeskFault.TheVariants.{NotADesk, Wro
 use Rattle.review_sql.specs.Shelf.{AreAllRead}
 use Rattle.review_tables.specs.declared.versions.TablesVersion.{TablesVersion}
 use Rattle.review_tables.specs.declared.versions.TablesVersion.TheVariants.{Third}
-use Rattle.review_sql.specs.Said.{IsSaid, IsDeskThere, IsNoDesk, IsNone, IsOtherVersion, IsThere, LacksLeast, SaysLeast, SaysOther}
+use Rattle.review_sql.specs.Said.{IsSaid, IsDeskThere, IsNoDesk, IsNone, IsOtherVersion, IsThere, LacksLeast, SaysLeast, SaysOther, least_in, ShowsEpochs}
 use Rattle.review_tables.specs.Versions.{version_number}
 use Rattle.review_tables.proofs.ByTree.{at_tree}
 use Rattle.review_sql.specs.Opened.{AreAllApart, Peeks, IsLacking, IsSeen, IsRefused}
@@ -42,15 +43,15 @@ peeked {X} Found s0 s2 s3 settled open_clean r looks undone last = record {
     by_result (Err e) h = tt
 
 -- what is seen of tables of our form, whose rows were looked at
-pub seen_ours : (s : State) (requests : ℕ) (is_apart : Bool) → s.now.schema ≡ desk_schema → IsDeskThere s.now requests → Decides is_apart (AreAllApart s.now.trees) → IsSeen s (record { is_ours = is_apart; requests = requests })
-seen_ours s requests is_apart has there apart = record {
-  ready = λ yes. (record { schema = has; apart = λ t listed. at_tree (λ n. AreApart (s.now.trees n)) desk_schema.tables (apart.0 yes) t listed }, desk_of_ours s.now has requests there);
+pub seen_ours : (s : State) (numbers : Numbers) (is_apart : Bool) → s.now.schema ≡ desk_schema → IsDeskThere s.now numbers → Decides is_apart (AreAllApart s.now.trees) → IsSeen s (record { is_ours = is_apart; numbers = numbers })
+seen_ours s numbers is_apart has there apart = record {
+  ready = λ yes. (record { schema = has; apart = λ t listed. at_tree (λ n. AreApart (s.now.trees n)) desk_schema.tables (apart.0 yes) t listed }, desk_of_ours s.now has numbers there);
   ours = λ same all. apart.1 all;
   there = there;
 }
 
 -- and of tables of another form
-pub seen_others : (s : State) (seen : Seen) → seen.is_ours ≡ false → (s.now.schema ≡ desk_schema → ⊥) → IsDeskThere s.now seen.requests → IsSeen s seen
+pub seen_others : (s : State) (seen : Seen) → seen.is_ours ≡ false → (s.now.schema ≡ desk_schema → ⊥) → IsDeskThere s.now seen.numbers → IsSeen s seen
 seen_others s seen not other there = record {
   ready = λ yes. absurd (let e = sym not ∙ yes in cc);
   ours = λ same all. absurd (other same);
@@ -99,9 +100,36 @@ module _ (s : State) (said : Said) (version : TablesVersion) (it : IsSaid s.now 
   pub no_requests : said.requests ≡ None → IsNone version s.now
   no_requests none = inr (it.rows, it.shown, inr (sym it.version_is ∙ is, inl (sym it.requests_are ∙ none)))
 
-  -- a table is missing, or the least open epoch is not the first
+  -- a table is missing, or no least open epoch is said
   pub part_missing : (AreAllRead version s.now.schema → ⊥) ⊎ LacksLeast version s.now → IsNone version s.now
   part_missing missing = inr (it.rows, it.shown, inr (sym it.version_is ∙ is, inr missing))
 
-  pub tables_there : (requests : ℕ) → said.requests ≡ Some requests → AreAllRead version s.now.schema × SaysLeast version s.now → IsThere version s.now requests
-  tables_there requests some whole = record { rows = it.rows; shown = it.shown; version_is = sym it.version_is ∙ is; requests_are = sym it.requests_are ∙ some; tables = whole.0; least = whole.1 }
+  pub tables_there : (numbers : Numbers) → said.requests ≡ Some numbers.requests → AreAllRead version s.now.schema × SaysLeast version s.now numbers.least → IsThere version s.now numbers
+  tables_there numbers some whole = record { rows = it.rows; shown = it.shown; version_is = sym it.version_is ∙ is; requests_are = sym it.requests_are ∙ some; tables = whole.0; least = whole.1 }
+
+-- ---- all columns are there, and then the least open epoch was asked
+
+module _ (version : TablesVersion) (s t : State) (r : Result (Option ℕ) Error) (same : t.now ≡ s.now) where
+  pub whole_after : AreAllRead version s.now.schema → IfOk r (λ said. IfSome said (SaysLeast version t.now)) → IfOk r (λ said. IfSome said (λ least. AreAllRead version s.now.schema × SaysLeast version s.now least))
+  whole_after all says = by r says
+    where
+      by : (q : Result (Option ℕ) Error) → IfOk q (λ said. IfSome said (SaysLeast version t.now)) → IfOk q (λ said. IfSome said (λ least. AreAllRead version s.now.schema × SaysLeast version s.now least))
+      by (Ok None) it = tt
+      by (Ok (Some least)) it = (all, subst (λ (d : Database). SaysLeast version d least) same it)
+      by (Err e) it = tt
+
+  pub part_after : IfOk r (λ said. said ≡ None → LacksLeast version t.now) → IfOk r (λ said. said ≡ None → (AreAllRead version s.now.schema → ⊥) ⊎ LacksLeast version s.now)
+  part_after lacks = by r lacks
+    where
+      by : (q : Result (Option ℕ) Error) → IfOk q (λ said. said ≡ None → LacksLeast version t.now) → IfOk q (λ said. said ≡ None → (AreAllRead version s.now.schema → ⊥) ⊎ LacksLeast version s.now)
+      by (Ok said) it = λ fails. inr (subst (LacksLeast version) same (it fails))
+      by (Err e) it = tt
+
+-- what the rows of the epochs say, or that they say none
+module _ (db : Database) (rows : List Row) (shown : ShowsEpochs db rows) where
+  pub says_if : (said : Option ℕ) → said ≡ least_in rows → IfSome said (SaysLeast Third db)
+  says_if None is = tt
+  says_if (Some least) is = (rows, shown, sym is)
+
+  pub lacks_if : (said : Option ℕ) → said ≡ least_in rows → said ≡ None → LacksLeast Third db
+  lacks_if said is none = (rows, shown, sym is ∙ none)

@@ -23,6 +23,7 @@ use Rattle.review_tables.specs.declared.versions.EarlierVersion.{EarlierVersion}
 use Rattle.review_tables.specs.declared.versions.EarlierVersion.TheVariants as earlier
 use Rattle.review_tables.specs.declared.versions.TablesVersion.{TablesVersion}
 use Rattle.review_tables.specs.declared.versions.TablesVersion.TheVariants.{Third}
+use Rattle.review_sql.specs.declared.seen.Numbers.{Numbers}
 use Rattle.review_sql.specs.declared.faults.DeskFault.{DeskFault}
 use Rattle.review_sql.specs.declared.faults.DeskFault.TheVariants.{NotADesk, WrongVersion, NotEmpty, NotOurs}
 use Rattle.review_sql.specs.declared.seen.Seen.{Seen}
@@ -34,7 +35,7 @@ use Rattle.review_sql.specs.Said.{IsThere}
 use Rattle.review_sql.specs.Shelf.{Holds, Stays}
 use Rattle.review_sql.proofs.Again.{goes_on}
 use Rattle.review_sql.proofs.Made.{holds_opened, is_opened}
-use Rattle.review_sql.proofs.Saying.{earlier_of_ours, not_ok}
+use Rattle.review_sql.proofs.Saying.{earlier_of_ours, first_least, not_ok}
 use Rattle.review_sql.proofs.Staying.{stays_then}
 use Rattle.review_sql.proofs.Upgraded.{Looked, upgrades, upgrades_others}
 
@@ -42,23 +43,23 @@ use Rattle.review_sql.proofs.Upgraded.{Looked, upgrades, upgrades_others}
 looked : {X : Type 0} (Found : Trees → X → Type 0) (a b : State) (x : X) → Looks Found a b (Ok x) → Within {X = X} (λ old new. old.schema ≡ desk_schema → (new ≡ old) × Found old.trees x) a b (Ok x)
 looked Found a b x it = record { ran = λ clean on has. (let f = it.found clean on (λ _. has) in (f.0, f.2)); kept = it.kept; survives = it.survives }
 
--- the first epoch and the version are put
-abbrev Puts : ℕ → Trees → Trees → Type 0
-Puts requests = Then SetsLeast (SetsDesk requests)
+-- the least open epoch and the version are put
+abbrev Puts : Numbers → Trees → Trees → Type 0
+Puts numbers = Then (SetsLeast numbers.least) (SetsDesk numbers.requests)
 
-module _ {X : Type 0} (version : EarlierVersion) (requests : ℕ) (s0 s1 s2 s3 : State) (x : X) (migrates : Within (Migrates version) s0 s1 (Ok x)) where
+module _ {X : Type 0} (version : EarlierVersion) (numbers : Numbers) (s0 s1 s2 s3 : State) (x : X) (migrates : Within (Migrates version) s0 s1 (Ok x)) where
   module _ (is : Bool) (looks : Looks (λ db is. Decides is (AreAllApart db)) s1 s2 (Ok is)) where
     both : Within {X = Bool} (Next (Migrates version) (λ old new. old.schema ≡ desk_schema → (new ≡ old) × Decides is (AreAllApart old.trees))) s0 s2 (Ok is)
     both = follow _ _ s0 s1 s2 x (Ok is) migrates (looked (λ db is. Decides is (AreAllApart db)) s1 s2 is looks)
 
     -- rowids are apart, and the version is put
-    pub raised_ours : {Z : Type 0} (z : Z) → is ≡ true → Inside (Puts requests) s2 s3 (Ok z) → Within (Upgrades version true requests) s0 s3 (if_whole (Ok true))
+    pub raised_ours : {Z : Type 0} (z : Z) → is ≡ true → Inside (Puts numbers) s2 s3 (Ok z) → Within (Upgrades version true numbers) s0 s3 (if_whole (Ok true))
     raised_ours z apart puts =
         let two = subst (λ b. Within {X = Bool} (Next (Migrates version) (λ old new. old.schema ≡ desk_schema → (new ≡ old) × Decides b (AreAllApart old.trees))) s0 s2 (Ok is)) apart both in
-        settled_as (Next (Next (Migrates version) Looked) (OnDesk (Puts requests))) (Upgrades version true requests) s0 s3 z (tt {0}) (upgrades version requests) (follow _ _ s0 s2 s3 is (Ok z) two puts)
+        settled_as (Next (Next (Migrates version) Looked) (OnDesk (Puts numbers))) (Upgrades version true numbers) s0 s3 z (tt {0}) (upgrades version numbers) (follow _ _ s0 s2 s3 is (Ok z) two puts)
 
     -- they are not
-    pub undone_ours : Within (Upgrades version true requests) s0 s2 (if_whole (Ok false))
+    pub undone_ours : Within (Upgrades version true numbers) s0 s2 (if_whole (Ok false))
     undone_ours = record { ran = λ _ _. tt; kept = λ clean on. ((both.kept clean on).0, tt); survives = both.survives }
 
     pub hindered_ours : is ≡ false → HasCleanDisk s2 → IsTrue s0.in_transaction → s0.now.schema ≡ schema_at (version_of version) → AreApartIn (version_of version) s0.now.trees → ⊥
@@ -69,8 +70,8 @@ module _ {X : Type 0} (version : EarlierVersion) (requests : ℕ) (s0 s1 s2 s3 :
         let e : false ≡ true = sym others ∙ all in cc
 
   -- of tables of others nothing is said
-  pub raised_others : {Z : Type 0} (z : Z) → Inside (Puts requests) s1 s3 (Ok z) → Within (Upgrades version false requests) s0 s3 (if_whole (Ok true))
-  raised_others z puts = settled_as _ (Upgrades version false requests) s0 s3 z (tt {0}) (λ old new h. upgrades_others version requests old new) (follow _ _ s0 s1 s3 x (Ok z) migrates puts)
+  pub raised_others : {Z : Type 0} (z : Z) → Inside (Puts numbers) s1 s3 (Ok z) → Within (Upgrades version false numbers) s0 s3 (if_whole (Ok true))
+  raised_others z puts = settled_as _ (Upgrades version false numbers) s0 s3 z (tt {0}) (λ old new h. upgrades_others version numbers old new) (follow _ _ s0 s1 s3 x (Ok z) migrates puts)
 
 -- nothing was done before
 pub stays_acts : {X : Type 0} (R : Database → Database → Type 0) (s0 s1 s2 : State) (r : Result X Error) → Stays s0 s1 → Transacts R s1 s2 r → Transacts R s0 s2 r
@@ -96,8 +97,8 @@ unfolding understood everything listing_schema
 unread earlier.First = refl
 unread earlier.Second = refl
 
-pub no_latest : (version : EarlierVersion) (db : Database) (requests : ℕ) → db.schema ≡ schema_at (version_of version) → IsThere Third db requests → ⊥
-no_latest version db requests has there =
+pub no_latest : (version : EarlierVersion) (db : Database) (numbers : Numbers) → db.schema ≡ schema_at (version_of version) → IsThere Third db numbers → ⊥
+no_latest version db numbers has there =
     let reads = there.tables.each FIND_ANSWER.now (10, (omega arith), refl) in
     not_ok _ reads.0 (unread version) (sym (ap (λ s. understood s FIND_ANSWER.now) has) ∙ reads.1)
 
@@ -107,7 +108,7 @@ unmigrated is_ours fault s t undone survives stays = record {
   undone = undone;
   survives = survives;
   no_earlier = stays;
-  latest = λ ours requests there. record { kept = undone; survives = survives_weaker s t (LeavesUpgraded is_ours s) (λ _. ⊥) (λ _ db h. no_latest h.version s.now requests (h.form ours) there) survives };
+  latest = λ ours numbers there. record { kept = undone; survives = survives_weaker s t (LeavesUpgraded is_ours s) (λ _. ⊥) (λ _ db h. no_latest h.version s.now numbers (h.form ours) there) survives };
 }
 
 -- nothing was done
@@ -119,12 +120,12 @@ not_migrated_if is_ours (Ok x) s t stays = tt
 not_migrated_if is_ours (Err e) s t stays = not_migrated is_ours e s t stays
 
 -- it was taken back, after a desk of an earlier version was seen, as ours where it is to be
-pub taken_back : {X : Type 0} (version : EarlierVersion) (is_ours : Bool) (requests : ℕ) (fault : DeskFault) (r s t : State) (e : Error) → (fault ≢ NotADesk) × (fault ≢ WrongVersion) → Stays r s
-    → (IsTrue s.is_open → IsThere (version_of version) r.now requests) → (IsTrue is_ours → r.now.schema ≡ schema_at (version_of version)) → Transacts {X = X} (Upgrades version is_ours requests) s t (Err e) → IsNotMigrated is_ours fault r t
-taken_back version is_ours requests fault r s t e plain stays there form acts = unmigrated is_ours fault r t
+pub taken_back : {X : Type 0} (version : EarlierVersion) (is_ours : Bool) (numbers : Numbers) (fault : DeskFault) (r s t : State) (e : Error) → (fault ≢ NotADesk) × (fault ≢ WrongVersion) → Stays r s
+    → (IsTrue s.is_open → IsThere (version_of version) r.now numbers) → (IsTrue is_ours → r.now.schema ≡ schema_at (version_of version)) → Transacts {X = X} (Upgrades version is_ours numbers) s t (Err e) → IsNotMigrated is_ours fault r t
+taken_back version is_ours numbers fault r s t e plain stays there form acts = unmigrated is_ours fault r t
     (λ is_open. let u = acts.undone is_open in let was = stays.kept u.0 in (was.0, u.1 ∙ was.1))
     (survives_then r s t _ _ _ (λ _ db h. absurd h)
-    (λ clean db h. let was = stays.kept h.0 in record { version = version; is_open = was.0; requests = requests; there = there h.0; form = form; after = h.1.0; left = h.1.1; upgrades = subst (λ (d : Database). Upgrades version is_ours requests d h.1.0) was.1 h.1.2 }) stays.survives acts.survives)
+    (λ clean db h. let was = stays.kept h.0 in record { version = version; is_open = was.0; numbers = numbers; there = there h.0; form = form; after = h.1.0; left = h.1.1; upgrades = subst (λ (d : Database). Upgrades version is_ours numbers d h.1.0) was.1 h.1.2 }) stays.survives acts.survives)
     (λ is. absurd (elim is [ inl no_desk ↦ plain.0 no_desk | inr other ↦ plain.1 other ]))
 
 pub unmigrated_then : (is_ours : Bool) (fault : DeskFault) (s0 s1 s2 : State) → Stays s0 s1 → IsNotMigrated is_ours fault s1 s2 → IsNotMigrated is_ours fault s0 s2
@@ -134,12 +135,12 @@ unmigrated_then is_ours fault s0 s1 s2 stays it = unmigrated is_ours fault s0 s2
     (λ clean db h. let was = stays.kept h.is_open in record {
       version = h.version;
       is_open = was.0;
-      requests = h.requests;
-      there = subst (λ (d : Database). IsThere (version_of h.version) d h.requests) was.1 h.there;
+      numbers = h.numbers;
+      there = subst (λ (d : Database). IsThere (version_of h.version) d h.numbers) was.1 h.there;
       form = λ ours. sym (ap (λ (d : Database). d.schema) was.1) ∙ h.form ours;
       after = h.after;
       left = h.left;
-      upgrades = subst (λ (d : Database). Upgrades h.version is_ours h.requests d h.after) was.1 h.upgrades;
+      upgrades = subst (λ (d : Database). Upgrades h.version is_ours h.numbers d h.after) was.1 h.upgrades;
     }) stays.survives it.survives)
     (λ is. stays_then s0 s1 s2 stays (it.no_earlier is))
 
@@ -152,64 +153,67 @@ pub unfit_lacking : (s : State) (version : TablesVersion) (fault : DeskFault) �
 unfit_lacking s version fault it = record { no_desk = λ is. (version, it.no_desk is); other_version = λ is. absurd (it.no_other.0 is); not_ours = λ is. absurd (it.no_other.2 is); not_empty = it.no_other.1 }
 
 -- they are of another form, or two rows have one rowid
-pub unfit_others : (db : Database) (version : TablesVersion) (requests : ℕ) → IsThere version db requests → (db.schema ≡ schema_at version → AreApartIn version db.trees → ⊥) → IsUnfit db NotOurs
-unfit_others db version requests there other = record { no_desk = λ is. absurd (cc); other_version = λ is. absurd (cc); not_ours = λ is. (version, (requests, there), other); not_empty = λ is. cc }
+pub unfit_others : (db : Database) (version : TablesVersion) (numbers : Numbers) → IsThere version db numbers → (db.schema ≡ schema_at version → AreApartIn version db.trees → ⊥) → IsUnfit db NotOurs
+unfit_others db version numbers there other = record { no_desk = λ is. absurd (cc); other_version = λ is. absurd (cc); not_ours = λ is. (version, (numbers, there), other); not_empty = λ is. cc }
 
 -- tables of version 3 that are not ours
 pub unfit_seen : (s : State) (seen : Seen) → seen.is_ours ≡ false → IsSeen s seen → IsUnfit s.now NotOurs
-unfit_seen s seen not it = unfit_others s.now Third seen.requests it.there (λ has all. let e = sym not ∙ it.ours has all in cc)
+unfit_seen s seen not it = unfit_others s.now Third seen.numbers it.there (λ has all. let e = sym not ∙ it.ours has all in cc)
 
 -- ---- after the table `desk` was asked
 
 module _ {S : Type 0} (g : Ghosts S) (is_ours : Bool) (c0 c1 c2 : Held S) (stays : Stays (state g c0) (state g c1)) where
   -- tables of an earlier version were made those of version 3
-  pub brought_earlier : (version : EarlierVersion) (r : Result ℕ DeskFault) → IfOk r (IsRaised g version is_ours c1 c2) → IfOk r (IsBrought g is_ours c0 c2)
+  pub brought_earlier : (version : EarlierVersion) (r : Result Numbers DeskFault) → IfOk r (IsRaised g version is_ours c1 c2) → IfOk r (IsBrought g is_ours c0 c2)
   brought_earlier version (Err e) it = tt
-  brought_earlier version (Ok requests) it = inl (version, record {
-    form = λ clean ours. sym (ap (λ (d : Database). d.schema) (same clean)) ∙ it.form clean ours;
-    there = λ clean. subst (λ (d : Database). IsThere (version_of version) d requests) (same clean) (it.there clean);
-    acts = stays_acts (Upgrades version is_ours requests) (state g c0) (state g c1) (state g c2) (Ok (tt {0})) stays it.acts;
-  })
+  brought_earlier version (Ok numbers) it = inl (
+    version,
+    record {
+      form = λ clean ours. sym (ap (λ (d : Database). d.schema) (same clean)) ∙ it.form clean ours;
+      there = λ clean. subst (λ (d : Database). IsThere (version_of version) d numbers) (same clean) (it.there clean);
+      acts = stays_acts (Upgrades version is_ours numbers) (state g c0) (state g c1) (state g c2) (Ok (tt {0})) stays it.acts;
+    },
+  )
     where
       same : HasCleanDisk (state g c2) → (state g c1).now ≡ (state g c0).now
       same clean = (stays.kept (it.acts.done clean).0).1
 
-  pub unmigrated_earlier : (r : Result ℕ DeskFault) → IfErr r (λ e. IsNotMigrated is_ours e (state g c1) (state g c2)) → IfErr r (λ e. IsNotMigrated is_ours e (state g c0) (state g c2))
-  unmigrated_earlier (Ok requests) it = tt
+  pub unmigrated_earlier : (r : Result Numbers DeskFault) → IfErr r (λ e. IsNotMigrated is_ours e (state g c1) (state g c2)) → IfErr r (λ e. IsNotMigrated is_ours e (state g c0) (state g c2))
+  unmigrated_earlier (Ok numbers) it = tt
   unmigrated_earlier (Err e) it = unmigrated_then is_ours e (state g c0) (state g c1) (state g c2) stays it
 
-  pub unfit_earlier : (r : Result ℕ DeskFault) → IfErr r (λ e. IsNotMigrated is_ours e (state g c1) (state g c2)) → IfErr r (IsUnfit (state g c1).now) → IsTrue (state g c2).is_open → IfErr r (IsUnfit (state g c0).now)
-  unfit_earlier (Ok requests) left it is_open = tt
+  pub unfit_earlier : (r : Result Numbers DeskFault) → IfErr r (λ e. IsNotMigrated is_ours e (state g c1) (state g c2)) → IfErr r (IsUnfit (state g c1).now) → IsTrue (state g c2).is_open → IfErr r (IsUnfit (state g c0).now)
+  unfit_earlier (Ok numbers) left it is_open = tt
   unfit_earlier (Err e) left it is_open = subst (λ (d : Database). IsUnfit d e) (stays.kept (left.undone is_open).0).1 it
 
   -- tables of version 3 stay
-  pub unmigrated_latest : (r : Result ℕ DeskFault) → Stays (state g c1) (state g c2) → IfErr r (λ e. IsNotMigrated is_ours e (state g c0) (state g c2))
+  pub unmigrated_latest : (r : Result Numbers DeskFault) → Stays (state g c1) (state g c2) → IfErr r (λ e. IsNotMigrated is_ours e (state g c0) (state g c2))
   unmigrated_latest r more = not_migrated_if is_ours r (state g c0) (state g c2) (stays_then (state g c0) (state g c1) (state g c2) stays more)
 
-  pub unfit_latest : (r : Result ℕ DeskFault) → Stays (state g c1) (state g c2) → IfErr r (IsUnfit (state g c1).now) → IsTrue (state g c2).is_open → IfErr r (IsUnfit (state g c0).now)
+  pub unfit_latest : (r : Result Numbers DeskFault) → Stays (state g c1) (state g c2) → IfErr r (IsUnfit (state g c1).now) → IsTrue (state g c2).is_open → IfErr r (IsUnfit (state g c0).now)
   unfit_latest r more it is_open = subst (λ (d : Database). IfErr r (IsUnfit d)) (stays.kept (more.kept is_open).0).1 it
 
 -- ---- the shelf
 
-module _ {S : Type 0} (g : Ghosts S) (is_ours : Bool) (c0 c1 : Held S) (requests : ℕ) where
-  pub holds_brought : c1.in_transaction ≡ false → (IsTrue (state g c1).is_open → HasCleanDisk (state g c1)) → IsBrought g is_ours c0 c1 requests → Holds g c1 is_ours requests
+module _ {S : Type 0} (g : Ghosts S) (is_ours : Bool) (c0 c1 : Held S) (numbers : Numbers) where
+  pub holds_brought : c1.in_transaction ≡ false → (IsTrue (state g c1).is_open → HasCleanDisk (state g c1)) → IsBrought g is_ours c0 c1 numbers → Holds g c1 is_ours numbers
   holds_brought mode clean (inl (_, it)) = record { autocommit = mode; ready = λ ours is_open. (it.acts.done (clean is_open)).2.ready ours (it.form (clean is_open) ours) }
-  holds_brought mode clean (inr it) = holds_opened g c0 c1 (record { is_ours = it.has_form; requests = requests }) is_ours it.ours mode it.stays it.seen
+  holds_brought mode clean (inr it) = holds_opened g c0 c1 (record { is_ours = it.has_form; numbers = numbers }) is_ours it.ours mode it.stays it.seen
 
   pub migrated : (IsTrue (state g c1).is_open → (state g c1).now ≡ (state g c1).committed) → ((db : Trees) → IsTrue (state g c1).is_open → (state g c1).may_leave db → db ≡ (state g c1).committed.trees)
-      → IsBrought g is_ours c0 c1 requests → IsUpgraded g is_ours c0 (record { conn = c1; requests = requests; faults = 0 }) ⊎ IsOpenedAsIs g is_ours c0 (record { conn = c1; requests = requests; faults = 0 })
+      → IsBrought g is_ours c0 c1 numbers → IsUpgraded g is_ours c0 (record { conn = c1; numbers = numbers; faults = 0 }) ⊎ IsOpenedAsIs g is_ours c0 (record { conn = c1; numbers = numbers; faults = 0 })
   migrated settled law (inl (version, it)) = inl (record {
     version = version;
     faults = refl;
     form = it.form;
     there = λ clean. ((it.acts.done clean).1, it.there clean);
     keeps = λ clean ours. (it.acts.done clean).2.keeps ours (it.form clean ours);
-    view = λ clean ours h was. (it.acts.done clean).2.view ours (it.form clean ours) (earlier_of_ours version (state g c0).now (it.form clean ours) requests (it.there clean)) h was;
+    view = λ clean ours h was. (it.acts.done clean).2.view ours (it.form clean ours) (earlier_of_ours version (state g c0).now (it.form clean ours) numbers (it.there clean)) (first_least version (state g c0).now numbers.least (it.there clean).least) h was;
     alone = λ clean t left.
         let d = it.acts.done clean in
         rw d.1 (ap (λ (t : Trees). Some (tables_at t)) (ap (λ (d : Database). d.trees) (settled d.1) ∙ sym (law left.0 d.1 left.1)) ∙ ap Some (sym left.2));
     survives = it.acts.survives;
   })
   migrated settled law (inr it) =
-      let opened = is_opened g c0 c1 (record { is_ours = it.has_form; requests = requests }) it.stays in
+      let opened = is_opened g c0 c1 (record { is_ours = it.has_form; numbers = numbers }) it.stays in
       inr (record { opened = opened; there = λ is_open. (it.seen is_open).there; goes_on = goes_on g is_ours c0 _ opened })

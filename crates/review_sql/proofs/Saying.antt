@@ -1,4 +1,6 @@
 -- What the tables `desk` and `epochs` say where the tables are of our form, and where there is none.
+use Rattle.review_tables.specs.declared.versions.EarlierVersion.TheVariants as earlier
+use Rattle.review_words.specs.Epochs.{is_epoch}
 use Rattle.std.proofs.Common.{◌≡◌, ◌≢◌, ◌∙◌, inl, inr, ℕ, List, [], ◌∷◌, map, filter, Option, Some, None, Ok, Err, true, false, codes, refl, sym, ap, subst, arith}
 use Rattle.std.specs.Result.{is_ok}
 use Rattle.std.specs.List.{AllByRecursion}
@@ -26,7 +28,7 @@ use Rattle.review_statements.specs.Texts.{over_table}
 use Rattle.review_statements.proofs.Meaning.{plain}
 use Rattle.review_statements.proofs.Queries.{passes, selects, shows}
 use Rattle.review_records.specs.declared.rows.DeskRow.{DeskRow}
-use Rattle.review_records.specs.Forms.{desk, desk_row, epochs, first_epoch}
+use Rattle.review_records.specs.Forms.{desk, desk_row, epochs, first_epoch, where_is}
 use Rattle.review_records.specs.Keyed.{is_small}
 use Rattle.review_records.specs.Laws.{passed}
 use Rattle.review_tables.specs.Columns.{number_in}
@@ -35,8 +37,9 @@ use Rattle.review_tables.specs.declared.versions.EarlierVersion.{EarlierVersion}
 use Rattle.review_tables.specs.declared.versions.TablesVersion.{TablesVersion}
 use Rattle.review_tables.specs.declared.versions.TablesVersion.TheVariants.{First, Second, Third}
 use Rattle.review_lookups.specs.EarlierTables.{IsEarlierDesk}
-use Rattle.review_lookups.specs.Tables.{IsDesk}
-use Rattle.review_sql.specs.Said.{number_of_one, version_in, requests_in, ShowsDesk, ShowsEpochs, ShowsRows, IsDeskThere, IsThere, IsNoDesk, IsNone, IsOtherVersion, LacksDesk}
+use Rattle.review_sql.specs.Numbers.{IsDesk}
+use Rattle.review_sql.specs.declared.seen.Numbers.{Numbers}
+use Rattle.review_sql.specs.Said.{number_of_one, version_in, requests_in, ShowsDesk, ShowsEpochs, ShowsRows, IsDeskThere, IsThere, IsNoDesk, IsNone, IsOtherVersion, LacksDesk, least_in, SaysLeast}
 use Rattle.review_sql.specs.Shelf.{AreAllRead, IsUnderstood}
 
 -- ---- the texts over our form
@@ -136,9 +139,9 @@ module _ (version : TablesVersion) (db : Database) (has : db.schema ≡ schema_a
   row_says (r ∷ []) d is = parts_of _ _ d is
   row_says (r ∷ s ∷ raws) d is = absurd (let e = same_Some None (Some d) is in cc)
 
-  pub desk_says : (requests : ℕ) → IsDesk requests db.trees → (version_in rows ≡ Some 3) × (requests_in rows ≡ Some requests)
-  desk_says requests is =
-      let it = row_says stored (record { version = 3; requests = requests }) is.desk_is in
+  pub desk_says : (numbers : Numbers) → IsDesk numbers db.trees → (version_in rows ≡ Some 3) × (requests_in rows ≡ Some numbers.requests)
+  desk_says numbers is =
+      let it = row_says stored (record { version = 3; requests = numbers.requests }) is.desk_is in
       (sym (says 0) ∙ it.0, sym (says 1) ∙ it.1)
 
 -- what is shown of a row of the table `epochs`
@@ -152,63 +155,68 @@ module _ (db : Database) (has : db.schema ≡ desk_schema) (rows : List Row) (sh
   number_same : number_of_one 0 (map one kept) ≡ number_of_one 0 rows
   number_same = same_number 0 (map one kept) rows (shown_of FIND_EPOCHS.now desk_schema 31 (col 1 1 ∷ []) (codes "least" ∷ []) find_epochs_is db rows has shown)
 
-  is_least : number_of_one 0 rows ≡ Some first_epoch → row_at epochs db.trees tt ≡ Some (Some first_epoch)
-  is_least says = by kept (number_same ∙ says)
+  is_least : (least : ℕ) → least_in rows ≡ Some least → row_at epochs db.trees tt ≡ Some (Some least)
+  is_least least says = by kept (ap (where_is is_epoch) number_same ∙ says)
     where
-      by : (raws : List Row) → number_of_one 0 (map one raws) ≡ Some first_epoch → only (reads epochs) raws ≡ Some (Some first_epoch)
+      by : (raws : List Row) → where_is is_epoch (number_of_one 0 (map one raws)) ≡ Some least → only (reads epochs) raws ≡ Some (Some least)
       by [] n = absurd (cc)
-      by (r ∷ []) n = rw n refl
+      by (r ∷ []) n = ap (λ o. Some o) n
       by (r ∷ s ∷ raws) n = absurd (cc)
 
-  least_says : row_at epochs db.trees tt ≡ Some (Some first_epoch) → number_of_one 0 rows ≡ Some first_epoch
-  least_says is = sym number_same ∙ by kept is
+  least_says : (least : ℕ) → row_at epochs db.trees tt ≡ Some (Some least) → least_in rows ≡ Some least
+  least_says least is = sym (ap (where_is is_epoch) number_same) ∙ by kept is
     where
-      by : (raws : List Row) → only (reads epochs) raws ≡ Some (Some first_epoch) → number_of_one 0 (map one raws) ≡ Some first_epoch
+      by : (raws : List Row) → only (reads epochs) raws ≡ Some (Some least) → where_is is_epoch (number_of_one 0 (map one raws)) ≡ Some least
       by [] n = absurd (cc)
-      by (r ∷ []) n = passed is_small (number_in (column r 1)) first_epoch (same_Some _ _ n)
-      by (r ∷ s ∷ raws) n = absurd (let e = same_Some None (Some first_epoch) n in cc)
+      by (r ∷ []) n = same_Some _ _ n
+      by (r ∷ s ∷ raws) n = absurd (let e = same_Some None (Some least) n in cc)
+
+-- before version 3 the least open epoch is the first
+pub first_least : (version : EarlierVersion) (db : Database) (least : ℕ) → SaysLeast (version_of version) db least → least ≡ first_epoch
+first_least earlier.First db least says = says
+first_least earlier.Second db least says = says
 
 -- ---- a desk of ours
 
 no_some : (o : Option ℕ) (n : ℕ) → o ≡ Some n → o ≡ None → ⊥
 no_some o n some none = let e = sym some ∙ none in cc
 
-pub desk_of_ours : (db : Database) → db.schema ≡ desk_schema → (requests : ℕ) → IsDeskThere db requests → IsDesk requests db.trees
-desk_of_ours db has requests there = record {
-  desk_is = is_desk Third db has there.rows there.shown 3 requests there.version_is there.requests_are;
-  least_is = is_least db has there.least.0 there.least.1 there.least.2;
+pub desk_of_ours : (db : Database) → db.schema ≡ desk_schema → (numbers : Numbers) → IsDeskThere db numbers → IsDesk numbers db.trees
+desk_of_ours db has numbers there = record {
+  desk_is = is_desk Third db has there.rows there.shown 3 numbers.requests there.version_is there.requests_are;
+  least_is = is_least db has there.least.0 there.least.1 numbers.least there.least.2;
 }
 
 -- the same of an earlier version
-pub earlier_of_ours : (version : EarlierVersion) (db : Database) → db.schema ≡ schema_at (version_of version) → (requests : ℕ) → IsThere (version_of version) db requests → IsEarlierDesk version requests db.trees
-earlier_of_ours version db has requests there = is_desk (version_of version) db has there.rows there.shown (version_number (version_of version)) requests there.version_is there.requests_are
+pub earlier_of_ours : (version : EarlierVersion) (db : Database) → db.schema ≡ schema_at (version_of version) → (numbers : Numbers) → IsThere (version_of version) db numbers → IsEarlierDesk version numbers.requests db.trees
+earlier_of_ours version db has numbers there = is_desk (version_of version) db has there.rows there.shown (version_number (version_of version)) numbers.requests there.version_is there.requests_are
 
-pub never_no_desk : (db : Database) → db.schema ≡ desk_schema → (requests : ℕ) → IsDesk requests db.trees → IsNoDesk db → ⊥
-never_no_desk db has requests is (inl missing) = missing (subst (λ s. IsUnderstood s FIND_DESK.now) (sym has) understands)
-never_no_desk db has requests is (inr odd) = let it = desk_says Third db has odd.0 odd.1 requests is in lacks odd.0 it.0 it.1 odd.2
+pub never_no_desk : (db : Database) → db.schema ≡ desk_schema → (numbers : Numbers) → IsDesk numbers db.trees → IsNoDesk db → ⊥
+never_no_desk db has numbers is (inl missing) = missing (subst (λ s. IsUnderstood s FIND_DESK.now) (sym has) understands)
+never_no_desk db has numbers is (inr odd) = let it = desk_says Third db has odd.0 odd.1 numbers is in lacks odd.0 it.0 it.1 odd.2
   where
-    lacks : (rows : List Row) → version_in rows ≡ Some 3 → requests_in rows ≡ Some requests → LacksDesk Third db rows → ⊥
+    lacks : (rows : List Row) → version_in rows ≡ Some 3 → requests_in rows ≡ Some numbers.requests → LacksDesk Third db rows → ⊥
     lacks rows v n (inl none) = no_some _ _ v none
     lacks rows v n (inr (_, inl none)) = no_some _ _ n none
     lacks rows v n (inr (_, inr (inl missing))) = missing (subst (AreAllRead Third) (sym has) reads_all)
-    lacks rows v n (inr (_, inr (inr other))) = other.2 (least_says db has other.0 other.1 is.least_is)
+    lacks rows v n (inr (_, inr (inr other))) = no_some _ _ (least_says db has other.0 other.1 numbers.least is.least_is) other.2
 
 -- nor is it none of a version that it doesn't say
-pub never_earlier : (version : TablesVersion) → version_number version ≢ 3 → (db : Database) → db.schema ≡ desk_schema → (requests : ℕ) → IsDesk requests db.trees → IsNone version db → ⊥
-never_earlier version other db has requests is (inl missing) = missing (subst (λ s. IsUnderstood s FIND_DESK.now) (sym has) understands)
-never_earlier version other db has requests is (inr odd) = lacks odd.0 (desk_says Third db has odd.0 odd.1 requests is).0 odd.2
+pub never_earlier : (version : TablesVersion) → version_number version ≢ 3 → (db : Database) → db.schema ≡ desk_schema → (numbers : Numbers) → IsDesk numbers db.trees → IsNone version db → ⊥
+never_earlier version other db has numbers is (inl missing) = missing (subst (λ s. IsUnderstood s FIND_DESK.now) (sym has) understands)
+never_earlier version other db has numbers is (inr odd) = lacks odd.0 (desk_says Third db has odd.0 odd.1 numbers is).0 odd.2
   where
     lacks : (rows : List Row) → version_in rows ≡ Some 3 → LacksDesk version db rows → ⊥
     lacks rows v (inl none) = no_some _ _ v none
     lacks rows v (inr (is, _)) = other (same_Some _ _ (sym is ∙ v))
 
 -- nor is it there as one of such a version
-pub never_there_earlier : (version : TablesVersion) → version_number version ≢ 3 → (db : Database) → db.schema ≡ desk_schema → (requests : ℕ) → IsDesk requests db.trees → (n : ℕ) → IsThere version db n → ⊥
-never_there_earlier version other db has requests is n there = other (same_Some _ _ (sym there.version_is ∙ (desk_says Third db has there.rows there.shown requests is).0))
+pub never_there_earlier : (version : TablesVersion) → version_number version ≢ 3 → (db : Database) → db.schema ≡ desk_schema → (numbers : Numbers) → IsDesk numbers db.trees → (n : Numbers) → IsThere version db n → ⊥
+never_there_earlier version other db has numbers is n there = other (same_Some _ _ (sym there.version_is ∙ (desk_says Third db has there.rows there.shown numbers is).0))
 
-pub never_other_version : (db : Database) → db.schema ≡ desk_schema → (requests : ℕ) → IsDesk requests db.trees → IsOtherVersion db → ⊥
-never_other_version db has requests is other =
-    let it = desk_says Third db has other.0 other.1 requests is in
+pub never_other_version : (db : Database) → db.schema ≡ desk_schema → (numbers : Numbers) → IsDesk numbers db.trees → IsOtherVersion db → ⊥
+never_other_version db has numbers is other =
+    let it = desk_says Third db has other.0 other.1 numbers is in
     other.2.2.0 (same_Some _ _ (sym other.2.1 ∙ it.0))
 
 -- where there is no table nothing is shown of one

@@ -1,5 +1,5 @@
 -- What a connection shows as a shelf.
-use Rattle.std.proofs.Common.{◌≡◌, ◌≢◌, ◌∙◌, ◌⊎◌, inl, inr, ℕ, ◌+◌, List, [], ◌∷◌, Bool, Option, Some, None, true, false, Ok, Err, Result, OnOk, IsTrue, refl, sym, ap, subst, arith}
+use Rattle.std.proofs.Common.{◌≡◌, ◌≢◌, ◌∙◌, ◌⊎◌, inl, inr, ℕ, ◌+◌, List, [], ◌∷◌, Bool, Option, Some, None, true, false, Ok, Err, Result, OnOk, IsTrue, refl, sym, ap, subst, arith, cond}
 use Rattle.std.proofs.lemmas.Bool.{cases_Bool}
 use Rattle.sqlite_trees.specs.declared.store.Store.{Ghosts}
 use Rattle.sqlite_trees.specs.Tree.{Trees}
@@ -7,17 +7,19 @@ use Rattle.sqlite.specs.Effect.{Database}
 use Rattle.sqlite.specs.State.{HasCleanDisk}
 use Rattle.sqlite.specs.Held.{Held, state}
 use Rattle.sqlite.specs.declared.error.Error.{Error}
-use Rattle.review_words.specs.History.{Entry, Identity, is_same}
+use Rattle.review_words.specs.History.{Entry, Identity, is_same, is_closed}
 use Rattle.review_rows.specs.Rows.{Tables, OddAnswer, kept_row}
 use Rattle.review_rows.specs.declared.rows.Delta.{Delta}
 use Rattle.review_rows.specs.declared.rows.Kept.{Kept as Request}
-use Rattle.review_rows.specs.View.{stored_answer}
+use Rattle.review_rows.specs.View.{stored_answer, kept_answer}
 use Rattle.review_rows.proofs.Readings.{reading_of}
 use Rattle.review_rows.specs.declared.shelf.ShelfFault.{ShelfFault}
 use Rattle.review_rows.specs.declared.shelf.ShelfFault.TheVariants.{Memory, Store, Damaged}
 use Rattle.review_rows.specs.Shelf.{Blames, LeavesBy, StaysOrShuts, Shows, IsCommitted, IsDamaged, cause_of}
 use Rattle.review_statements.specs.Ran.{IsReady, IsDeskIfOpen, Serves, Transacts}
-use Rattle.review_lookups.specs.Tables.{tables_at, IsDesk}
+use Rattle.review_lookups.specs.Tables.{tables_at}
+use Rattle.review_sql.specs.Numbers.{IsDesk, more}
+use Rattle.review_sql.specs.declared.seen.Numbers.{Numbers}
 use Rattle.review_sql.specs.Commits.{AreSingle, Commits}
 use Rattle.review_sql.specs.Shelf.{Holds, Stays, tables_of, stops_of}
 
@@ -26,8 +28,16 @@ pub not_odd : (h : List Entry) (i : Identity) → stored_answer h i ≡ Some Odd
 not_odd [] i is = cc
 not_odd (e ∷ h) i is = elim (cases_Bool (is_same e.identity i)) [ inl same ↦ (let it = rw same at is in cc) | inr other ↦ not_odd h i (rw other at is) ]
 
+-- nor is one that is kept
+pub not_kept_odd : (h : List Entry) (i : Identity) → kept_answer h i ≡ Some OddAnswer → ⊥
+not_kept_odd h i is = by (is_closed h i.epoch) is
+  where
+    by : (b : Bool) → cond b None (stored_answer h i) ≡ Some OddAnswer → ⊥
+    by true odd = cc
+    by false odd = not_odd h i odd
+
 pub odd_is_damage : (t : Tables) (i : Identity) → t.answer i ≡ Some OddAnswer → IsDamaged t
-odd_is_damage t i odd h history view = let read = reading_of h history in not_odd h i (sym ((view read.0 read.1).answer_is i) ∙ odd)
+odd_is_damage t i odd h history view = let read = reading_of h history in not_kept_odd h i (sym ((view read.0 read.1).answer_is i) ∙ odd)
 
 module _ {S : Type 0} (g : Ghosts S) (old new : Held S) where
   pub stays : (IsTrue (state g new).is_open → IsTrue (state g old).is_open × ((state g new).now ≡ (state g old).now)) → StaysOrShuts (tables_of g old) (tables_of g new)
@@ -42,15 +52,15 @@ module _ {S : Type 0} (g : Ghosts S) (old new : Held S) where
   pub shown_now : (P : Tables → Type 0) → IsTrue (state g old).is_open → P (tables_at (state g old).now.trees) → Shows (tables_of g old) P
   shown_now P was p = rw was p
 
-  module _ (is_ours : Bool) (requests : ℕ) (holds : Holds g old is_ours requests) where
+  module _ (is_ours : Bool) (numbers : Numbers) (holds : Holds g old is_ours numbers) where
     pub desk_if_open : IsTrue is_ours → IsDeskIfOpen (state g old)
     desk_if_open ours is_open = (holds.ready ours is_open).0.schema
 
-    ready_as : (state g new).now ≡ (state g old).now → IsReady (state g old).now × IsDesk requests (state g old).now.trees → IsReady (state g new).now × IsDesk requests (state g new).now.trees
-    ready_as same it = subst (λ (d : Database). IsReady d × IsDesk requests d.trees) (sym same) it
+    ready_as : (state g new).now ≡ (state g old).now → IsReady (state g old).now × IsDesk numbers (state g old).now.trees → IsReady (state g new).now × IsDesk numbers (state g new).now.trees
+    ready_as same it = subst (λ (d : Database). IsReady d × IsDesk numbers d.trees) (sym same) it
 
     -- a call that read leaves a shelf a shelf
-    pub holds_read : {X : Type 0} (Found : Trees → X → Type 0) (r : Result X Error) → new.in_transaction ≡ false → (IsTrue (state g new).is_open → HasCleanDisk (state g new)) → Serves Found (state g old) (state g new) r → Holds g new is_ours requests
+    pub holds_read : {X : Type 0} (Found : Trees → X → Type 0) (r : Result X Error) → new.in_transaction ≡ false → (IsTrue (state g new).is_open → HasCleanDisk (state g new)) → Serves Found (state g old) (state g new) r → Holds g new is_ours numbers
     holds_read Found (Ok x) mode clean it = record {
       autocommit = mode;
       ready = λ ours is_open. let f = it.found (clean is_open) (desk_if_open ours) in ready_as f.2 (holds.ready ours f.0);
@@ -71,9 +81,9 @@ module _ {S : Type 0} (g : Ghosts S) (old new : Held S) where
     pub served : {X : Type 0} {Found : Trees → X → Type 0} → IsTrue is_ours → HasCleanDisk (state g new) → (x : X) → Serves Found (state g old) (state g new) (Ok x) → IsTrue (state g old).is_open × Found (state g old).now.trees x
     served ours clean x it = let f = it.found clean (desk_if_open ours) in (f.0, f.3)
 
-    module _ (delta : Delta) (kept : Request) (r : Result (Unit {0}) Error) (acts : Transacts (Commits delta kept requests) (state g old) (state g new) r)
+    module _ (delta : Delta) (kept : Request) (r : Result (Unit {0}) Error) (acts : Transacts (Commits delta kept numbers) (state g old) (state g new) r)
         (single : IsTrue is_ours → IsTrue (state g old).is_open → AreSingle (state g old).now.trees) where
-      committed_from : IsTrue is_ours → IsTrue (state g old).is_open → (after : Database) → Commits delta kept requests (state g old).now after → IsCommitted (tables_at (state g old).now.trees) delta (kept_row kept) (tables_at after.trees)
+      committed_from : IsTrue is_ours → IsTrue (state g old).is_open → (after : Database) → Commits delta kept numbers (state g old).now after → IsCommitted (tables_at (state g old).now.trees) delta (kept_row kept) (tables_at after.trees)
       committed_from ours was after c = let it = holds.ready ours was in c.committed it.0 (single ours was) it.1
 
       pub stops_committed : IsTrue is_ours → HasCleanDisk (state g new) → (t : Tables) → stops_of g new t → stops_of g old t ⊎ Shows (tables_of g old) (λ was. IsCommitted was delta (kept_row kept) t)
@@ -84,10 +94,10 @@ module _ {S : Type 0} (g : Ghosts S) (old new : Held S) where
             inr (shown_now (λ x. IsCommitted x delta (kept_row kept) t) made.0 (subst (λ x. IsCommitted (tables_at (state g old).now.trees) delta (kept_row kept) x) (sym (left.2 ∙ ap tables_at made.1.1)) all))
       ]
 
-      done_as : r ≡ Ok (tt {0}) → HasCleanDisk (state g new) → IsTrue (state g old).is_open × IsTrue (state g new).is_open × Commits delta kept requests (state g old).now (state g new).now
-      done_as is clean = subst (λ q. OnOk q (IsTrue (state g old).is_open × IsTrue (state g new).is_open × Commits delta kept requests (state g old).now (state g new).now)) is (acts.done clean)
+      done_as : r ≡ Ok (tt {0}) → HasCleanDisk (state g new) → IsTrue (state g old).is_open × IsTrue (state g new).is_open × Commits delta kept numbers (state g old).now (state g new).now
+      done_as is clean = subst (λ q. OnOk q (IsTrue (state g old).is_open × IsTrue (state g new).is_open × Commits delta kept numbers (state g old).now (state g new).now)) is (acts.done clean)
 
-      pub holds_committed : r ≡ Ok (tt {0}) → new.in_transaction ≡ false → (IsTrue (state g new).is_open → HasCleanDisk (state g new)) → Holds g new is_ours (requests + 1)
+      pub holds_committed : r ≡ Ok (tt {0}) → new.in_transaction ≡ false → (IsTrue (state g new).is_open → HasCleanDisk (state g new)) → Holds g new is_ours (more numbers delta.epoch)
       holds_committed is mode clean = record {
         autocommit = mode;
         ready = λ ours is_open.
@@ -106,7 +116,7 @@ module _ {S : Type 0} (g : Ghosts S) (old new : Held S) where
           let is_open = d.1 in
           rw is_open (ap (λ (t : Trees). Some (tables_at t)) (ap (λ (d : Database). d.trees) (settled d.1) ∙ sym (law left.0 d.1 left.1)) ∙ ap Some (sym left.2))
 
-      pub holds_undone : {e : Error} → r ≡ Err e → new.in_transaction ≡ false → Holds g new is_ours requests
+      pub holds_undone : {e : Error} → r ≡ Err e → new.in_transaction ≡ false → Holds g new is_ours numbers
       holds_undone {e} is mode = record {
         autocommit = mode;
         ready = λ ours is_open.
@@ -116,10 +126,10 @@ module _ {S : Type 0} (g : Ghosts S) (old new : Held S) where
 
 -- a call that wrote nothing, after others
 module _ {S : Type 0} (g : Ghosts S) (mid new : Held S) (still : Stays (state g mid) (state g new)) where
-  pub holds_still : (is_ours : Bool) (requests : ℕ) → new.in_transaction ≡ false → Holds g mid is_ours requests → Holds g new is_ours requests
-  holds_still is_ours requests mode holds = record {
+  pub holds_still : (is_ours : Bool) (numbers : Numbers) → new.in_transaction ≡ false → Holds g mid is_ours numbers → Holds g new is_ours numbers
+  holds_still is_ours numbers mode holds = record {
     autocommit = mode;
-    ready = λ ours is_open. let k = still.kept is_open in subst (λ (d : Database). IsReady d × IsDesk requests d.trees) (sym k.1) (holds.ready ours k.0);
+    ready = λ ours is_open. let k = still.kept is_open in subst (λ (d : Database). IsReady d × IsDesk numbers d.trees) (sym k.1) (holds.ready ours k.0);
   }
 
   pub stops_still : HasCleanDisk (state g new) → (t : Tables) → stops_of g new t → stops_of g mid t

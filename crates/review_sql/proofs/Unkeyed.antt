@@ -9,7 +9,7 @@ use Rattle.review_rows.specs.declared.rows.ChangeEdit.{ChangeEdit}
 use Rattle.review_rows.specs.declared.rows.Delta.{Delta}
 use Rattle.review_rows.specs.declared.rows.Kept.{Kept}
 use Rattle.review_rows.specs.declared.rows.Put.{Put}
-use Rattle.review_statements.specs.Content.{Then}
+use Rattle.review_statements.specs.Content.{SparesOthers, Then}
 use Rattle.review_statements.specs.Desk.{is_tree}
 use Rattle.review_statements.specs.Search.{Search, SetsRow, SetsRows}
 use Rattle.review_tables.specs.Fronts.{SetsParts}
@@ -17,13 +17,13 @@ use Rattle.review_records.specs.Forms.{accounts, members, projects, bases, answe
 use Rattle.review_change_records.specs.Forms.{headers, patches, votes, roles, comments, calls}
 use Rattle.review_lookups.specs.Tables.{has_unkeyed, keyed_tables}
 use Rattle.review_sql.specs.First.{SetsFirst}
-use Rattle.review_sql.specs.Changes.{SetsDelta, SetsDesk, SetsEdit, SetsEdits, SetsKept, SetsPut, SetsUnless, is_named}
+use Rattle.review_sql.specs.Changes.{GivesUp, SetsDelta, SetsDesk, SetsEdit, SetsEdits, SetsKept, SetsPut, SetsUnless, is_named}
 
 -- which rows of a tree have a key
 abbrev keyed_of : ℕ → Raw → Bool
 keyed_of t =
     cond (t == 0) accounts.keyed (cond (t == 2) members.keyed (cond (t == 26) projects.keyed (cond (t == 6) bases.keyed (cond (t == 9) headers.keyed (cond (t == 11) patches.keyed
-    (cond (t == 14) votes.keyed (cond (t == 16) roles.keyed (cond (t == 18) comments.keyed (cond (t == 20) calls.keyed (cond (t == 28) answers.keyed desk.keyed))))))))))
+    (cond (t == 14) votes.keyed (cond (t == 16) roles.keyed (cond (t == 18) comments.keyed (cond (t == 20) calls.keyed desk.keyed)))))))))
 
 -- the rows without a key are as they were
 pub record Keeps (old new : Trees) : Type 0 where
@@ -34,6 +34,19 @@ keeps_same old new same = record { rows = λ t is. ap (λ (d : Trees). filter (�
 
 keeps_then : (old mid new : Trees) → Keeps old mid → Keeps mid new → Keeps old new
 keeps_then old mid new one two = record { rows = λ t is. two.rows t is ∙ one.rows t is }
+
+-- of the stored requests none counts as without a key
+none_without : (rows : List Raw) → filter (λ r. false) rows ≡ []
+none_without [] = refl
+none_without (r ∷ rows) = none_without rows
+
+keeps_answers : (old new : Trees) → SparesOthers 28 old new → Keeps old new
+keeps_answers old new others = record {
+  rows = λ t is. elim (cases_Bool (t == 28)) [
+    | inl here ↦ subst (λ n. filter (λ r. not (keyed_of n r)) (new n) ≡ filter (λ r. not (keyed_of n r)) (old n)) (sym (eqb-true t 28 here)) (none_without (new 28) ∙ sym (none_without (old 28)))
+    | inr other ↦ ap (filter (λ r. not (keyed_of t r))) (others t is (eqb-false t 28 other))
+  ];
+}
 
 module _ {A X : Type 0} (s : Search A X) (same : s.keyed ≡ keyed_of s.tree) where
   keeps_row : (key : A) (row : Option X) (old new : Trees) → SetsRow s key row old new → Keeps old new
@@ -94,18 +107,23 @@ pub unkeyed_same : (old new : Trees) → Keeps old new → has_unkeyed keyed_tab
 unkeyed_same old new keeps = all_same keyed_tables old new
     (keeps.rows 0 refl, (keeps.rows 2 refl, (keeps.rows 26 refl, (keeps.rows 6 refl, (keeps.rows 28 refl, (keeps.rows 9 refl, (keeps.rows 11 refl, (keeps.rows 14 refl, (keeps.rows 16 refl, (keeps.rows 18 refl, (keeps.rows 20 refl, tt)))))))))))
 
+keeps_given_up : (epoch : Option ℕ) (old new : Trees) → GivesUp epoch old new → Keeps old new
+keeps_given_up None old new h = keeps_same old new h
+keeps_given_up (Some least) old new h = keeps_then old h.0 new (keeps_answers old h.0 h.1.others) (keeps_row epochs refl _ _ h.0 new h.2)
+
 -- a commit leaves the rows that have no key
-pub commit_keeps : (delta : Delta) (kept : Kept) (n : ℕ) (a b : Trees) → Then (Then (SetsDelta delta) (SetsKept kept)) (SetsDesk (n + 1)) a b → Keeps a b
+pub commit_keeps : (delta : Delta) (kept : Kept) (n : ℕ) (a b : Trees) → Then (Then (Then (SetsDelta delta) (SetsKept kept)) (GivesUp delta.epoch)) (SetsDesk (n + 1)) a b → Keeps a b
 commit_keeps delta kept n a b h =
-    let t2 = h.0 in
-    let t1 = h.1.0 in
-    let u = h.1.1.0 in
-    let d3 = h.1.1.1.0 in
-    let d2 = h.1.1.1.1.0 in
-    let d1 = h.1.1.1.1.1.0 in
-    keeps_then a t2 b (keeps_then a t1 t2 (keeps_then a u t1 (keeps_then a d3 u (keeps_then a d2 d3 (keeps_then a d1 d2 (keeps_rows accounts refl delta.accounts.items a d1 h.1.1.1.1.1.1)
-    (keeps_rows members refl delta.members.items d1 d2 h.1.1.1.1.1.2)) (keeps_put projects refl delta.file d2 d3 h.1.1.1.1.2)) (keeps_put bases refl delta.base d3 u h.1.1.1.2)) (keeps_edits [] delta.changes.items u t1 h.1.1.2))
-    (keeps_row answers refl _ _ t1 t2 h.1.2)) (keeps_row desk refl _ _ t2 b h.2)
+    let t3 = h.0 in
+    let t2 = h.1.0 in
+    let t1 = h.1.1.0 in
+    let u = h.1.1.1.0 in
+    let d3 = h.1.1.1.1.0 in
+    let d2 = h.1.1.1.1.1.0 in
+    let d1 = h.1.1.1.1.1.1.0 in
+    keeps_then a t3 b (keeps_then a t2 t3 (keeps_then a t1 t2 (keeps_then a u t1 (keeps_then a d3 u (keeps_then a d2 d3 (keeps_then a d1 d2 (keeps_rows accounts refl delta.accounts.items a d1 h.1.1.1.1.1.1.1)
+    (keeps_rows members refl delta.members.items d1 d2 h.1.1.1.1.1.1.2)) (keeps_put projects refl delta.file d2 d3 h.1.1.1.1.1.2)) (keeps_put bases refl delta.base d3 u h.1.1.1.1.2)) (keeps_edits [] delta.changes.items u t1 h.1.1.1.2))
+    (keeps_answers t1 t2 h.1.1.2.others)) (keeps_given_up delta.epoch t2 t3 h.1.2)) (keeps_row desk refl _ _ t3 b h.2)
 
 -- so do the first rows of a desk
 pub first_keeps : (a b : Trees) → SetsFirst a b → Keeps a b

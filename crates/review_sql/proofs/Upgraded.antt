@@ -1,8 +1,8 @@
 -- Tables of an earlier version that became those of a desk show the same history.
-use Rattle.std.proofs.Common.{◌≡◌, ◌≢◌, ◌∙◌, ◌||◌, ℕ, List, [], ◌∷◌, Option, Some, None, option_map, Bool, cond, true, false, not, length, refl, sym, ap, subst, arith}
+use Rattle.std.proofs.Common.{◌≡◌, ◌≢◌, ◌∙◌, ◌||◌, ℕ, List, [], ◌∷◌, Option, Some, None, option_map, Bool, cond, true, false, not, length, refl, sym, ap, subst, arith, inl, inr, eqb-true, ◌==◌}
 use Rattle.std.specs.Bool.{Decides}
 use Rattle.std.specs.List.{AllByRecursion, list_any}
-use Rattle.std.proofs.lemmas.Bool.{both_ways, or_parts}
+use Rattle.std.proofs.lemmas.Bool.{both_ways, or_parts, cases_Bool, eqb-false}
 use Rattle.sqlite_value.specs.Order.{Row as Raw}
 use Rattle.sqlite_value.specs.declared.value.Value.TheVariants.{Text}
 use Rattle.sqlite_trees.specs.Tree.{Trees}
@@ -11,8 +11,8 @@ use Rattle.review_words.specs.History.{Entry, Identity}
 use Rattle.review_changes.specs.Parts.{Part}
 use Rattle.review_rows.specs.declared.rows.StoredFile.{StoredFile}
 use Rattle.review_rows.specs.Changes.{Reading, own_of}
-use Rattle.review_rows.specs.Rows.{Key, AccountKey, MemberKey, FileKey, BaseKey, PartKey, OddKey, Row, AccountRow, MemberRow, FileRow, BaseRow, OddRow, Count, Projects, BasesOf}
-use Rattle.review_rows.specs.View.{IsViewBy, fact, counted, stored_answer, tables_version}
+use Rattle.review_rows.specs.Rows.{Key, AccountKey, MemberKey, FileKey, BaseKey, PartKey, OddKey, Row, AccountRow, MemberRow, FileRow, BaseRow, OddRow, Count, Projects, BasesOf, ClosedEpochs}
+use Rattle.review_rows.specs.View.{IsViewBy, fact, counted, stored_answer, tables_version, kept_answer}
 use Rattle.review_statements.specs.Content.{AreApart, Then}
 use Rattle.review_statements.specs.Desk.{desk_schema, desk_tables, is_tree}
 use Rattle.review_statements.specs.Moved.{AreMoved, with_first_epoch, without_parent}
@@ -26,16 +26,18 @@ use Rattle.review_tables.proofs.ByTree.{at_tree}
 use Rattle.review_tables.proofs.Sequences.{Next}
 use Rattle.review_change_records.specs.Forms.{headers, patches, votes, roles, comments, calls}
 use Rattle.review_records.specs.Keyed.{answer_keyed, earlier_answer_keyed, project_keyed}
-use Rattle.review_records.specs.Forms.{accounts, members, projects, bases, answers, earlier_answers, epochs, request_key}
+use Rattle.review_records.specs.Forms.{accounts, members, projects, bases, answers, earlier_answers, epochs, request_key, earlier_key, first_epoch}
 use Rattle.review_records.specs.declared.rows.Answered.{Answered as Rest}
-use Rattle.review_records.proofs.ReadAlike.{answer_moved, answers_keyed, file_moved, projects_counted, projects_keyed}
+use Rattle.review_records.proofs.ReadAlike.{answer_moved, answers_keyed, file_moved, projects_counted, projects_keyed, answers_of_others}
 use Rattle.review_lookups.specs.EarlierTables.{IsEarlierDesk, keyed_tables_in, projects_in, tables_in}
-use Rattle.review_lookups.specs.Tables.{IsDesk, answer_in, count_in, has_unkeyed, keyed_tables, number_of, row_in, stored_as, tables_at, told}
+use Rattle.review_lookups.specs.Tables.{answer_in, count_in, has_unkeyed, keyed_tables, number_of, row_in, stored_as, tables_at, told, least_in, version_in}
+use Rattle.review_sql.specs.Numbers.{IsDesk}
+use Rattle.review_sql.specs.declared.seen.Numbers.{Numbers}
 use Rattle.review_sql.specs.Changes.{SetsDesk, SetsLeast}
 use Rattle.review_sql.specs.Migrated.{KeepsRows, Upgrades}
 use Rattle.review_sql.specs.Opened.{AreAllApart}
 use Rattle.review_sql.proofs.Edits.{part_same}
-use Rattle.review_sql.proofs.Shown.{not_odd}
+use Rattle.review_sql.proofs.Shown.{not_kept_odd}
 
 -- what tells no odd row reads as what is told
 pub told_file : (found : Option (Option StoredFile)) (file : Option StoredFile) → told FileRow found ≡ option_map FileRow file → found ≡ option_map Some file
@@ -111,7 +113,7 @@ module _ (old mid : Trees) where
   moved_on earlier.First new files stored moved = (subst (AreMoved without_parent (old 4)) (sym files) moved.0, (subst (AreMoved with_first_epoch (old 22)) (sym stored) moved.1.0, tt))
   moved_on earlier.Second new files stored moved = (subst (AreMoved with_first_epoch (old 22)) (sym stored) moved.0, tt)
 
-module _ (version : EarlierVersion) (requests : ℕ) (old mid new : Trees) (stay : (t : ℕ) → is_tree t ≡ true → is_new version t ≡ false → mid t ≡ old t) (moved : AllMoved version old mid) (sets : Then SetsLeast (SetsDesk requests) mid new) where
+module _ (version : EarlierVersion) (numbers : Numbers) (old mid new : Trees) (stay : (t : ℕ) → is_tree t ≡ true → is_new version t ≡ false → mid t ≡ old t) (moved : AllMoved version old mid) (sets : Then (SetsLeast numbers.least) (SetsDesk numbers.requests) mid new) where
   after : (t : ℕ) → is_tree t ≡ true → t ≢ 31 → t ≢ 25 → new t ≡ mid t
   after t is p q = sets.2.others t is q ∙ sets.1.others t is p
 
@@ -133,7 +135,7 @@ module _ (version : EarlierVersion) (requests : ℕ) (old mid new : Trees) (stay
       part_same old new (kept 9 refl refl (λ e. omega (arith, e))) (kept 11 refl refl (λ e. omega (arith, e))) (kept 14 refl refl (λ e. omega (arith, e)))
       (kept 16 refl refl (λ e. omega (arith, e))) (kept 18 refl refl (λ e. omega (arith, e))) (kept 20 refl refl (λ e. omega (arith, e))) n part
 
-  pub desk_after : IsDesk requests new
+  pub desk_after : IsDesk numbers new
   desk_after = record { desk_is = sets.2.here; least_is = ap (λ l. only (reads epochs) (rows_at (epochs.at tt) l)) (sets.2.others 31 refl (λ e. omega (arith, e))) ∙ sets.1.here }
 
   -- whatever rows there are
@@ -143,7 +145,7 @@ module _ (version : EarlierVersion) (requests : ℕ) (old mid new : Trees) (stay
     others = (same 0 refl, (same 2 refl, (same 6 refl, (same 9 refl, (same 11 refl, (same 14 refl, (same 16 refl, (same 18 refl, (same 20 refl, (same 25 refl, (same 26 refl, (same 28 refl, (same 31 refl, tt)))))))))))));
   }
 
-  module _ (reading : Reading) (h : List Entry) (was : IsViewBy reading h (record (tables_in version old) { version = tables_version })) where
+  module _ (reading : Reading) (h : List Entry) (was : IsViewBy reading h (record (tables_in version old) { version = tables_version })) (first : numbers.least ≡ first_epoch) where
     before : AllByRecursion (AllKeyed old) (keyed_tables_in version)
     before = each_keyed (keyed_tables_in version) old (no_odd _ (was.row_is (OddKey [])))
 
@@ -160,21 +162,43 @@ module _ (version : EarlierVersion) (requests : ℕ) (old mid new : Trees) (stay
     stay_keyed : (t : ℕ) (keyed : Raw → Bool) → new t ≡ old t → AllKeyed old (t, keyed) → AllKeyed new (t, keyed)
     stay_keyed t keyed is was = ap (list_any (λ r. not (keyed r))) is ∙ was
 
+    none_apart : (rows : List Raw) → list_any (λ r. false) rows ≡ false
+    none_apart [] = refl
+    none_apart (r ∷ rows) = none_apart rows
+
     unkeyed : has_unkeyed keyed_tables new ≡ false
     unkeyed =
         let rest = before.1.1.1.1.1 in
         all_keyed keyed_tables new (
           stay_keyed 0 accounts.keyed (kept 0 refl refl (λ e. omega (arith, e))) before.0,
-          (stay_keyed 2 members.keyed (kept 2 refl refl (λ e. omega (arith, e))) before.1.0,
-          (ap (list_any (λ r. not (project_keyed r))) files_after ∙ keyed_stays old mid version moved stay files_keyed,
-          (stay_keyed 6 bases.keyed (kept 6 refl refl (λ e. omega (arith, e))) before.1.1.1.0,
-          (ap (list_any (λ r. not (answer_keyed r))) stored_after ∙ answers_keyed (old 22) (mid 28) (stored_moved old mid version moved) stored_keyed,
-          (stay_keyed 9 headers.keyed (kept 9 refl refl (λ e. omega (arith, e))) rest.0,
-          (stay_keyed 11 patches.keyed (kept 11 refl refl (λ e. omega (arith, e))) rest.1.0,
-          (stay_keyed 14 votes.keyed (kept 14 refl refl (λ e. omega (arith, e))) rest.1.1.0,
-          (stay_keyed 16 roles.keyed (kept 16 refl refl (λ e. omega (arith, e))) rest.1.1.1.0,
-          (stay_keyed 18 comments.keyed (kept 18 refl refl (λ e. omega (arith, e))) rest.1.1.1.1.0,
-          (stay_keyed 20 calls.keyed (kept 20 refl refl (λ e. omega (arith, e))) rest.1.1.1.1.1.0, tt)))))))))),
+          (
+            stay_keyed 2 members.keyed (kept 2 refl refl (λ e. omega (arith, e))) before.1.0,
+            (
+              ap (list_any (λ r. not (project_keyed r))) files_after ∙ keyed_stays old mid version moved stay files_keyed,
+              (
+                stay_keyed 6 bases.keyed (kept 6 refl refl (λ e. omega (arith, e))) before.1.1.1.0,
+                (
+                  none_apart (new 28),
+                  (
+                    stay_keyed 9 headers.keyed (kept 9 refl refl (λ e. omega (arith, e))) rest.0,
+                    (
+                      stay_keyed 11 patches.keyed (kept 11 refl refl (λ e. omega (arith, e))) rest.1.0,
+                      (
+                        stay_keyed 14 votes.keyed (kept 14 refl refl (λ e. omega (arith, e))) rest.1.1.0,
+                        (
+                          stay_keyed 16 roles.keyed (kept 16 refl refl (λ e. omega (arith, e))) rest.1.1.1.0,
+                          (
+                            stay_keyed 18 comments.keyed (kept 18 refl refl (λ e. omega (arith, e))) rest.1.1.1.1.0,
+                            (stay_keyed 20 calls.keyed (kept 20 refl refl (λ e. omega (arith, e))) rest.1.1.1.1.1.0, tt),
+                          ),
+                        ),
+                      ),
+                    ),
+                  ),
+                ),
+              ),
+            ),
+          ),
         )
 
     file_row : (project : List ℕ) → told FileRow (row_at projects new project) ≡ option_map FileRow (own_of h project)
@@ -197,39 +221,47 @@ module _ (version : EarlierVersion) (requests : ℕ) (old mid new : Trees) (stay
     counts : (c : Count) → count_in new c ≡ counted h c
     counts Projects = ap length files_after ∙ (count_stays old mid version moved stay files_keyed ∙ was.count_is Projects)
     counts (BasesOf project) = ap (λ l. length (rows_at ((1, Text project) ∷ []) l)) (kept 6 refl refl (λ e. omega (arith, e))) ∙ was.count_is (BasesOf project)
+    counts ClosedEpochs = ap least_in desk_after.least_is ∙ (first ∙ was.count_is ClosedEpochs)
 
-    stored : (i : Identity) → answer_in new i ≡ stored_answer h i
+    stored : (i : Identity) → answer_in new i ≡ kept_answer h i
     stored i =
-        ap (λ l. stored_as i (only (reads answers) (rows_at (answers.at (request_key i.caller i.id)) l))) stored_after
-        ∙ by (row_at earlier_answers old (request_key i.caller i.id)) refl (was.answer_is i)
+        ap (λ l. stored_as i (only (reads answers) (rows_at (answers.at (request_key i)) l))) stored_after
+        ∙ elim (cases_Bool (i.epoch == first_epoch)) [
+          | inl first ↦ by (row_at earlier_answers old (earlier_key i.caller i.id)) refl (eqb-true i.epoch first_epoch first) (sym (ap (λ b. cond b (stored_as i (row_at earlier_answers old (earlier_key i.caller i.id))) None) first) ∙ was.answer_is i)
+          | inr other ↦
+              ap (λ l. stored_as i (only (reads answers) l)) (answers_of_others (old 22) (mid 28) (stored_moved old mid version moved) i.caller i.epoch i.id (λ same. eqb-false i.epoch first_epoch other same))
+              ∙ (sym (ap (λ b. cond b (stored_as i (row_at earlier_answers old (earlier_key i.caller i.id))) None) other) ∙ was.answer_is i)
+        ]
       where
-        moved_so : (found : Option Rest) → row_at earlier_answers old (request_key i.caller i.id) ≡ option_map Some found → answer_in mid i ≡ stored_as i (option_map Some found)
-        moved_so found is = ap (stored_as i) (answer_moved (old 22) (mid 28) (stored_moved old mid version moved) stored_keyed i.caller i.id found is)
+        moved_so : (found : Option Rest) → i.epoch ≡ first_epoch → row_at earlier_answers old (earlier_key i.caller i.id) ≡ option_map Some found → answer_in mid i ≡ stored_as i (option_map Some found)
+        moved_so found first is =
+            ap (λ e. stored_as i (row_at answers mid (record { caller = i.caller; epoch = e; id = i.id }))) first
+            ∙ ap (stored_as i) (answer_moved (old 22) (mid 28) (stored_moved old mid version moved) stored_keyed i.caller i.id found is)
 
-        by : (found : Option (Option Rest)) → row_at earlier_answers old (request_key i.caller i.id) ≡ found → stored_as i found ≡ stored_answer h i → answer_in mid i ≡ stored_answer h i
-        by None is told = moved_so None is ∙ told
-        by (Some None) is told = absurd (not_odd h i (sym told))
-        by (Some (Some a)) is told = moved_so (Some a) is ∙ told
+        by : (found : Option (Option Rest)) → row_at earlier_answers old (earlier_key i.caller i.id) ≡ found → i.epoch ≡ first_epoch → stored_as i found ≡ kept_answer h i → answer_in mid i ≡ kept_answer h i
+        by None is first told = moved_so None first is ∙ told
+        by (Some None) is first told = absurd (not_kept_odd h i (sym told))
+        by (Some (Some a)) is first told = moved_so (Some a) first is ∙ told
 
-    pub shows : IsEarlierDesk version requests old → IsViewBy reading h (tables_at new)
-    shows first = record {
+    pub shows : IsEarlierDesk version numbers.requests old → IsViewBy reading h (tables_at new)
+    shows said = record {
       row_is = rows;
       count_is = counts;
       answer_is = stored;
-      version = ap (number_of (λ d. d.version)) sets.2.here;
-      requests = ap (number_of (λ d. d.requests)) sets.2.here ∙ (sym (ap (number_of (λ d. d.requests)) first) ∙ was.requests);
+      version = (λ k. version_in (desk_after.least_is k) (sets.2.here k));
+      requests = ap (number_of (λ d. d.requests)) sets.2.here ∙ (sym (ap (number_of (λ d. d.requests)) said) ∙ was.requests);
     }
 
 -- what was seen of the tables between, of ours: that the rows of each have rowids of their own
 abbrev pub Looked : Database → Database → Type 0
 Looked old new = old.schema ≡ desk_schema → (new ≡ old) × Decides true (AreAllApart old.trees)
 
-pub upgrades : (version : EarlierVersion) (requests : ℕ) (old new : Database) → Next (Next (Migrates version) Looked) (OnDesk (Then SetsLeast (SetsDesk requests))) old new → Upgrades version true requests old new
-upgrades version requests old new h = record {
-  ready = λ ours has. (h.2.ready (ready has), desk_after version requests old.trees mid.trees new.trees (stay has) (moved has) (h.2.changes (ready has)));
-  keeps = λ ours has. rows_kept version requests old.trees mid.trees new.trees (stay has) (moved has) (h.2.changes (ready has));
-  view = λ ours has first history was reading right.
-      shows version requests old.trees mid.trees new.trees (stay has) (moved has) (h.2.changes (ready has)) reading history (was.1 reading right) first;
+pub upgrades : (version : EarlierVersion) (numbers : Numbers) (old new : Database) → Next (Next (Migrates version) Looked) (OnDesk (Then (SetsLeast numbers.least) (SetsDesk numbers.requests))) old new → Upgrades version true numbers old new
+upgrades version numbers old new h = record {
+  ready = λ ours has. (h.2.ready (ready has), desk_after version numbers old.trees mid.trees new.trees (stay has) (moved has) (h.2.changes (ready has)));
+  keeps = λ ours has. rows_kept version numbers old.trees mid.trees new.trees (stay has) (moved has) (h.2.changes (ready has));
+  view = λ ours has said first history was reading right.
+      shows version numbers old.trees mid.trees new.trees (stay has) (moved has) (h.2.changes (ready has)) reading history (was.1 reading right) first said;
 }
   where
     mid : Database
@@ -254,5 +286,5 @@ upgrades version requests old new h = record {
     ready has = subst IsReady (sym (looked has).0) (record { schema = migrated.schema has; apart = λ t is. at_tree (λ n. AreApart (between.trees n)) desk_tables ((looked has).1.0 refl) t is })
 
 -- of tables that are not ours nothing is said
-pub upgrades_others : (version : EarlierVersion) (requests : ℕ) (old new : Database) → Upgrades version false requests old new
-upgrades_others version requests old new = record { ready = λ ours has. absurd (cc); keeps = λ ours has. absurd (cc); view = λ ours has first h was. absurd (cc) }
+pub upgrades_others : (version : EarlierVersion) (numbers : Numbers) (old new : Database) → Upgrades version false numbers old new
+upgrades_others version numbers old new = record { ready = λ ours has. absurd (cc); keeps = λ ours has. absurd (cc); view = λ ours has first h was. absurd (cc) }

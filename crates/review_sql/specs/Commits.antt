@@ -1,5 +1,5 @@
 -- What a commit does to the tables of a desk.
-use Rattle.std.specs.Prelude.{ℕ, ◌+◌, ◌≤◌, List, length}
+use Rattle.std.specs.Prelude.{ℕ, ◌≤◌, List, length}
 use Rattle.sqlite_trees.specs.Tree.{Trees}
 use Rattle.sqlite.specs.Effect.{Database}
 use Rattle.review_rows.specs.Rows.{kept_row}
@@ -10,7 +10,9 @@ use Rattle.review_statements.specs.Ran.{IsReady}
 use Rattle.review_statements.specs.Search.{rows_at}
 use Rattle.review_rows.specs.declared.rows.PlaceKey.{PlaceKey}
 use Rattle.review_records.specs.Forms.{projects, bases}
-use Rattle.review_lookups.specs.Tables.{tables_at, IsDesk}
+use Rattle.review_lookups.specs.Tables.{tables_at}
+use Rattle.review_sql.specs.Numbers.{IsDesk, more}
+use Rattle.review_sql.specs.declared.seen.Numbers.{Numbers}
 use Rattle.review_sql.specs.Named.{KeepsRest}
 
 -- no two rows of the tables whose rows are counted have one key
@@ -18,9 +20,9 @@ pub record AreSingle (db : Trees) : Type 0 where
   pub projects_are : (project : List ℕ) → length (rows_at (projects.at project) (db projects.tree)) ≤ 1
   pub bases_are : (key : PlaceKey) → length (rows_at (bases.at key) (db bases.tree)) ≤ 1
 
--- the delta is applied and the request is stored, where the tables are a desk's and so many requests were; no row comes or goes but those of the keys that are named
-pub record Commits (delta : Delta) (kept : Kept) (requests : ℕ) (old new : Database) : Type 0 where
+-- the delta is applied and the request is stored, where the tables are a desk's with these numbers; no row comes or goes but those of the keys that are named, and the kept answers of epochs that close
+pub record Commits (delta : Delta) (kept : Kept) (numbers : Numbers) (old new : Database) : Type 0 where
   pub ready : IsReady old → IsReady new
-  pub committed : IsReady old → AreSingle old.trees → IsDesk requests old.trees → IsCommitted (tables_at old.trees) delta (kept_row kept) (tables_at new.trees)
-  pub desk : IsReady old → IsDesk requests old.trees → IsDesk (requests + 1) new.trees
+  pub committed : IsReady old → AreSingle old.trees → IsDesk numbers old.trees → IsCommitted (tables_at old.trees) delta (kept_row kept) (tables_at new.trees)
+  pub desk : IsReady old → IsDesk numbers old.trees → IsDesk (more numbers delta.epoch) new.trees
   pub rest : IsReady old → KeepsRest delta kept old.trees new.trees

@@ -4,6 +4,7 @@ pub mod Named
 pub mod First
 pub mod Shelf
 pub mod Created
+pub mod Numbers
 pub mod Said
 pub mod Opened
 pub mod Reopened

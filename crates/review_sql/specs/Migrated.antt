@@ -19,8 +19,11 @@ use Rattle.review_tables.specs.Versions.{is_new, schema_at, version_number, vers
 use Rattle.review_tables.specs.declared.versions.EarlierVersion.{EarlierVersion}
 use Rattle.review_tables.specs.declared.versions.TablesVersion.{TablesVersion}
 use Rattle.review_tables.specs.declared.versions.TablesVersion.TheVariants.{First, Second, Third}
+use Rattle.review_records.specs.Forms.{first_epoch}
 use Rattle.review_lookups.specs.EarlierTables.{tables_in, IsEarlierDesk}
-use Rattle.review_lookups.specs.Tables.{tables_at, IsDesk}
+use Rattle.review_lookups.specs.Tables.{tables_at}
+use Rattle.review_sql.specs.Numbers.{IsDesk}
+use Rattle.review_sql.specs.declared.seen.Numbers.{Numbers}
 use Rattle.review_sql.specs.declared.faults.DeskFault.{DeskFault}
 use Rattle.review_sql.specs.declared.faults.DeskFault.TheVariants.{NotADesk, WrongVersion, NotEmpty, NotOurs}
 use Rattle.review_sql.specs.Opened.{AreApartIn, IsOpened, IsSeen}
@@ -40,10 +43,10 @@ pub record KeepsRows (version : EarlierVersion) (old new : Trees) : Type 0 where
   pub others : AllByRecursion (λ t. is_new version t.tree ≡ false → t.tree ≢ table.desk.tree → new t.tree ≡ old t.tree) table.desk_tables
 
 -- Tables of an earlier version, where they are ours, become those of a desk of version 3 with so many requests, of the same history.
-pub record Upgrades (version : EarlierVersion) (is_ours : Bool) (requests : ℕ) (old new : Database) : Type 0 where
-  pub ready : IsTrue is_ours → old.schema ≡ schema_at (version_of version) → IsReady new × IsDesk requests new.trees
+pub record Upgrades (version : EarlierVersion) (is_ours : Bool) (numbers : Numbers) (old new : Database) : Type 0 where
+  pub ready : IsTrue is_ours → old.schema ≡ schema_at (version_of version) → IsReady new × IsDesk numbers new.trees
   pub keeps : IsTrue is_ours → old.schema ≡ schema_at (version_of version) → KeepsRows version old.trees new.trees
-  pub view : IsTrue is_ours → old.schema ≡ schema_at (version_of version) → IsEarlierDesk version requests old.trees → (h : List Entry) → IsViewIn version h (tables_in version old.trees) → IsView h (tables_at new.trees)
+  pub view : IsTrue is_ours → old.schema ≡ schema_at (version_of version) → IsEarlierDesk version numbers.requests old.trees → numbers.least ≡ first_epoch → (h : List Entry) → IsViewIn version h (tables_in version old.trees) → IsView h (tables_at new.trees)
 
 -- how a transaction ended that was to be taken back where this is false, which is told as a failure
 abbrev pub if_whole : Result Bool Error → Result (Unit {0}) Error
@@ -57,21 +60,21 @@ IsHindered version old new result =
     HasCleanDisk new → IsTrue old.in_transaction → IfOk result (λ whole. whole ≡ false → old.now.schema ≡ schema_at (version_of version) → AreApartIn (version_of version) old.now.trees → ⊥)
 
 -- tables of an earlier version were made those of version 3
-pub record IsRaised {S : Type 0} (g : Ghosts S) (version : EarlierVersion) (is_ours : Bool) (old new : Held S) (requests : ℕ) : Type 0 where
+pub record IsRaised {S : Type 0} (g : Ghosts S) (version : EarlierVersion) (is_ours : Bool) (old new : Held S) (numbers : Numbers) : Type 0 where
   pub form : HasCleanDisk (state g new) → IsTrue is_ours → old.schema ≡ schema_at (version_of version)
-  pub there : HasCleanDisk (state g new) → IsThere (version_of version) (state g old).now requests
-  pub acts : Transacts {X = Unit {0}} (Upgrades version is_ours requests) (state g old) (state g new) (Ok (tt {0}))
+  pub there : HasCleanDisk (state g new) → IsThere (version_of version) (state g old).now numbers
+  pub acts : Transacts {X = Unit {0}} (Upgrades version is_ours numbers) (state g old) (state g new) (Ok (tt {0}))
 
 -- tables of version 3 were seen, and as ours where they are to be
-pub record IsKept (is_ours : Bool) (old new : State) (requests : ℕ) : Type 0 where
+pub record IsKept (is_ours : Bool) (old new : State) (numbers : Numbers) : Type 0 where
   pub has_form : Bool
   pub ours : IsTrue is_ours → has_form ≡ true
   pub stays : Stays old new
-  pub seen : IsTrue new.is_open → IsSeen old (record { is_ours = has_form; requests = requests })
+  pub seen : IsTrue new.is_open → IsSeen old (record { is_ours = has_form; numbers = numbers })
 
 -- tables of an earlier version were made those of version 3, or tables of version 3 were kept
-abbrev pub IsBrought : {S : Type 0} → Ghosts S → Bool → Held S → Held S → ℕ → Type 0
-IsBrought g is_ours old new requests = ((version : EarlierVersion) × IsRaised g version is_ours old new requests) ⊎ IsKept is_ours (state g old) (state g new) requests
+abbrev pub IsBrought : {S : Type 0} → Ghosts S → Bool → Held S → Held S → Numbers → Type 0
+IsBrought g is_ours old new numbers = ((version : EarlierVersion) × IsRaised g version is_ours old new numbers) ⊎ IsKept is_ours (state g old) (state g new) numbers
 
 -- Of tables of an earlier version those of version 3 were made. Where they are ours, these keep the rows, and view the same history, if the old ones view it as that version keeps it; and a stop within it leaves what one could leave before, or
 -- these, and one after it these alone.
@@ -79,28 +82,28 @@ pub record IsUpgraded {S : Type 0} (g : Ghosts S) (is_ours : Bool) (conn : Held 
   pub version : EarlierVersion
   pub faults : shelf.faults ≡ 0
   pub form : HasCleanDisk (state g shelf.conn) → IsTrue is_ours → conn.schema ≡ schema_at (version_of version)
-  pub there : HasCleanDisk (state g shelf.conn) → IsTrue (state g shelf.conn).is_open × IsThere (version_of version) (state g conn).now shelf.requests
+  pub there : HasCleanDisk (state g shelf.conn) → IsTrue (state g shelf.conn).is_open × IsThere (version_of version) (state g conn).now shelf.numbers
   pub keeps : HasCleanDisk (state g shelf.conn) → IsTrue is_ours → KeepsRows version (state g conn).now.trees (state g shelf.conn).now.trees
   pub view : HasCleanDisk (state g shelf.conn) → IsTrue is_ours → (h : List Entry) → IsViewIn version h (tables_in version (state g conn).now.trees) → IsView h (tables_at (state g shelf.conn).now.trees)
   pub alone : HasCleanDisk (state g shelf.conn) → StopLeavesOwnTables (shown g is_ours shelf)
-  pub survives : Survives (state g conn) (state g shelf.conn) (λ db. IsTrue (state g conn).is_open × ((after : Database) × (db ≡ after.trees) × Upgrades version is_ours shelf.requests (state g conn).now after))
+  pub survives : Survives (state g conn) (state g shelf.conn) (λ db. IsTrue (state g conn).is_open × ((after : Database) × (db ≡ after.trees) × Upgrades version is_ours shelf.numbers (state g conn).now after))
 
 -- A desk of version 3 was opened, as `open` says.
 pub record IsOpenedAsIs {S : Type 0} (g : Ghosts S) (is_ours : Bool) (conn : Held S) (shelf : ShelfView S) : Type 0 where
   pub opened : IsOpened g conn shelf
-  pub there : IsTrue (state g shelf.conn).is_open → IsThere Third (state g conn).now shelf.requests
+  pub there : IsTrue (state g shelf.conn).is_open → IsThere Third (state g conn).now shelf.numbers
   pub goes_on : ReopensLast g is_ours conn shelf
 
 -- What a stop within `migrate` may leave beside what was, where a desk of an earlier version is there: of tables of ours, which have our form, those of version 3 with the same history; of those of others nothing is said.
 pub record LeavesUpgraded (is_ours : Bool) (old : State) (db : Trees) : Type 0 where
   pub version : EarlierVersion
   pub is_open : IsTrue old.is_open
-  pub requests : ℕ
-  pub there : IsThere (version_of version) old.now requests
+  pub numbers : Numbers
+  pub there : IsThere (version_of version) old.now numbers
   pub form : IsTrue is_ours → old.now.schema ≡ schema_at (version_of version)
   pub after : Database
   pub left : db ≡ after.trees
-  pub upgrades : Upgrades version is_ours requests old.now after
+  pub upgrades : Upgrades version is_ours numbers old.now after
 
 -- A refusal leaves what was. A stop within it leaves that or, of a desk of an earlier version alone, what it becomes; and nothing but what was where it is refused as no desk or as another version,
 -- or where a desk of version 3 is there that is to be ours.
@@ -108,12 +111,12 @@ pub record IsNotMigrated (is_ours : Bool) (fault : DeskFault) (old new : State) 
   pub undone : IsTrue new.is_open → IsTrue old.is_open × (new.now ≡ old.now)
   pub survives : Survives old new (LeavesUpgraded is_ours old)
   pub no_earlier : (fault ≡ NotADesk) ⊎ (fault ≡ WrongVersion) → Stays old new
-  pub latest : IsTrue is_ours → (requests : ℕ) → IsThere Third old.now requests → Stays old new
+  pub latest : IsTrue is_ours → (numbers : Numbers) → IsThere Third old.now numbers → Stays old new
 
 -- Why tables are not migrated: as no desk only where they are none, or lack something of one of the version that they say; as another version only where they say none of the versions 1 to 3; and as not ours only
 -- where a desk of one of these versions is there whose tables are of another form than was made here, or have two rows with one rowid.
 pub record IsUnfit (db : Database) (fault : DeskFault) : Type 0 where
   pub no_desk : fault ≡ NotADesk → (version : TablesVersion) × IsNone version db
   pub other_version : fault ≡ WrongVersion → SaysOther (First ∷ Second ∷ Third ∷ []) db
-  pub not_ours : fault ≡ NotOurs → (version : TablesVersion) × ((requests : ℕ) × IsThere version db requests) × (db.schema ≡ schema_at version → AreApartIn version db.trees → ⊥)
+  pub not_ours : fault ≡ NotOurs → (version : TablesVersion) × ((numbers : Numbers) × IsThere version db numbers) × (db.schema ≡ schema_at version → AreApartIn version db.trees → ⊥)
   pub not_empty : fault ≢ NotEmpty

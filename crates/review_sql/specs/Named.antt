@@ -1,17 +1,18 @@
 -- Which rows a commit names by their keys, table by table.
-use Rattle.std.specs.Prelude.{ℕ, ◌≡◌, Bool, true, false, List, filter, IfSome}
+use Rattle.std.specs.Prelude.{ℕ, pos, ◌≡◌, Bool, true, false, List, filter, IfSome}
 use Rattle.std.specs.List.{AllByRecursion}
-use Rattle.sqlite_value.specs.Order.{Row as Raw}
+use Rattle.sqlite_value.specs.Order.{Row as Raw, column}
 use Rattle.sqlite_trees.specs.Tree.{Trees}
 use Rattle.review_table.specs.declared.table.Change.{Change}
 use Rattle.review_rows.specs.declared.rows.ChangeEdit.{ChangeEdit}
 use Rattle.review_rows.specs.declared.rows.Delta.{Delta}
 use Rattle.review_rows.specs.declared.rows.Kept.{Kept}
-use Rattle.review_statements.specs.Content.{has_key}
+use Rattle.review_rows.specs.Rows.{kept_row}
+use Rattle.review_statements.specs.Content.{has_key, is_below}
 use Rattle.review_statements.specs.Desk.{is_tree}
 use Rattle.review_statements.specs.Search.{Search}
 use Rattle.review_change_records.specs.Forms.{headers, patches, votes, roles, comments, calls}
-use Rattle.review_records.specs.Forms.{accounts, members, projects, bases, answers, desk, request_key}
+use Rattle.review_records.specs.Forms.{accounts, members, projects, bases, answers, desk, epoch_place, epochs, request_key}
 
 -- A test on the raw rows of a table.
 abbrev pub Test : Type 0
@@ -38,15 +39,17 @@ pub record SparesEdit (tree : ℕ) (test : Test) (e : ChangeEdit) : Type 0 where
   pub of_comments : SparesParts tree test comments e.change e.comments.items
   pub of_calls : SparesParts tree test calls e.change e.attention.items
 
--- the test passes no row that a delta names, nor the row of the request, nor that of the desk
+-- the test passes no row that a delta names, nor the row of the request, nor that of the desk, nor where an epoch is named that of the epochs and the stored requests of lower ones
 pub record SparesNamed (delta : Delta) (kept : Kept) (tree : ℕ) (test : Test) : Type 0 where
   pub of_accounts : SparesAll tree test accounts delta.accounts.items
   pub of_members : SparesAll tree test members delta.members.items
   pub of_file : IfSome delta.file (λ r. Spares tree test projects r.key)
   pub of_base : IfSome delta.base (λ r. Spares tree test bases r.key)
   pub of_changes : AllByRecursion (SparesEdit tree test) delta.changes.items
-  pub of_answer : Spares tree test answers (request_key kept.caller kept.id)
+  pub of_answer : Spares tree test answers (request_key (kept_row kept).identity)
   pub of_desk : Spares tree test desk tt
+  pub of_epochs : IfSome delta.epoch (λ least. Spares tree test epochs tt)
+  pub of_closed : IfSome delta.epoch (λ least. tree ≡ answers.tree → (r : Raw) → is_below (column r epoch_place) (pos least) ≡ true → test r ≡ false)
 
 -- of each table the rows that no named key has are as they were, whatever test finds them
 pub record KeepsRest (delta : Delta) (kept : Kept) (old new : Trees) : Type 0 where

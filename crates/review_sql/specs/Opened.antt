@@ -15,7 +15,8 @@ use Rattle.review_tables.specs.declared.versions.TablesVersion.TheVariants.{Thir
 use Rattle.review_sql.specs.declared.seen.Seen.{Seen}
 use Rattle.review_sql.specs.declared.faults.DeskFault.{DeskFault}
 use Rattle.review_sql.specs.declared.faults.DeskFault.TheVariants.{NotADesk, WrongVersion, NotEmpty, NotOurs}
-use Rattle.review_lookups.specs.Tables.{IsDesk}
+use Rattle.review_sql.specs.Numbers.{IsDesk}
+use Rattle.review_sql.specs.declared.seen.Numbers.{Numbers}
 use Rattle.review_sql.specs.Said.{IsDeskThere, IsNoDesk, IsNone, IsOtherVersion}
 use Rattle.review_sql.specs.Shelf.{ShelfView, Stays}
 
@@ -39,15 +40,15 @@ pub record IsOpened {S : Type 0} (g : Ghosts S) (conn : Held S) (shelf : ShelfVi
 
 -- the tables are ours only where they are those of a desk with so many requests, and wherever they have the form and their rows rowids of their own; of any form, a desk is there
 pub record IsSeen (s : State) (seen : Seen) : Type 0 where
-  pub ready : seen.is_ours ≡ true → IsReady s.now × IsDesk seen.requests s.now.trees
+  pub ready : seen.is_ours ≡ true → IsReady s.now × IsDesk seen.numbers s.now.trees
   pub ours : s.now.schema ≡ desk_schema → AreAllApart s.now.trees → seen.is_ours ≡ true
-  pub there : IsDeskThere s.now seen.requests
+  pub there : IsDeskThere s.now seen.numbers
 
 -- Why tables are refused, of whatever form: as no desk or another version only where they are, and as not ours only where a desk is there whose tables are of another form or have two rows with one rowid.
 pub record IsRefused (s : State) (fault : DeskFault) : Type 0 where
   pub no_desk : fault ≡ NotADesk → IsNoDesk s.now
   pub other_version : fault ≡ WrongVersion → IsOtherVersion s.now
-  pub not_ours : fault ≡ NotOurs → ((requests : ℕ) × IsDeskThere s.now requests) × (s.now.schema ≡ desk_schema → AreAllApart s.now.trees → ⊥)
+  pub not_ours : fault ≡ NotOurs → ((numbers : Numbers) × IsDeskThere s.now numbers) × (s.now.schema ≡ desk_schema → AreAllApart s.now.trees → ⊥)
   pub not_empty : fault ≢ NotEmpty
 
 -- Why tables are refused that say this version or none: as no desk only where they are none, and else for want of memory or a fault of the store.

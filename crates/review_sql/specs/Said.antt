@@ -10,7 +10,9 @@ use Rattle.review_tables.specs.Columns.{number_in}
 use Rattle.review_tables.specs.Versions.{version_number}
 use Rattle.review_tables.specs.declared.versions.TablesVersion.{TablesVersion}
 use Rattle.review_tables.specs.declared.versions.TablesVersion.TheVariants.{First, Second, Third}
-use Rattle.review_records.specs.Forms.{first_epoch}
+use Rattle.review_words.specs.Epochs.{is_epoch}
+use Rattle.review_records.specs.Forms.{first_epoch, where_is}
+use Rattle.review_sql.specs.declared.seen.Numbers.{Numbers}
 use Rattle.review_sql.specs.declared.seen.Said.{Said}
 use Rattle.review_sql.specs.Shelf.{AreAllRead, IsUnderstood}
 
@@ -51,32 +53,36 @@ pub record IsSaid (db : Database) (said : Said) : Type 0 where
 abbrev pub SaysVersion : TablesVersion → Database → Said → Type 0
 SaysVersion version db said = IsSaid db said × (said.version ≡ Some (version_number version))
 
--- The one row of the table `epochs` says that the first epoch is the least open; before version 3 there are none.
-abbrev pub SaysLeast : TablesVersion → Database → Type 0
-SaysLeast First db = Unit {0}
-SaysLeast Second db = Unit {0}
-SaysLeast Third db = (rows : List Row) × ShowsEpochs db rows × (number_of_one 0 rows ≡ Some first_epoch)
+-- the least open epoch that the one row of the table `epochs` says
+abbrev pub least_in : List Row → Option ℕ
+least_in rows = where_is is_epoch (number_of_one 0 rows)
 
--- the rows of the table `epochs` say nothing, or something else
+-- The one row of the table `epochs` says that this epoch is the least open one; before version 3 it is the first.
+abbrev pub SaysLeast : TablesVersion → Database → ℕ → Type 0
+SaysLeast First db least = least ≡ first_epoch
+SaysLeast Second db least = least ≡ first_epoch
+SaysLeast Third db least = (rows : List Row) × ShowsEpochs db rows × (least_in rows ≡ Some least)
+
+-- the rows of the table `epochs` say no epoch
 abbrev pub LacksLeast : TablesVersion → Database → Type 0
 LacksLeast First db = ⊥
 LacksLeast Second db = ⊥
-LacksLeast Third db = (rows : List Row) × ShowsEpochs db rows × (number_of_one 0 rows ≢ Some first_epoch)
+LacksLeast Third db = (rows : List Row) × ShowsEpochs db rows × (least_in rows ≡ None)
 
--- the table `desk` has one row, which says this version and so many requests, all columns of the other tables of the version are there, and the least open epoch is the first
-pub record IsThere (version : TablesVersion) (db : Database) (requests : ℕ) : Type 0 where
+-- the table `desk` has one row, which says this version and so many requests, all columns of the other tables of the version are there, and that the least open epoch is this one
+pub record IsThere (version : TablesVersion) (db : Database) (numbers : Numbers) : Type 0 where
   pub rows : List Row
   pub shown : ShowsDesk db rows
   pub version_is : version_in rows ≡ Some (version_number version)
-  pub requests_are : requests_in rows ≡ Some requests
+  pub requests_are : requests_in rows ≡ Some numbers.requests
   pub tables : AreAllRead version db.schema
-  pub least : SaysLeast version db
+  pub least : SaysLeast version db numbers.least
 
 -- a desk of version 3 is there
-abbrev pub IsDeskThere : Database → ℕ → Type 0
+abbrev pub IsDeskThere : Database → Numbers → Type 0
 IsDeskThere = IsThere Third
 
--- how many requests there are is not said, a table is missing, or the least open epoch is not the first
+-- how many requests there are is not said, a table is missing, or no least open epoch is said
 abbrev pub LacksPart : TablesVersion → Database → List Row → Type 0
 LacksPart version db rows = (requests_in rows ≡ None) ⊎ ((AreAllRead version db.schema → ⊥) ⊎ LacksLeast version db)
 

@@ -24,27 +24,29 @@ use Rattle.review_statements.specs.Ran.{IsReady}
 use Rattle.review_tables.specs.declared.versions.TablesVersion.{TablesVersion}
 use Rattle.review_tables.specs.declared.versions.TablesVersion.TheVariants.{First, Second, Third}
 use Rattle.review_sql.specs.First.{MakesDesk}
-use Rattle.review_lookups.specs.Tables.{tables_at, IsDesk}
+use Rattle.review_lookups.specs.Tables.{tables_at}
+use Rattle.review_sql.specs.Numbers.{IsDesk}
+use Rattle.review_sql.specs.declared.seen.Numbers.{Numbers}
 
--- the connection, how many requests are stored, and how many calls were refused
+-- the connection, what the desk says of itself, and how many calls were refused
 pub record ShelfView (S : Type 0) : Type 0 where
   pub conn : Held S
-  pub requests : ℕ
+  pub numbers : Numbers
   pub faults : ℕ
 
 abbrev pub view_code : {S : Type 0} → Coded S → Coded (ShelfView S)
 view_code {S} store =
-    code_by (Held S × (ℕ × ℕ)) (coded× (held_code store) (coded× coded_ℕ coded_ℕ)) (λ k. (k.conn, (k.requests, k.faults)))
-    (λ p. record { conn = p.0; requests = p.1.0; faults = p.1.1 }) (λ _. refl)
+    code_by (Held S × ((ℕ × ℕ) × ℕ)) (coded× (held_code store) (coded× (coded× coded_ℕ coded_ℕ) coded_ℕ)) (λ k. (k.conn, ((k.numbers.requests, k.numbers.least), k.faults)))
+    (λ p. record { conn = p.0; numbers = record { requests = p.1.0.0; least = p.1.0.1 }; faults = p.1.1 }) (λ _. refl)
 
 -- Between calls no transaction is open, and an open connection whose tables are ours has the tables of a desk.
-pub record Holds {S : Type 0} (g : Ghosts S) (conn : Held S) (is_ours : Bool) (requests : ℕ) : Type 0 where
+pub record Holds {S : Type 0} (g : Ghosts S) (conn : Held S) (is_ours : Bool) (numbers : Numbers) : Type 0 where
   pub autocommit : conn.in_transaction ≡ false
-  pub ready : IsTrue is_ours → IsTrue (state g conn).is_open → IsReady (state g conn).now × IsDesk requests (state g conn).now.trees
+  pub ready : IsTrue is_ours → IsTrue (state g conn).is_open → IsReady (state g conn).now × IsDesk numbers (state g conn).now.trees
 
 -- a shelf was closed, which leaves its connection
 abbrev pub IsClosed : {S : Type 0} → Ghosts S → Bool → ShelfView S → Held S → Type 0
-IsClosed g is_ours shelf conn = (conn ≡ shelf.conn) × Holds g shelf.conn is_ours shelf.requests
+IsClosed g is_ours shelf conn = (conn ≡ shelf.conn) × Holds g shelf.conn is_ours shelf.numbers
 
 -- the tables in use, where no fault has shut the connection
 abbrev pub tables_of : {S : Type 0} → Ghosts S → Held S → Option Tables

@@ -8,12 +8,12 @@ use review_records::accounts::Accounts;
 use review_records::desk::Desk;
 use review_records::epochs::Epochs;
 use review_records::members::Members;
-use review_records::rows::{DeskRow, FIRST_EPOCH};
+use review_records::rows::DeskRow;
 use review_rows::MemberKey;
 use review_tables::changes::{change, set};
 use review_tables::creating::create_tables;
 use review_tables::versions::TablesVersion;
-use review_words::{AccountNo, admin_name, administrators};
+use review_words::{AccountNo, Epoch, admin_name, administrators};
 use sqlite::{Alter, Connection, Error, Transaction};
 use std::alloc::Global;
 
@@ -34,7 +34,7 @@ fn put_first<S: Alter>(tx: &mut Transaction<'_, S>, alloc: Global) -> Result<(),
     };
     change::<Accounts, S>(tx, alloc, &first, &name)?;
     change::<Members, S>(tx, alloc, &member, &Some(()))?;
-    set::<Epochs, S>(tx, alloc, &(), &FIRST_EPOCH)?;
+    set::<Epochs, S>(tx, alloc, &(), &Epoch::first())?;
     set::<Desk, S>(tx, alloc, &(), &row)
 }
 

@@ -12,10 +12,10 @@ ghost use Rattle.review_sql.specs.Shelf.{Stays};
 
 use crate::faults::DeskFault;
 use crate::opening::{ask, see_desk, see_tables, version_of};
-use crate::seen::Said;
+use crate::seen::{Numbers, Said};
 use review_records::desk::Desk;
 use review_records::epochs::Epochs;
-use review_records::rows::{DeskRow, FIRST_EPOCH};
+use review_records::rows::DeskRow;
 use review_tables::changes::set;
 use review_tables::migrating::migrate_tables;
 use review_tables::rowids::are_all_apart;
@@ -23,21 +23,21 @@ use review_tables::versions::{EarlierVersion, TablesVersion};
 use sqlite::{Alter, Connection, Error, Transaction};
 use std::alloc::Global;
 
-// Says that the first epoch is the least open, version 3, and how many requests are stored.
+// Says which epoch is the least open one, version 3, and how many requests are stored.
 fn put_version<S: Alter>(
     tx: &mut Transaction<'_, S>,
     alloc: Global,
-    requests: u64,
+    numbers: Numbers,
 ) -> Result<(), Error>
     ensures same_reference { tx.new.conn.ghost_name ≡ tx.old.conn.ghost_name }
-    ensures ran { Inside (Then SetsLeast (SetsDesk requests)) (state S.Store tx.old.conn.now) (state S.Store tx.new.conn.now) result }
+    ensures ran { Inside (Then (SetsLeast numbers.least) (SetsDesk numbers.requests)) (state S.Store tx.old.conn.now) (state S.Store tx.new.conn.now) result }
     ensures open { Opens (state S.Store tx.old.conn.now) (state S.Store tx.new.conn.now) result }
 {
     let row = DeskRow {
         version: 3,
-        requests,
+        requests: numbers.requests,
     };
-    set::<Epochs, S>(tx, alloc, &(), &FIRST_EPOCH)?;
+    set::<Epochs, S>(tx, alloc, &(), &numbers.least)?;
     set::<Desk, S>(tx, alloc, &(), &row)
 }
 
@@ -46,10 +46,10 @@ fn rewrite_ours<S: Alter>(
     tx: &mut Transaction<'_, S>,
     alloc: Global,
     version: EarlierVersion,
-    requests: u64,
+    numbers: Numbers,
 ) -> Result<bool, Error>
     ensures same_reference { tx.new.conn.ghost_name ≡ tx.old.conn.ghost_name }
-    ensures ran { Within (Upgrades version true requests) (state S.Store tx.old.conn.now) (state S.Store tx.new.conn.now) (if_whole result) }
+    ensures ran { Within (Upgrades version true numbers) (state S.Store tx.old.conn.now) (state S.Store tx.new.conn.now) (if_whole result) }
     ensures open { Opens (state S.Store tx.old.conn.now) (state S.Store tx.new.conn.now) (if_whole result) }
     ensures hindered { IsHindered version (state S.Store tx.old.conn.now) (state S.Store tx.new.conn.now) result }
 {
@@ -57,7 +57,7 @@ fn rewrite_ours<S: Alter>(
     if !are_all_apart(tx, alloc)? {
         return Ok(false);
     }
-    put_version(tx, alloc, requests)?;
+    put_version(tx, alloc, numbers)?;
     Ok(true)
 }
 
@@ -66,15 +66,15 @@ fn rewrite_others<S: Alter>(
     tx: &mut Transaction<'_, S>,
     alloc: Global,
     version: EarlierVersion,
-    requests: u64,
+    numbers: Numbers,
 ) -> Result<bool, Error>
     ensures same_reference { tx.new.conn.ghost_name ≡ tx.old.conn.ghost_name }
-    ensures ran { Within (Upgrades version false requests) (state S.Store tx.old.conn.now) (state S.Store tx.new.conn.now) (if_whole result) }
+    ensures ran { Within (Upgrades version false numbers) (state S.Store tx.old.conn.now) (state S.Store tx.new.conn.now) (if_whole result) }
     ensures open { Opens (state S.Store tx.old.conn.now) (state S.Store tx.new.conn.now) (if_whole result) }
     ensures whole { IfOk result (λ whole. whole ≡ true) }
 {
     migrate_tables(tx, version)?;
-    put_version(tx, alloc, requests)?;
+    put_version(tx, alloc, numbers)?;
     Ok(true)
 }
 
@@ -83,18 +83,18 @@ fn rewrite<S: Alter>(
     alloc: Global,
     version: EarlierVersion,
     is_ours: bool,
-    requests: u64,
+    numbers: Numbers,
 ) -> Result<bool, Error>
     ensures same_reference { tx.new.conn.ghost_name ≡ tx.old.conn.ghost_name }
-    ensures ran { Within (Upgrades version is_ours requests) (state S.Store tx.old.conn.now) (state S.Store tx.new.conn.now) (if_whole result) }
+    ensures ran { Within (Upgrades version is_ours numbers) (state S.Store tx.old.conn.now) (state S.Store tx.new.conn.now) (if_whole result) }
     ensures open { Opens (state S.Store tx.old.conn.now) (state S.Store tx.new.conn.now) (if_whole result) }
     ensures hindered { IsHindered version (state S.Store tx.old.conn.now) (state S.Store tx.new.conn.now) result }
     ensures ours { IfOk result (λ whole. whole ≡ false → IsTrue is_ours) }
 {
     if is_ours {
-        rewrite_ours(tx, alloc, version, requests)
+        rewrite_ours(tx, alloc, version, numbers)
     } else {
-        rewrite_others(tx, alloc, version, requests)
+        rewrite_others(tx, alloc, version, numbers)
     }
 }
 
@@ -104,17 +104,17 @@ fn raise<S: Alter>(
     alloc: Global,
     version: EarlierVersion,
     is_ours: bool,
-    requests: u64,
+    numbers: Numbers,
 ) -> Result<bool, Error>
     requires mode { conn.old.in_transaction ≡ false }
     ensures mode { conn.new.in_transaction ≡ false }
-    ensures acts { Transacts (Upgrades version is_ours requests) (state S.Store conn.old) (state S.Store conn.new) (if_whole result) }
+    ensures acts { Transacts (Upgrades version is_ours numbers) (state S.Store conn.old) (state S.Store conn.new) (if_whole result) }
     ensures apart { IfOk result (λ whole. whole ≡ false → IsTrue (state S.Store conn.new).is_open → conn.old.schema ≡ schema_at (version_of version) → AreApartIn (version_of version) (state S.Store conn.old).now.trees → ⊥) }
     ensures ours { IfOk result (λ whole. whole ≡ false → IsTrue is_ours) }
 {
     let _settled = conn.is_autocommit();
     let mut tx = conn.transaction();
-    if !rewrite(&mut tx, alloc, version, is_ours, requests)? {
+    if !rewrite(&mut tx, alloc, version, is_ours, numbers)? {
         tx.rollback();
         return Ok(false);
     }
@@ -122,14 +122,14 @@ fn raise<S: Alter>(
     Ok(true)
 }
 
-// Makes tables that say an earlier version those of version 3. How many requests are stored.
+// Makes tables that say an earlier version those of version 3. What the desk says of itself.
 fn upgrade<S: Alter>(
     conn: &mut Connection<S>,
     alloc: Global,
     version: EarlierVersion,
     is_ours: bool,
     said: Said,
-) -> Result<u64, DeskFault>
+) -> Result<Numbers, DeskFault>
     requires mode { conn.old.in_transaction ≡ false }
     requires says { IsTrue (state S.Store conn.old).is_open → SaysVersion (version_of version) (state S.Store conn.old).now said }
     ensures mode { conn.new.in_transaction ≡ false }
@@ -142,20 +142,20 @@ fn upgrade<S: Alter>(
     if is_ours && !seen.is_ours {
         return Err(DeskFault::NotOurs);
     }
-    match raise(conn, alloc, version, is_ours, seen.requests) {
-        Ok(true) => Ok(seen.requests),
+    match raise(conn, alloc, version, is_ours, seen.numbers) {
+        Ok(true) => Ok(seen.numbers),
         Ok(false) => Err(DeskFault::NotOurs),
         Err(error) => Err(DeskFault::of(error)),
     }
 }
 
-// Leaves tables of version 3. How many requests are stored.
+// Leaves tables of version 3. What the desk says of itself.
 fn keep<S: Alter>(
     conn: &mut Connection<S>,
     alloc: Global,
     is_ours: bool,
     said: Said,
-) -> Result<u64, DeskFault>
+) -> Result<Numbers, DeskFault>
     requires mode { conn.old.in_transaction ≡ false }
     requires says { IsTrue (state S.Store conn.old).is_open → SaysVersion TablesVersion.Third (state S.Store conn.old).now said }
     ensures mode { conn.new.in_transaction ≡ false }
@@ -168,15 +168,15 @@ fn keep<S: Alter>(
     if is_ours && !seen.is_ours {
         return Err(DeskFault::NotOurs);
     }
-    Ok(seen.requests)
+    Ok(seen.numbers)
 }
 
-/// Makes the tables those of the latest version, or leaves them where they are. How many requests are stored.
+/// Makes the tables those of the latest version, or leaves them where they are. What the desk says of itself.
 pub fn bring<S: Alter>(
     conn: &mut Connection<S>,
     alloc: Global,
     is_ours: bool,
-) -> Result<u64, DeskFault>
+) -> Result<Numbers, DeskFault>
     requires mode { conn.old.in_transaction ≡ false }
     ensures mode { conn.new.in_transaction ≡ false }
     ensures brought { IfOk result (IsBrought S.Store is_ours conn.old conn.new) }

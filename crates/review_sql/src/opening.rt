@@ -1,22 +1,22 @@
 //! What is seen of tables before a desk is opened: first what the table `desk` says, then the other tables, and last the rowids of tables of our form.
-ghost use Rattle.std.specs.Prelude.{◌≡◌, ◌≢◌, ◌⊎◌, ℕ, Some, None, true, false, IsTrue, IfOk, IfErr};
+ghost use Rattle.std.specs.Prelude.{◌≡◌, ◌≢◌, ◌⊎◌, ℕ, Some, None, true, false, IsTrue, IfOk, IfErr, IfSome};
 ghost use Rattle.std.specs.Bool.{Decides};
 ghost use Rattle.sqlite.specs.Held.{state};
 ghost use Rattle.sqlite.specs.State.{HasCleanDisk};
 ghost use Rattle.review_sql.specs.Shelf.{AreAllRead, Stays};
-ghost use Rattle.review_sql.specs.Said.{LacksLeast, SaysLeast, ShowsDesk, ShowsEpochs, number_of_one, version_in, requests_in, IsSaid, IsThere, SaysVersion};
+ghost use Rattle.review_sql.specs.Said.{LacksLeast, least_in, SaysLeast, ShowsDesk, ShowsEpochs, number_of_one, version_in, requests_in, IsSaid, IsThere, SaysVersion};
 ghost use Rattle.review_sql.specs.Opened.{AreAllApart, Peeks, IsLacking, IsSeen, IsRefused};
 ghost use Rattle.review_tables.specs.Versions.{schema_at, version_number};
 
 use crate::faults::DeskFault;
-use crate::seen::{Said, Seen};
+use crate::seen::{Numbers, Said, Seen};
 use crate::there::{are_all_there, is_understood};
-use review_records::rows::FIRST_EPOCH;
 use review_statements::texts;
 use review_tables::columns::number_at;
 use review_tables::creating::is_desk;
 use review_tables::rowids::are_all_apart;
 use review_tables::versions::TablesVersion;
+use review_words::Epoch;
 use sqlite::{Alter, Connection, Error, Row};
 use std::alloc::Global;
 
@@ -98,43 +98,56 @@ pub fn version_of(said: Said) -> Result<TablesVersion, DeskFault>
     }
 }
 
-// Whether the table of the epochs says that the first one is the least open, where the version has that table.
-fn says_least<S: Alter>(conn: &mut Connection<S>, version: TablesVersion) -> Result<bool, Error>
+// The least open epoch that rows of the table `epochs` say.
+fn least_in(rows: &[Row]) -> Option<Epoch>
+    ensures { result ≡ least_in rows.now }
+{
+    Epoch::from_number(number_of_one(rows, 0)?)
+}
+
+// The least open epoch that the table of the epochs says; the first one, where the version has no such table.
+fn least_said<S: Alter>(
+    conn: &mut Connection<S>,
+    version: TablesVersion,
+) -> Result<Option<Epoch>, Error>
     requires mode { conn.old.in_transaction ≡ false }
     ensures mode { conn.new.in_transaction ≡ false }
     ensures stays { Stays (state S.Store conn.old) (state S.Store conn.new) }
-    ensures is { IsTrue (state S.Store conn.new).is_open → IfOk result (λ is. is ≡ true → SaysLeast version (state S.Store conn.old).now) }
-    ensures other { IsTrue (state S.Store conn.new).is_open → IfOk result (λ is. is ≡ false → LacksLeast version (state S.Store conn.old).now) }
+    ensures is { IsTrue (state S.Store conn.new).is_open → IfOk result (λ said. IfSome said (SaysLeast version (state S.Store conn.old).now)) }
+    ensures none { IsTrue (state S.Store conn.new).is_open → IfOk result (λ said. said ≡ None → LacksLeast version (state S.Store conn.old).now) }
 {
     match version {
-        TablesVersion::First | TablesVersion::Second => Ok(true),
+        TablesVersion::First | TablesVersion::Second => Ok(Some(Epoch::first())),
         TablesVersion::Third => {
             let rows = epochs_rows(conn)?;
-            Ok(number_of_one(&rows, 0) == Some(u64::from(FIRST_EPOCH)))
+            Ok(least_in(&rows))
         }
     }
 }
 
-// Whether all tables of a version beside the table `desk` are there, of whatever form, with what the desk relies on.
-fn are_whole<S: Alter>(conn: &mut Connection<S>, version: TablesVersion) -> Result<bool, Error>
+// The least open epoch, where all tables of a version beside the table `desk` are there, of whatever form, and say one.
+fn least_of_whole<S: Alter>(
+    conn: &mut Connection<S>,
+    version: TablesVersion,
+) -> Result<Option<Epoch>, Error>
     requires mode { conn.old.in_transaction ≡ false }
     ensures mode { conn.new.in_transaction ≡ false }
     ensures stays { Stays (state S.Store conn.old) (state S.Store conn.new) }
-    ensures whole { IsTrue (state S.Store conn.new).is_open → IfOk result (λ is. is ≡ true → AreAllRead version (state S.Store conn.old).now.schema × SaysLeast version (state S.Store conn.old).now) }
-    ensures part { IsTrue (state S.Store conn.new).is_open → IfOk result (λ is. is ≡ false → (AreAllRead version (state S.Store conn.old).now.schema → ⊥) ⊎ LacksLeast version (state S.Store conn.old).now) }
+    ensures whole { IsTrue (state S.Store conn.new).is_open → IfOk result (λ said. IfSome said (λ least. AreAllRead version (state S.Store conn.old).now.schema × SaysLeast version (state S.Store conn.old).now least)) }
+    ensures part { IsTrue (state S.Store conn.new).is_open → IfOk result (λ said. said ≡ None → (AreAllRead version (state S.Store conn.old).now.schema → ⊥) ⊎ LacksLeast version (state S.Store conn.old).now) }
 {
     if !are_all_there(conn, version)? {
-        return Ok(false);
+        return Ok(None);
     }
-    says_least(conn, version)
+    least_said(conn, version)
 }
 
-// How many requests are stored, where the table `desk` says this version and the other tables of the version are there, of whatever form.
+// What a desk says of itself, where the table `desk` says this version and the other tables of the version are there, of whatever form.
 fn find_tables<S: Alter>(
     conn: &mut Connection<S>,
     version: TablesVersion,
     said: Said,
-) -> Result<u64, DeskFault>
+) -> Result<Numbers, DeskFault>
     requires mode { conn.old.in_transaction ≡ false }
     requires says { IsTrue (state S.Store conn.old).is_open → SaysVersion version (state S.Store conn.old).now said }
     ensures mode { conn.new.in_transaction ≡ false }
@@ -146,9 +159,9 @@ fn find_tables<S: Alter>(
     let Some(requests) = said.requests else {
         return Err(DeskFault::NotADesk);
     };
-    match are_whole(conn, version) {
-        Ok(true) => Ok(requests),
-        Ok(false) => Err(DeskFault::NotADesk),
+    match least_of_whole(conn, version) {
+        Ok(Some(least)) => Ok(Numbers { requests, least }),
+        Ok(None) => Err(DeskFault::NotADesk),
         Err(error) => Err(DeskFault::of(error)),
     }
 }
@@ -165,7 +178,7 @@ pub fn see_tables<S: Alter>(
     ensures mode { conn.new.in_transaction ≡ false }
     ensures stays { Stays (state S.Store conn.old) (state S.Store conn.new) }
     ensures form { IfOk result (λ seen. Decides seen.is_ours (conn.old.schema ≡ schema_at version)) }
-    ensures there { IsTrue (state S.Store conn.new).is_open → IfOk result (λ seen. IsThere version (state S.Store conn.old).now seen.requests) }
+    ensures there { IsTrue (state S.Store conn.new).is_open → IfOk result (λ seen. IsThere version (state S.Store conn.old).now seen.numbers) }
     ensures lacking { IsTrue (state S.Store conn.new).is_open → IfErr result (IsLacking version (state S.Store conn.old)) }
     ensures not_ours { IfErr result (λ fault. fault ≢ DeskFault.NotOurs) }
 {
@@ -173,8 +186,8 @@ pub fn see_tables<S: Alter>(
         Ok(has_form) => has_form,
         Err(error) => return Err(DeskFault::of(error)),
     };
-    let requests = find_tables(conn, version, said)?;
-    Ok(Seen { is_ours, requests })
+    let numbers = find_tables(conn, version, said)?;
+    Ok(Seen { is_ours, numbers })
 }
 
 // Whether the rows of each table have rowids of their own.
@@ -211,7 +224,7 @@ pub fn see_desk<S: Alter>(
     match peek(conn, alloc) {
         Ok(is_ours) => Ok(Seen {
             is_ours,
-            requests: seen.requests,
+            numbers: seen.numbers,
         }),
         Err(error) => Err(DeskFault::of(error)),
     }

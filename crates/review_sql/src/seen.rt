@@ -1,5 +1,7 @@
 //! What is seen of a desk before it is opened.
 
+use review_words::Epoch;
+
 /// What the table `desk` says: a version, and how many requests there are, each where its one row has a number there.
 #[derive(Clone, Copy, Debug, PartialEq, Eq)]
 pub struct Said {
@@ -7,9 +9,41 @@ pub struct Said {
     pub requests: Option<u64>,
 }
 
-/// What a desk is opened with: whether its tables are ours, and how many requests are stored.
+/// What a desk says of itself: how many requests are stored, and which epoch is the least open one.
+#[derive(Clone, Copy, Debug, PartialEq, Eq)]
+pub struct Numbers {
+    pub requests: u64,
+    pub least: Epoch,
+}
+
+impl Numbers {
+    ghost use Rattle.std.specs.Prelude.{◌≡◌, ◌+◌, ◌<◌, ◌^◌, IfSome};
+    ghost use Rattle.review_sql.specs.Numbers.{more};
+
+    /// What a desk without requests says.
+    pub fn first() -> Numbers
+        ensures { result ≡ record { requests = 0; least = 0 } }
+    {
+        Numbers {
+            requests: 0,
+            least: Epoch::first(),
+        }
+    }
+
+    /// The same once one request more is stored, with this epoch as the least open one, if one is named; nothing where the last number is given.
+    pub fn more(&self, epoch: Option<Epoch>) -> Option<Numbers>
+        ensures more { IfSome result (λ numbers. numbers ≡ more self.now epoch) }
+        ensures room { IfSome result (λ numbers. self.now.requests + 1 < 2 ^ 64) }
+    {
+        let requests = self.requests.checked_add(1)?;
+        let least = epoch.unwrap_or(self.least);
+        Some(Numbers { requests, least })
+    }
+}
+
+/// What a desk is opened with: whether its tables are ours, and what it says of itself.
 #[derive(Clone, Copy, Debug, PartialEq, Eq)]
 pub struct Seen {
     pub is_ours: bool,
-    pub requests: u64,
+    pub numbers: Numbers,
 }

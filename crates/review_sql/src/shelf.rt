@@ -1,10 +1,11 @@
 //! A shelf in SQLite.
-ghost use Rattle.std.specs.Prelude.{◌≡◌, ◌≢◌, ◌≤◌, ◌⊎◌, true, false, IfOk, IfErr, IsTrue, min};
+ghost use Rattle.std.specs.Prelude.{ℕ, ◌≡◌, ◌≢◌, ◌≤◌, ◌⊎◌, Some, None, true, false, IfOk, IfErr, IsTrue, min};
 ghost use Rattle.std.specs.Bool.{Decides};
 ghost use Rattle.sqlite.specs.Held.{state};
 ghost use Rattle.sqlite.specs.State.{HasCleanDisk};
-ghost use Rattle.review_rows.specs.Rows.{kept_row};
-ghost use Rattle.review_rows.specs.Shelf.{IsCounted, greatest_count};
+ghost use Rattle.review_rows.specs.Rows.{ClosedEpochs, Tables, kept_row};
+ghost use Rattle.review_rows.specs.Shelf.{CountsFaults, IsCounted, IsRecalled, greatest_count};
+ghost use Rattle.review_lookups.specs.Tables.{stored_as};
 ghost use Rattle.review_statements.specs.Desk.{schema_0};
 ghost use Rattle.review_sql.specs.Shelf.{Stays, answer_of};
 
@@ -12,13 +13,14 @@ use crate::creating::make_desk;
 use crate::faults::DeskFault;
 use crate::migrating::bring;
 use crate::opening::see;
+use crate::seen::Numbers;
 use crate::serving::find_stored;
 use crate::there::{is_any_there, seen};
 use crate::writing::transact;
 use review_lookups::loading::{Loaded, load};
 use review_records::rows::{Answered, RequestKey};
 use review_rows::{Delta, Kept, Need, Recalled, Rows, Shelf, ShelfFault};
-use review_words::{AccountNo, RequestId};
+use review_words::{AccountNo, Epoch, RequestId};
 use sqlite::{Alter, Connection, Error, ErrorCode};
 use sqlite_schema::schema::Schema;
 use std::alloc::Global;
@@ -60,7 +62,7 @@ impl Origin for Others {
 /// A desk in the tables of a connection.
 pub struct SqlShelf<S: Alter, O: Origin> {
     conn: Connection<S>,
-    requests: u64,
+    numbers: Numbers,
     faults: u64,
     origin: PhantomData<O>,
 }
@@ -69,7 +71,7 @@ impl<S: Alter + Drop, O: Origin> Drop for SqlShelf<S, O> {
     fn drop(self) {
         let SqlShelf {
             conn: _,
-            requests: _,
+            numbers: _,
             faults: _,
             origin: _,
         } = self;
@@ -83,9 +85,9 @@ impl<S: Alter, O: Origin> Model for SqlShelf<S, O> {
 
     ghost coded = { view_code S.code };
 
-    ghost view = { λ s. record { conn = s.conn; requests = s.requests; faults = s.faults } };
+    ghost view = { λ s. record { conn = s.conn; numbers = s.numbers; faults = s.faults } };
 
-    ghost invariant = { λ s. Holds S.Store s.conn O.IS_OURS s.requests };
+    ghost invariant = { λ s. Holds S.Store s.conn O.IS_OURS s.numbers };
 }
 
 /// Whether a store has no table, no index and no view.
@@ -145,7 +147,7 @@ impl<S: Alter + Drop, O: Origin> SqlShelf<S, O> {
                 let _settled = conn.is_autocommit();
                 Ok(SqlShelf {
                     conn,
-                    requests: 0,
+                    numbers: Numbers::first(),
                     faults: 0,
                     origin: PhantomData,
                 })
@@ -170,7 +172,7 @@ impl<S: Alter + Drop, O: Origin> SqlShelf<S, O> {
     ) -> Result<SqlShelf<S, O>, (Connection<S>, DeskFault)>
         requires mode { conn.in_transaction ≡ false }
         ensures opened { IfOk result (IsOpened S.Store conn) }
-        ensures there { IfOk result (λ s. IsTrue (state S.Store s.conn).is_open → IsDeskThere (state S.Store conn).now s.requests) }
+        ensures there { IfOk result (λ s. IsTrue (state S.Store s.conn).is_open → IsDeskThere (state S.Store conn).now s.numbers) }
         ensures goes_on { IfOk result (ReopensLast S.Store O.IS_OURS conn) }
         ensures mode { IfErr result (λ e. e.0.in_transaction ≡ false) }
         ensures refused { IfErr result (λ e. Stays (state S.Store conn) (state S.Store e.0)) }
@@ -188,7 +190,7 @@ impl<S: Alter + Drop, O: Origin> SqlShelf<S, O> {
                 }
                 Ok(SqlShelf {
                     conn,
-                    requests: seen.requests,
+                    numbers: seen.numbers,
                     faults: 0,
                     origin: PhantomData,
                 })
@@ -219,11 +221,11 @@ impl<S: Alter + Drop, O: Origin> SqlShelf<S, O> {
     {
         let mut conn = conn;
         match bring(&mut conn, alloc, O::IS_OURS) {
-            Ok(requests) => {
+            Ok(numbers) => {
                 let _settled = conn.is_autocommit();
                 Ok(SqlShelf {
                     conn,
-                    requests,
+                    numbers,
                     faults: 0,
                     origin: PhantomData,
                 })
@@ -239,7 +241,7 @@ impl<S: Alter + Drop, O: Origin> SqlShelf<S, O> {
     {
         let SqlShelf {
             conn,
-            requests: _,
+            numbers: _,
             faults: _,
             origin: _,
         } = self;
@@ -293,18 +295,18 @@ impl<S: Alter, O: Origin> Shelf for SqlShelf<S, O> {
         &mut self,
         alloc: Global,
         caller: AccountNo,
+        epoch: Epoch,
         id: &RequestId,
     ) -> Result<Recalled, ShelfFault> {
-        let key = RequestKey::new(caller, id.copy(alloc)?);
-        let _settled = self.conn.is_autocommit();
-        let found = match find_stored(&mut self.conn, alloc, &key) {
-            Ok(found) => found,
-            Err(error) => return Err(told(&mut self.conn, &mut self.faults, error)),
+        let key = RequestKey {
+            caller,
+            epoch,
+            id: id.copy(alloc)?,
         };
-        match found {
-            Some(Some(row)) => Ok(Recalled::Kept(kept_of(key, row))),
-            Some(None) => Err(ShelfFault::Damaged),
-            None => Ok(Recalled::Fresh),
+        let _settled = self.conn.is_autocommit();
+        match find_stored(&mut self.conn, alloc, &key) {
+            Ok(found) => recalled(key, found, self.numbers.least),
+            Err(error) => Err(told(&mut self.conn, &mut self.faults, error)),
         }
     }
 
@@ -317,15 +319,15 @@ impl<S: Alter, O: Origin> Shelf for SqlShelf<S, O> {
     }
 
     fn commit(&mut self, alloc: Global, delta: &Delta, kept: &Kept) -> Result<(), ShelfFault> {
-        let requests = self.requests;
-        let Some(more) = requests.checked_add(1) else {
+        let numbers = self.numbers;
+        let Some(more) = numbers.more(delta.epoch) else {
             return Err(refuse(&mut self.faults));
         };
         let _live = self.conn.schema();
-        match transact(&mut self.conn, alloc, delta, kept, requests) {
+        match transact(&mut self.conn, alloc, delta, kept, &numbers) {
             Ok(()) => {
                 let _settled = self.conn.is_autocommit();
-                self.requests = more;
+                self.numbers = more;
                 Ok(())
             }
             Err(error) => Err(told(&mut self.conn, &mut self.faults, error)),
@@ -339,15 +341,32 @@ impl<S: Alter, O: Origin> Shelf for SqlShelf<S, O> {
     ghost fits = { λ k. count_fits k.faults };
 }
 
+// What is told of an identity, where this is what its key has and this epoch is the least open one.
+#[tactic(auto, using(crate::proofs::Recalled::closed_told, crate::proofs::Recalled::open_told))]
+fn recalled(
+    key: RequestKey,
+    found: Option<Option<Answered>>,
+    least: Epoch,
+) -> Result<Recalled, ShelfFault>
+    ensures told { (t : Tables) → t.count ClosedEpochs ≡ least → t.answer (record { caller = key.caller; epoch = key.epoch; id = key.id }) ≡ stored_as (record { caller = key.caller; epoch = key.epoch; id = key.id }) found → IfOk result (IsRecalled t (record { caller = key.caller; epoch = key.epoch; id = key.id })) }
+    ensures damaged { IfErr result (λ e. (e ≡ ShelfFault.Damaged) × (found ≡ Some None)) }
+    ensures counted { (n : ℕ) → CountsFaults result n n }
+{
+    if key.epoch.get() < least.get() {
+        return Ok(Recalled::Closed);
+    }
+    match found {
+        Some(Some(row)) => Ok(Recalled::Kept(kept_of(key, row))),
+        Some(None) => Err(ShelfFault::Damaged),
+        None => Ok(Recalled::Fresh),
+    }
+}
+
 // A stored request with its identity.
 fn kept_of(key: RequestKey, row: Answered) -> Kept
-    ensures { kept_row result ≡ record { identity = record { caller = key.caller; id = key.id }; request = row.request; content = row.content; reply = row.reply } }
+    ensures { kept_row result ≡ record { identity = record { caller = key.caller; epoch = key.epoch; id = key.id }; request = row.request; content = row.content; reply = row.reply } }
 {
-    let RequestKey {
-        caller,
-        epoch: _,
-        id,
-    } = key;
+    let RequestKey { caller, epoch, id } = key;
     let Answered {
         request,
         content,
@@ -355,6 +374,7 @@ fn kept_of(key: RequestKey, row: Answered) -> Kept
     } = row;
     Kept {
         caller,
+        epoch,
         id,
         request,
         content: content.into_string(),

@@ -1,10 +1,11 @@
 //! What a delivery changes is written, all of it or nothing.
-ghost use Rattle.std.specs.Prelude.{◌≡◌, [], ◌+◌, ◌<◌, ◌^◌, false};
+ghost use Rattle.std.specs.Prelude.{◌≡◌, Some, [], ◌+◌, ◌<◌, ◌^◌, false};
 ghost use Rattle.sqlite.specs.Held.{state};
 ghost use Rattle.review_statements.specs.Ran.{Inside, Within, Opens, Transacts};
-ghost use Rattle.review_sql.specs.Changes.{SetsDelta, SetsEdit, SetsEdits, SetsPut, SetsUnless, SetsUnowned, is_named};
+ghost use Rattle.review_sql.specs.Changes.{GivesUp, SetsDelta, SetsEdit, SetsEdits, SetsPut, SetsUnless, SetsUnowned, is_named};
 ghost use Rattle.review_sql.specs.Commits.{Commits};
 
+use crate::seen::Numbers;
 use review_change_records::calls::Calls;
 use review_change_records::comments::Comments;
 use review_change_records::headers::Headers;
@@ -15,6 +16,7 @@ use review_records::accounts::Accounts;
 use review_records::answers;
 use review_records::bases::Bases;
 use review_records::desk::Desk;
+use review_records::epochs::Epochs;
 use review_records::members::Members;
 use review_records::projects::Projects;
 use review_records::rows::DeskRow;
@@ -22,7 +24,7 @@ use review_rows::{ChangeEdit, Delta, Kept, Put};
 use review_tables::changes::{change_all, set};
 use review_tables::fronts::change_parts;
 use review_tables::table::Table;
-use review_words::ChangeNo;
+use review_words::{ChangeNo, Epoch};
 use sqlite::{Alter, Connection, Error, Transaction};
 use std::alloc::Global;
 
@@ -123,42 +125,71 @@ fn write_delta<S: Alter>(
     write_edits(tx, alloc, &delta.changes)
 }
 
+// Makes an epoch the least open one, and takes the kept answers of lower ones away.
+fn close_below<S: Alter>(
+    tx: &mut Transaction<'_, S>,
+    alloc: Global,
+    least: Epoch,
+) -> Result<(), Error>
+    ensures same_reference { tx.new.conn.ghost_name ≡ tx.old.conn.ghost_name }
+    ensures ran { Inside (GivesUp (Some least)) (state S.Store tx.old.conn.now) (state S.Store tx.new.conn.now) result }
+{
+    answers::remove_below(tx, least)?;
+    set::<Epochs, S>(tx, alloc, &(), &least)
+}
+
+// The same, if an epoch is named.
+fn give_up<S: Alter>(
+    tx: &mut Transaction<'_, S>,
+    alloc: Global,
+    epoch: Option<Epoch>,
+) -> Result<(), Error>
+    ensures same_reference { tx.new.conn.ghost_name ≡ tx.old.conn.ghost_name }
+    ensures ran { Inside (GivesUp epoch) (state S.Store tx.old.conn.now) (state S.Store tx.new.conn.now) result }
+{
+    match epoch {
+        Some(least) => close_below(tx, alloc, least),
+        None => Ok(()),
+    }
+}
+
 fn write<S: Alter>(
     tx: &mut Transaction<'_, S>,
     alloc: Global,
     delta: &Delta,
     kept: &Kept,
-    requests: u64,
+    numbers: &Numbers,
 ) -> Result<(), Error>
-    requires { requests + 1 < 2 ^ 64 }
+    requires { numbers.now.requests + 1 < 2 ^ 64 }
     ensures same_reference { tx.new.conn.ghost_name ≡ tx.old.conn.ghost_name }
-    ensures ran { Within (Commits delta.now kept.now requests) (state S.Store tx.old.conn.now) (state S.Store tx.new.conn.now) result }
+    ensures ran { Within (Commits delta.now kept.now numbers.now) (state S.Store tx.old.conn.now) (state S.Store tx.new.conn.now) result }
     ensures open { Opens (state S.Store tx.old.conn.now) (state S.Store tx.new.conn.now) result }
 {
     write_delta(tx, alloc, delta)?;
     answers::put(tx, alloc, kept)?;
+    give_up(tx, alloc, delta.epoch)?;
     let row = DeskRow {
         version: 3,
-        requests: requests + 1,
+        requests: numbers.requests + 1,
     };
     set::<Desk, S>(tx, alloc, &(), &row)
 }
 
-/// Writes a delta and a request in one transaction, where so many requests were stored.
+/// Writes a delta and a request in one transaction, where the desk said so of itself.
 pub fn transact<S: Alter>(
     conn: &mut Connection<S>,
     alloc: Global,
     delta: &Delta,
     kept: &Kept,
-    requests: u64,
+    numbers: &Numbers,
 ) -> Result<(), Error>
     requires mode { conn.old.in_transaction ≡ false }
-    requires fits { requests + 1 < 2 ^ 64 }
+    requires fits { numbers.now.requests + 1 < 2 ^ 64 }
     ensures mode { conn.new.in_transaction ≡ false }
-    ensures acts { Transacts (Commits delta.now kept.now requests) (state S.Store conn.old) (state S.Store conn.new) result }
+    ensures acts { Transacts (Commits delta.now kept.now numbers.now) (state S.Store conn.old) (state S.Store conn.new) result }
 {
     let _settled = conn.is_autocommit();
     let mut tx = conn.transaction();
-    write(&mut tx, alloc, delta, kept, requests)?;
+    write(&mut tx, alloc, delta, kept, numbers)?;
     tx.commit()
 }

@@ -9,7 +9,7 @@ use Rattle.review_sql.proofs.migrating.raise.Goals as goal
 
 pub returns-in_err-rewrite-clause-acts : goal.returns-in_err-rewrite-clause-acts
 returns-in_err-rewrite-clause-acts g c =
-    let R = Upgrades c.args.is_ours c.args.requests in
+    let R = Upgrades c.args.version c.args.is_ours c.args.numbers in
     let last = c.drop-tx.new.self.0 in
     let same : last ≡ c.conn-1.given.0 = search rules in
     let s0 = state g.S.Store c.args.conn.now in
@@ -22,7 +22,7 @@ returns-in_err-rewrite-clause-acts g c =
 
 pub returns-then-not-branch-clause-acts : goal.returns-then-not-branch-clause-acts
 returns-then-not-branch-clause-acts g c =
-    let R = Upgrades c.args.is_ours c.args.requests in
+    let R = Upgrades c.args.version c.args.is_ours c.args.numbers in
     let last = c.rollback.new.self.0 in
     let same : last ≡ c.conn-then-not-branch-1.given.0 = search rules in
     let s0 = state g.S.Store c.args.conn.now in
@@ -46,7 +46,7 @@ returns-then-not-branch-clause-apart g c told is_open has apart =
 
 pub returns-in_err-commit-clause-acts : goal.returns-in_err-commit-clause-acts
 returns-in_err-commit-clause-acts g c =
-    let R = Upgrades c.args.is_ours c.args.requests in
+    let R = Upgrades c.args.version c.args.is_ours c.args.numbers in
     let last = c.commit.new.self.0 in
     let same : last ≡ c.conn-2-1.given.0 = search rules in
     let s0 = state g.S.Store c.args.conn.now in

@@ -2,7 +2,7 @@ use Rattle.std.proofs.Common.{rules, ◌≡◌, false, inl, subst}
 use Rattle.sqlite.specs.Effect.{Database}
 use Rattle.sqlite.specs.Held.{state}
 use Rattle.sqlite.proofs.StateLemmas.{clean_if_open}
-use Rattle.review_tables.specs.declared.creating.TablesVersion.TheVariants.{Second}
+use Rattle.review_tables.specs.declared.versions.TablesVersion.TheVariants.{Third}
 use Rattle.review_sql.specs.Said.{ShowsDesk}
 use Rattle.review_sql.proofs.Peeking.{lacking}
 use Rattle.review_sql.proofs.opening.ask.Goals as goal
@@ -11,7 +11,7 @@ pub returns-in-Ok-false-clause-lacking : goal.returns-in-Ok-false-clause-lacking
 returns-in-Ok-false-clause-lacking g c is_open =
     let last = c.is_understood.new.conn in
     let missing : c.in-Ok-false.field-0 ≡ false = search rules in
-    lacking (state g.S.Store c.args.conn.now) Second (inl (c.in-Ok-false.ensures.unknown (clean_if_open (g.S.Store.view last.store) (g.met.S.Store.shut_if_dirty last.store) is_open) missing))
+    lacking (state g.S.Store c.args.conn.now) Third (inl (c.in-Ok-false.ensures.unknown (clean_if_open (g.S.Store.view last.store) (g.met.S.Store.shut_if_dirty last.store) is_open) missing))
 
 pub returns-in-Ok-clause-said : goal.returns-in-Ok-clause-said
 returns-in-Ok-clause-said g c is_open =

@@ -1,9 +1,8 @@
-use Rattle.std.proofs.Common.{rules, ◌≡◌, ◌<◌, ℕ, List, true, false, inl, inr, sym, subst, get_or, arith}
+use Rattle.std.proofs.Common.{rules, ◌≡◌, ℕ, List, true, false, inl, inr, sym, subst, get_or, arith}
 use Rattle.std.proofs.lemmas.Bool.{cases_lt}
 use Rattle.sqlite.specs.Effect.{Database}
 use Rattle.sqlite.specs.Held.{state}
 use Rattle.review_sql.specs.Shelf.{IsUnderstood, rows_read}
-use Rattle.review_sql.proofs.Saying.{eleven}
 use Rattle.review_sql.proofs.Staying.{stays_still, stays_then}
 use Rattle.review_sql.proofs.there.are_all_there.Goals as goal
 
@@ -15,7 +14,7 @@ loop-at-preserved g c =
     let s0 = state g.S.Store c.args.conn.now in
     let s1 = state g.S.Store c.loop-at.conn in
     let s2 = state g.S.Store c.is_understood.new.conn in
-    let below : c.loop-at.at < 11 = c.loop-at-test.true in
+    let below = c.loop-at-test.true in
     let yes : c.in_ok-is_understood.field-0 ≡ true = search rules in
     record {
       within = omega (arith, below);
@@ -38,7 +37,7 @@ pub returns-clause-all : goal.returns-clause-all
 returns-clause-all g c clean same is_open = record {
   each = λ sql inside.
       let schema = (state g.S.Store c.args.conn.now).now.schema in
-      let short = eleven c.args.version in
+      let short = c.count_of-count.ensures in
       subst (λ (s : List ℕ). IsUnderstood schema s) inside.2 (c.loop-at.invariant.all clean is_open inside.0 sql (omega (arith, c.loop-at-test.false, inside.1, short)));
 }
 
@@ -49,4 +48,4 @@ returns-then-not-branch-clause-missing g c clean same all =
     let back = c.is_understood.ensures.stays.kept (c.in_ok-is_understood.ensures.opens clean) in
     let first = c.loop-at.invariant.stays.kept back.0 in
     c.in_ok-is_understood.ensures.unknown clean no
-    (subst (λ (db : Database). IsUnderstood db.schema text) (sym first.1) (all.each text (c.loop-at.at, omega (arith, c.loop-at-test.true, eleven c.args.version), sym (c.read_row.ensures text))))
+    (subst (λ (db : Database). IsUnderstood db.schema text) (sym first.1) (all.each text (c.loop-at.at, omega (arith, c.loop-at-test.true, c.count_of-count.ensures), sym (c.read_row.ensures text))))

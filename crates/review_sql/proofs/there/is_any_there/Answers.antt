@@ -15,7 +15,7 @@ loop-at-preserved g c =
     let s0 = state g.S.Store c.args.conn.now in
     let s1 = state g.S.Store c.loop-at.conn in
     let s2 = state g.S.Store c.is_understood.new.conn in
-    let below : c.loop-at.at < 13 = c.loop-at-test.true in
+    let below : c.loop-at.at < 15 = c.loop-at-test.true in
     let no : c.in_ok-is_understood.field-0 ≡ false = search rules in
     record {
       within = omega (arith, below);
@@ -39,7 +39,7 @@ pub returns-clause-none : goal.returns-clause-none
 returns-clause-none g c clean same any =
     let schema = (state g.S.Store c.args.conn.now).now.schema in
     let inside = any.1 in
-    let short : length (map (λ t. t.now) ANY_ROW) ≡ 13 = refl in
+    let short : length (map (λ t. t.now) ANY_ROW) ≡ 15 = refl in
     c.loop-at.invariant.none clean inside.0 any.0 (omega (arith, c.loop-at-test.false, inside.1, short)) (subst (λ (sql : List ℕ). IsUnderstood schema sql) (sym inside.2) any.2)
 
 pub returns-then-branch-clause-is : goal.returns-then-branch-clause-is

@@ -7,7 +7,7 @@ use Rattle.review_sql.proofs.there.is_any_there.Given as goal
 
 abbrev pub invariant-loop-at : goal.invariant-loop-at
 invariant-loop-at g l = record {
-  within : l.at ≤ 13;
+  within : l.at ≤ 15;
   mode : l.conn.in_transaction ≡ false;
   stays : Stays (state g.S.Store l.fn.conn) (state g.S.Store l.conn);
   none : HasCleanDisk (state g.S.Store l.conn) → (i : ℕ) (d : List ℕ) → i < l.at → IsUnderstood (state g.S.Store l.fn.conn).now.schema (get_or (map (λ t. t.now) ANY_ROW) i d) → ⊥;

@@ -8,7 +8,7 @@ use Rattle.review_sql.proofs.writing.transact.Goals as goal
 
 pub returns-in_err-write-clause-acts : goal.returns-in_err-write-clause-acts
 returns-in_err-write-clause-acts g c =
-    let R = Commits c.args.delta.now c.args.kept.now c.args.requests in
+    let R = Commits c.args.delta.now c.args.kept.now c.args.numbers.now in
     let last = c.drop-tx.new.self.0 in
     let same : last ≡ c.conn-1.given.0 = search rules in
     let s0 = state g.S.Store c.args.conn.now in
@@ -21,7 +21,7 @@ returns-in_err-write-clause-acts g c =
 
 pub returns-clause-acts : goal.returns-clause-acts
 returns-clause-acts g c =
-    let R = Commits c.args.delta.now c.args.kept.now c.args.requests in
+    let R = Commits c.args.delta.now c.args.kept.now c.args.numbers.now in
     let last = c.commit.new.self.0 in
     let same : last ≡ c.conn-2-1.given.0 = search rules in
     let s0 = state g.S.Store c.args.conn.now in

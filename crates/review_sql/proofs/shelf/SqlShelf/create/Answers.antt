@@ -1,4 +1,6 @@
-use Rattle.std.proofs.Common.{rules, ◌≡◌, ◌∙◌, true, ap, not, IsTrue}
+use Rattle.std.proofs.Common.{rules, ◌≡◌, ◌∙◌, true, ap, not, IsTrue, sym, subst}
+use Rattle.review_sql.specs.Created.{IsCreated}
+use Rattle.review_sql.specs.Shelf.{Holds}
 use Rattle.sqlite.proofs.StateLemmas.{clean_if_open}
 use Rattle.sqlite.specs.Held.{state}
 use Rattle.review_sql.proofs.Made.{holds_made, is_created, unmade}
@@ -14,7 +16,8 @@ invariant_of-result g c =
     let last = c.make_desk.new.conn in
     let blank = rw c.schema.ensures.value at c.is_blank-is_blank.ensures in
     let may : c.may_be_made.result ≡ true = search rules in
-    holds_made g.S.Store c.args.conn c.is_any_there.new.conn last g.O.Origin.IS_OURS (λ ours. blank.0 (c.may_be_made.ensures.made may ours)) _ c.in-Ok.ensures.acts c.make_desk.ensures.mode (λ is_open. clean_if_open (g.S.Store.view last.store) (g.met.S.Store.shut_if_dirty last.store) is_open)
+    subst (Holds g.S.Store last g.O.Origin.IS_OURS) (sym c.first.ensures)
+    (holds_made g.S.Store c.args.conn c.is_any_there.new.conn last g.O.Origin.IS_OURS (λ ours. blank.0 (c.may_be_made.ensures.made may ours)) _ c.in-Ok.ensures.acts c.make_desk.ensures.mode (λ is_open. clean_if_open (g.S.Store.view last.store) (g.met.S.Store.shut_if_dirty last.store) is_open))
 
 pub returns-in-Ok-clause-created : goal.returns-in-Ok-clause-created
 returns-in-Ok-clause-created g c =
@@ -22,8 +25,9 @@ returns-in-Ok-clause-created g c =
     let blank = rw c.schema.ensures.value at c.is_blank-is_blank.ensures in
     let may : c.may_be_made.result ≡ true = search rules in
     let auto : IsTrue c.is_autocommit-settled.result = c.is_autocommit-settled.ensures.value ∙ ap not c.make_desk.ensures.mode in
-    is_created g.S.Store c.args.conn c.is_any_there.new.conn last g.O.Origin.IS_OURS (λ ours. blank.0 (c.may_be_made.ensures.made may ours)) _ c.in-Ok.ensures.acts c.in-Ok-false.ensures.stays (λ clean any. c.in-Ok-false.ensures.none clean c.in-Ok-false.field-0-test any)
-    (λ is_open. c.is_autocommit-settled.ensures.settled auto is_open) (g.met.S.Store.settled last.store)
+    subst (λ n. IsCreated g.S.Store g.O.Origin.IS_OURS c.args.conn (record { conn = last; numbers = n; faults = 0 })) (sym c.first.ensures)
+    (is_created g.S.Store c.args.conn c.is_any_there.new.conn last g.O.Origin.IS_OURS (λ ours. blank.0 (c.may_be_made.ensures.made may ours)) _ c.in-Ok.ensures.acts c.in-Ok-false.ensures.stays (λ clean any. c.in-Ok-false.ensures.none clean c.in-Ok-false.field-0-test any)
+    (λ is_open. c.is_autocommit-settled.ensures.settled auto is_open) (g.met.S.Store.settled last.store))
 
 pub returns-in-Err-make_desk-clause-refused : goal.returns-in-Err-make_desk-clause-refused
 returns-in-Err-make_desk-clause-refused g c =

@@ -10,14 +10,14 @@ pub invariant_of-result : goal.invariant_of-result
 invariant_of-result g c =
     let last = c.bring.new.conn in
     let same : c.IS_OURS.result ≡ g.O.Origin.IS_OURS = search rules in
-    let brought = subst (λ b. IsBrought g.S.Store b c.args.conn last c.in-Ok.requests) same c.in-Ok.ensures.brought in
+    let brought = subst (λ b. IsBrought g.S.Store b c.args.conn last c.in-Ok.numbers) same c.in-Ok.ensures.brought in
     holds_brought g.S.Store g.O.Origin.IS_OURS c.args.conn last _ c.bring.ensures.mode (λ is_open. clean_if_open (g.S.Store.view last.store) (g.met.S.Store.shut_if_dirty last.store) is_open) brought
 
 pub returns-in-Ok-clause-migrated : goal.returns-in-Ok-clause-migrated
 returns-in-Ok-clause-migrated g c =
     let last = c.bring.new.conn in
     let same : c.IS_OURS.result ≡ g.O.Origin.IS_OURS = search rules in
-    let brought = subst (λ b. IsBrought g.S.Store b c.args.conn last c.in-Ok.requests) same c.in-Ok.ensures.brought in
+    let brought = subst (λ b. IsBrought g.S.Store b c.args.conn last c.in-Ok.numbers) same c.in-Ok.ensures.brought in
     let auto : IsTrue c.is_autocommit-settled.result = c.is_autocommit-settled.ensures.value ∙ ap not c.bring.ensures.mode in
     migrated g.S.Store g.O.Origin.IS_OURS c.args.conn last _ (λ is_open. c.is_autocommit-settled.ensures.settled auto is_open) (g.met.S.Store.settled last.store) brought
 

@@ -1,10 +1,11 @@
-use Rattle.std.proofs.Common.{rules, ◌≡◌, ◌⊎◌, ◌+◌, ap, subst, Ok}
+use Rattle.std.proofs.Common.{rules, ◌≡◌, ◌⊎◌, ap, subst, Ok, ◌∙◌}
 use Rattle.sqlite.specs.Held.{Held, state}
 use Rattle.sqlite.proofs.StateLemmas.{clean_if_open}
 use Rattle.review_rows.specs.Rows.{Tables, kept_row}
-use Rattle.review_rows.specs.Shelf.{Shows, IsCommitted}
+use Rattle.review_rows.specs.Shelf.{Shows, IsCommitted, LeavesBy, cause_of}
+use Rattle.review_sql.specs.Numbers.{more}
 use Rattle.review_sql.specs.Shelf.{ShelfView, Holds, tables_of, stops_of}
-use Rattle.review_sql.proofs.Shown.{holds_committed, stops_committed, committed_shown, clean_still, stops_still}
+use Rattle.review_sql.proofs.Shown.{holds_committed, stops_committed, committed_shown, clean_still, stops_still, leaves}
 use Rattle.review_sql.proofs.Singles.{are_single}
 use Rattle.review_sql.proofs.shelf.SqlShelfShelf.commit.Goals as goal
 
@@ -12,10 +13,10 @@ pub invariant_of-self-in-Ok : goal.invariant_of-self-in-Ok
 invariant_of-self-in-Ok g c =
     let old = c.self.inside.conn in
     let last = c.transact.new.conn in
-    let more : c.self.inside.requests + 1 ≡ c.in-Some.more = search rules in
+    let more : more c.self.inside.numbers c.args.delta.now.epoch ≡ c.in-Some.more = search rules in
     let done : c.transact.result ≡ Ok (tt {0}) = search rules in
     subst (Holds g.S.Store last g.O.Origin.IS_OURS) more
-    (holds_committed g.S.Store old last g.O.Origin.IS_OURS c.self.inside.requests c.self.invariant c.args.delta.now c.args.kept.now c.transact.result c.transact.ensures.acts
+    (holds_committed g.S.Store old last g.O.Origin.IS_OURS c.self.inside.numbers c.self.invariant c.args.delta.now c.args.kept.now c.transact.result c.transact.ensures.acts
     (λ ours was. are_single (state g.S.Store old).now (c.self.invariant.ready ours was).0 (c.schema-live.ensures.live was).0) done c.transact.ensures.mode (λ is_open. clean_if_open (g.S.Store.view last.store) (g.met.S.Store.shut_if_dirty last.store) is_open))
 
 pub returns-in-Ok-clause-done : goal.returns-in-Ok-clause-done
@@ -24,7 +25,7 @@ returns-in-Ok-clause-done g c honest =
     let last = c.transact.new.conn in
     let done : c.transact.result ≡ Ok (tt {0}) = search rules in
     subst (λ (h : Held _). Shows (tables_of g.S.Store h) (λ t. Shows (tables_of g.S.Store last) (IsCommitted t c.args.delta.now (kept_row c.args.kept.now)))) (ap (λ (k : ShelfView _). k.conn) c.self.view_is)
-    (committed_shown g.S.Store old last g.O.Origin.IS_OURS c.self.inside.requests c.self.invariant c.args.delta.now c.args.kept.now c.transact.result c.transact.ensures.acts
+    (committed_shown g.S.Store old last g.O.Origin.IS_OURS c.self.inside.numbers c.self.invariant c.args.delta.now c.args.kept.now c.transact.result c.transact.ensures.acts
     (λ ours was. are_single (state g.S.Store old).now (c.self.invariant.ready ours was).0 (c.schema-live.ensures.live was).0) done honest.1 honest.0)
 
 pub returns-in-Ok-clause-stops : goal.returns-in-Ok-clause-stops
@@ -32,7 +33,7 @@ returns-in-Ok-clause-stops g c honest =
     let old = c.self.inside.conn in
     let last = c.transact.new.conn in
     subst (λ (h : Held _). (t : Tables) → stops_of g.S.Store last t → stops_of g.S.Store h t ⊎ Shows (tables_of g.S.Store h) (λ was. IsCommitted was c.args.delta.now (kept_row c.args.kept.now) t)) (ap (λ (k : ShelfView _). k.conn) c.self.view_is)
-    (stops_committed g.S.Store old last g.O.Origin.IS_OURS c.self.inside.requests c.self.invariant c.args.delta.now c.args.kept.now c.transact.result c.transact.ensures.acts
+    (stops_committed g.S.Store old last g.O.Origin.IS_OURS c.self.inside.numbers c.self.invariant c.args.delta.now c.args.kept.now c.transact.result c.transact.ensures.acts
     (λ ours was. are_single (state g.S.Store old).now (c.self.invariant.ready ours was).0 (c.schema-live.ensures.live was).0) honest.1 honest.0)
 
 pub returns-in-Err-clause-stops : goal.returns-in-Err-clause-stops
@@ -42,5 +43,14 @@ returns-in-Err-clause-stops g c honest =
     let last = c.told.new.conn in
     let clean = clean_still g.S.Store mid last c.told.ensures.stays honest.0 in
     subst (λ (h : Held _). (t : Tables) → stops_of g.S.Store last t → stops_of g.S.Store h t ⊎ Shows (tables_of g.S.Store h) (λ was. IsCommitted was c.args.delta.now (kept_row c.args.kept.now) t)) (ap (λ (k : ShelfView _). k.conn) c.self.view_is)
-    (λ t left. stops_committed g.S.Store old mid g.O.Origin.IS_OURS c.self.inside.requests c.self.invariant c.args.delta.now c.args.kept.now c.transact.result c.transact.ensures.acts
+    (λ t left. stops_committed g.S.Store old mid g.O.Origin.IS_OURS c.self.inside.numbers c.self.invariant c.args.delta.now c.args.kept.now c.transact.result c.transact.ensures.acts
     (λ ours was. are_single (state g.S.Store old).now (c.self.invariant.ready ours was).0 (c.schema-live.ensures.live was).0) honest.1 clean t (stops_still g.S.Store mid last c.told.ensures.stays honest.0 t left))
+
+pub returns-in-Err-clause-undone : goal.returns-in-Err-clause-undone
+returns-in-Err-clause-undone g c honest =
+    let old = c.self.inside.conn in
+    let last = c.told.new.conn in
+    let same : old ≡ c.args.self.now.conn = ap (λ (k : ShelfView _). k.conn) c.self.view_is in
+    subst (λ (h : Held _). LeavesBy (cause_of c.told.result) (tables_of g.S.Store h) (tables_of g.S.Store last)) same
+    (leaves g.S.Store old last (λ is_open. let k = c.told.ensures.stays.kept is_open in let u = c.in-Err.ensures.acts.undone k.0 in (u.0, k.1 ∙ u.1)) c.told.result c.told.ensures.sound
+    (λ is. c.told.ensures.memory is honest.0))

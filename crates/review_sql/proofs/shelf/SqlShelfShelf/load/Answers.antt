@@ -16,7 +16,7 @@ use Rattle.review_sql.proofs.shelf.SqlShelfShelf.load.Goals as goal
 pub invariant_of-self : goal.invariant_of-self
 invariant_of-self g c =
     let last = c.load.new.conn in
-    holds_read g.S.Store c.self.inside.conn last g.O.Origin.IS_OURS c.self.inside.requests c.self.invariant AreLoaded c.load.result c.load.ensures.mode (λ is_open. clean_if_open (g.S.Store.view last.store) (g.met.S.Store.shut_if_dirty last.store) is_open) c.load.ensures.serves
+    holds_read g.S.Store c.self.inside.conn last g.O.Origin.IS_OURS c.self.inside.numbers c.self.invariant AreLoaded c.load.result c.load.ensures.mode (λ is_open. clean_if_open (g.S.Store.view last.store) (g.met.S.Store.shut_if_dirty last.store) is_open) c.load.ensures.serves
 
 pub returns-in-Ok-clause-asked : goal.returns-in-Ok-clause-asked
 returns-in-Ok-clause-asked g c =
@@ -28,7 +28,7 @@ returns-in-Ok-clause-found g c honest =
     let last = c.load.new.conn in
     let same : old ≡ c.args.self.now.conn = ap (λ (k : ShelfView _). k.conn) c.self.view_is in
     let is : c.load.result ≡ Ok c.in-Ok.found = search rules in
-    let it = served g.S.Store old last g.O.Origin.IS_OURS c.self.inside.requests c.self.invariant honest.1 honest.0 c.in-Ok.found (subst (Serves AreLoaded (state g.S.Store old) (state g.S.Store last)) is c.load.ensures.serves) in
+    let it = served g.S.Store old last g.O.Origin.IS_OURS c.self.inside.numbers c.self.invariant honest.1 honest.0 c.in-Ok.found (subst (Serves AreLoaded (state g.S.Store old) (state g.S.Store last)) is c.load.ensures.serves) in
     subst (λ r. IfOk r (λ rows. Shows (tables_of g.S.Store c.args.self.now.conn) (λ t. Agrees t rows))) (sym c.answered.ensures)
     (subst (λ (h : Held _). IfOk (answer_of c.in-Ok.found) (λ rows. Shows (tables_of g.S.Store h) (λ t. Agrees t rows))) same (shows_loaded g.S.Store old c.in-Ok.found it.0 it.1))
 
@@ -38,7 +38,7 @@ returns-in-Ok-clause-tables g c honest =
     let last = c.load.new.conn in
     let same : old ≡ c.args.self.now.conn = ap (λ (k : ShelfView _). k.conn) c.self.view_is in
     let is : c.load.result ≡ Ok c.in-Ok.found = search rules in
-    let kept = tables_kept g.S.Store old last g.O.Origin.IS_OURS c.self.inside.requests c.self.invariant honest.1 honest.0 c.in-Ok.found (subst (Serves AreLoaded (state g.S.Store old) (state g.S.Store last)) is c.load.ensures.serves) in
+    let kept = tables_kept g.S.Store old last g.O.Origin.IS_OURS c.self.inside.numbers c.self.invariant honest.1 honest.0 c.in-Ok.found (subst (Serves AreLoaded (state g.S.Store old) (state g.S.Store last)) is c.load.ensures.serves) in
     subst (λ (r : Result Rows ShelfFault). KeepsTables r (tables_of g.S.Store c.args.self.now.conn) (tables_of g.S.Store last)) (sym c.answered.ensures)
     (subst (λ (h : Held _). KeepsTables (answer_of c.in-Ok.found) (tables_of g.S.Store h) (tables_of g.S.Store last)) same (keeps_loaded c.in-Ok.found _ _ kept))
 
@@ -48,7 +48,7 @@ returns-in-Ok-clause-damaged g c honest =
     let last = c.load.new.conn in
     let same : old ≡ c.args.self.now.conn = ap (λ (k : ShelfView _). k.conn) c.self.view_is in
     let is : c.load.result ≡ Ok c.in-Ok.found = search rules in
-    let it = served g.S.Store old last g.O.Origin.IS_OURS c.self.inside.requests c.self.invariant honest.1 honest.0 c.in-Ok.found (subst (Serves AreLoaded (state g.S.Store old) (state g.S.Store last)) is c.load.ensures.serves) in
+    let it = served g.S.Store old last g.O.Origin.IS_OURS c.self.inside.numbers c.self.invariant honest.1 honest.0 c.in-Ok.found (subst (Serves AreLoaded (state g.S.Store old) (state g.S.Store last)) is c.load.ensures.serves) in
     subst (λ (r : Result Rows ShelfFault). BlamesTables r (tables_of g.S.Store c.args.self.now.conn)) (sym c.answered.ensures)
     (subst (λ (h : Held _). BlamesTables (answer_of c.in-Ok.found) (tables_of g.S.Store h)) same (blames_loaded g.S.Store old c.in-Ok.found it.0 it.1))
 
@@ -59,7 +59,7 @@ returns-in-Ok-clause-stops g c honest =
     let same : old ≡ c.args.self.now.conn = ap (λ (k : ShelfView _). k.conn) c.self.view_is in
     let auto : IsTrue c.is_autocommit-settled.result = c.is_autocommit-settled.ensures.value ∙ ap not c.self.invariant.autocommit in
     subst (λ (h : Held _). (t : Tables) → stops_of g.S.Store last t → stops_of g.S.Store h t) same
-    (stops_read g.S.Store old last g.O.Origin.IS_OURS c.self.inside.requests c.self.invariant AreLoaded c.load.result (λ was. c.is_autocommit-settled.ensures.settled auto was) (g.met.S.Store.stays old.store) c.load.ensures.serves honest.1 honest.0)
+    (stops_read g.S.Store old last g.O.Origin.IS_OURS c.self.inside.numbers c.self.invariant AreLoaded c.load.result (λ was. c.is_autocommit-settled.ensures.settled auto was) (g.met.S.Store.stays old.store) c.load.ensures.serves honest.1 honest.0)
 
 pub returns-in-Err-clause-stops : goal.returns-in-Err-clause-stops
 returns-in-Err-clause-stops g c honest =
@@ -70,5 +70,5 @@ returns-in-Err-clause-stops g c honest =
     let auto : IsTrue c.is_autocommit-settled.result = c.is_autocommit-settled.ensures.value ∙ ap not c.self.invariant.autocommit in
     let clean = clean_still g.S.Store mid last c.told.ensures.stays honest.0 in
     subst (λ (h : Held _). (t : Tables) → stops_of g.S.Store last t → stops_of g.S.Store h t) same
-    (λ t left. stops_read g.S.Store old mid g.O.Origin.IS_OURS c.self.inside.requests c.self.invariant AreLoaded c.load.result (λ was. c.is_autocommit-settled.ensures.settled auto was) (g.met.S.Store.stays old.store) c.load.ensures.serves honest.1 clean t
+    (λ t left. stops_read g.S.Store old mid g.O.Origin.IS_OURS c.self.inside.numbers c.self.invariant AreLoaded c.load.result (λ was. c.is_autocommit-settled.ensures.settled auto was) (g.met.S.Store.stays old.store) c.load.ensures.serves honest.1 clean t
     (stops_still g.S.Store mid last c.told.ensures.stays honest.0 t left))

@@ -1,18 +1,59 @@
-use Rattle.std.proofs.Common.{rules, ◌≡◌, ◌∙◌, ap, sym, not, subst, IsTrue, Some, None}
+use Rattle.std.proofs.Common.{rules, ◌≡◌, ◌∙◌, ap, sym, not, subst, IsTrue, Result, Ok, IfOk, ℕ}
+use Rattle.sqlite_trees.specs.Tree.{Trees}
 use Rattle.sqlite.specs.Held.{Held, state}
 use Rattle.sqlite.proofs.StateLemmas.{clean_if_open}
 use Rattle.review_words.specs.History.{Identity}
-use Rattle.review_rows.specs.Rows.{Tables, OddAnswer}
-use Rattle.review_rows.specs.Shelf.{Shows, IsDamaged}
+use Rattle.review_rows.specs.Rows.{Tables}
+use Rattle.review_rows.specs.Shelf.{BlamesTables, IsRecalled, KeepsTables, Shows, LeavesBy, cause_of}
 use Rattle.review_sql.specs.Shelf.{ShelfView, tables_of, stops_of}
-use Rattle.review_lookups.specs.Tables.{tables_at, answer_in, stored_as}
-use Rattle.review_sql.proofs.Shown.{holds_read, stops_read, desk_if_open, odd_is_damage, shown_now, clean_still, stops_still}
+use Rattle.review_sql.proofs.Recalled.{blames_recalled, keeps_recalled, shows_recalled}
+use Rattle.review_sql.proofs.Shown.{holds_read, stops_read, desk_if_open, same_shown, clean_still, stops_still, leaves}
 use Rattle.review_sql.proofs.shelf.SqlShelfShelf.recall.Goals as goal
 
 pub invariant_of-self : goal.invariant_of-self
 invariant_of-self g c =
     let last = c.find_stored.new.conn in
-    holds_read g.S.Store c.self.inside.conn last g.O.Origin.IS_OURS c.self.inside.requests c.self.invariant _ c.find_stored.result c.find_stored.ensures.mode (λ is_open. clean_if_open (g.S.Store.view last.store) (g.met.S.Store.shut_if_dirty last.store) is_open) c.find_stored.ensures.serves
+    holds_read g.S.Store c.self.inside.conn last g.O.Origin.IS_OURS c.self.inside.numbers c.self.invariant _ c.find_stored.result c.find_stored.ensures.mode (λ is_open. clean_if_open (g.S.Store.view last.store) (g.met.S.Store.shut_if_dirty last.store) is_open) c.find_stored.ensures.serves
+
+pub returns-in-Ok-clause-found : goal.returns-in-Ok-clause-found
+returns-in-Ok-clause-found g c honest =
+    let old = c.self.inside.conn in
+    let last = c.find_stored.new.conn in
+    let i : Identity = record { caller = c.args.caller; epoch = c.args.epoch; id = c.in_ok-copy.field-0 } in
+    let same : old ≡ c.args.self.now.conn = ap (λ (k : ShelfView _). k.conn) c.self.view_is in
+    let it = c.in-Ok.ensures.serves.found honest.0 (desk_if_open g.S.Store old last g.O.Origin.IS_OURS c.self.inside.numbers c.self.invariant honest.1) in
+    let id_is : c.in_ok-copy.field-0 ≡ c.args.id.now = search rules in
+    subst (λ id. IfOk c.recalled.result (λ x. Shows (tables_of g.S.Store c.args.self.now.conn) (λ t. IsRecalled t (record { caller = c.args.caller; epoch = c.args.epoch; id = id }) x))) id_is
+    (subst (λ (h : Held _). IfOk c.recalled.result (λ x. Shows (tables_of g.S.Store h) (λ t. IsRecalled t i x))) same
+    (shows_recalled g.S.Store old c.self.inside.numbers i it.0 (c.self.invariant.ready honest.1 it.0).1 c.recalled.result c.in-Ok.found it.3 c.recalled.ensures.told))
+
+pub returns-in-Ok-clause-tables : goal.returns-in-Ok-clause-tables
+returns-in-Ok-clause-tables g c honest =
+    let old = c.self.inside.conn in
+    let last = c.find_stored.new.conn in
+    let same : old ≡ c.args.self.now.conn = ap (λ (k : ShelfView _). k.conn) c.self.view_is in
+    let it = c.in-Ok.ensures.serves.found honest.0 (desk_if_open g.S.Store old last g.O.Origin.IS_OURS c.self.inside.numbers c.self.invariant honest.1) in
+    subst (λ (h : Held _). KeepsTables c.recalled.result (tables_of g.S.Store h) (tables_of g.S.Store last)) same
+    (keeps_recalled c.recalled.result c.in-Ok.found _ _ c.recalled.ensures.damaged (same_shown g.S.Store old last it.0 it.1 it.2))
+
+pub returns-in-Ok-clause-damaged : goal.returns-in-Ok-clause-damaged
+returns-in-Ok-clause-damaged g c honest =
+    let old = c.self.inside.conn in
+    let last = c.find_stored.new.conn in
+    let i : Identity = record { caller = c.args.caller; epoch = c.args.epoch; id = c.in_ok-copy.field-0 } in
+    let same : old ≡ c.args.self.now.conn = ap (λ (k : ShelfView _). k.conn) c.self.view_is in
+    let it = c.in-Ok.ensures.serves.found honest.0 (desk_if_open g.S.Store old last g.O.Origin.IS_OURS c.self.inside.numbers c.self.invariant honest.1) in
+    subst (λ (h : Held _). BlamesTables c.recalled.result (tables_of g.S.Store h)) same
+    (blames_recalled g.S.Store old c.self.inside.numbers i it.0 (c.self.invariant.ready honest.1 it.0).1 c.recalled.result c.in-Ok.found it.3 c.recalled.ensures.damaged)
+
+pub returns-in-Ok-clause-stops : goal.returns-in-Ok-clause-stops
+returns-in-Ok-clause-stops g c honest =
+    let old = c.self.inside.conn in
+    let last = c.find_stored.new.conn in
+    let same : old ≡ c.args.self.now.conn = ap (λ (k : ShelfView _). k.conn) c.self.view_is in
+    let auto : IsTrue c.is_autocommit-settled.result = c.is_autocommit-settled.ensures.value ∙ ap not c.self.invariant.autocommit in
+    subst (λ (h : Held _). (t : Tables) → stops_of g.S.Store last t → stops_of g.S.Store h t) same
+    (stops_read g.S.Store old last g.O.Origin.IS_OURS c.self.inside.numbers c.self.invariant _ c.find_stored.result (λ was. c.is_autocommit-settled.ensures.settled auto was) (g.met.S.Store.stays old.store) c.find_stored.ensures.serves honest.1 honest.0)
 
 pub returns-in-Err-clause-stops : goal.returns-in-Err-clause-stops
 returns-in-Err-clause-stops g c honest =
@@ -23,43 +64,15 @@ returns-in-Err-clause-stops g c honest =
     let auto : IsTrue c.is_autocommit-settled.result = c.is_autocommit-settled.ensures.value ∙ ap not c.self.invariant.autocommit in
     let clean = clean_still g.S.Store mid last c.told.ensures.stays honest.0 in
     subst (λ (h : Held _). (t : Tables) → stops_of g.S.Store last t → stops_of g.S.Store h t) same
-    (λ t left. stops_read g.S.Store old mid g.O.Origin.IS_OURS c.self.inside.requests c.self.invariant _ c.find_stored.result (λ was. c.is_autocommit-settled.ensures.settled auto was) (g.met.S.Store.stays old.store) c.find_stored.ensures.serves honest.1 clean t
+    (λ t left. stops_read g.S.Store old mid g.O.Origin.IS_OURS c.self.inside.numbers c.self.invariant _ c.find_stored.result (λ was. c.is_autocommit-settled.ensures.settled auto was) (g.met.S.Store.stays old.store) c.find_stored.ensures.serves honest.1 clean t
     (stops_still g.S.Store mid last c.told.ensures.stays honest.0 t left))
 
-pub returns-in-Some-Some-clause-stops : goal.returns-in-Some-Some-clause-stops
-returns-in-Some-Some-clause-stops g c honest =
+pub returns-in-Err-clause-tables : goal.returns-in-Err-clause-tables
+returns-in-Err-clause-tables g c honest =
     let old = c.self.inside.conn in
-    let last = c.find_stored.new.conn in
+    let last = c.told.new.conn in
     let same : old ≡ c.args.self.now.conn = ap (λ (k : ShelfView _). k.conn) c.self.view_is in
-    let auto : IsTrue c.is_autocommit-settled.result = c.is_autocommit-settled.ensures.value ∙ ap not c.self.invariant.autocommit in
-    subst (λ (h : Held _). (t : Tables) → stops_of g.S.Store last t → stops_of g.S.Store h t) same
-    (stops_read g.S.Store old last g.O.Origin.IS_OURS c.self.inside.requests c.self.invariant _ c.find_stored.result (λ was. c.is_autocommit-settled.ensures.settled auto was) (g.met.S.Store.stays old.store) c.find_stored.ensures.serves honest.1 honest.0)
-
-pub returns-in-Some-None-clause-damaged : goal.returns-in-Some-None-clause-damaged
-returns-in-Some-None-clause-damaged g c honest =
-    let old = c.self.inside.conn in
-    let last = c.find_stored.new.conn in
-    let i : Identity = record { caller = c.args.caller; id = c.in_ok-copy.field-0 } in
-    let same : old ≡ c.args.self.now.conn = ap (λ (k : ShelfView _). k.conn) c.self.view_is in
-    let is : c.in-Ok.found ≡ Some None = search rules in
-    let it = c.in-Ok.ensures.serves.found honest.0 (desk_if_open g.S.Store old last g.O.Origin.IS_OURS c.self.inside.requests c.self.invariant honest.1) in
-    let odd : answer_in (state g.S.Store old).now.trees i ≡ Some OddAnswer = ap (stored_as i) (sym it.3 ∙ is) in
-    subst (λ (h : Held _). Shows (tables_of g.S.Store h) IsDamaged) same (shown_now g.S.Store old last IsDamaged it.0 (odd_is_damage (tables_at (state g.S.Store old).now.trees) i odd))
-
-pub returns-in-Some-None-clause-stops : goal.returns-in-Some-None-clause-stops
-returns-in-Some-None-clause-stops g c honest =
-    let old = c.self.inside.conn in
-    let last = c.find_stored.new.conn in
-    let same : old ≡ c.args.self.now.conn = ap (λ (k : ShelfView _). k.conn) c.self.view_is in
-    let auto : IsTrue c.is_autocommit-settled.result = c.is_autocommit-settled.ensures.value ∙ ap not c.self.invariant.autocommit in
-    subst (λ (h : Held _). (t : Tables) → stops_of g.S.Store last t → stops_of g.S.Store h t) same
-    (stops_read g.S.Store old last g.O.Origin.IS_OURS c.self.inside.requests c.self.invariant _ c.find_stored.result (λ was. c.is_autocommit-settled.ensures.settled auto was) (g.met.S.Store.stays old.store) c.find_stored.ensures.serves honest.1 honest.0)
-
-pub returns-in-None-clause-stops : goal.returns-in-None-clause-stops
-returns-in-None-clause-stops g c honest =
-    let old = c.self.inside.conn in
-    let last = c.find_stored.new.conn in
-    let same : old ≡ c.args.self.now.conn = ap (λ (k : ShelfView _). k.conn) c.self.view_is in
-    let auto : IsTrue c.is_autocommit-settled.result = c.is_autocommit-settled.ensures.value ∙ ap not c.self.invariant.autocommit in
-    subst (λ (h : Held _). (t : Tables) → stops_of g.S.Store last t → stops_of g.S.Store h t) same
-    (stops_read g.S.Store old last g.O.Origin.IS_OURS c.self.inside.requests c.self.invariant _ c.find_stored.result (λ was. c.is_autocommit-settled.ensures.settled auto was) (g.met.S.Store.stays old.store) c.find_stored.ensures.serves honest.1 honest.0)
+    let desk = desk_if_open g.S.Store old last g.O.Origin.IS_OURS c.self.inside.numbers c.self.invariant honest.1 in
+    subst (λ (h : Held _). LeavesBy (cause_of c.told.result) (tables_of g.S.Store h) (tables_of g.S.Store last)) same
+    (leaves g.S.Store old last (λ is_open. let k = c.told.ensures.stays.kept is_open in let u = c.in-Err.ensures.serves.undone desk k.0 in (u.0, k.1 ∙ u.1)) c.told.result c.told.ensures.sound
+    (λ is. c.told.ensures.memory is honest.0))
