@@ -6,7 +6,7 @@ use review_file::{FileMemo, ProjectFile};
 use review_file_decisions::read_file_for;
 use review_needs::next_need;
 use review_rows::{Delta, Matter, Need, Rows};
-use review_words::{AccountNo, Command, NotTaken, Query, Reply};
+use review_words::{AccountNo, Command, Epoch, NotTaken, Query, Reply};
 use std::alloc::{AllocError, Global};
 
 /// The desk's own rules, with the project files that were read for earlier deliveries.
@@ -52,9 +52,10 @@ impl Rules for DeskRules {
         read: Option<&ProjectFile>,
         rows: &Rows,
         caller: AccountNo,
+        epoch: Epoch,
         command: &Command,
     ) -> Result<(Delta, Reply), NotTaken> {
-        decide(alloc, &mut self.memo, read, rows, caller, command)
+        decide(alloc, &mut self.memo, read, rows, caller, epoch, command)
     }
 
     fn show(

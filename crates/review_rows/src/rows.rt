@@ -209,6 +209,7 @@ pub struct Rows {
     pub standings: Table<Base, Standing>,
     /// The changes that joined a branch, in the order of their places.
     pub joined: Table<BranchKey, Listed<JoinedChange>>,
+    /// The least open epoch.
     pub least_epoch: Option<u32>,
 }
 
@@ -222,6 +223,7 @@ pub struct Delta {
     pub file: Option<Put<ProjectName, StoredFile>>,
     pub base: Option<Put<PlaceKey, CommitName>>,
     pub changes: Vec<ChangeEdit>,
+    /// The least open epoch from now on.
     pub epoch: Option<Epoch>,
 }
 
@@ -240,18 +242,9 @@ pub struct Kept {
 /// What is known of the identity of a request.
 #[derive(Debug, Drop)]
 pub enum Recalled {
-    /// The request is stored.
+    /// Its epoch is open, and the request is stored.
     Kept(Kept),
-    /// No request is stored under it.
-    Fresh,
-}
-
-/// What is known of an identity.
-#[derive(Debug, Drop)]
-pub enum Recalled {
-    /// It is stored.
-    Kept(Kept),
-    /// It is new, and its epoch is open.
+    /// Its epoch is open, and no request is stored under it.
     Fresh,
     /// Its epoch is closed.
     Closed,

@@ -4,7 +4,7 @@
 use review_rows::{Delta, Kept, Need, Recalled, Shelf, ShelfFault, Want};
 use review_shelves::{FaultyShelf, MemoryShelf, ShuttingShelf};
 use review_table::Change;
-use review_words::{AccountName, AccountNo, Name, RequestId};
+use review_words::{AccountName, AccountNo, Epoch, Name, RequestId};
 use std::alloc::Global;
 use std::test::Fail;
 
@@ -30,14 +30,28 @@ fn second_account(alloc: Global, name: &str) -> Result<Delta, Fail> {
         file: None,
         base: None,
         changes: Vec::new(alloc),
+        epoch: None,
     })
 }
 
-/// A request of account 1.
-fn request(alloc: Global, id: &str) -> Result<Kept, Fail> {
+/// Epoch 1 becomes the least open one.
+fn closing(alloc: Global) -> Delta {
+    Delta {
+        accounts: Vec::new(alloc),
+        members: Vec::new(alloc),
+        file: None,
+        base: None,
+        changes: Vec::new(alloc),
+        epoch: Epoch::from_number(1),
+    }
+}
+
+/// A request of account 1, of an epoch.
+fn request(alloc: Global, epoch: Epoch, id: &str) -> Result<Kept, Fail> {
     let id = request_id(alloc, id)?;
     Ok(Kept {
         caller: AccountNo::first(),
+        epoch,
         id,
         request: 1,
         content: String::new(alloc),
@@ -64,7 +78,7 @@ fn commit_word<S: Shelf>(alloc: Global, shelf: &mut S, delta: &Delta, kept: &Kep
 
 /// Gives account 2 a name: what the commit answers.
 fn commit<S: Shelf>(alloc: Global, shelf: &mut S, name: &str) -> Result<&'static str, Fail> {
-    let kept = request(alloc, name)?;
+    let kept = request(alloc, Epoch::first(), name)?;
     let delta = second_account(alloc, name)?;
     Ok(commit_word(alloc, shelf, &delta, &kept))
 }
@@ -105,14 +119,25 @@ fn account_of<S: Shelf>(alloc: Global, shelf: &mut S, name: &str) -> Result<&'st
     Ok(loaded_word(alloc, shelf, &need, &name))
 }
 
-/// Whether a request of account 1 is recalled.
-fn recall<S: Shelf>(alloc: Global, shelf: &mut S, id: &str) -> Result<&'static str, Fail> {
+/// What is known of a request of account 1, of an epoch.
+fn recall_in<S: Shelf>(
+    alloc: Global,
+    shelf: &mut S,
+    epoch: Epoch,
+    id: &str,
+) -> Result<&'static str, Fail> {
     let id = request_id(alloc, id)?;
-    match shelf.recall(alloc, AccountNo::first(), &id) {
+    match shelf.recall(alloc, AccountNo::first(), epoch, &id) {
         Ok(Recalled::Kept(_)) => Ok("recalled"),
         Ok(Recalled::Fresh) => Ok("unknown"),
+        Ok(Recalled::Closed) => Ok("closed"),
         Err(fault) => Ok(fault_word(fault)),
     }
+}
+
+/// Whether a request of account 1 that names no epoch is recalled.
+fn recall<S: Shelf>(alloc: Global, shelf: &mut S, id: &str) -> Result<&'static str, Fail> {
+    recall_in(alloc, shelf, Epoch::first(), id)
 }
 
 /// What five calls answer, and how many faults were counted.
@@ -215,5 +240,34 @@ fn a_shelf_that_shuts_fails_for_good(rt: HostRuntime) -> Result<(), Fail> {
     assert!(rt; calls.request == "store");
     assert!(rt; calls.faults == 4);
     assert!(rt; bob == "account 2");
+    Ok(())
+}
+
+/// What is known of three requests after epoch 0 was closed.
+struct Closed {
+    before: &'static str,
+    own: &'static str,
+    after: &'static str,
+}
+
+/// Stores ann in epoch 0 and closes this epoch in a request of epoch 1; then what is known of both, and of a new one of epoch 1.
+fn close_in_memory(alloc: Global) -> Result<Closed, Fail> {
+    let mut shelf = MemoryShelf::new(alloc)?;
+    commit(alloc, &mut shelf, "ann")?;
+    let epoch = Epoch::from_number(1).unwrap_or(Epoch::first());
+    let kept = request(alloc, epoch, "close")?;
+    commit_word(alloc, &mut shelf, &closing(alloc), &kept);
+    let before = recall(alloc, &mut shelf, "ann")?;
+    let own = recall_in(alloc, &mut shelf, epoch, "close")?;
+    let after = recall_in(alloc, &mut shelf, epoch, "ann")?;
+    Ok(Closed { before, own, after })
+}
+
+#[test]
+fn a_closed_epoch_is_told_and_its_answers_are_given_up(rt: HostRuntime) -> Result<(), Fail> {
+    let closed = close_in_memory(rt.alloc())?;
+    assert!(rt; closed.before == "closed");
+    assert!(rt; closed.own == "recalled");
+    assert!(rt; closed.after == "unknown");
     Ok(())
 }
