@@ -137,7 +137,7 @@ abbrev pub IsEntered : Delivery → Reply → List Entry → Type 0
 IsEntered (Write caller epoch id command) reply h = (e : Entry) × (stored h (record { caller = caller; epoch = epoch; id = id }) ≡ Some e) × (e.command ≡ command) × (e.reply ≡ reply)
 IsEntered (Read caller query) reply h = Unit {0}
 
--- once it was answered, a stop leaves only tables of histories that have the write
+-- once it was answered, a stop leaves only tables that are those of a history that has the write
 abbrev pub StopHasEntry : Delivery → Reply → Shown → Type 0
 StopHasEntry d reply s = IsDoneOrRefused reply → (t : Tables) → s.stops t → (h : List Entry) × IsHistory h × IsView h t × IsEntered d reply h
 
@@ -205,7 +205,7 @@ abbrev pub KeepsRows : Reply → Tables → Tables → Type 0
 KeepsRows (Refused r) t u = SameRows t u
 KeepsRows _ t u = Unit {0}
 
--- the request is stored beside the others under the next number, and a refusal does nothing else
+-- the request is stored beside the others under the next number; an accepted CloseEpoch gives up the answers of lower epochs, and a refusal does nothing else
 pub record StoresRequest (i : Identity) (command : Command) (reply : Reply) (t u : Tables) : Type 0 where
   pub new : Answers t i None
   pub answer_is : (j : Identity) → u.answer j ≡ (if is_same i j then Some (Answered (answer_row (record { identity = i; version = latest; command = command; reply = reply }) (t.requests + 1)))

@@ -3,7 +3,7 @@ ghost use Rattle.std.specs.Prelude.{◌≡◌, ◌≤◌, ◌<◌, ◌+◌, ◌�
 ghost use Rattle.review_words.specs.Texts.{IsStored, content_text};
 ghost use Rattle.review_words.specs.History.{Entry, IsFirst, if_done};
 ghost use Rattle.review_words.specs.declared.command.Delivery.TheVariants.{Write, Read};
-ghost use Rattle.review_rows.specs.Answer.{IsHistory, IsFirst, most_requests};
+ghost use Rattle.review_rows.specs.Answer.{IsHistory, most_requests};
 ghost use Rattle.review_rows.specs.Changes.{Reading};
 ghost use Rattle.review_rows.specs.Decisions.{RestsOn};
 ghost use Rattle.review_rows.specs.declared.rows.Want.{Want};
@@ -40,10 +40,11 @@ const MOST_REQUESTS: u64 = 9_007_199_254_740_991;
 /// judged or a question answered by the effective file of a project that has a pattern in its own file or in an ancestor's: the project that it
 /// names, or that of the change that it names, or the parent of a project that it makes.
 ///
-/// On any tables whatever, what isn't taken and a used identity leave them as they are, and Done and Refused either found
-/// the identity stored with this command and this reply, and left them, or stored the request beside the others; a refusal
-/// changes no row. An identity is used only where it is stored with another command, a history full only where the identity
-/// is new and the last number given. A question changes nothing. A store fault is answered only where the shelf counted one.
+/// On any tables whatever, what isn't taken, a used identity and a closed epoch leave them as they are, and Done and Refused either found
+/// the identity stored with this command and this reply, and left them, or stored the request beside the others, of which an
+/// accepted CloseEpoch gives up those of lower epochs; a refusal changes no row. An identity is used only where it is stored with
+/// another command, an epoch closed only where the tables say so, a history full only where the identity is new, its epoch open
+/// and the last number given. A question changes nothing. A store fault is answered only where the shelf counted one.
 ///
 /// Premises: the clauses on tables hold where the store returned what was written to it, and once a fault has shut it nothing is
 /// said of tables; the clause on counts holds always.

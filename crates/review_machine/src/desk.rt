@@ -10,7 +10,7 @@ use std::alloc::Global;
 
 /// Takes one delivery.
 ///
-/// From the tables of a history its reply is the right one: what is stored for a repeat, that the identity is used for
+/// From the tables of a history its reply is the right one: that its epoch is closed, what is stored for a repeat, that the identity is used for
 /// another command under it, the answer of the command for a first arrival, or that it wasn't taken, for a lawful cause.
 /// The tables are then those of the history after it, and a stop leaves what it could leave before, or the whole effect with
 /// the answer; after an answer it leaves only tables that have the request.
@@ -18,10 +18,11 @@ use std::alloc::Global;
 /// Pattern is lawful only for a first arrival that puts a project file with a pattern which the engine refuses, or that is judged by a
 /// project's file with a pattern: the file of the project that the command names, or of the change that it names.
 ///
-/// On any tables whatever, what isn't taken and a used identity leave them as they are, and Done and Refused either found
-/// the identity stored with this command and this reply, and left them, or stored the request beside the others; a refusal
-/// changes no row. An identity is used only where it is stored with another command, a history full only where the identity
-/// is new and the last number given. A question changes nothing. A store fault is answered only where the shelf counted one.
+/// On any tables whatever, what isn't taken, a used identity and a closed epoch leave them as they are, and Done and Refused either found
+/// the identity stored with this command and this reply, and left them, or stored the request beside the others, of which an
+/// accepted CloseEpoch gives up those of lower epochs; a refusal changes no row. An identity is used only where it is stored with
+/// another command, an epoch closed only where the tables say so, a history full only where the identity is new, its epoch open
+/// and the last number given. A question changes nothing. A store fault is answered only where the shelf counted one.
 ///
 /// Premises: the clauses on tables hold where the store returned what was written to it, and once a fault has shut it nothing is
 /// said of tables; the clause on counts holds always.
@@ -32,16 +33,16 @@ pub fn deliver<S: Shelf>(alloc: Global, shelf: &mut S, delivery: &Delivery) -> R
 }
 
 /// Takes deliveries in order. Whatever comes, repeated, lost or reordered, tables and replies are those of the run in which
-/// each request stands once, at its first arrival: from the tables of any history, each reply is the right one after the
-/// deliveries before it, and the tables at the end are those of the history with each taken first arrival added, its repeats
-/// deleted. Where there is no memory for the list of replies it stops before the first
+/// each request of an epoch that was open when it first came stands once, at its first arrival: from the tables of any history, each reply is the right one after the
+/// deliveries before it, and the tables at the end are those of the history with each taken first arrival of an open epoch added, its repeats
+/// deleted; a repeat is told the first answer, or later that its epoch is closed, and changes nothing. Where there is no memory for the list of replies it stops before the first
 /// delivery, and only there.
 ///
 /// Of the history that it leaves: each change joined its branch at most once and has its place there; it stands on a base of the branch or
 /// on a change that joined before it; and just before its submit it was open, not in work in progress, and no requirement was unsatisfied.
 ///
 /// Premises: the store returned what was written to it; once a fault has shut it, nothing is said of tables. On any tables
-/// whatever each step leaves them, or stores its request beside the others.
+/// whatever each step leaves them, or stores its request beside the others, of which an accepted CloseEpoch gives up those of lower epochs.
 pub fn run<S: Shelf>(
     alloc: Global,
     shelf: &mut S,

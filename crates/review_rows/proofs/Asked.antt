@@ -423,6 +423,7 @@ parents_stay rows more both caller (OfCommand (PutGroup group members)) added fi
 parents_stay rows more both caller (OfCommand (PutProject project text)) added first then =
     ap (parent_or (named_parent text)) (own_stays rows more both project added (each_known rows (first_wants caller (OfCommand (PutProject project text))) first).1.1.1.0)
 parents_stay rows more both caller (OfCommand (RecordBase project branch commit)) added first then = refl
+parents_stay rows more both caller (OfCommand (CloseEpoch epoch)) added first then = refl
 parents_stay rows more both caller (OfCommand (CreateChange new)) added first then =
     parent_stays rows more both new.project added (each_known rows (first_wants caller (OfCommand (CreateChange new))) first).1.1.1.1.1.0
 parents_stay rows more both caller (OfCommand (OnChange n command)) added first then =

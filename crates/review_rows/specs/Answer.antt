@@ -115,7 +115,7 @@ abbrev pub of_change : (Change → List (Bool × Refusal)) → Option Change →
 of_change each None = (false, NoChange) ∷ []
 of_change each (Some c) = each c
 
--- The checks of a command in their order, by the rules of the latest version, each with the refusal where it fails. What is asked of the file that a PutProject puts comes after them.
+-- The checks of a command in their order, by the rules of the latest version, each with the refusal where it fails. What is asked of the file that a PutProject puts, and of the epochs of a CloseEpoch, comes after them.
 abbrev pub checks : Reading → List Entry → ℕ → Command → List (Bool × Refusal)
 checks reading h caller (CreateAccount name) =
     (is_admin h caller, NotAdmin) ∷ (not (name_taken h name), NameTaken) ∷ (nat_lt (account_count h) most_accounts, Limit) ∷ []
@@ -216,7 +216,7 @@ abbrev pub IsRequestOutcome : Reading → List Entry → ℕ → ℕ → ChangeC
 IsRequestOutcome reading h caller n (Upload patch) reply = IsOf (λ c. IsUploadAnswer reading h caller n patch c reply) (change reading h n)
 IsRequestOutcome reading h caller n command reply = reply ≡ Done (done_on command (change reading h n))
 
--- What a command is told that no check refuses. One place is left free: which fault a text is told, or whether it is read, where a pattern in it nests deeper
+-- What a command is told that no check refuses; a CloseEpoch is told so where its epochs pass too. One place is left free: which fault a text is told, or whether it is read, where a pattern in it nests deeper
 -- than the pattern engine reads.
 abbrev pub IsOutcome : Reading → List Entry → ℕ → Command → Reply → Type 0
 IsOutcome reading h caller (PutProject project text) reply = IsFaultAnswer text reply ⊎ IsFileAnswer reading h project text reply
@@ -224,7 +224,7 @@ IsOutcome reading h caller (OnChange n command) reply = IsRequestOutcome reading
 IsOutcome reading h caller (Submit n) reply = IsOf (λ c. IsSubmitAnswer reading h n c reply) (change reading h n)
 IsOutcome reading h caller command reply = reply ≡ Done (done reading h command)
 
--- The reply is an answer to the command by the rules of the latest version, by what is read of the texts that were put.
+-- The reply is an answer to the command by the rules of the latest version, by what is read of the texts that were put; of a CloseEpoch without what is asked of its epochs.
 abbrev pub IsAnswerBy : Reading → List Entry → ℕ → Command → Reply → Type 0
 IsAnswerBy reading h caller command reply = MatchOption (refused_by reading h caller command) (IsOutcome reading h caller command reply) (λ refusal. reply ≡ Refused refusal)
 

@@ -132,8 +132,8 @@ pub enum Counted {
     BasesOf(ProjectName),
 }
 
-/// One look-up. Each is by a full key or by the front of one, but for the greatest numbers and for whether a count has reached its limit, of
-/// which a shelf may know more than its rows: none needs a walk over a table.
+/// One look-up. Each is by a full key or by the front of one, but for the greatest numbers, for the least open epoch and for whether a count has
+/// reached its limit, of which a shelf may know more than its rows: none needs a walk over a table.
 #[derive(Debug, Drop)]
 pub enum Want {
     /// How many requests are stored.

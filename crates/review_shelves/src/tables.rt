@@ -67,7 +67,7 @@ impl MemoryTables {
         })
     }
 
-    /// What is known of an identity, or that none is stored under it.
+    /// What is stored under an identity, or that nothing is, or that its epoch is closed.
     pub fn recall(
         &self,
         alloc: Global,

@@ -18,14 +18,14 @@ pub record Identity : Type 0 where
 abbrev pub is_same : Identity → Identity → Bool
 is_same a b = (a.caller == b.caller) && ((a.epoch == b.epoch) && bytes_eq a.id b.id)
 
--- a request that was taken, with its reply, and the version of the desk whose rules answered it
+-- a request that was taken, with its reply, and the version of the rules that answered it
 pub record Entry : Type 0 where
   pub identity : Identity
   pub version : ℕ
   pub command : Command
   pub reply : Reply
 
--- what an answer may depend on, beside the command and what went before: who asked, in which epoch, and the version of the desk whose rules answered
+-- what an answer may depend on, beside the command and what went before: who asked, in which epoch, and the version of the rules that answered
 pub record Asking : Type 0 where
   pub caller : ℕ
   pub epoch : ℕ
@@ -35,7 +35,7 @@ pub record Asking : Type 0 where
 abbrev pub asking_of : Entry → Asking
 asking_of e = record { caller = e.identity.caller; epoch = e.identity.epoch; version = e.version }
 
--- the latest version of the desk, whose rules answer requests from now on; in version 1 projects had no parents
+-- the latest version of the rules, which answer requests from now on; in version 1 projects had no parents
 abbrev pub latest : ℕ
 latest = 2
 
@@ -71,7 +71,7 @@ abbrev pub raised : Option Command → ℕ → ℕ
 raised (Some (CloseEpoch epoch)) least = if nat_lt least epoch then epoch else least
 raised _ least = least
 
--- the least open epoch: the greatest that an accepted CloseEpoch named, and 0 without one, so an epoch never opens again
+-- the least open epoch: the greatest that an accepted CloseEpoch named, so that none ever opens again; 0 where there is none
 abbrev pub least_open : List Entry → ℕ
 least_open [] = 0
 least_open (e ∷ h) = raised (accepted e) (least_open h)
