@@ -2,10 +2,10 @@
 
 use crate::values::{
     answers_at, answers_number, change_number, comment_at, comment_number, flag_at, flag_number,
-    patch_at, patch_number, small, small_at,
+    patch_at, patch_number,
 };
 use review_changes::{Comment, CommentRow};
-use review_records::names::{account_at, account_number, name_at};
+use review_records::names::{account_at, account_number, name_at, small, small_at};
 use review_statements::texts;
 use review_tables::bound::Bound;
 use review_tables::columns::number_at;

@@ -1,10 +1,8 @@
 //! The headers of changes.
 
-use crate::values::{
-    change_at, change_number, flag_at, flag_number, small, small_at, state_at, state_name,
-};
+use crate::values::{change_at, change_number, flag_at, flag_number, state_at, state_name};
 use review_changes::Header;
-use review_records::names::{account_at, account_number, name_at};
+use review_records::names::{account_at, account_number, name_at, small, small_at};
 use review_rows::BranchKey;
 use review_statements::texts;
 use review_tables::bound::Bound;

@@ -7,7 +7,6 @@ ghost use Rattle.review_names.specs.Kinds.{kind_named};
 ghost use Rattle.review_words.specs.Texts.{role_named};
 ghost use Rattle.review_tables.specs.Columns.{number_in, text_in};
 ghost use Rattle.review_records.specs.Forms.{where_is};
-ghost use Rattle.review_records.specs.Keyed.{is_small};
 ghost use Rattle.review_change_records.specs.Forms.{answered, answers_number, flag_number, flagged, integer_in, is_answer, is_vote, named, state_name, state_named};
 
 use review_changes::Vote;
@@ -76,26 +75,6 @@ pub fn flag_at(row: &Row, at: usize) -> Option<bool>
         1 => Some(true),
         _ => None,
     }
-}
-
-/// The number in a column, which is below 2^32; none where it is no such number.
-pub fn small_at(row: &Row, at: usize) -> Option<u32>
-    ensures { result ≡ where_is is_small (number_in (column row.now at)) }
-{
-    let number = number_at(row, at)?;
-    if number < 4_294_967_296 {
-        Some(number as u32)
-    } else {
-        None
-    }
-}
-
-/// The same number, which is below 2^32.
-pub fn small(number: u32) -> u32
-    ensures same { result ≡ number }
-    ensures small { is_small number ≡ true }
-{
-    number
 }
 
 /// The patch set whose number is in a column; none where it is no such number.

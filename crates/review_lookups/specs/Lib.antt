@@ -3,4 +3,4 @@ pub mod Loads
 pub mod Reviews
 pub mod Senders
 pub mod Joins
-pub mod FirstTables
+pub mod EarlierTables

@@ -12,7 +12,7 @@ use Rattle.review_statements.specs.Search.{rows_at, row_at}
 use Rattle.review_records.specs.declared.rows.DeskRow.{DeskRow}
 use Rattle.review_records.specs.declared.rows.Answered.{Answered as Rest}
 use Rattle.review_change_records.specs.Forms.{headers, patches, votes, roles, comments, calls}
-use Rattle.review_records.specs.Forms.{accounts, members, projects, bases, answers, desk}
+use Rattle.review_records.specs.Forms.{accounts, members, projects, bases, answers, desk, epochs, first_epoch, request_key}
 
 -- a row as tables tell it; an odd one is none of its table
 abbrev pub told : {X : Type 0} → (X → Row) → Option (Option X) → Option Row
@@ -35,15 +35,15 @@ part_in db n (RoleOf u) = told (λ x. APart (ARole x)) (row_at roles db (n, u))
 part_in db n (CommentOf k) = told (λ x. APart (AComment x)) (row_at comments db (n, k))
 part_in db n (AttentionOf u) = told (λ x. APart (ACall x)) (row_at calls db (n, u))
 
--- the tables of records, where the projects stand in this one, and which of their rows have a key
-abbrev pub keyed_with : ℕ × (Raw → Bool) → List (ℕ × (Raw → Bool))
-keyed_with files =
-    (accounts.tree, accounts.keyed) ∷ (members.tree, members.keyed) ∷ files ∷ (bases.tree, bases.keyed) ∷ (answers.tree, answers.keyed)
+-- the tables of records, where the projects and the stored requests stand in these, and which of their rows have a key
+abbrev pub keyed_with : ℕ × (Raw → Bool) → ℕ × (Raw → Bool) → List (ℕ × (Raw → Bool))
+keyed_with files stored =
+    (accounts.tree, accounts.keyed) ∷ (members.tree, members.keyed) ∷ files ∷ (bases.tree, bases.keyed) ∷ stored
     ∷ (headers.tree, headers.keyed) ∷ (patches.tree, patches.keyed) ∷ (votes.tree, votes.keyed) ∷ (roles.tree, roles.keyed) ∷ (comments.tree, comments.keyed) ∷ (calls.tree, calls.keyed) ∷ []
 
 -- the tables of records, and which of their rows have a key
 abbrev pub keyed_tables : List (ℕ × (Raw → Bool))
-keyed_tables = keyed_with (projects.tree, projects.keyed)
+keyed_tables = keyed_with (projects.tree, projects.keyed) (answers.tree, answers.keyed)
 
 -- whether a row has no key of its table, as a member with a negative number
 abbrev pub has_unkeyed : List (ℕ × (Raw → Bool)) → Trees → Bool
@@ -69,7 +69,7 @@ stored_as i (Some None) = Some OddAnswer
 stored_as i (Some (Some a)) = Some (Answered (record { identity = i; request = a.request; content = a.content; reply = a.reply }))
 
 abbrev pub answer_in : Trees → Identity → Option Stored
-answer_in db i = stored_as i (row_at answers db (record { caller = i.caller; id = i.id }))
+answer_in db i = stored_as i (row_at answers db (request_key i.caller i.id))
 
 -- a number of the one row; 0, which no desk has as a version, where there is none
 abbrev pub number_of : (DeskRow → ℕ) → Option (Option DeskRow) → ℕ
@@ -86,6 +86,7 @@ tables_at db = record {
   requests = number_of (λ d. d.requests) (row_at desk db tt);
 }
 
--- the row of the desk says version 2 and so many requests
-abbrev pub IsDesk : ℕ → Trees → Type 0
-IsDesk requests db = row_at desk db tt ≡ Some (Some (record { version = tables_version; requests = requests }))
+-- The row of the desk says version 3 and so many requests, and that of the epochs that the first one is the least open.
+pub record IsDesk (requests : ℕ) (db : Trees) : Type 0 where
+  pub desk_is : row_at desk db tt ≡ Some (Some (record { version = tables_version; requests = requests }))
+  pub least_is : row_at epochs db tt ≡ Some (Some first_epoch)

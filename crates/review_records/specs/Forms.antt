@@ -13,12 +13,13 @@ use Rattle.review_rows.specs.declared.rows.StoredFile.{StoredFile}
 use Rattle.review_records.specs.declared.rows.RequestKey.{RequestKey}
 use Rattle.review_records.specs.declared.rows.Answered.{Answered}
 use Rattle.review_records.specs.declared.rows.DeskRow.{DeskRow}
+use Rattle.review_records.specs.declared.rows.TheConstants.{FIRST_EPOCH}
 use Rattle.review_rows.specs.declared.rows.MemberKey.{MemberKey}
 use Rattle.review_tables.specs.Columns.{number_in, text_in}
 use Rattle.review_statements.specs.Desk as table
 use Rattle.review_statements.specs.Search.{Search, Form, with_rowid, with_number}
 pub use Rattle.review_records.specs.Keyed.{where_is}
-use Rattle.review_records.specs.Keyed.{is_small, account_keyed, member_keyed, project_keyed, base_keyed, answer_keyed}
+use Rattle.review_records.specs.Keyed.{is_small, account_keyed, member_keyed, project_keyed, base_keyed, answer_keyed, earlier_answer_keyed}
 
 -- ---- accounts
 
@@ -165,15 +166,45 @@ answered _ _ _ = None
 
 abbrev pub answers : Search RequestKey Answered
 answers = record {
-  tree = table.answers.tree;
+  tree = table.answers_3.tree;
   keyed = answer_keyed;
+  at = λ i. (1, Int (pos i.caller)) ∷ (2, Int (pos i.epoch)) ∷ (3, Text i.id) ∷ [];
+  columns = 4 ∷ 5 ∷ 6 ∷ [];
+  read = λ r. answered (number_in (column r 0)) (text_in (column r 1)) (text_in (column r 2));
+}
+
+abbrev pub answer_form : Form RequestKey Answered
+answer_form = with_rowid (λ i a. Int (pos i.caller) ∷ Int (pos i.epoch) ∷ Text i.id ∷ Int (pos a.request) ∷ Text a.content ∷ Text a.reply ∷ []) (λ i. is_account_number i.caller && is_small i.epoch) (λ a. is_utf8 a.content && is_utf8 a.reply)
+
+-- the column of a stored request that has its epoch
+abbrev pub epoch_place : ℕ
+epoch_place = 2
+
+-- the epoch of every request, and the least open one, as long as requests name none
+abbrev pub first_epoch : ℕ
+first_epoch = FIRST_EPOCH
+
+-- the key of an identity
+abbrev pub request_key : ℕ → List ℕ → RequestKey
+request_key caller id = record { caller = caller; epoch = first_epoch; id = id }
+
+-- the stored requests as versions 1 and 2 keep them, whose identities have no epoch
+abbrev pub earlier_answers : Search RequestKey Answered
+earlier_answers = record {
+  tree = table.answers.tree;
+  keyed = earlier_answer_keyed;
   at = λ i. (1, Int (pos i.caller)) ∷ (2, Text i.id) ∷ [];
   columns = 3 ∷ 4 ∷ 5 ∷ [];
   read = λ r. answered (number_in (column r 0)) (text_in (column r 1)) (text_in (column r 2));
 }
 
-abbrev pub answer_form : Form RequestKey Answered
-answer_form = with_rowid (λ i a. Int (pos i.caller) ∷ Text i.id ∷ Int (pos a.request) ∷ Text a.content ∷ Text a.reply ∷ []) (λ i. is_account_number i.caller) (λ a. is_utf8 a.content && is_utf8 a.reply)
+-- ---- the least open epoch
+
+abbrev pub epochs : Search (Unit {0}) ℕ
+epochs = record { tree = table.epochs.tree; keyed = λ r. Rattle.std.specs.Prelude.true; at = λ u. []; columns = 1 ∷ []; read = λ r. where_is is_small (number_in (column r 0)) }
+
+abbrev pub epochs_form : Form (Unit {0}) ℕ
+epochs_form = with_rowid (λ u least. Int (pos least) ∷ []) (λ u. Rattle.std.specs.Prelude.true) is_small
 
 -- ---- the row of the desk
 

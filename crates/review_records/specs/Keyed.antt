@@ -40,4 +40,8 @@ abbrev pub base_keyed : Row → Bool
 base_keyed r = is_text (column r 1) && (is_text (column r 2) && is_number is_small (column r 3))
 
 abbrev pub answer_keyed : Row → Bool
-answer_keyed r = is_number is_account_number (column r 1) && is_text (column r 2)
+answer_keyed r = is_number is_account_number (column r 1) && (is_number is_small (column r 2) && is_text (column r 3))
+
+-- the same in versions 1 and 2, where identities have no epoch
+abbrev pub earlier_answer_keyed : Row → Bool
+earlier_answer_keyed r = is_number is_account_number (column r 1) && is_text (column r 2)

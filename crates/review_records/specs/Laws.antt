@@ -18,7 +18,7 @@ use Rattle.review_statements.specs.Search.{IsLawful}
 use Rattle.review_statements.specs.Content.{is_value}
 use Rattle.review_tables.proofs.Keys.{equal_is, int_is, itself, same_int, same_text, text_is}
 use Rattle.review_records.specs.Keyed.{is_number, is_small, is_text}
-use Rattle.review_records.specs.Forms.{where_is, alone, both, member_parts, group_members, base_parts, branch_bases, accounts, account_form, members, member_form, projects, project_form, stored_parent, parent_text, is_parent, stored_file, bases, base_form, answers, answer_form, desk, desk_form}
+use Rattle.review_records.specs.Forms.{where_is, alone, both, member_parts, group_members, base_parts, branch_bases, accounts, account_form, members, member_form, projects, project_form, stored_parent, parent_text, is_parent, stored_file, bases, base_form, answers, answer_form, epochs, epochs_form, desk, desk_form}
 use Rattle.review_names.specs.Forms.{is_commit, is_slashed_name, is_step}
 
 -- a value that has a number of a kind is one of that kind
@@ -105,18 +105,26 @@ base_lawful = record {
 
 pub answer_lawful : IsLawful answers answer_form
 answer_lawful = record {
-  keyed = λ i a id. (λ k. itself (Int (pos i.caller)) k && (itself (Text i.id) k && true));
+  keyed = λ i a id. (λ k. itself (Int (pos i.caller)) k && (itself (Int (pos i.epoch)) k && (itself (Text i.id) k && true)));
   reads_back = λ i a id good. let parts = and_parts (is_utf8 a.content) (is_utf8 a.reply) good in rw (parts.0, parts.1) refl;
   exact = λ a b r p q.
       let one = and_parts _ _ p in
       let two = and_parts _ _ q in
+      let one_more = and_parts _ _ one.1 in
+      let two_more = and_parts _ _ two.1 in
       let caller : a.caller ≡ b.caller = same_int (column r 1) a.caller b.caller one.0 two.0 in
-      let id : a.id ≡ b.id = same_text (column r 2) a.id b.id (and_parts _ _ one.1).0 (and_parts _ _ two.1).0 in
-      (λ k. record { caller = caller k; id = id k });
+      let epoch : a.epoch ≡ b.epoch = same_int (column r 2) a.epoch b.epoch one_more.0 two_more.0 in
+      let id : a.id ≡ b.id = same_text (column r 3) a.id b.id (and_parts _ _ one_more.1).0 (and_parts _ _ two_more.1).0 in
+      (λ k. record { caller = caller k; epoch = epoch k; id = id k });
   known = λ a r formed has.
+      let is = and_parts (is_account_number a.caller) (is_small a.epoch) formed in
       let one = and_parts _ _ has in
-      and_from _ _ (keyed_number is_account_number (column r 1) a.caller formed one.0) (keyed_text (column r 2) a.id (and_parts _ _ one.1).0);
+      let two = and_parts _ _ one.1 in
+      and_from _ _ (keyed_number is_account_number (column r 1) a.caller is.0 one.0) (and_from _ _ (keyed_number is_small (column r 2) a.epoch is.1 two.0) (keyed_text (column r 3) a.id (and_parts _ _ two.1).0));
 }
+
+pub epochs_lawful : IsLawful epochs epochs_form
+epochs_lawful = record { keyed = λ u least id. refl; reads_back = λ u least id good. rw good refl; exact = λ a b r p q. refl; known = λ u r formed has. refl }
 
 pub desk_lawful : IsLawful desk desk_form
 desk_lawful = record { keyed = λ u d id. refl; reads_back = λ u d id good. refl; exact = λ a b r p q. refl; known = λ u r formed has. refl }

@@ -1,11 +1,12 @@
 //! The stored requests.
-ghost use Rattle.std.specs.Prelude.{◌≡◌, Some, string_bytes, IfOk};
+ghost use Rattle.std.specs.Prelude.{◌≡◌, Some, pos, string_bytes, IfOk};
 ghost use Rattle.sqlite.specs.Held.{state};
+ghost use Rattle.review_statements.specs.Content.{RemovesBelow};
 ghost use Rattle.review_statements.specs.Ran.{Inside, Opens};
 ghost use Rattle.review_statements.specs.Search.{SetsRow};
-ghost use Rattle.review_records.specs.Forms.{answers};
+ghost use Rattle.review_records.specs.Forms.{answers, epoch_place, request_key};
 
-use crate::names::account_number;
+use crate::names::{account_number, small};
 use crate::rows::{Answered, RequestKey, Text};
 use review_rows::Kept;
 use review_statements::texts;
@@ -38,7 +39,8 @@ impl Lookup for Answers {
     }
 
     fn bind<'a>(key: &'a RequestKey) -> Result<Bound<'a>, Error> {
-        Ok(Bound::new().number(key.caller.get()).text(key.id.as_str()))
+        let values = Bound::new().number(key.caller.get()).number(key.epoch);
+        Ok(values.text(key.id.as_str()))
     }
 
     fn read(alloc: Global, row: &Row) -> Result<Option<Answered>, AllocError> {
@@ -56,7 +58,7 @@ impl Lookup for Answers {
         }))
     }
 
-    ghost asks = { λ i. find_answer (pos i.caller) i.id };
+    ghost asks = { λ i. find_answer (pos i.caller) (pos i.epoch) i.id };
 }
 
 impl Table for Answers {
@@ -87,8 +89,8 @@ impl Table for Answers {
     }
 
     fn bind_key<'a>(key: &'a RequestKey) -> Result<Bound<'a>, Error> {
-        let caller = account_number(key.caller);
-        Ok(Bound::new().number(caller).text(key.id.as_str()))
+        let values = Bound::new().number(account_number(key.caller));
+        Ok(values.number(small(key.epoch)).text(key.id.as_str()))
     }
 
     fn bind_row<'a>(
@@ -101,21 +103,18 @@ impl Table for Answers {
         Ok(values.text(row.content.as_str()).text(row.reply.as_str()))
     }
 
-    ghost inserts = { λ i a. insert_answer (pos i.caller) i.id (pos a.request) a.content a.reply };
+    ghost inserts = { λ i a. insert_answer (pos i.caller) (pos i.epoch) i.id (pos a.request) a.content a.reply };
 
-    ghost deletes = { λ i. delete_answer (pos i.caller) i.id };
+    ghost deletes = { λ i. delete_answer (pos i.caller) (pos i.epoch) i.id };
 
     ghost lawful = { answer_lawful };
 }
 
 // The identity of a request that is to be stored.
 fn key_of(alloc: Global, kept: &Kept) -> Result<RequestKey, AllocError>
-    ensures { IfOk result (λ key. key ≡ record { caller = kept.now.caller; id = kept.now.id }) }
+    ensures { IfOk result (λ key. key ≡ request_key kept.now.caller kept.now.id) }
 {
-    Ok(RequestKey {
-        caller: kept.caller,
-        id: kept.id.copy(alloc)?,
-    })
+    Ok(RequestKey::new(kept.caller, kept.id.copy(alloc)?))
 }
 
 // The rest of a request that is to be stored.
@@ -132,10 +131,20 @@ fn rest_of(alloc: Global, kept: &Kept) -> Result<Answered, AllocError>
 /// Stores a request in the place of what its identity has.
 pub fn put<S: Alter>(tx: &mut Transaction<'_, S>, alloc: Global, kept: &Kept) -> Result<(), Error>
     ensures same_reference { tx.new.conn.ghost_name ≡ tx.old.conn.ghost_name }
-    ensures ran { Inside (SetsRow answers (record { caller = kept.now.caller; id = kept.now.id }) (Some (record { request = kept.now.request; content = string_bytes kept.now.content; reply = string_bytes kept.now.reply }))) (state S.Store tx.old.conn.now) (state S.Store tx.new.conn.now) result }
+    ensures ran { Inside (SetsRow answers (request_key kept.now.caller kept.now.id) (Some (record { request = kept.now.request; content = string_bytes kept.now.content; reply = string_bytes kept.now.reply }))) (state S.Store tx.old.conn.now) (state S.Store tx.new.conn.now) result }
     ensures open { Opens (state S.Store tx.old.conn.now) (state S.Store tx.new.conn.now) result }
 {
     let key = key_of(alloc, kept)?;
     let row = rest_of(alloc, kept)?;
     set::<Answers, S>(tx, alloc, &key, &row)
+}
+
+/// Takes away the stored requests of all epochs below one.
+pub fn remove_below<S: Alter>(tx: &mut Transaction<'_, S>, epoch: u32) -> Result<usize, Error>
+    ensures same_reference { tx.new.conn.ghost_name ≡ tx.old.conn.ghost_name }
+    ensures ran { Inside (RemovesBelow answers.tree epoch_place (pos epoch)) (state S.Store tx.old.conn.now) (state S.Store tx.new.conn.now) result }
+    ensures open { Opens (state S.Store tx.old.conn.now) (state S.Store tx.new.conn.now) result }
+{
+    let values = Bound::new().number(epoch);
+    tx.execute(texts::DELETE_ANSWERS_BELOW, values.as_slice())
 }

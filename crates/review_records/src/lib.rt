@@ -5,6 +5,7 @@ pub mod accounts;
 pub mod answers;
 pub mod bases;
 pub mod desk;
+pub mod epochs;
 pub mod members;
 pub mod moved;
 pub mod names;

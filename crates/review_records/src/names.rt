@@ -4,6 +4,7 @@ ghost use Rattle.sqlite_value.specs.Order.{column};
 ghost use Rattle.review_names.specs.Names.{is_account_number};
 ghost use Rattle.review_tables.specs.Columns.{number_in, text_in};
 ghost use Rattle.review_records.specs.Forms.{where_is};
+ghost use Rattle.review_records.specs.Keyed.{is_small};
 
 use crate::rows::PlaceNo;
 use review_tables::columns::{number_at, text_at};
@@ -46,4 +47,24 @@ pub fn place_at(row: &Row, at: usize) -> Option<PlaceNo>
     ensures { result ≡ where_is (nat_le 1) (number_in (column row.now at)) }
 {
     PlaceNo::from_number(number_at(row, at)?)
+}
+
+/// The number in a column, which is below 2^32; none where it is no such number.
+pub fn small_at(row: &Row, at: usize) -> Option<u32>
+    ensures { result ≡ where_is is_small (number_in (column row.now at)) }
+{
+    let number = number_at(row, at)?;
+    if number < 4_294_967_296 {
+        Some(number as u32)
+    } else {
+        None
+    }
+}
+
+/// The same number, which is below 2^32.
+pub fn small(number: u32) -> u32
+    ensures same { result ≡ number }
+    ensures small { is_small number ≡ true }
+{
+    number
 }

@@ -91,11 +91,30 @@ impl Key for PlaceNo {
     }
 }
 
-/// The identity of a request.
+/// The epoch of every request, and the least open one, as long as requests name none.
+pub const FIRST_EPOCH: u32 = 0;
+
+/// The identity of a request, with its epoch.
 #[derive(Drop)]
 pub struct RequestKey {
     pub caller: AccountNo,
+    pub epoch: u32,
     pub id: RequestId,
+}
+
+impl RequestKey {
+    ghost use Rattle.review_records.specs.Forms.{request_key};
+
+    /// The key of an identity.
+    pub fn new(caller: AccountNo, id: RequestId) -> RequestKey
+        ensures { result ≡ request_key caller id }
+    {
+        RequestKey {
+            caller,
+            epoch: FIRST_EPOCH,
+            id,
+        }
+    }
 }
 
 /// The rest of a stored request.

@@ -14,15 +14,15 @@ use Rattle.review_sql.specs.Reopened.{ReopensLast, IsRefusedAgain, IsReopened}
 use Rattle.review_sql.specs.Said.{IsNone, IsThere}
 use Rattle.review_sql.specs.Shelf.{Holds, ShelfView, Stays}
 use Rattle.review_tables.specs.Versions.{schema_at}
-use Rattle.review_tables.specs.declared.creating.TablesVersion.{TablesVersion}
-use Rattle.review_tables.specs.declared.creating.TablesVersion.TheVariants.{First, Second}
+use Rattle.review_tables.specs.declared.versions.TablesVersion.{TablesVersion}
+use Rattle.review_tables.specs.declared.versions.TablesVersion.TheVariants.{First, Second, Third}
 use Rattle.review_lookups.specs.Tables.{IsDesk}
-use Rattle.review_sql.proofs.Saying.{desk_says, never_first, never_no_desk, never_other_version, never_there_first}
+use Rattle.review_sql.proofs.Saying.{desk_says, never_earlier, never_no_desk, never_other_version, never_there_earlier}
 use Rattle.review_sql.proofs.Shown.{stays}
 
 -- the rows of each table of a desk have rowids of their own
 all_apart : (db : Database) → IsReady db → AreAllApart db.trees
-all_apart db ready = (ready.apart 0 refl, (ready.apart 2 refl, (ready.apart 6 refl, (ready.apart 9 refl, (ready.apart 11 refl, (ready.apart 14 refl, (ready.apart 16 refl, (ready.apart 18 refl, (ready.apart 20 refl, (ready.apart 22 refl, (ready.apart 25 refl, (ready.apart 26 refl, tt))))))))))))
+all_apart db ready = (ready.apart 0 refl, (ready.apart 2 refl, (ready.apart 6 refl, (ready.apart 9 refl, (ready.apart 11 refl, (ready.apart 14 refl, (ready.apart 16 refl, (ready.apart 18 refl, (ready.apart 20 refl, (ready.apart 25 refl, (ready.apart 26 refl, (ready.apart 28 refl, (ready.apart 31 refl, tt)))))))))))))
 
 -- the faults that are left
 store_or_memory : (fault : DeskFault) → (fault ≡ NotADesk → ⊥) → (fault ≡ WrongVersion → ⊥) → fault ≢ NotEmpty → (fault ≡ NotOurs → ⊥) → (fault ≡ Memory) ⊎ (fault ≡ Store)
@@ -41,16 +41,18 @@ cause_left s requests fault ready is refused =
 -- the same of what is not migrated
 unfit_left : (db : Database) (requests : ℕ) (fault : DeskFault) → IsReady db → IsDesk requests db.trees → IsUnfit db fault → (fault ≡ Memory) ⊎ (fault ≡ Store)
 unfit_left db requests fault ready is unfit =
-    store_or_memory fault (λ none. let it = unfit.no_desk none in no_desk it.0 it.1) (λ other. let it = unfit.other_version other in it.2.2.1.0 (same_Some _ _ (sym it.2.1 ∙ (desk_says Second db ready.schema it.0 it.1 requests is).0))) unfit.not_empty
+    store_or_memory fault (λ none. let it = unfit.no_desk none in no_desk it.0 it.1) (λ other. let it = unfit.other_version other in it.2.2.1.1.0 (same_Some _ _ (sym it.2.1 ∙ (desk_says Third db ready.schema it.0 it.1 requests is).0))) unfit.not_empty
     (λ not. let it = unfit.not_ours not in not_ours it.0 it.1.0 it.1.1 it.2)
   where
     no_desk : (version : TablesVersion) → IsNone version db → ⊥
-    no_desk First none = never_first db ready.schema requests is none
-    no_desk Second none = never_no_desk db ready.schema requests is none
+    no_desk First none = never_earlier First (λ e. omega (arith, e)) db ready.schema requests is none
+    no_desk Second none = never_earlier Second (λ e. omega (arith, e)) db ready.schema requests is none
+    no_desk Third none = never_no_desk db ready.schema requests is none
 
     not_ours : (version : TablesVersion) (n : ℕ) → IsThere version db n → (db.schema ≡ schema_at version → AreApartIn version db.trees → ⊥) → ⊥
-    not_ours First n there other = never_there_first db ready.schema requests is n there
-    not_ours Second n there other = other ready.schema (all_apart db ready)
+    not_ours First n there other = never_there_earlier First (λ e. omega (arith, e)) db ready.schema requests is n there
+    not_ours Second n there other = never_there_earlier Second (λ e. omega (arith, e)) db ready.schema requests is n there
+    not_ours Third n there other = other ready.schema (all_apart db ready)
 
 module _ {S : Type 0} (g : Ghosts S) (is_ours : Bool) (old : ShelfView S) (holds : Holds g old.conn is_ours old.requests) where
   reopened : (new : ShelfView S) → IsOpened g old.conn new → IsReopened g is_ours old new

@@ -1,4 +1,4 @@
--- What the text that reads the table `desk` shows over any schema.
+-- What the texts that read the tables `desk` and `epochs` show over any schema.
 use Rattle.std.proofs.Common.{◌≡◌, ◌∙◌, ◌⊎◌, inl, inr, ℕ, List, [], Option, Some, None, Ok, Err, Result, IfOk, IfErr, IsTrue, false, ◌+◌, refl, sym, ap, subst, subst₂}
 use Rattle.std.proofs.lemmas.Bool.{cases_Bool}
 use Rattle.sqlite_value.specs.Order.{Row}
@@ -21,8 +21,8 @@ use Rattle.sqlite.specs.Effect.{Reads}
 use Rattle.sqlite.specs.declared.error.Error.{Error}
 use Rattle.sqlite_trees.specs.Tree.{Trees}
 use Rattle.sqlite.proofs.StateLemmas.{survives_weaker}
-use Rattle.review_statements.specs.declared.texts.TheConstants.{FIND_DESK}
-use Rattle.review_sql.specs.Said.{ShowsDesk}
+use Rattle.review_statements.specs.declared.texts.TheConstants.{FIND_DESK, FIND_EPOCHS}
+use Rattle.review_sql.specs.Said.{ShowsRows}
 use Rattle.review_sql.specs.Shelf.{Stays}
 
 -- a text that was read as one query, which doesn't read the time
@@ -55,29 +55,33 @@ query_is_plain schema (Ok p) c it is =
     (subst₂ (λ st fs. as_compiled schema p st fs ≡ Ok c) it.1 it.2 is)
 query_is_plain schema (Err e) c it is = absurd it
 
-is_query : IsQuery (first FIND_DESK.now)
-unfolding everything
-is_query = (_, refl, refl)
+-- a text is read as such a query, which asks for no listing of tables
+pub record IsBare (sql : List ℕ) : Type 0 where
+  pub query : IsQuery (first sql)
+  pub unlisted : if_select (compiled listing_schema sql) ≡ Err NoSuchTable
 
--- it asks for no listing of tables
-lists_nothing : if_select (compiled listing_schema FIND_DESK.now) ≡ Err NoSuchTable
+pub find_desk_bare : IsBare FIND_DESK.now
 unfolding everything listing_schema
-lists_nothing = refl
+find_desk_bare = record { query = (_, refl, refl); unlisted = refl }
+
+pub find_epochs_bare : IsBare FIND_EPOCHS.now
+unfolding everything listing_schema
+find_epochs_bare = record { query = (_, refl, refl); unlisted = refl }
 
 listing_refused : (r : Checked Compiled) (c : Compiled) → r ≡ Err NoSuchTable → r ≡ Ok c → ⊥
 listing_refused r c refused found = let e = sym refused ∙ found in cc
 
-module _ (schema : Schema) (c : Compiled) where
-  pub not_listed : understood schema FIND_DESK.now ≡ Ok c → reads_listing schema FIND_DESK.now ≡ false
+module _ (sql : List ℕ) (bare : IsBare sql) (schema : Schema) (c : Compiled) where
+  pub not_listed : understood schema sql ≡ Ok c → reads_listing schema sql ≡ false
   unfolding understood
-  not_listed is = elim (cases_Bool (reads_listing schema FIND_DESK.now)) [
-    | inl listed ↦ absurd (listing_refused _ c lists_nothing (rw listed at is))
+  not_listed is = elim (cases_Bool (reads_listing schema sql)) [
+    | inl listed ↦ absurd (listing_refused _ c bare.unlisted (rw listed at is))
     | inr not ↦ not
   ]
 
-  pub is_plain : understood schema FIND_DESK.now ≡ Ok c → (c.returning ≡ None) × (c.formats ≡ [])
+  pub is_plain : understood schema sql ≡ Ok c → (c.returning ≡ None) × (c.formats ≡ [])
   unfolding understood compiled
-  is_plain is = query_is_plain schema (first FIND_DESK.now) c is_query (rw (not_listed is) at is)
+  is_plain is = query_is_plain schema (first sql) c bare.query (rw (not_listed is) at is)
 
 -- a call that failed left what was there, or took the transaction back
 fails_so : (sql : List ℕ) (params : Row) (old new : State) (e : Error) → FailsToQuery sql params old new e → IsUnchanged old new ⊎ IsRolledBack old new
@@ -91,38 +95,38 @@ fails_so sql params old new e (inr ran) = by_returning ran.0.returning ran.2
     by_returning (Some what) (inl h) = inl h.1
     by_returning (Some what) (inr fails) = inr fails.3
 
-module _ (old new : State) where
+module _ (sql : List ℕ) (bare : IsBare sql) (old new : State) where
   -- what the query showed
-  shown_so : (rows : List Row) → Shown FIND_DESK.now [] old new rows
-      → IsUnchanged old new × ((c : Compiled) × (understood old.now.schema FIND_DESK.now ≡ Ok c) × Reads c.command old.now [] rows)
+  shown_so : (rows : List Row) → Shown sql [] old new rows
+      → IsUnchanged old new × ((c : Compiled) × (understood old.now.schema sql ≡ Ok c) × Reads c.command old.now [] rows)
   unfolding Shown
   shown_so rows h =
-      let bare = is_plain old.now.schema h.0 h.1.is in
-      let it = rw (bare.0, bare.1) at h.2 in
-      let db : it.0 ≡ old.now = subst (λ b. IsSourceOf b old.now it.0) (not_listed old.now.schema h.0 h.1.is) it.1 in
+      let plain = is_plain sql bare old.now.schema h.0 h.1.is in
+      let it = rw (plain.0, plain.1) at h.2 in
+      let db : it.0 ≡ old.now = subst (λ b. IsSourceOf b old.now it.0) (not_listed sql bare old.now.schema h.0 h.1.is) it.1 in
       (it.3, (h.0, h.1.is, subst (λ d. Reads h.0.command d [] rows) db it.2))
 
-  never_commits : (db : Trees) → CommitsShowing FIND_DESK.now [] old db → ⊥
+  never_commits : (db : Trees) → CommitsShowing sql [] old db → ⊥
   unfolding CommitsShowing
-  never_commits db h = absurd (let some = rw (is_plain old.now.schema h.0 h.1.is).0 at h.2 in cc)
+  never_commits db h = absurd (let some = rw (is_plain sql bare old.now.schema h.0 h.1.is).0 at h.2 in cc)
 
   -- a query that showed rows, and left what was there
-  pub asked_rows : {X : Type 0} (view : X → List Row) (r : Result X Error) → IfOk r (λ x. Shown FIND_DESK.now [] old new (view x)) → IfOk r (λ x. ShowsDesk old.now (view x))
+  pub asked_rows : {X : Type 0} (view : X → List Row) (r : Result X Error) → IfOk r (λ x. Shown sql [] old new (view x)) → IfOk r (λ x. ShowsRows old.now sql (view x))
   asked_rows view (Ok x) h = let it = (shown_so (view x) h).1 in record { query = it.0; is = it.1; shown = it.2 }
   asked_rows view (Err e) h = tt
 
   pub asked_stays : {X : Type 0} (view : X → List Row) (r : Result X Error) (settled : IsTrue old.is_open → old.now ≡ old.committed) → (IsTrue new.is_open → HasCleanDisk new)
-      → (HasCleanDisk new → IfOk r (λ x. Shown FIND_DESK.now [] old new (view x))) → (HasCleanDisk new → IfErr r (FailsToQuery FIND_DESK.now [] old new))
-      → Survives old new (CommitsShowing FIND_DESK.now [] old) → Stays old new
+      → (HasCleanDisk new → IfOk r (λ x. Shown sql [] old new (view x))) → (HasCleanDisk new → IfErr r (FailsToQuery sql [] old new))
+      → Survives old new (CommitsShowing sql [] old) → Stays old new
   asked_stays {X} view r settled clean ok err survives = record {
     kept = λ is_open. by_result r (ok (clean is_open)) (err (clean is_open)) is_open;
-    survives = survives_weaker old new (CommitsShowing FIND_DESK.now [] old) (λ _. ⊥) (λ _ db h. never_commits db h) survives;
+    survives = survives_weaker old new (CommitsShowing sql [] old) (λ _. ⊥) (λ _ db h. never_commits db h) survives;
   }
     where
       undone_or_not : IsUnchanged old new ⊎ IsRolledBack old new → IsTrue new.is_open → IsTrue old.is_open × (new.now ≡ old.now)
       undone_or_not (inl same) is_open = (same.0.was_open, same.0.now_is)
       undone_or_not (inr undone) is_open = let was = undone.was_open is_open in (was, (undone.undone is_open).0 ∙ sym (settled was))
 
-      by_result : (r : Result X Error) → IfOk r (λ x. Shown FIND_DESK.now [] old new (view x)) → IfErr r (FailsToQuery FIND_DESK.now [] old new) → IsTrue new.is_open → IsTrue old.is_open × (new.now ≡ old.now)
+      by_result : (r : Result X Error) → IfOk r (λ x. Shown sql [] old new (view x)) → IfErr r (FailsToQuery sql [] old new) → IsTrue new.is_open → IsTrue old.is_open × (new.now ≡ old.now)
       by_result (Ok x) h none is_open = let same = (shown_so (view x) h).0 in (same.0.was_open, same.0.now_is)
-      by_result (Err e) none h is_open = undone_or_not (fails_so FIND_DESK.now [] old new e h) is_open
+      by_result (Err e) none h is_open = undone_or_not (fails_so sql [] old new e h) is_open

@@ -12,7 +12,7 @@ use Rattle.review_rows.specs.Rows.{Key, AccountKey, MemberKey as OfMember, FileK
 use Rattle.review_rows.specs.Changes.{Reading}
 use Rattle.review_rows.specs.View.{IsView, fact, counted}
 use Rattle.review_statements.specs.Desk.{schema_0, desk_schema, is_tree}
-use Rattle.review_tables.specs.Made.{Grows}
+use Rattle.review_tables.specs.Made.{Grows, IsBlank}
 use Rattle.review_statements.specs.Ran.{OnDesk}
 use Rattle.review_statements.specs.Search.{rows_at, row_at, only, reads, SetsRow}
 use Rattle.review_tables.proofs.Sequences.{Next}
@@ -21,26 +21,30 @@ use Rattle.review_sql.specs.First.{SetsFirst, MakesDesk}
 use Rattle.review_sql.proofs.Unkeyed.{first_keeps, none_unkeyed, unkeyed_same}
 use Rattle.review_changes.specs.Parts.{Part, TheHeader, PatchOf, VoteOf, RoleOf, CommentOf, AttentionOf, AHeader, APatch, ARole, AComment, ACall}
 use Rattle.review_change_records.specs.Forms.{headers, patches, votes, roles, comments, calls}
-use Rattle.review_records.specs.Forms.{accounts, members, projects, bases, answers}
+use Rattle.review_records.specs.Forms.{accounts, members, projects, bases, answers, epochs, request_key}
 use Rattle.review_change_records.specs.Laws.{same_bytes}
 use Rattle.review_lookups.proofs.Telling.{own_bytes}
-use Rattle.review_lookups.specs.Tables.{part_in, vote_told, told, row_in, count_in, stored_as, number_of, tables_at}
+use Rattle.review_lookups.specs.Tables.{part_in, vote_told, told, row_in, count_in, stored_as, number_of, tables_at, IsDesk}
 
 module _ (a b : Trees) (blank : (t : ℕ) → is_tree t ≡ true → a t ≡ []) (h : SetsFirst a b) where
   abbrev m1 : Trees
-  m1 = h.1.0
+  m1 = h.1.1.0
 
   abbrev m2 : Trees
-  m2 = h.0
+  m2 = h.1.0
 
   acc : SetsRow accounts 1 (Some admin_name) a m1
-  acc = h.1.1
+  acc = h.1.1.1
 
   mem : SetsRow members (record { group = administrators; account = 1 }) (Some tt) m1 m2
-  mem = h.1.2
+  mem = h.1.1.2
 
-  untouched : (t : ℕ) → is_tree t ≡ true → t ≢ 0 → t ≢ 2 → t ≢ 25 → b t ≡ []
-  untouched t is p q r = h.2.others t is r ∙ (mem.others t is q ∙ (acc.others t is p ∙ blank t is))
+  -- what is put after them spares the other tables
+  after : (t : ℕ) → is_tree t ≡ true → t ≢ 25 → t ≢ 31 → b t ≡ m2 t
+  after t is p q = h.2.others t is p ∙ h.1.2.others t is q
+
+  untouched : (t : ℕ) → is_tree t ≡ true → t ≢ 0 → t ≢ 2 → t ≢ 25 → t ≢ 31 → b t ≡ []
+  untouched t is p q r s = after t is r s ∙ (mem.others t is q ∙ (acc.others t is p ∙ blank t is))
 
   account_row : (n : ℕ) → told AccountRow (row_at accounts m1 n) ≡ option_map AccountRow (cond (n == 1) (Some admin_name) None)
   account_row n = elim (cases_Bool (n == 1)) [
@@ -61,37 +65,43 @@ module _ (a b : Trees) (blank : (t : ℕ) → is_tree t ≡ true → a t ≡ [])
   ]
 
   no_part : (n : ℕ) (part : Part) → part_in b n part ≡ None
-  no_part n TheHeader = ap (λ l. told (λ x. APart (AHeader x)) (only (reads headers) (rows_at (headers.at n) l))) (untouched 9 refl (λ e. omega (arith, e)) (λ e. omega (arith, e)) (λ e. omega (arith, e)))
-  no_part n (PatchOf k) = ap (λ l. told (λ x. APart (APatch x)) (only (reads patches) (rows_at (patches.at (n, k)) l))) (untouched 11 refl (λ e. omega (arith, e)) (λ e. omega (arith, e)) (λ e. omega (arith, e)))
-  no_part n (VoteOf k label u) = ap (λ l. vote_told (only (reads votes) (rows_at (votes.at (n, record { patch = k; label = label; account = u })) l))) (untouched 14 refl (λ e. omega (arith, e)) (λ e. omega (arith, e)) (λ e. omega (arith, e)))
-  no_part n (RoleOf u) = ap (λ l. told (λ x. APart (ARole x)) (only (reads roles) (rows_at (roles.at (n, u)) l))) (untouched 16 refl (λ e. omega (arith, e)) (λ e. omega (arith, e)) (λ e. omega (arith, e)))
-  no_part n (CommentOf k) = ap (λ l. told (λ x. APart (AComment x)) (only (reads comments) (rows_at (comments.at (n, k)) l))) (untouched 18 refl (λ e. omega (arith, e)) (λ e. omega (arith, e)) (λ e. omega (arith, e)))
-  no_part n (AttentionOf u) = ap (λ l. told (λ x. APart (ACall x)) (only (reads calls) (rows_at (calls.at (n, u)) l))) (untouched 20 refl (λ e. omega (arith, e)) (λ e. omega (arith, e)) (λ e. omega (arith, e)))
+  no_part n TheHeader = ap (λ l. told (λ x. APart (AHeader x)) (only (reads headers) (rows_at (headers.at n) l))) (untouched 9 refl (λ e. omega (arith, e)) (λ e. omega (arith, e)) (λ e. omega (arith, e)) (λ e. omega (arith, e)))
+  no_part n (PatchOf k) = ap (λ l. told (λ x. APart (APatch x)) (only (reads patches) (rows_at (patches.at (n, k)) l))) (untouched 11 refl (λ e. omega (arith, e)) (λ e. omega (arith, e)) (λ e. omega (arith, e)) (λ e. omega (arith, e)))
+  no_part n (VoteOf k label u) = ap (λ l. vote_told (only (reads votes) (rows_at (votes.at (n, record { patch = k; label = label; account = u })) l))) (untouched 14 refl (λ e. omega (arith, e)) (λ e. omega (arith, e)) (λ e. omega (arith, e)) (λ e. omega (arith, e)))
+  no_part n (RoleOf u) = ap (λ l. told (λ x. APart (ARole x)) (only (reads roles) (rows_at (roles.at (n, u)) l))) (untouched 16 refl (λ e. omega (arith, e)) (λ e. omega (arith, e)) (λ e. omega (arith, e)) (λ e. omega (arith, e)))
+  no_part n (CommentOf k) = ap (λ l. told (λ x. APart (AComment x)) (only (reads comments) (rows_at (comments.at (n, k)) l))) (untouched 18 refl (λ e. omega (arith, e)) (λ e. omega (arith, e)) (λ e. omega (arith, e)) (λ e. omega (arith, e)))
+  no_part n (AttentionOf u) = ap (λ l. told (λ x. APart (ACall x)) (only (reads calls) (rows_at (calls.at (n, u)) l))) (untouched 20 refl (λ e. omega (arith, e)) (λ e. omega (arith, e)) (λ e. omega (arith, e)) (λ e. omega (arith, e)))
 
   rows : (reading : Reading) (k : Key) → row_in b k ≡ fact reading [] k
-  rows reading (AccountKey n) = ap (λ l. told AccountRow (only (reads accounts) (rows_at (accounts.at n) l))) (h.2.others 0 refl (λ e. omega (arith, e)) ∙ mem.others 0 refl (λ e. omega (arith, e))) ∙ account_row n
-  rows reading (OfMember group n) = ap (λ l. told (λ u. MemberRow) (only (reads members) (rows_at (members.at (record { group = group; account = n })) l))) (h.2.others 2 refl (λ e. omega (arith, e))) ∙ member_row group n
-  rows reading (FileKey project) = ap (λ l. told FileRow (only (reads projects) (rows_at (projects.at project) l))) (untouched 26 refl (λ e. omega (arith, e)) (λ e. omega (arith, e)) (λ e. omega (arith, e)))
-  rows reading (BaseKey project branch place) = ap (λ l. told BaseRow (only (reads bases) (rows_at (bases.at (record { project = project; branch = branch; place = place })) l))) (untouched 6 refl (λ e. omega (arith, e)) (λ e. omega (arith, e)) (λ e. omega (arith, e)))
+  rows reading (AccountKey n) = ap (λ l. told AccountRow (only (reads accounts) (rows_at (accounts.at n) l))) (after 0 refl (λ e. omega (arith, e)) (λ e. omega (arith, e)) ∙ mem.others 0 refl (λ e. omega (arith, e))) ∙ account_row n
+  rows reading (OfMember group n) = ap (λ l. told (λ u. MemberRow) (only (reads members) (rows_at (members.at (record { group = group; account = n })) l))) (after 2 refl (λ e. omega (arith, e)) (λ e. omega (arith, e))) ∙ member_row group n
+  rows reading (FileKey project) = ap (λ l. told FileRow (only (reads projects) (rows_at (projects.at project) l))) (untouched 26 refl (λ e. omega (arith, e)) (λ e. omega (arith, e)) (λ e. omega (arith, e)) (λ e. omega (arith, e)))
+  rows reading (BaseKey project branch place) = ap (λ l. told BaseRow (only (reads bases) (rows_at (bases.at (record { project = project; branch = branch; place = place })) l))) (untouched 6 refl (λ e. omega (arith, e)) (λ e. omega (arith, e)) (λ e. omega (arith, e)) (λ e. omega (arith, e)))
   rows reading (PartKey n part) = no_part n part
   rows reading (OddKey o) = ap (λ odd. cond odd (Some OddRow) None) (unkeyed_same a b (first_keeps a b h) ∙ none_unkeyed a blank)
 
   counts : (c : Count) → count_in b c ≡ counted [] c
-  counts Projects = ap length (untouched 26 refl (λ e. omega (arith, e)) (λ e. omega (arith, e)) (λ e. omega (arith, e)))
-  counts (BasesOf project) = ap (λ l. length (rows_at ((1, Text project) ∷ []) l)) (untouched 6 refl (λ e. omega (arith, e)) (λ e. omega (arith, e)) (λ e. omega (arith, e)))
+  counts Projects = ap length (untouched 26 refl (λ e. omega (arith, e)) (λ e. omega (arith, e)) (λ e. omega (arith, e)) (λ e. omega (arith, e)))
+  counts (BasesOf project) = ap (λ l. length (rows_at ((1, Text project) ∷ []) l)) (untouched 6 refl (λ e. omega (arith, e)) (λ e. omega (arith, e)) (λ e. omega (arith, e)) (λ e. omega (arith, e)))
 
   pub first_view : IsView [] (tables_at b)
   first_view reading right = record {
     row_is = rows reading;
     count_is = counts;
-    answer_is = λ i. ap (λ l. stored_as i (only (reads answers) (rows_at (answers.at (record { caller = i.caller; id = i.id })) l))) (untouched 22 refl (λ e. omega (arith, e)) (λ e. omega (arith, e)) (λ e. omega (arith, e)));
+    answer_is = λ i. ap (λ l. stored_as i (only (reads answers) (rows_at (answers.at (request_key i.caller i.id)) l))) (untouched 28 refl (λ e. omega (arith, e)) (λ e. omega (arith, e)) (λ e. omega (arith, e)) (λ e. omega (arith, e)));
     version = ap (number_of (λ d. d.version)) h.2.here;
     requests = ap (number_of (λ d. d.requests)) h.2.here;
   }
 
+  pub first_desk : IsDesk 0 b
+  first_desk = record { desk_is = h.2.here; least_is = ap (λ l. only (reads epochs) (rows_at (epochs.at tt) l)) (h.2.others 31 refl (λ e. omega (arith, e))) ∙ h.1.2.here }
+
 pub makes_desk : (old new : Database) → Next (Grows schema_0 desk_schema) (OnDesk SetsFirst) old new → MakesDesk old new
 makes_desk old new h = record {
   ready = λ blank. h.2.ready (ready_blank h.0 (h.1 blank));
-  view = λ blank. first_view h.0.trees new.trees (λ t is. empty_at h.0.trees desk_schema.tables (h.1 blank).empty t is) (h.2.changes (ready_blank h.0 (h.1 blank)));
-  desk = λ blank. (h.2.changes (ready_blank h.0 (h.1 blank))).2.here;
+  view = λ blank. first_view h.0.trees new.trees (none blank) (h.2.changes (ready_blank h.0 (h.1 blank)));
+  desk = λ blank. first_desk h.0.trees new.trees (none blank) (h.2.changes (ready_blank h.0 (h.1 blank)));
 }
+  where
+    none : IsBlank schema_0 old → (t : ℕ) → is_tree t ≡ true → h.0.trees t ≡ []
+    none blank t is = empty_at h.0.trees desk_schema.tables (h.1 blank).empty t is

@@ -30,7 +30,7 @@ use Rattle.review_tables.specs.Fronts.{IsExact}
 use Rattle.review_tables.proofs.Changed.{rows_changed, rows_spare}
 use Rattle.review_tables.proofs.Keys.{equal_is, same_text}
 use Rattle.review_sql.specs.Changes.{SetsDelta, SetsKept, SetsDesk, SetsPut}
-use Rattle.review_records.specs.Forms.{accounts, members, projects, bases, answers}
+use Rattle.review_records.specs.Forms.{accounts, members, projects, bases, answers, epochs, request_key}
 use Rattle.review_lookups.specs.Tables.{told, row_in, count_in, answer_in, stored_as, number_of, tables_at, IsDesk}
 use Rattle.review_sql.specs.Commits.{Commits, AreSingle}
 use Rattle.review_sql.proofs.Unkeyed.{commit_keeps, unkeyed_same}
@@ -136,13 +136,13 @@ answer_row kept old new h i = elim (cases_Bool (is_same (kept_row kept).identity
       let parts = and_parts _ _ same in
       let one : (kept_row kept).identity ≡ i = (λ k. record { caller = eqb-true kept.caller i.caller parts.0 k; id = same_bytes kept.id i.id parts.1 k }) in
       rw same (subst (λ j. answer_in new j ≡ Some (Answered (kept_row kept))) one (ap (stored_as (kept_row kept).identity) h.here))
-  | inr other ↦ rw other (ap (stored_as i) (h.there (record { caller = i.caller; id = i.id })
+  | inr other ↦ rw other (ap (stored_as i) (h.there (request_key i.caller i.id)
       (λ same. both_ways (is_same (kept_row kept).identity i) other (and_from _ _ (eq-eqb kept.caller i.caller (sym (ap (λ k. k.caller) same))) (own_bytes kept.id i.id (sym (ap (λ k. k.id) same)))))))
 ]
 
 -- ---- all of it
 
-module _ (delta : Delta) (kept : Kept) (n : ℕ) (a b : Trees) (single : AreSingle a) (was : IsDesk n a) (h : Then (Then (SetsDelta delta) (SetsKept kept)) (SetsDesk (n + 1)) a b) where
+module _ (delta : Delta) (kept : Kept) (n : ℕ) (a b : Trees) (was : IsDesk n a) (h : Then (Then (SetsDelta delta) (SetsKept kept)) (SetsDesk (n + 1)) a b) where
   abbrev t2 : Trees
   t2 = h.0
 
@@ -161,10 +161,10 @@ module _ (delta : Delta) (kept : Kept) (n : ℕ) (a b : Trees) (single : AreSing
   abbrev d1 : Trees
   d1 = h.1.1.1.1.1.0
 
-  last : (t : ℕ) → is_tree t ≡ true → t ≢ 22 → t ≢ 25 → b t ≡ t1 t
+  last : (t : ℕ) → is_tree t ≡ true → t ≢ 28 → t ≢ 25 → b t ≡ t1 t
   last t is p q = h.2.others t is q ∙ h.1.2.others t is p
 
-  late : (t : ℕ) → is_tree t ≡ true → is_part_tree t ≡ false → t ≢ 22 → t ≢ 25 → b t ≡ u t
+  late : (t : ℕ) → is_tree t ≡ true → is_part_tree t ≡ false → t ≢ 28 → t ≢ 25 → b t ≡ u t
   late t is other p q = last t is p q ∙ edits_spare [] delta.changes.items u t1 h.1.1.2 t is other
 
   base_spares : (t : ℕ) → is_tree t ≡ true → t ≢ 6 → u t ≡ d3 t
@@ -200,8 +200,8 @@ module _ (delta : Delta) (kept : Kept) (n : ℕ) (a b : Trees) (single : AreSing
   was_6 : d3 6 ≡ a 6
   was_6 = file_spares 6 refl (λ e. omega (arith, e)) ∙ (member_spares 6 refl (λ e. omega (arith, e)) ∙ account_spares 6 refl (λ e. omega (arith, e)))
 
-  was_22 : t1 22 ≡ a 22
-  was_22 = edits_spare [] delta.changes.items u t1 h.1.1.2 22 refl refl ∙ (base_spares 22 refl (λ e. omega (arith, e)) ∙ (file_spares 22 refl (λ e. omega (arith, e)) ∙ (member_spares 22 refl (λ e. omega (arith, e)) ∙ account_spares 22 refl (λ e. omega (arith, e)))))
+  was_28 : t1 28 ≡ a 28
+  was_28 = edits_spare [] delta.changes.items u t1 h.1.1.2 28 refl refl ∙ (base_spares 28 refl (λ e. omega (arith, e)) ∙ (file_spares 28 refl (λ e. omega (arith, e)) ∙ (member_spares 28 refl (λ e. omega (arith, e)) ∙ account_spares 28 refl (λ e. omega (arith, e)))))
 
   -- the trees of changes before edits
   early : (t : ℕ) → is_tree t ≡ true → is_part_tree t ≡ true → u t ≡ a t
@@ -233,24 +233,38 @@ module _ (delta : Delta) (kept : Kept) (n : ℕ) (a b : Trees) (single : AreSing
       ∙ ap (λ r. after_change (option_map (option_map APart) (edited delta.changes.items n part)) r) (part_same a u (early 9 refl refl) (early 11 refl refl) (early 14 refl refl) (early 16 refl refl) (early 18 refl refl) (early 20 refl refl) n part))
   rows (OddKey o) = ap (λ odd. cond odd (Some OddRow) None) (unkeyed_same a b (commit_keeps delta kept n a b h))
 
-  counts : (c : Count) → count_in b c ≡ count_after delta (row_in a) c (count_in a c)
-  counts Projects =
+  counts : AreSingle a → (c : Count) → count_in b c ≡ count_after delta (row_in a) c (count_in a c)
+  counts single Projects =
       ap length at_26 ∙ (file_count delta.file d2 d3 h.1.1.1.1.2 (λ p. subst (λ l. length (rows_at (projects.at p) l) ≤ 1) (sym was_26) (single.projects_are p))
       ∙ ap (λ l. count_put (λ p. true) delta.file (λ p. told FileRow (only (reads projects) (rows_at (projects.at p) l))) (length l)) was_26)
-  counts (BasesOf project) =
+  counts single (BasesOf project) =
       ap (λ l. length (rows_at ((1, Text project) ∷ []) l)) at_6
       ∙ (base_count delta.base d3 u h.1.1.1.2 (λ k. subst (λ l. length (rows_at (bases.at k) l) ≤ 1) (sym was_6) (single.bases_are k)) project
       ∙ ap (λ l. count_put (λ (k : PlaceKey). bytes_eq k.project project) delta.base (λ k. told BaseRow (only (reads bases) (rows_at (bases.at k) l))) (length (rows_at ((1, Text project) ∷ []) l))) was_6)
 
-  pub committed : IsCommitted (tables_at a) delta (kept_row kept) (tables_at b)
-  committed = record {
+  pub committed : AreSingle a → IsCommitted (tables_at a) delta (kept_row kept) (tables_at b)
+  committed single = record {
     row_is = rows;
-    count_is = counts;
-    answer_is = λ i. ap (λ l. stored_as i (only (reads answers) (rows_at (answers.at (record { caller = i.caller; id = i.id })) l))) (h.2.others 22 refl (λ e. omega (arith, e)))
-        ∙ (answer_row kept t1 t2 h.1.2 i ∙ ap (λ l. cond (is_same (kept_row kept).identity i) (Some (Answered (kept_row kept))) (stored_as i (only (reads answers) (rows_at (answers.at (record { caller = i.caller; id = i.id })) l)))) was_22);
-    version = ap (number_of (λ d. d.version)) h.2.here ∙ sym (ap (number_of (λ d. d.version)) was);
-    requests = ap (number_of (λ d. d.requests)) h.2.here ∙ sym (ap (λ o. number_of (λ d. d.requests) o + 1) was);
+    count_is = counts single;
+    answer_is = λ i. ap (λ l. stored_as i (only (reads answers) (rows_at (answers.at (request_key i.caller i.id)) l))) (h.2.others 28 refl (λ e. omega (arith, e)))
+        ∙ (answer_row kept t1 t2 h.1.2 i ∙ ap (λ l. cond (is_same (kept_row kept).identity i) (Some (Answered (kept_row kept))) (stored_as i (only (reads answers) (rows_at (answers.at (request_key i.caller i.id)) l)))) was_28);
+    version = ap (number_of (λ d. d.version)) h.2.here ∙ sym (ap (number_of (λ d. d.version)) was.desk_is);
+    requests = ap (number_of (λ d. d.requests)) h.2.here ∙ sym (ap (λ o. number_of (λ d. d.requests) o + 1) was.desk_is);
   }
 
+  pub still_desk : IsDesk (n + 1) b
+  still_desk = record {
+    desk_is = h.2.here;
+    least_is = ap (λ l. only (reads epochs) (rows_at (epochs.at tt) l)) (late 31 refl refl (λ e. omega (arith, e)) (λ e. omega (arith, e)) ∙ early_31) ∙ was.least_is;
+  }
+    where
+      early_31 : u 31 ≡ a 31
+      early_31 = base_spares 31 refl (λ e. omega (arith, e)) ∙ (file_spares 31 refl (λ e. omega (arith, e)) ∙ (member_spares 31 refl (λ e. omega (arith, e)) ∙ account_spares 31 refl (λ e. omega (arith, e))))
+
 pub commits : (delta : Delta) (kept : Kept) (n : ℕ) (old new : Database) → OnDesk (Then (Then (SetsDelta delta) (SetsKept kept)) (SetsDesk (n + 1))) old new → Commits delta kept n old new
-commits delta kept n old new h = record { ready = h.ready; committed = λ ready single was. committed delta kept n old.trees new.trees single was (h.changes ready); desk = λ ready. (h.changes ready).2.here; rest = λ ready. keeps_rest delta kept (n + 1) old.trees new.trees (h.changes ready) }
+commits delta kept n old new h = record {
+  ready = h.ready;
+  committed = λ ready single was. committed delta kept n old.trees new.trees was (h.changes ready) single;
+  desk = λ ready was. still_desk delta kept n old.trees new.trees was (h.changes ready);
+  rest = λ ready. keeps_rest delta kept (n + 1) old.trees new.trees (h.changes ready);
+}

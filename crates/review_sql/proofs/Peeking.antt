@@ -1,5 +1,5 @@
 -- A look at tables that is taken back.
-use Rattle.std.proofs.Common.{◌≡◌, ◌≢◌, ◌∙◌, inl, inr, ℕ, List, [], ◌∷◌, Some, None, Bool, eqb, eqb-true, true, false, Ok, Err, Result, IfOk, IfErr, IsTrue, refl, sym, subst, arith}
+use Rattle.std.proofs.Common.{◌≡◌, ◌≢◌, ◌∙◌, ◌⊎◌, inl, inr, ℕ, List, [], ◌∷◌, Some, None, Bool, eqb, eqb-true, true, false, Ok, Err, Result, IfOk, IfErr, IsTrue, refl, sym, subst, arith}
 use Rattle.std.specs.Bool.{Decides}
 use Rattle.std.specs.List.{AllByRecursion, list_any}
 use Rattle.std.proofs.lemmas.Bool.{or_cases}
@@ -17,9 +17,11 @@ use Rattle.review_sql.specs.declared.seen.Seen.{Seen}
 use Rattle.review_sql.specs.declared.faults.DeskFault.{DeskFault}
 use Rattle.review_sql.specs.declared.faults.DeskFault.TheVariants.{NotADesk, WrongVersion, NotEmpty, NotOurs}
 use Rattle.review_sql.specs.Shelf.{AreAllRead}
-use Rattle.review_tables.specs.declared.creating.TablesVersion.{TablesVersion}
-use Rattle.review_tables.specs.declared.creating.TablesVersion.TheVariants.{Second}
-use Rattle.review_sql.specs.Said.{IsSaid, IsDeskThere, IsNoDesk, IsNone, IsOtherVersion, IsThere, SaysOther, version_number}
+use Rattle.review_tables.specs.declared.versions.TablesVersion.{TablesVersion}
+use Rattle.review_tables.specs.declared.versions.TablesVersion.TheVariants.{Third}
+use Rattle.review_sql.specs.Said.{IsSaid, IsDeskThere, IsNoDesk, IsNone, IsOtherVersion, IsThere, LacksLeast, SaysLeast, SaysOther}
+use Rattle.review_tables.specs.Versions.{version_number}
+use Rattle.review_tables.proofs.ByTree.{at_tree}
 use Rattle.review_sql.specs.Opened.{AreAllApart, Peeks, IsLacking, IsSeen, IsRefused}
 use Rattle.review_sql.proofs.Saying.{desk_of_ours}
 
@@ -38,10 +40,6 @@ peeked {X} Found s0 s2 s3 settled open_clean r looks undone last = record {
     by_result : (r : Result X Error) → IfOk r (λ x. (s2.now ≡ s0.now) × IsTrue s2.is_open × Found s0.now.trees x) → IfOk r (λ x. IsTrue s3.is_open → Found s0.now.trees x)
     by_result (Ok x) h = λ is_open. h.2
     by_result (Err e) h = tt
-
-pub at_tree : (P : ℕ → Type 0) (tables : List Table) → AllByRecursion (λ x. P x.tree) tables → (t : ℕ) → list_any (λ x. eqb x.tree t) tables ≡ true → P t
-at_tree P [] all t is = absurd (cc)
-at_tree P (x ∷ tables) all t is = elim (or_cases _ _ is) [ inl here ↦ subst P (eqb-true x.tree t here) all.0 | inr later ↦ at_tree P tables all.1 t later ]
 
 -- what is seen of tables of our form, whose rows were looked at
 pub seen_ours : (s : State) (requests : ℕ) (is_apart : Bool) → s.now.schema ≡ desk_schema → IsDeskThere s.now requests → Decides is_apart (AreAllApart s.now.trees) → IsSeen s (record { is_ours = is_apart; requests = requests })
@@ -75,14 +73,14 @@ refused_other s other = record { no_desk = λ is. absurd (cc); other_version = �
 pub lacking : (s : State) (version : TablesVersion) → IsNone version s.now → IsLacking version s NotADesk
 lacking s version none = record { no_desk = λ is. none; no_other = ((λ is. cc), (λ is. cc), (λ is. cc)) }
 
-pub refused_lacking : (s : State) (fault : DeskFault) → IsLacking Second s fault → IsRefused s fault
+pub refused_lacking : (s : State) (fault : DeskFault) → IsLacking Third s fault → IsRefused s fault
 refused_lacking s fault it = record { no_desk = it.no_desk; other_version = λ is. absurd (it.no_other.0 is); not_ours = λ is. absurd (it.no_other.2 is); not_empty = it.no_other.1 }
 
 -- the same, of tables that are as they were
-pub refused_second : {X : Type 0} (s t : State) (r : Result X DeskFault) → t.now ≡ s.now → IfErr r (IsLacking Second t) → IfErr r (IsRefused s)
-refused_second s t (Ok x) same it = tt
-refused_second s t (Err fault) same it = record {
-  no_desk = λ is. subst (IsNone Second) same (it.no_desk is);
+pub refused_third : {X : Type 0} (s t : State) (r : Result X DeskFault) → t.now ≡ s.now → IfErr r (IsLacking Third t) → IfErr r (IsRefused s)
+refused_third s t (Ok x) same it = tt
+refused_third s t (Err fault) same it = record {
+  no_desk = λ is. subst (IsNone Third) same (it.no_desk is);
   other_version = λ is. absurd (it.no_other.0 is);
   not_ours = λ is. absurd (it.no_other.2 is);
   not_empty = it.no_other.1;
@@ -101,9 +99,9 @@ module _ (s : State) (said : Said) (version : TablesVersion) (it : IsSaid s.now 
   pub no_requests : said.requests ≡ None → IsNone version s.now
   no_requests none = inr (it.rows, it.shown, inr (sym it.version_is ∙ is, inl (sym it.requests_are ∙ none)))
 
-  -- a table of records is missing
-  pub table_missing : (AreAllRead version s.now.schema → ⊥) → IsNone version s.now
-  table_missing missing = inr (it.rows, it.shown, inr (sym it.version_is ∙ is, inr missing))
+  -- a table is missing, or the least open epoch is not the first
+  pub part_missing : (AreAllRead version s.now.schema → ⊥) ⊎ LacksLeast version s.now → IsNone version s.now
+  part_missing missing = inr (it.rows, it.shown, inr (sym it.version_is ∙ is, inr missing))
 
-  pub tables_there : (requests : ℕ) → said.requests ≡ Some requests → AreAllRead version s.now.schema → IsThere version s.now requests
-  tables_there requests some all = record { rows = it.rows; shown = it.shown; version_is = sym it.version_is ∙ is; requests_are = sym it.requests_are ∙ some; tables = all }
+  pub tables_there : (requests : ℕ) → said.requests ≡ Some requests → AreAllRead version s.now.schema × SaysLeast version s.now → IsThere version s.now requests
+  tables_there requests some whole = record { rows = it.rows; shown = it.shown; version_is = sym it.version_is ∙ is; requests_are = sym it.requests_are ∙ some; tables = whole.0; least = whole.1 }

@@ -1,4 +1,4 @@
--- Tables of version 1 that are made those of a desk, in one transaction.
+-- Tables of an earlier version that are made those of a desk, in one transaction.
 use Rattle.std.proofs.Common.{◌≡◌, ◌≢◌, ◌∙◌, ◌⊎◌, inl, inr, ℕ, Bool, true, false, Some, Ok, Err, Result, OnOk, OnErr, IfOk, IfErr, IsTrue, refl, sym, ap, subst, arith}
 use Rattle.std.specs.Bool.{Decides}
 use Rattle.std.specs.Result.{is_ok}
@@ -11,19 +11,22 @@ use Rattle.sqlite.specs.Listing.{listing_schema, understood}
 use Rattle.sqlite.specs.State.{State, HasCleanDisk, Survives}
 use Rattle.sqlite.specs.declared.error.Error.{Error}
 use Rattle.sqlite.proofs.StateLemmas.{survives_then, survives_weaker}
-use Rattle.review_statements.specs.declared.texts.TheConstants.{FIND_PROJECT}
-use Rattle.review_statements.specs.Desk.{desk_schema, schema_1}
+use Rattle.review_statements.specs.declared.texts.TheConstants.{FIND_ANSWER}
+use Rattle.review_statements.specs.Content.{Then}
+use Rattle.review_statements.specs.Desk.{desk_schema}
 use Rattle.review_statements.specs.Ran.{Inside, Looks, OnDesk, Transacts, Within}
 use Rattle.review_tables.specs.Migrated.{Migrates}
 use Rattle.review_tables.proofs.Migrated.{apart_after}
 use Rattle.review_tables.proofs.Sequences.{Next, follow, settled_as}
-use Rattle.review_tables.specs.Versions.{schema_at}
-use Rattle.review_tables.specs.declared.creating.TablesVersion.{TablesVersion}
-use Rattle.review_tables.specs.declared.creating.TablesVersion.TheVariants.{First, Second}
+use Rattle.review_tables.specs.Versions.{schema_at, version_of}
+use Rattle.review_tables.specs.declared.versions.EarlierVersion.{EarlierVersion}
+use Rattle.review_tables.specs.declared.versions.EarlierVersion.TheVariants as earlier
+use Rattle.review_tables.specs.declared.versions.TablesVersion.{TablesVersion}
+use Rattle.review_tables.specs.declared.versions.TablesVersion.TheVariants.{Third}
 use Rattle.review_sql.specs.declared.faults.DeskFault.{DeskFault}
 use Rattle.review_sql.specs.declared.faults.DeskFault.TheVariants.{NotADesk, WrongVersion, NotEmpty, NotOurs}
 use Rattle.review_sql.specs.declared.seen.Seen.{Seen}
-use Rattle.review_sql.specs.Changes.{SetsDesk}
+use Rattle.review_sql.specs.Changes.{SetsDesk, SetsLeast}
 use Rattle.review_lookups.specs.Tables.{tables_at}
 use Rattle.review_sql.specs.Migrated.{IsBrought, IsNotMigrated, IsOpenedAsIs, IsRaised, IsUnfit, IsUpgraded, LeavesUpgraded, Upgrades, if_whole}
 use Rattle.review_sql.specs.Opened.{AreAllApart, AreApartIn, IsLacking, IsSeen}
@@ -31,7 +34,7 @@ use Rattle.review_sql.specs.Said.{IsThere}
 use Rattle.review_sql.specs.Shelf.{Holds, Stays}
 use Rattle.review_sql.proofs.Again.{goes_on}
 use Rattle.review_sql.proofs.Made.{holds_opened, is_opened}
-use Rattle.review_sql.proofs.Saying.{eleven, first_of_ours, not_ok}
+use Rattle.review_sql.proofs.Saying.{earlier_of_ours, not_ok}
 use Rattle.review_sql.proofs.Staying.{stays_then}
 use Rattle.review_sql.proofs.Upgraded.{Looked, upgrades, upgrades_others}
 
@@ -39,31 +42,35 @@ use Rattle.review_sql.proofs.Upgraded.{Looked, upgrades, upgrades_others}
 looked : {X : Type 0} (Found : Trees → X → Type 0) (a b : State) (x : X) → Looks Found a b (Ok x) → Within {X = X} (λ old new. old.schema ≡ desk_schema → (new ≡ old) × Found old.trees x) a b (Ok x)
 looked Found a b x it = record { ran = λ clean on has. (let f = it.found clean on (λ _. has) in (f.0, f.2)); kept = it.kept; survives = it.survives }
 
-module _ {X : Type 0} (requests : ℕ) (s0 s1 s2 s3 : State) (x : X) (migrates : Within Migrates s0 s1 (Ok x)) where
+-- the first epoch and the version are put
+abbrev Puts : ℕ → Trees → Trees → Type 0
+Puts requests = Then SetsLeast (SetsDesk requests)
+
+module _ {X : Type 0} (version : EarlierVersion) (requests : ℕ) (s0 s1 s2 s3 : State) (x : X) (migrates : Within (Migrates version) s0 s1 (Ok x)) where
   module _ (is : Bool) (looks : Looks (λ db is. Decides is (AreAllApart db)) s1 s2 (Ok is)) where
-    both : Within {X = Bool} (Next Migrates (λ old new. old.schema ≡ desk_schema → (new ≡ old) × Decides is (AreAllApart old.trees))) s0 s2 (Ok is)
+    both : Within {X = Bool} (Next (Migrates version) (λ old new. old.schema ≡ desk_schema → (new ≡ old) × Decides is (AreAllApart old.trees))) s0 s2 (Ok is)
     both = follow _ _ s0 s1 s2 x (Ok is) migrates (looked (λ db is. Decides is (AreAllApart db)) s1 s2 is looks)
 
     -- rowids are apart, and the version is put
-    pub raised_ours : {Z : Type 0} (z : Z) → is ≡ true → Inside (SetsDesk requests) s2 s3 (Ok z) → Within (Upgrades true requests) s0 s3 (if_whole (Ok true))
+    pub raised_ours : {Z : Type 0} (z : Z) → is ≡ true → Inside (Puts requests) s2 s3 (Ok z) → Within (Upgrades version true requests) s0 s3 (if_whole (Ok true))
     raised_ours z apart puts =
-        let two = subst (λ b. Within {X = Bool} (Next Migrates (λ old new. old.schema ≡ desk_schema → (new ≡ old) × Decides b (AreAllApart old.trees))) s0 s2 (Ok is)) apart both in
-        settled_as (Next (Next Migrates Looked) (OnDesk (SetsDesk requests))) (Upgrades true requests) s0 s3 z (tt {0}) (upgrades requests) (follow _ _ s0 s2 s3 is (Ok z) two puts)
+        let two = subst (λ b. Within {X = Bool} (Next (Migrates version) (λ old new. old.schema ≡ desk_schema → (new ≡ old) × Decides b (AreAllApart old.trees))) s0 s2 (Ok is)) apart both in
+        settled_as (Next (Next (Migrates version) Looked) (OnDesk (Puts requests))) (Upgrades version true requests) s0 s3 z (tt {0}) (upgrades version requests) (follow _ _ s0 s2 s3 is (Ok z) two puts)
 
     -- they are not
-    pub undone_ours : Within (Upgrades true requests) s0 s2 (if_whole (Ok false))
+    pub undone_ours : Within (Upgrades version true requests) s0 s2 (if_whole (Ok false))
     undone_ours = record { ran = λ _ _. tt; kept = λ clean on. ((both.kept clean on).0, tt); survives = both.survives }
 
-    pub hindered_ours : is ≡ false → HasCleanDisk s2 → IsTrue s0.in_transaction → s0.now.schema ≡ schema_1 → AreApartIn First s0.now.trees → ⊥
+    pub hindered_ours : is ≡ false → HasCleanDisk s2 → IsTrue s0.in_transaction → s0.now.schema ≡ schema_at (version_of version) → AreApartIn (version_of version) s0.now.trees → ⊥
     hindered_ours others clean on has apart =
         let it = both.ran clean on in
         let found = it.2 (it.1.schema has) in
-        let all = found.1.1 (apart_after s0.now it.0 it.1 has apart) in
+        let all = found.1.1 (apart_after version s0.now it.0 it.1 has apart) in
         let e : false ≡ true = sym others ∙ all in cc
 
   -- of tables of others nothing is said
-  pub raised_others : {Z : Type 0} (z : Z) → Inside (SetsDesk requests) s1 s3 (Ok z) → Within (Upgrades false requests) s0 s3 (if_whole (Ok true))
-  raised_others z puts = settled_as _ (Upgrades false requests) s0 s3 z (tt {0}) (λ old new h. upgrades_others requests old new) (follow _ _ s0 s1 s3 x (Ok z) migrates puts)
+  pub raised_others : {Z : Type 0} (z : Z) → Inside (Puts requests) s1 s3 (Ok z) → Within (Upgrades version false requests) s0 s3 (if_whole (Ok true))
+  raised_others z puts = settled_as _ (Upgrades version false requests) s0 s3 z (tt {0}) (λ old new h. upgrades_others version requests old new) (follow _ _ s0 s1 s3 x (Ok z) migrates puts)
 
 -- nothing was done before
 pub stays_acts : {X : Type 0} (R : Database → Database → Type 0) (s0 s1 s2 : State) (r : Result X Error) → Stays s0 s1 → Transacts R s1 s2 r → Transacts R s0 s2 r
@@ -83,23 +90,24 @@ stays_acts {X} R s0 s1 s2 r stays acts = record {
 
 -- ---- refusals
 
--- in tables of our form of version 1 no desk of version 2 is there
-unread : is_ok (understood schema_1 FIND_PROJECT.now) ≡ false
+-- in tables of our form of an earlier version no desk of version 3 is there
+unread : (version : EarlierVersion) → is_ok (understood (schema_at (version_of version)) FIND_ANSWER.now) ≡ false
 unfolding understood everything listing_schema
-unread = refl
+unread earlier.First = refl
+unread earlier.Second = refl
 
-pub no_second : (db : Database) (requests : ℕ) → db.schema ≡ schema_1 → IsThere Second db requests → ⊥
-no_second db requests has there =
-    let reads = there.tables.each FIND_PROJECT.now (2, (let l = eleven Second in omega (arith, l)), refl) in
-    not_ok _ reads.0 unread (sym (ap (λ s. understood s FIND_PROJECT.now) has) ∙ reads.1)
+pub no_latest : (version : EarlierVersion) (db : Database) (requests : ℕ) → db.schema ≡ schema_at (version_of version) → IsThere Third db requests → ⊥
+no_latest version db requests has there =
+    let reads = there.tables.each FIND_ANSWER.now (10, (omega arith), refl) in
+    not_ok _ reads.0 (unread version) (sym (ap (λ s. understood s FIND_ANSWER.now) has) ∙ reads.1)
 
 -- what a refusal leaves, where a stop leaves so much
 unmigrated : (is_ours : Bool) (fault : DeskFault) (s t : State) → (IsTrue t.is_open → IsTrue s.is_open × (t.now ≡ s.now)) → Survives s t (LeavesUpgraded is_ours s) → ((fault ≡ NotADesk) ⊎ (fault ≡ WrongVersion) → Stays s t) → IsNotMigrated is_ours fault s t
 unmigrated is_ours fault s t undone survives stays = record {
   undone = undone;
   survives = survives;
-  no_first = stays;
-  second = λ ours requests there. record { kept = undone; survives = survives_weaker s t (LeavesUpgraded is_ours s) (λ _. ⊥) (λ _ db h. no_second s.now requests (h.form ours) there) survives };
+  no_earlier = stays;
+  latest = λ ours requests there. record { kept = undone; survives = survives_weaker s t (LeavesUpgraded is_ours s) (λ _. ⊥) (λ _ db h. no_latest h.version s.now requests (h.form ours) there) survives };
 }
 
 -- nothing was done
@@ -110,13 +118,13 @@ pub not_migrated_if : {X : Type 0} (is_ours : Bool) (r : Result X DeskFault) (s 
 not_migrated_if is_ours (Ok x) s t stays = tt
 not_migrated_if is_ours (Err e) s t stays = not_migrated is_ours e s t stays
 
--- it was taken back, after a desk of version 1 was seen, as ours where it is to be
-pub taken_back : {X : Type 0} (is_ours : Bool) (requests : ℕ) (fault : DeskFault) (r s t : State) (e : Error) → (fault ≢ NotADesk) × (fault ≢ WrongVersion) → Stays r s
-    → (IsTrue s.is_open → IsThere First r.now requests) → (IsTrue is_ours → r.now.schema ≡ schema_1) → Transacts {X = X} (Upgrades is_ours requests) s t (Err e) → IsNotMigrated is_ours fault r t
-taken_back is_ours requests fault r s t e plain stays there form acts = unmigrated is_ours fault r t
+-- it was taken back, after a desk of an earlier version was seen, as ours where it is to be
+pub taken_back : {X : Type 0} (version : EarlierVersion) (is_ours : Bool) (requests : ℕ) (fault : DeskFault) (r s t : State) (e : Error) → (fault ≢ NotADesk) × (fault ≢ WrongVersion) → Stays r s
+    → (IsTrue s.is_open → IsThere (version_of version) r.now requests) → (IsTrue is_ours → r.now.schema ≡ schema_at (version_of version)) → Transacts {X = X} (Upgrades version is_ours requests) s t (Err e) → IsNotMigrated is_ours fault r t
+taken_back version is_ours requests fault r s t e plain stays there form acts = unmigrated is_ours fault r t
     (λ is_open. let u = acts.undone is_open in let was = stays.kept u.0 in (was.0, u.1 ∙ was.1))
     (survives_then r s t _ _ _ (λ _ db h. absurd h)
-    (λ clean db h. let was = stays.kept h.0 in record { is_open = was.0; requests = requests; there = there h.0; form = form; after = h.1.0; left = h.1.1; upgrades = subst (λ (d : Database). Upgrades is_ours requests d h.1.0) was.1 h.1.2 }) stays.survives acts.survives)
+    (λ clean db h. let was = stays.kept h.0 in record { version = version; is_open = was.0; requests = requests; there = there h.0; form = form; after = h.1.0; left = h.1.1; upgrades = subst (λ (d : Database). Upgrades version is_ours requests d h.1.0) was.1 h.1.2 }) stays.survives acts.survives)
     (λ is. absurd (elim is [ inl no_desk ↦ plain.0 no_desk | inr other ↦ plain.1 other ]))
 
 pub unmigrated_then : (is_ours : Bool) (fault : DeskFault) (s0 s1 s2 : State) → Stays s0 s1 → IsNotMigrated is_ours fault s1 s2 → IsNotMigrated is_ours fault s0 s2
@@ -124,15 +132,16 @@ unmigrated_then is_ours fault s0 s1 s2 stays it = unmigrated is_ours fault s0 s2
     (λ is_open. let u = it.undone is_open in let was = stays.kept u.0 in (was.0, u.1 ∙ was.1))
     (survives_then s0 s1 s2 _ _ _ (λ _ db h. absurd h)
     (λ clean db h. let was = stays.kept h.is_open in record {
+      version = h.version;
       is_open = was.0;
       requests = h.requests;
-      there = subst (λ (d : Database). IsThere First d h.requests) was.1 h.there;
+      there = subst (λ (d : Database). IsThere (version_of h.version) d h.requests) was.1 h.there;
       form = λ ours. sym (ap (λ (d : Database). d.schema) was.1) ∙ h.form ours;
       after = h.after;
       left = h.left;
-      upgrades = subst (λ (d : Database). Upgrades is_ours h.requests d h.after) was.1 h.upgrades;
+      upgrades = subst (λ (d : Database). Upgrades h.version is_ours h.requests d h.after) was.1 h.upgrades;
     }) stays.survives it.survives)
-    (λ is. stays_then s0 s1 s2 stays (it.no_first is))
+    (λ is. stays_then s0 s1 s2 stays (it.no_earlier is))
 
 -- want of memory or a fault of the store says nothing of tables
 pub unfit_plainly : (db : Database) (fault : DeskFault) → (fault ≢ NotADesk) × (fault ≢ WrongVersion) × (fault ≢ NotEmpty) × (fault ≢ NotOurs) → IsUnfit db fault
@@ -146,55 +155,56 @@ unfit_lacking s version fault it = record { no_desk = λ is. (version, it.no_des
 pub unfit_others : (db : Database) (version : TablesVersion) (requests : ℕ) → IsThere version db requests → (db.schema ≡ schema_at version → AreApartIn version db.trees → ⊥) → IsUnfit db NotOurs
 unfit_others db version requests there other = record { no_desk = λ is. absurd (cc); other_version = λ is. absurd (cc); not_ours = λ is. (version, (requests, there), other); not_empty = λ is. cc }
 
--- tables of version 2 that are not ours
+-- tables of version 3 that are not ours
 pub unfit_seen : (s : State) (seen : Seen) → seen.is_ours ≡ false → IsSeen s seen → IsUnfit s.now NotOurs
-unfit_seen s seen not it = unfit_others s.now Second seen.requests it.there (λ has all. let e = sym not ∙ it.ours has all in cc)
+unfit_seen s seen not it = unfit_others s.now Third seen.requests it.there (λ has all. let e = sym not ∙ it.ours has all in cc)
 
 -- ---- after the table `desk` was asked
 
 module _ {S : Type 0} (g : Ghosts S) (is_ours : Bool) (c0 c1 c2 : Held S) (stays : Stays (state g c0) (state g c1)) where
-  -- tables of version 1 were made those of version 2
-  pub brought_first : (r : Result ℕ DeskFault) → IfOk r (IsRaised g is_ours c1 c2) → IfOk r (IsBrought g is_ours c0 c2)
-  brought_first (Err e) it = tt
-  brought_first (Ok requests) it = inl (record {
+  -- tables of an earlier version were made those of version 3
+  pub brought_earlier : (version : EarlierVersion) (r : Result ℕ DeskFault) → IfOk r (IsRaised g version is_ours c1 c2) → IfOk r (IsBrought g is_ours c0 c2)
+  brought_earlier version (Err e) it = tt
+  brought_earlier version (Ok requests) it = inl (version, record {
     form = λ clean ours. sym (ap (λ (d : Database). d.schema) (same clean)) ∙ it.form clean ours;
-    there = λ clean. subst (λ (d : Database). IsThere First d requests) (same clean) (it.there clean);
-    acts = stays_acts (Upgrades is_ours requests) (state g c0) (state g c1) (state g c2) (Ok (tt {0})) stays it.acts;
+    there = λ clean. subst (λ (d : Database). IsThere (version_of version) d requests) (same clean) (it.there clean);
+    acts = stays_acts (Upgrades version is_ours requests) (state g c0) (state g c1) (state g c2) (Ok (tt {0})) stays it.acts;
   })
     where
       same : HasCleanDisk (state g c2) → (state g c1).now ≡ (state g c0).now
       same clean = (stays.kept (it.acts.done clean).0).1
 
-  pub unmigrated_first : (r : Result ℕ DeskFault) → IfErr r (λ e. IsNotMigrated is_ours e (state g c1) (state g c2)) → IfErr r (λ e. IsNotMigrated is_ours e (state g c0) (state g c2))
-  unmigrated_first (Ok requests) it = tt
-  unmigrated_first (Err e) it = unmigrated_then is_ours e (state g c0) (state g c1) (state g c2) stays it
+  pub unmigrated_earlier : (r : Result ℕ DeskFault) → IfErr r (λ e. IsNotMigrated is_ours e (state g c1) (state g c2)) → IfErr r (λ e. IsNotMigrated is_ours e (state g c0) (state g c2))
+  unmigrated_earlier (Ok requests) it = tt
+  unmigrated_earlier (Err e) it = unmigrated_then is_ours e (state g c0) (state g c1) (state g c2) stays it
 
-  pub unfit_first : (r : Result ℕ DeskFault) → IfErr r (λ e. IsNotMigrated is_ours e (state g c1) (state g c2)) → IfErr r (IsUnfit (state g c1).now) → IsTrue (state g c2).is_open → IfErr r (IsUnfit (state g c0).now)
-  unfit_first (Ok requests) left it is_open = tt
-  unfit_first (Err e) left it is_open = subst (λ (d : Database). IsUnfit d e) (stays.kept (left.undone is_open).0).1 it
+  pub unfit_earlier : (r : Result ℕ DeskFault) → IfErr r (λ e. IsNotMigrated is_ours e (state g c1) (state g c2)) → IfErr r (IsUnfit (state g c1).now) → IsTrue (state g c2).is_open → IfErr r (IsUnfit (state g c0).now)
+  unfit_earlier (Ok requests) left it is_open = tt
+  unfit_earlier (Err e) left it is_open = subst (λ (d : Database). IsUnfit d e) (stays.kept (left.undone is_open).0).1 it
 
-  -- tables of version 2 stay
-  pub unmigrated_second : (r : Result ℕ DeskFault) → Stays (state g c1) (state g c2) → IfErr r (λ e. IsNotMigrated is_ours e (state g c0) (state g c2))
-  unmigrated_second r more = not_migrated_if is_ours r (state g c0) (state g c2) (stays_then (state g c0) (state g c1) (state g c2) stays more)
+  -- tables of version 3 stay
+  pub unmigrated_latest : (r : Result ℕ DeskFault) → Stays (state g c1) (state g c2) → IfErr r (λ e. IsNotMigrated is_ours e (state g c0) (state g c2))
+  unmigrated_latest r more = not_migrated_if is_ours r (state g c0) (state g c2) (stays_then (state g c0) (state g c1) (state g c2) stays more)
 
-  pub unfit_second : (r : Result ℕ DeskFault) → Stays (state g c1) (state g c2) → IfErr r (IsUnfit (state g c1).now) → IsTrue (state g c2).is_open → IfErr r (IsUnfit (state g c0).now)
-  unfit_second r more it is_open = subst (λ (d : Database). IfErr r (IsUnfit d)) (stays.kept (more.kept is_open).0).1 it
+  pub unfit_latest : (r : Result ℕ DeskFault) → Stays (state g c1) (state g c2) → IfErr r (IsUnfit (state g c1).now) → IsTrue (state g c2).is_open → IfErr r (IsUnfit (state g c0).now)
+  unfit_latest r more it is_open = subst (λ (d : Database). IfErr r (IsUnfit d)) (stays.kept (more.kept is_open).0).1 it
 
 -- ---- the shelf
 
 module _ {S : Type 0} (g : Ghosts S) (is_ours : Bool) (c0 c1 : Held S) (requests : ℕ) where
   pub holds_brought : c1.in_transaction ≡ false → (IsTrue (state g c1).is_open → HasCleanDisk (state g c1)) → IsBrought g is_ours c0 c1 requests → Holds g c1 is_ours requests
-  holds_brought mode clean (inl it) = record { autocommit = mode; ready = λ ours is_open. (it.acts.done (clean is_open)).2.ready ours (it.form (clean is_open) ours) }
+  holds_brought mode clean (inl (_, it)) = record { autocommit = mode; ready = λ ours is_open. (it.acts.done (clean is_open)).2.ready ours (it.form (clean is_open) ours) }
   holds_brought mode clean (inr it) = holds_opened g c0 c1 (record { is_ours = it.has_form; requests = requests }) is_ours it.ours mode it.stays it.seen
 
   pub migrated : (IsTrue (state g c1).is_open → (state g c1).now ≡ (state g c1).committed) → ((db : Trees) → IsTrue (state g c1).is_open → (state g c1).may_leave db → db ≡ (state g c1).committed.trees)
       → IsBrought g is_ours c0 c1 requests → IsUpgraded g is_ours c0 (record { conn = c1; requests = requests; faults = 0 }) ⊎ IsOpenedAsIs g is_ours c0 (record { conn = c1; requests = requests; faults = 0 })
-  migrated settled law (inl it) = inl (record {
+  migrated settled law (inl (version, it)) = inl (record {
+    version = version;
     faults = refl;
     form = it.form;
     there = λ clean. ((it.acts.done clean).1, it.there clean);
     keeps = λ clean ours. (it.acts.done clean).2.keeps ours (it.form clean ours);
-    view = λ clean ours h was. (it.acts.done clean).2.view ours (it.form clean ours) (first_of_ours (state g c0).now (it.form clean ours) requests (it.there clean)) h was;
+    view = λ clean ours h was. (it.acts.done clean).2.view ours (it.form clean ours) (earlier_of_ours version (state g c0).now (it.form clean ours) requests (it.there clean)) h was;
     alone = λ clean t left.
         let d = it.acts.done clean in
         rw d.1 (ap (λ (t : Trees). Some (tables_at t)) (ap (λ (d : Database). d.trees) (settled d.1) ∙ sym (law left.0 d.1 left.1)) ∙ ap Some (sym left.2));

@@ -13,7 +13,7 @@ use Rattle.review_statements.specs.Desk.{is_tree}
 use Rattle.review_statements.specs.Search.{Search, SetsRow, SetsRows}
 use Rattle.review_tables.specs.Fronts.{SetsParts}
 use Rattle.review_change_records.specs.Forms.{headers, patches, votes, roles, comments, calls}
-use Rattle.review_records.specs.Forms.{accounts, members, projects, bases, answers, desk}
+use Rattle.review_records.specs.Forms.{accounts, members, projects, bases, answers, desk, request_key}
 use Rattle.review_sql.specs.Changes.{SetsDelta, SetsEdit, SetsEdits, SetsUnless, SetsKept, SetsPut, SetsDesk, is_named}
 use Rattle.review_sql.specs.Named.{Test, Spares, SparesAll, SparesParts, SparesEdit, SparesNamed, KeepsRest}
 
@@ -69,7 +69,7 @@ module _ (tree : ℕ) (test : Test) (is : is_tree tree ≡ true) where
 pub keeps_rest : (delta : Delta) (kept : Kept) (n : ℕ) (old new : Trees) → Then (Then (SetsDelta delta) (SetsKept kept)) (SetsDesk n) old new → KeepsRest delta kept old new
 keeps_rest delta kept n old new sets = record {
   each = λ tree test is spares.
-      row_same tree test is desk tt (Some (record { version = 2; requests = n })) sets.0 new spares.of_desk sets.2
-      ∙ (row_same tree test is answers (record { caller = kept.caller; id = kept.id }) (Some (record { request = kept.request; content = string_bytes kept.content; reply = string_bytes kept.reply })) sets.1.0 sets.0 spares.of_answer sets.1.2
+      row_same tree test is desk tt (Some (record { version = 3; requests = n })) sets.0 new spares.of_desk sets.2
+      ∙ (row_same tree test is answers (request_key kept.caller kept.id) (Some (record { request = kept.request; content = string_bytes kept.content; reply = string_bytes kept.reply })) sets.1.0 sets.0 spares.of_answer sets.1.2
       ∙ delta_same tree test is delta kept old sets.1.0 spares sets.1.1);
 }

@@ -1,5 +1,5 @@
--- What the table `desk` says where the tables are of our form, and where there is none.
-use Rattle.std.proofs.Common.{◌≡◌, ◌∙◌, inl, inr, ℕ, List, [], ◌∷◌, length, map, filter, Option, Some, None, Ok, Err, true, false, codes, refl, sym, ap, subst, arith}
+-- What the tables `desk` and `epochs` say where the tables are of our form, and where there is none.
+use Rattle.std.proofs.Common.{◌≡◌, ◌≢◌, ◌∙◌, inl, inr, ℕ, List, [], ◌∷◌, map, filter, Option, Some, None, Ok, Err, true, false, codes, refl, sym, ap, subst, arith}
 use Rattle.std.specs.Result.{is_ok}
 use Rattle.std.specs.List.{AllByRecursion}
 use Rattle.std.specs.List.Sorted.{IsPermutation}
@@ -8,7 +8,8 @@ use Rattle.std.proofs.lemmas.List.Elements.{All-from_recursion}
 use Rattle.std.proofs.lemmas.Option.{same_Some}
 use Rattle.sqlite_value.specs.Order.{Row, column}
 use Rattle.sqlite_value.specs.declared.value.Value.TheVariants.{Null}
-use Rattle.sqlite_sql.specs.Term.{col}
+use Rattle.sqlite_sql.specs.Term.{Term, col}
+use Rattle.sqlite_schema.specs.declared.schema.Schema.{Schema}
 use Rattle.sqlite_schema.specs.declared.command.Command.TheVariants.{Select}
 use Rattle.sqlite_resolve.specs.declared.compiled.Compiled.{Compiled}
 use Rattle.sqlite_resolve.specs.Lowering.{Checked}
@@ -17,21 +18,26 @@ use Rattle.sqlite_keyed.proofs.ListLemmas.{filter_same}
 use Rattle.sqlite.specs.Effect.{Database, Reads}
 use Rattle.sqlite.specs.Listing.{understood, listing_schema}
 use Rattle.sqlite.proofs.Callers.{command_of, one_permutation}
-use Rattle.review_statements.specs.declared.texts.TheConstants.{FIND_DESK, READ_ROWS}
+use Rattle.review_statements.specs.declared.texts.TheConstants.{FIND_DESK, FIND_EPOCHS, READ_ROWS}
 use Rattle.review_statements.specs.Content.{has_key}
-use Rattle.review_statements.specs.Desk.{desk_schema, schema_0, schema_1}
+use Rattle.review_statements.specs.Desk.{desk_schema, schema_0}
 use Rattle.review_statements.specs.Search.{only, reads, row_at}
 use Rattle.review_statements.specs.Texts.{over_table}
-use Rattle.review_statements.proofs.Queries.{passes, selects}
+use Rattle.review_statements.proofs.Meaning.{plain}
+use Rattle.review_statements.proofs.Queries.{passes, selects, shows}
 use Rattle.review_records.specs.declared.rows.DeskRow.{DeskRow}
-use Rattle.review_records.specs.Forms.{desk, desk_row}
-use Rattle.review_tables.specs.Versions.{schema_at}
-use Rattle.review_tables.specs.declared.creating.TablesVersion.{TablesVersion}
-use Rattle.review_tables.specs.declared.creating.TablesVersion.TheVariants.{First, Second}
-use Rattle.review_lookups.specs.FirstTables.{IsFirstDesk}
+use Rattle.review_records.specs.Forms.{desk, desk_row, epochs, first_epoch}
+use Rattle.review_records.specs.Keyed.{is_small}
+use Rattle.review_records.specs.Laws.{passed}
+use Rattle.review_tables.specs.Columns.{number_in}
+use Rattle.review_tables.specs.Versions.{schema_at, version_number, version_of}
+use Rattle.review_tables.specs.declared.versions.EarlierVersion.{EarlierVersion}
+use Rattle.review_tables.specs.declared.versions.TablesVersion.{TablesVersion}
+use Rattle.review_tables.specs.declared.versions.TablesVersion.TheVariants.{First, Second, Third}
+use Rattle.review_lookups.specs.EarlierTables.{IsEarlierDesk}
 use Rattle.review_lookups.specs.Tables.{IsDesk}
-use Rattle.review_sql.specs.Said.{number_of_one, version_in, requests_in, ShowsDesk, IsDeskThere, IsThere, IsNoDesk, IsNone, IsOtherVersion, LacksDesk}
-use Rattle.review_sql.specs.Shelf.{AreAllRead, IsUnderstood, rows_read}
+use Rattle.review_sql.specs.Said.{number_of_one, version_in, requests_in, ShowsDesk, ShowsEpochs, ShowsRows, IsDeskThere, IsThere, IsNoDesk, IsNone, IsOtherVersion, LacksDesk}
+use Rattle.review_sql.specs.Shelf.{AreAllRead, IsUnderstood}
 
 -- ---- the texts over our form
 
@@ -39,11 +45,11 @@ find_is : (version : TablesVersion) → command_of (understood (schema_at versio
 unfolding understood everything
 find_is First = refl
 find_is Second = refl
+find_is Third = refl
 
--- the tables of records are eleven in each version
-pub eleven : (version : TablesVersion) → length (rows_read version) ≡ 11
-eleven First = refl
-eleven Second = refl
+find_epochs_is : command_of (understood desk_schema FIND_EPOCHS.now) ≡ Select (record { lets = []; body = over_table 31 [] (col 1 1 ∷ []) [] }) (codes "least" ∷ [])
+unfolding understood everything
+find_epochs_is = refl
 
 find_known : is_ok (understood desk_schema FIND_DESK.now) ≡ true
 unfolding understood everything
@@ -51,7 +57,7 @@ find_known = refl
 
 all_known : AllByRecursion (λ sql. is_ok (understood desk_schema sql) ≡ true) (map (λ t. t.now) READ_ROWS)
 unfolding understood everything
-all_known = (refl, (refl, (refl, (refl, (refl, (refl, (refl, (refl, (refl, (refl, (refl, tt)))))))))))
+all_known = (refl, (refl, (refl, (refl, (refl, (refl, (refl, (refl, (refl, (refl, (refl, (refl, tt))))))))))))
 
 -- no text is understood as a look at the table `desk` where there is no table
 none_known : is_ok (understood schema_0 FIND_DESK.now) ≡ false
@@ -72,7 +78,7 @@ understands = if_ok _ find_known
 pub understands_none : IsUnderstood schema_0 FIND_DESK.now → ⊥
 understands_none it = not_ok _ it.0 none_known it.1
 
-pub reads_all : AreAllRead Second desk_schema
+pub reads_all : AreAllRead Third desk_schema
 reads_all = record {
   each = λ sql inside.
       if_ok _ (subst (λ s. is_ok (understood desk_schema s) ≡ true) inside.2 (All-from_recursion (λ s. is_ok (understood desk_schema s) ≡ true) (map (λ t. t.now) READ_ROWS) all_known inside.0 sql inside.1));
@@ -88,6 +94,14 @@ same_number at (r ∷ s ∷ rows) [] same = absurd (let l = length_permutation (
 same_number at (r ∷ s ∷ rows) (q ∷ []) same = absurd (let l = length_permutation (r ∷ s ∷ rows) (q ∷ []) same in omega (arith, l))
 same_number at (r ∷ s ∷ rows) (q ∷ p ∷ others) same = refl
 
+-- what a text shows of the rows of a table
+shown_of : (sql : List ℕ) (schema : Schema) (tree : ℕ) (terms : List Term) (names : List (List ℕ)) → command_of (understood schema sql) ≡ Select (record { lets = []; body = over_table tree [] terms [] }) names
+    → (db : Database) (rows : List Row) → db.schema ≡ schema → ShowsRows db sql rows → IsPermutation (map (shows [] terms) (filter (has_key []) (db.trees tree))) rows
+shown_of sql schema tree terms names is db rows has it =
+    let known = sym it.is ∙ ap (λ s. understood s sql) has in
+    let read : Reads (Select (record { lets = []; body = over_table tree [] terms [] }) names) db [] rows = subst (λ k. Reads k db [] rows) (ap command_of known ∙ is) it.shown in
+    subst (λ l. IsPermutation (map (shows [] terms) l) rows) (filter_same (passes [] []) (has_key []) (λ row. refl) (db.trees tree)) (selects tree [] terms [] db.trees [] rows (plain db.trees tree) (read.answer Null))
+
 -- what is shown of a row of the table `desk`
 abbrev two : Row → Row
 two r = column r 1 ∷ column r 2 ∷ []
@@ -97,10 +111,7 @@ module _ (version : TablesVersion) (db : Database) (has : db.schema ≡ schema_a
   stored = filter (has_key []) (db.trees 25)
 
   shown_are : IsPermutation (map two stored) rows
-  shown_are =
-      let known = sym shown.is ∙ ap (λ s. understood s FIND_DESK.now) has in
-      let it : Reads (Select (record { lets = []; body = over_table 25 [] (col 1 1 ∷ col 1 2 ∷ []) [] }) (codes "version" ∷ codes "requests" ∷ [])) db [] rows = subst (λ k. Reads k db [] rows) (ap command_of known ∙ find_is version) shown.shown in
-      subst (λ l. IsPermutation (map two l) rows) (filter_same (passes [] []) (has_key []) (λ row. refl) (db.trees 25)) (selects 25 [] (col 1 1 ∷ col 1 2 ∷ []) [] db.trees [] rows refl (it.answer Null))
+  shown_are = shown_of FIND_DESK.now (schema_at version) 25 (col 1 1 ∷ col 1 2 ∷ []) (codes "version" ∷ codes "requests" ∷ []) (find_is version) db rows has shown
 
   says : (at : ℕ) → number_of_one at (map two stored) ≡ number_of_one at rows
   says at = same_number at (map two stored) rows shown_are
@@ -125,10 +136,37 @@ module _ (version : TablesVersion) (db : Database) (has : db.schema ≡ schema_a
   row_says (r ∷ []) d is = parts_of _ _ d is
   row_says (r ∷ s ∷ raws) d is = absurd (let e = same_Some None (Some d) is in cc)
 
-  pub desk_says : (requests : ℕ) → IsDesk requests db.trees → (version_in rows ≡ Some 2) × (requests_in rows ≡ Some requests)
+  pub desk_says : (requests : ℕ) → IsDesk requests db.trees → (version_in rows ≡ Some 3) × (requests_in rows ≡ Some requests)
   desk_says requests is =
-      let it = row_says stored (record { version = 2; requests = requests }) is in
+      let it = row_says stored (record { version = 3; requests = requests }) is.desk_is in
       (sym (says 0) ∙ it.0, sym (says 1) ∙ it.1)
+
+-- what is shown of a row of the table `epochs`
+abbrev one : Row → Row
+one r = column r 1 ∷ []
+
+module _ (db : Database) (has : db.schema ≡ desk_schema) (rows : List Row) (shown : ShowsEpochs db rows) where
+  abbrev kept : List Row
+  kept = filter (has_key []) (db.trees 31)
+
+  number_same : number_of_one 0 (map one kept) ≡ number_of_one 0 rows
+  number_same = same_number 0 (map one kept) rows (shown_of FIND_EPOCHS.now desk_schema 31 (col 1 1 ∷ []) (codes "least" ∷ []) find_epochs_is db rows has shown)
+
+  is_least : number_of_one 0 rows ≡ Some first_epoch → row_at epochs db.trees tt ≡ Some (Some first_epoch)
+  is_least says = by kept (number_same ∙ says)
+    where
+      by : (raws : List Row) → number_of_one 0 (map one raws) ≡ Some first_epoch → only (reads epochs) raws ≡ Some (Some first_epoch)
+      by [] n = absurd (cc)
+      by (r ∷ []) n = rw n refl
+      by (r ∷ s ∷ raws) n = absurd (cc)
+
+  least_says : row_at epochs db.trees tt ≡ Some (Some first_epoch) → number_of_one 0 rows ≡ Some first_epoch
+  least_says is = sym number_same ∙ by kept is
+    where
+      by : (raws : List Row) → only (reads epochs) raws ≡ Some (Some first_epoch) → number_of_one 0 (map one raws) ≡ Some first_epoch
+      by [] n = absurd (cc)
+      by (r ∷ []) n = passed is_small (number_in (column r 1)) first_epoch (same_Some _ _ n)
+      by (r ∷ s ∷ raws) n = absurd (let e = same_Some None (Some first_epoch) n in cc)
 
 -- ---- a desk of ours
 
@@ -136,38 +174,41 @@ no_some : (o : Option ℕ) (n : ℕ) → o ≡ Some n → o ≡ None → ⊥
 no_some o n some none = let e = sym some ∙ none in cc
 
 pub desk_of_ours : (db : Database) → db.schema ≡ desk_schema → (requests : ℕ) → IsDeskThere db requests → IsDesk requests db.trees
-desk_of_ours db has requests there = is_desk Second db has there.rows there.shown 2 requests there.version_is there.requests_are
+desk_of_ours db has requests there = record {
+  desk_is = is_desk Third db has there.rows there.shown 3 requests there.version_is there.requests_are;
+  least_is = is_least db has there.least.0 there.least.1 there.least.2;
+}
 
--- the same of version 1
-pub first_of_ours : (db : Database) → db.schema ≡ schema_1 → (requests : ℕ) → IsThere First db requests → IsFirstDesk requests db.trees
-first_of_ours db has requests there = is_desk First db has there.rows there.shown 1 requests there.version_is there.requests_are
+-- the same of an earlier version
+pub earlier_of_ours : (version : EarlierVersion) (db : Database) → db.schema ≡ schema_at (version_of version) → (requests : ℕ) → IsThere (version_of version) db requests → IsEarlierDesk version requests db.trees
+earlier_of_ours version db has requests there = is_desk (version_of version) db has there.rows there.shown (version_number (version_of version)) requests there.version_is there.requests_are
 
 pub never_no_desk : (db : Database) → db.schema ≡ desk_schema → (requests : ℕ) → IsDesk requests db.trees → IsNoDesk db → ⊥
 never_no_desk db has requests is (inl missing) = missing (subst (λ s. IsUnderstood s FIND_DESK.now) (sym has) understands)
-never_no_desk db has requests is (inr odd) = let it = desk_says Second db has odd.0 odd.1 requests is in lacks odd.0 it.0 it.1 odd.2
+never_no_desk db has requests is (inr odd) = let it = desk_says Third db has odd.0 odd.1 requests is in lacks odd.0 it.0 it.1 odd.2
   where
-    lacks : (rows : List Row) → version_in rows ≡ Some 2 → requests_in rows ≡ Some requests → LacksDesk Second db rows → ⊥
+    lacks : (rows : List Row) → version_in rows ≡ Some 3 → requests_in rows ≡ Some requests → LacksDesk Third db rows → ⊥
     lacks rows v n (inl none) = no_some _ _ v none
     lacks rows v n (inr (_, inl none)) = no_some _ _ n none
-    lacks rows v n (inr (_, inr missing)) = missing (subst (AreAllRead Second) (sym has) reads_all)
+    lacks rows v n (inr (_, inr (inl missing))) = missing (subst (AreAllRead Third) (sym has) reads_all)
+    lacks rows v n (inr (_, inr (inr other))) = other.2 (least_says db has other.0 other.1 is.least_is)
 
--- nor is it none of version 1, which it doesn't say
-pub never_first : (db : Database) → db.schema ≡ desk_schema → (requests : ℕ) → IsDesk requests db.trees → IsNone First db → ⊥
-never_first db has requests is (inl missing) = missing (subst (λ s. IsUnderstood s FIND_DESK.now) (sym has) understands)
-never_first db has requests is (inr odd) = lacks odd.0 (desk_says Second db has odd.0 odd.1 requests is).0 odd.2
+-- nor is it none of a version that it doesn't say
+pub never_earlier : (version : TablesVersion) → version_number version ≢ 3 → (db : Database) → db.schema ≡ desk_schema → (requests : ℕ) → IsDesk requests db.trees → IsNone version db → ⊥
+never_earlier version other db has requests is (inl missing) = missing (subst (λ s. IsUnderstood s FIND_DESK.now) (sym has) understands)
+never_earlier version other db has requests is (inr odd) = lacks odd.0 (desk_says Third db has odd.0 odd.1 requests is).0 odd.2
   where
-    lacks : (rows : List Row) → version_in rows ≡ Some 2 → LacksDesk First db rows → ⊥
+    lacks : (rows : List Row) → version_in rows ≡ Some 3 → LacksDesk version db rows → ⊥
     lacks rows v (inl none) = no_some _ _ v none
-    lacks rows v (inr (first, _)) = let e = same_Some _ _ (sym first ∙ v) in omega (arith, e)
+    lacks rows v (inr (is, _)) = other (same_Some _ _ (sym is ∙ v))
 
--- nor is it there as one of version 1
-pub never_there_first : (db : Database) → db.schema ≡ desk_schema → (requests : ℕ) → IsDesk requests db.trees → (n : ℕ) → IsThere First db n → ⊥
-never_there_first db has requests is n there =
-    let e = same_Some _ _ (sym there.version_is ∙ (desk_says Second db has there.rows there.shown requests is).0) in omega (arith, e)
+-- nor is it there as one of such a version
+pub never_there_earlier : (version : TablesVersion) → version_number version ≢ 3 → (db : Database) → db.schema ≡ desk_schema → (requests : ℕ) → IsDesk requests db.trees → (n : ℕ) → IsThere version db n → ⊥
+never_there_earlier version other db has requests is n there = other (same_Some _ _ (sym there.version_is ∙ (desk_says Third db has there.rows there.shown requests is).0))
 
 pub never_other_version : (db : Database) → db.schema ≡ desk_schema → (requests : ℕ) → IsDesk requests db.trees → IsOtherVersion db → ⊥
 never_other_version db has requests is other =
-    let it = desk_says Second db has other.0 other.1 requests is in
+    let it = desk_says Third db has other.0 other.1 requests is in
     other.2.2.0 (same_Some _ _ (sym other.2.1 ∙ it.0))
 
 -- where there is no table nothing is shown of one

@@ -22,7 +22,7 @@ use Rattle.review_sql.specs.Commits.{AreSingle, Commits}
 use Rattle.review_sql.specs.Shelf.{Holds, Stays, tables_of, stops_of}
 
 -- a stored request that is odd is one of no history
-not_odd : (h : List Entry) (i : Identity) → stored_answer h i ≡ Some OddAnswer → ⊥
+pub not_odd : (h : List Entry) (i : Identity) → stored_answer h i ≡ Some OddAnswer → ⊥
 not_odd [] i is = cc
 not_odd (e ∷ h) i is = elim (cases_Bool (is_same e.identity i)) [ inl same ↦ (let it = rw same at is in cc) | inr other ↦ not_odd h i (rw other at is) ]
 
@@ -92,8 +92,8 @@ module _ {S : Type 0} (g : Ghosts S) (old new : Held S) where
         autocommit = mode;
         ready = λ ours is_open.
             let d = done_as is (clean is_open) in
-            let it = (holds.ready ours d.0).0 in
-            (d.2.ready it, d.2.desk it);
+            let it = holds.ready ours d.0 in
+            (d.2.ready it.0, d.2.desk it.0 it.1);
       }
 
       pub committed_shown : r ≡ Ok (tt {0}) → IsTrue is_ours → HasCleanDisk (state g new) → Shows (tables_of g old) (λ t. Shows (tables_of g new) (IsCommitted t delta (kept_row kept)))

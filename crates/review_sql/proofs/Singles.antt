@@ -30,7 +30,7 @@ module _ (db : Trees) (sound : IsSound desk_schema db) where
   unfolding first_key
   project_single p apart =
       one_passes (has_key (projects.at p)) (λ other row. agree plain (1 ∷ []) other (1 ∷ []) row && differ (rowid other) (rowid row)) (db 26)
-      (λ row has. keys_are_unique desk_schema db project_table 0 (1 ∷ []) row sound (inr (inr (inr (inr (inr (inr (inr (inr (inr (inr (inr (inl refl)))))))))))) refl has)
+      (λ row has. keys_are_unique desk_schema db project_table 0 (1 ∷ []) row sound (inr (inr (inr (inr (inr (inr (inr (inr (inr (inr (inl refl))))))))))) refl has)
       (λ r s keyed too other is it. and_from _ _ (and_from _ _ (equal_values (Text p) (column s 1) (column r 1) refl (and_parts _ _ it).0 (and_parts _ _ is).0) refl) (differ_ids s r too keyed other))
       (db 26) (λ x h. h) apart
 

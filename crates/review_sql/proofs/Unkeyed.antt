@@ -13,7 +13,7 @@ use Rattle.review_statements.specs.Content.{Then}
 use Rattle.review_statements.specs.Desk.{is_tree}
 use Rattle.review_statements.specs.Search.{Search, SetsRow, SetsRows}
 use Rattle.review_tables.specs.Fronts.{SetsParts}
-use Rattle.review_records.specs.Forms.{accounts, members, projects, bases, answers, desk}
+use Rattle.review_records.specs.Forms.{accounts, members, projects, bases, answers, desk, epochs}
 use Rattle.review_change_records.specs.Forms.{headers, patches, votes, roles, comments, calls}
 use Rattle.review_lookups.specs.Tables.{has_unkeyed, keyed_tables}
 use Rattle.review_sql.specs.First.{SetsFirst}
@@ -23,7 +23,7 @@ use Rattle.review_sql.specs.Changes.{SetsDelta, SetsDesk, SetsEdit, SetsEdits, S
 abbrev keyed_of : ℕ → Raw → Bool
 keyed_of t =
     cond (t == 0) accounts.keyed (cond (t == 2) members.keyed (cond (t == 26) projects.keyed (cond (t == 6) bases.keyed (cond (t == 9) headers.keyed (cond (t == 11) patches.keyed
-    (cond (t == 14) votes.keyed (cond (t == 16) roles.keyed (cond (t == 18) comments.keyed (cond (t == 20) calls.keyed (cond (t == 22) answers.keyed desk.keyed))))))))))
+    (cond (t == 14) votes.keyed (cond (t == 16) roles.keyed (cond (t == 18) comments.keyed (cond (t == 20) calls.keyed (cond (t == 28) answers.keyed desk.keyed))))))))))
 
 -- the rows without a key are as they were
 pub record Keeps (old new : Trees) : Type 0 where
@@ -92,7 +92,7 @@ all_same (t ∷ tables) old new all = (λ i. any_same (λ r. not (t.1 r)) (new t
 
 pub unkeyed_same : (old new : Trees) → Keeps old new → has_unkeyed keyed_tables new ≡ has_unkeyed keyed_tables old
 unkeyed_same old new keeps = all_same keyed_tables old new
-    (keeps.rows 0 refl, (keeps.rows 2 refl, (keeps.rows 26 refl, (keeps.rows 6 refl, (keeps.rows 22 refl, (keeps.rows 9 refl, (keeps.rows 11 refl, (keeps.rows 14 refl, (keeps.rows 16 refl, (keeps.rows 18 refl, (keeps.rows 20 refl, tt)))))))))))
+    (keeps.rows 0 refl, (keeps.rows 2 refl, (keeps.rows 26 refl, (keeps.rows 6 refl, (keeps.rows 28 refl, (keeps.rows 9 refl, (keeps.rows 11 refl, (keeps.rows 14 refl, (keeps.rows 16 refl, (keeps.rows 18 refl, (keeps.rows 20 refl, tt)))))))))))
 
 -- a commit leaves the rows that have no key
 pub commit_keeps : (delta : Delta) (kept : Kept) (n : ℕ) (a b : Trees) → Then (Then (SetsDelta delta) (SetsKept kept)) (SetsDesk (n + 1)) a b → Keeps a b
@@ -109,11 +109,13 @@ commit_keeps delta kept n a b h =
 
 -- so do the first rows of a desk
 pub first_keeps : (a b : Trees) → SetsFirst a b → Keeps a b
-first_keeps a b h = keeps_then a h.0 b (keeps_then a h.1.0 h.0 (keeps_row accounts refl _ _ a h.1.0 h.1.1) (keeps_row members refl _ _ h.1.0 h.0 h.1.2)) (keeps_row desk refl _ _ h.0 b h.2)
+first_keeps a b h =
+    keeps_then a h.0 b (keeps_then a h.1.0 h.0 (keeps_then a h.1.1.0 h.1.0 (keeps_row accounts refl _ _ a h.1.1.0 h.1.1.1) (keeps_row members refl _ _ h.1.1.0 h.1.0 h.1.1.2)) (keeps_row epochs refl _ _ h.1.0 h.0 h.1.2))
+    (keeps_row desk refl _ _ h.0 b h.2)
 
 -- where no table has a row, none has no key
 pub none_unkeyed : (a : Trees) → ((t : ℕ) → is_tree t ≡ true → a t ≡ []) → has_unkeyed keyed_tables a ≡ false
-none_unkeyed a blank = none keyed_tables (blank 0 refl, (blank 2 refl, (blank 26 refl, (blank 6 refl, (blank 22 refl, (blank 9 refl, (blank 11 refl, (blank 14 refl, (blank 16 refl, (blank 18 refl, (blank 20 refl, tt)))))))))))
+none_unkeyed a blank = none keyed_tables (blank 0 refl, (blank 2 refl, (blank 26 refl, (blank 6 refl, (blank 28 refl, (blank 9 refl, (blank 11 refl, (blank 14 refl, (blank 16 refl, (blank 18 refl, (blank 20 refl, tt)))))))))))
   where
     none : (tables : List (ℕ × (Raw → Bool))) → AllByRecursion (λ t. a t.0 ≡ []) tables → has_unkeyed tables a ≡ false
     none [] all = refl

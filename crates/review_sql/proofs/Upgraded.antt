@@ -1,37 +1,41 @@
--- Tables of version 1 that became those of a desk show the same history.
-use Rattle.std.proofs.Common.{◌≡◌, ◌≢◌, ◌∙◌, ◌||◌, ℕ, List, [], ◌∷◌, Option, Some, None, option_map, Bool, cond, true, false, not, drop, filter, length, refl, sym, ap, subst, arith}
+-- Tables of an earlier version that became those of a desk show the same history.
+use Rattle.std.proofs.Common.{◌≡◌, ◌≢◌, ◌∙◌, ◌||◌, ℕ, List, [], ◌∷◌, Option, Some, None, option_map, Bool, cond, true, false, not, length, refl, sym, ap, subst, arith}
 use Rattle.std.specs.Bool.{Decides}
-use Rattle.std.specs.List.{list_any}
-use Rattle.std.proofs.lemmas.Bool.{or_parts}
+use Rattle.std.specs.List.{AllByRecursion, list_any}
+use Rattle.std.proofs.lemmas.Bool.{both_ways, or_parts}
 use Rattle.sqlite_value.specs.Order.{Row as Raw}
 use Rattle.sqlite_value.specs.declared.value.Value.TheVariants.{Text}
 use Rattle.sqlite_trees.specs.Tree.{Trees}
 use Rattle.sqlite.specs.Effect.{Database}
-use Rattle.review_words.specs.History.{Entry}
+use Rattle.review_words.specs.History.{Entry, Identity}
 use Rattle.review_changes.specs.Parts.{Part}
 use Rattle.review_rows.specs.declared.rows.StoredFile.{StoredFile}
 use Rattle.review_rows.specs.Changes.{Reading, own_of}
 use Rattle.review_rows.specs.Rows.{Key, AccountKey, MemberKey, FileKey, BaseKey, PartKey, OddKey, Row, AccountRow, MemberRow, FileRow, BaseRow, OddRow, Count, Projects, BasesOf}
-use Rattle.review_rows.specs.View.{IsViewBy, fact, counted, tables_version}
-use Rattle.review_statements.specs.Content.{AreApart}
-use Rattle.review_statements.specs.Desk.{desk_schema, is_tree, schema_1}
-use Rattle.review_statements.specs.Moved.{AreMoved, without_parent}
+use Rattle.review_rows.specs.View.{IsViewBy, fact, counted, stored_answer, tables_version}
+use Rattle.review_statements.specs.Content.{AreApart, Then}
+use Rattle.review_statements.specs.Desk.{desk_schema, desk_tables, is_tree}
+use Rattle.review_statements.specs.Moved.{AreMoved, with_first_epoch, without_parent}
 use Rattle.review_statements.specs.Ran.{IsReady, OnDesk}
 use Rattle.review_statements.specs.Search.{only, reads, row_at, rows_at}
-use Rattle.review_tables.specs.Migrated.{Migrates}
+use Rattle.review_tables.specs.Migrated.{AllMoved, Migrates}
+use Rattle.review_tables.specs.Versions.{is_new, schema_at, version_of}
+use Rattle.review_tables.specs.declared.versions.EarlierVersion.{EarlierVersion}
+use Rattle.review_tables.specs.declared.versions.EarlierVersion.TheVariants as earlier
+use Rattle.review_tables.proofs.ByTree.{at_tree}
 use Rattle.review_tables.proofs.Sequences.{Next}
 use Rattle.review_change_records.specs.Forms.{headers, patches, votes, roles, comments, calls}
-use Rattle.review_records.specs.Keyed.{project_keyed}
-use Rattle.review_records.specs.Forms.{accounts, members, projects, first_projects, bases, answers}
-use Rattle.review_records.proofs.ReadAlike.{count_moved, file_moved, still_keyed}
-use Rattle.review_lookups.specs.FirstTables.{first_keyed_tables, first_tables_at, IsFirstDesk}
-use Rattle.review_lookups.specs.Tables.{has_unkeyed, keyed_tables, number_of, row_in, count_in, stored_as, tables_at, told}
-use Rattle.review_sql.specs.Changes.{SetsDesk}
+use Rattle.review_records.specs.Keyed.{answer_keyed, earlier_answer_keyed, project_keyed}
+use Rattle.review_records.specs.Forms.{accounts, members, projects, bases, answers, earlier_answers, epochs, request_key}
+use Rattle.review_records.specs.declared.rows.Answered.{Answered as Rest}
+use Rattle.review_records.proofs.ReadAlike.{answer_moved, answers_keyed, file_moved, projects_counted, projects_keyed}
+use Rattle.review_lookups.specs.EarlierTables.{IsEarlierDesk, keyed_tables_in, projects_in, tables_in}
+use Rattle.review_lookups.specs.Tables.{IsDesk, answer_in, count_in, has_unkeyed, keyed_tables, number_of, row_in, stored_as, tables_at, told}
+use Rattle.review_sql.specs.Changes.{SetsDesk, SetsLeast}
 use Rattle.review_sql.specs.Migrated.{KeepsRows, Upgrades}
 use Rattle.review_sql.specs.Opened.{AreAllApart}
 use Rattle.review_sql.proofs.Edits.{part_same}
-use Rattle.review_sql.proofs.Peeking.{at_tree}
-use Rattle.review_sql.proofs.Unkeyed.{all_same}
+use Rattle.review_sql.proofs.Shown.{not_odd}
 
 -- what tells no odd row reads as what is told
 pub told_file : (found : Option (Option StoredFile)) (file : Option StoredFile) → told FileRow found ≡ option_map FileRow file → found ≡ option_map Some file
@@ -54,96 +58,178 @@ no_odd : (odd : Bool) → cond odd (Some OddRow) None ≡ None → odd ≡ false
 no_odd true is = absurd (cc)
 no_odd false is = refl
 
--- the tables of records behind the projects
-abbrev later : List (ℕ × (Raw → Bool))
-later = drop 3 keyed_tables
+-- the rows of a table have keys
+abbrev AllKeyed : Trees → ℕ × (Raw → Bool) → Type 0
+AllKeyed db t = list_any (λ r. not (t.1 r)) (db t.0) ≡ false
 
-module _ (requests : ℕ) (old mid new : Trees) (others : (t : ℕ) → is_tree t ≡ true → t ≢ 26 → mid t ≡ old t) (moved : AreMoved without_parent (old 4) (mid 26)) (sets : SetsDesk requests mid new) where
-  same : (t : ℕ) → is_tree t ≡ true → t ≢ 25 → t ≢ 26 → new t ≡ old t
-  same t is p q = sets.others t is p ∙ others t is q
+each_keyed : (tables : List (ℕ × (Raw → Bool))) (db : Trees) → has_unkeyed tables db ≡ false → AllByRecursion (AllKeyed db) tables
+each_keyed [] db none = tt
+each_keyed (t ∷ tables) db none = let parts = or_parts _ _ none in (parts.0, each_keyed tables db parts.1)
 
-  projects_stay : new 26 ≡ mid 26
-  projects_stay = sets.others 26 refl (λ e. omega (arith, e))
+all_keyed : (tables : List (ℕ × (Raw → Bool))) (db : Trees) → AllByRecursion (AllKeyed db) tables → has_unkeyed tables db ≡ false
+all_keyed [] db each = refl
+all_keyed (t ∷ tables) db each = (λ i. each.0 i || all_keyed tables db each.1 i)
+
+-- a table that has not come since version 1 has not come since a later one
+since : (version : EarlierVersion) (t : ℕ) → is_new earlier.First t ≡ false → is_new version t ≡ false
+since earlier.First t stays = stays
+since earlier.Second t stays = (or_parts _ _ stays).1
+
+-- the epochs have come since each version
+not_epochs : (version : EarlierVersion) (t : ℕ) → is_new version t ≡ false → t ≢ epochs.tree
+not_epochs version t stays same = absurd (both_ways (is_new version t) stays (subst (λ n. is_new version n ≡ true) (sym same) (come version)))
+  where
+    come : (v : EarlierVersion) → is_new v epochs.tree ≡ true
+    come earlier.First = refl
+    come earlier.Second = refl
+
+-- ---- what moved
+
+module _ (old mid : Trees) where
+  abbrev Stay : EarlierVersion → Type 0
+  Stay version = (t : ℕ) → is_tree t ≡ true → is_new version t ≡ false → mid t ≡ old t
+
+  stored_moved : (version : EarlierVersion) → AllMoved version old mid → AreMoved with_first_epoch (old 22) (mid 28)
+  stored_moved earlier.First moved = moved.1.0
+  stored_moved earlier.Second moved = moved.0
+
+  file_stays : (version : EarlierVersion) → AllMoved version old mid → Stay version → AllKeyed old ((projects_in version).tree, project_keyed)
+      → (p : List ℕ) (file : Option StoredFile) → row_at (projects_in version) old p ≡ option_map Some file → row_at projects mid p ≡ option_map Some file
+  file_stays earlier.First moved stay keyed p file is = file_moved (old 4) (mid 26) moved.0 keyed p file is
+  file_stays earlier.Second moved stay keyed p file is = ap (λ l. only (reads projects) (rows_at (projects.at p) l)) (stay 26 refl refl) ∙ is
+
+  count_stays : (version : EarlierVersion) → AllMoved version old mid → Stay version → AllKeyed old ((projects_in version).tree, project_keyed) → length (mid 26) ≡ length (old (projects_in version).tree)
+  count_stays earlier.First moved stay keyed = projects_counted (old 4) (mid 26) moved.0 keyed
+  count_stays earlier.Second moved stay keyed = ap length (stay 26 refl refl)
+
+  keyed_stays : (version : EarlierVersion) → AllMoved version old mid → Stay version → AllKeyed old ((projects_in version).tree, project_keyed) → AllKeyed mid (26, project_keyed)
+  keyed_stays earlier.First moved stay keyed = projects_keyed (old 4) (mid 26) moved.0 keyed
+  keyed_stays earlier.Second moved stay keyed = ap (list_any (λ r. not (project_keyed r))) (stay 26 refl refl) ∙ keyed
+
+  -- what moved stays where it is written on
+  moved_on : (version : EarlierVersion) (new : Trees) → new 26 ≡ mid 26 → new 28 ≡ mid 28 → AllMoved version old mid → AllMoved version old new
+  moved_on earlier.First new files stored moved = (subst (AreMoved without_parent (old 4)) (sym files) moved.0, (subst (AreMoved with_first_epoch (old 22)) (sym stored) moved.1.0, tt))
+  moved_on earlier.Second new files stored moved = (subst (AreMoved with_first_epoch (old 22)) (sym stored) moved.0, tt)
+
+module _ (version : EarlierVersion) (requests : ℕ) (old mid new : Trees) (stay : (t : ℕ) → is_tree t ≡ true → is_new version t ≡ false → mid t ≡ old t) (moved : AllMoved version old mid) (sets : Then SetsLeast (SetsDesk requests) mid new) where
+  after : (t : ℕ) → is_tree t ≡ true → t ≢ 31 → t ≢ 25 → new t ≡ mid t
+  after t is p q = sets.2.others t is q ∙ sets.1.others t is p
+
+  same : (t : ℕ) → is_tree t ≡ true → is_new version t ≡ false → t ≢ 25 → new t ≡ old t
+  same t is p q = after t is (not_epochs version t p) q ∙ stay t is p
+
+  -- the same of tables of version 1
+  kept : (t : ℕ) → is_tree t ≡ true → is_new earlier.First t ≡ false → t ≢ 25 → new t ≡ old t
+  kept t is p q = same t is (since version t p) q
+
+  files_after : new 26 ≡ mid 26
+  files_after = after 26 refl (λ e. omega (arith, e)) (λ e. omega (arith, e))
+
+  stored_after : new 28 ≡ mid 28
+  stored_after = after 28 refl (λ e. omega (arith, e)) (λ e. omega (arith, e))
 
   parts_stay : (n : ℕ) (part : Part) → row_in new (PartKey n part) ≡ row_in old (PartKey n part)
   parts_stay n part =
-      part_same old new (same 9 refl (λ e. omega (arith, e)) (λ e. omega (arith, e))) (same 11 refl (λ e. omega (arith, e)) (λ e. omega (arith, e))) (same 14 refl (λ e. omega (arith, e)) (λ e. omega (arith, e)))
-      (same 16 refl (λ e. omega (arith, e)) (λ e. omega (arith, e))) (same 18 refl (λ e. omega (arith, e)) (λ e. omega (arith, e))) (same 20 refl (λ e. omega (arith, e)) (λ e. omega (arith, e))) n part
+      part_same old new (kept 9 refl refl (λ e. omega (arith, e))) (kept 11 refl refl (λ e. omega (arith, e))) (kept 14 refl refl (λ e. omega (arith, e)))
+      (kept 16 refl refl (λ e. omega (arith, e))) (kept 18 refl refl (λ e. omega (arith, e))) (kept 20 refl refl (λ e. omega (arith, e))) n part
 
-  kept : (t : ℕ) (keyed : Raw → Bool) → new t ≡ old t → list_any (λ r. not (keyed r)) (new t) ≡ list_any (λ r. not (keyed r)) (old t)
-  kept t keyed is = ap (list_any (λ r. not (keyed r))) is
+  pub desk_after : IsDesk requests new
+  desk_after = record { desk_is = sets.2.here; least_is = ap (λ l. only (reads epochs) (rows_at (epochs.at tt) l)) (sets.2.others 31 refl (λ e. omega (arith, e))) ∙ sets.1.here }
 
   -- whatever rows there are
-  rows_kept : KeepsRows old new
+  pub rows_kept : KeepsRows version old new
   rows_kept = record {
-    moved = subst (AreMoved without_parent (old 4)) (sym projects_stay) moved;
-    others = (stays 0 refl, (stays 2 refl, (stays 6 refl, (stays 9 refl, (stays 11 refl, (stays 14 refl, (stays 16 refl, (stays 18 refl, (stays 20 refl, (stays 22 refl, (stays 25 refl, (stays 26 refl, tt))))))))))));
+    moved = moved_on old mid version new files_after stored_after moved;
+    others = (same 0 refl, (same 2 refl, (same 6 refl, (same 9 refl, (same 11 refl, (same 14 refl, (same 16 refl, (same 18 refl, (same 20 refl, (same 25 refl, (same 26 refl, (same 28 refl, (same 31 refl, tt)))))))))))));
   }
-    where
-      stays : (t : ℕ) → is_tree t ≡ true → t ≢ 26 → t ≢ 25 → new t ≡ old t
-      stays t is q p = same t is p q
 
-  module _ (reading : Reading) (h : List Entry) (was : IsViewBy reading h (record (first_tables_at old) { version = tables_version })) where
-    none_odd : has_unkeyed first_keyed_tables old ≡ false
-    none_odd = no_odd _ (was.row_is (OddKey []))
+  module _ (reading : Reading) (h : List Entry) (was : IsViewBy reading h (record (tables_in version old) { version = tables_version })) where
+    before : AllByRecursion (AllKeyed old) (keyed_tables_in version)
+    before = each_keyed (keyed_tables_in version) old (no_odd _ (was.row_is (OddKey [])))
 
-    files_keyed : list_any (λ r. not (project_keyed r)) (old 4) ≡ false
-    files_keyed = (or_parts _ _ (or_parts _ _ (or_parts _ _ none_odd).1).1).0
+    files_keyed : AllKeyed old ((projects_in version).tree, project_keyed)
+    files_keyed = by version before.1.1.0
+      where
+        by : (v : EarlierVersion) → AllKeyed old ((projects_in v).tree, (projects_in v).keyed) → AllKeyed old ((projects_in v).tree, project_keyed)
+        by earlier.First is = is
+        by earlier.Second is = is
 
-    still : list_any (λ r. not (project_keyed r)) (new 26) ≡ list_any (λ r. not (project_keyed r)) (old 4)
-    still = ap (list_any (λ r. not (project_keyed r))) projects_stay ∙ (still_keyed (old 4) (mid 26) moved files_keyed ∙ sym files_keyed)
+    stored_keyed : list_any (λ r. not (earlier_answer_keyed r)) (old 22) ≡ false
+    stored_keyed = before.1.1.1.1.0
+
+    stay_keyed : (t : ℕ) (keyed : Raw → Bool) → new t ≡ old t → AllKeyed old (t, keyed) → AllKeyed new (t, keyed)
+    stay_keyed t keyed is was = ap (list_any (λ r. not (keyed r))) is ∙ was
 
     unkeyed : has_unkeyed keyed_tables new ≡ false
     unkeyed =
-        (λ i. kept 0 accounts.keyed (same 0 refl (λ e. omega (arith, e)) (λ e. omega (arith, e))) i || (kept 2 members.keyed (same 2 refl (λ e. omega (arith, e)) (λ e. omega (arith, e))) i || (still i || rest i)))
-        ∙ none_odd
-      where
-        rest : has_unkeyed later new ≡ has_unkeyed later old
-        rest = all_same later old new (stay bases.keyed 6 refl (λ e. omega (arith, e)) (λ e. omega (arith, e)), (stay answers.keyed 22 refl (λ e. omega (arith, e)) (λ e. omega (arith, e)), (stay headers.keyed 9 refl (λ e. omega (arith, e)) (λ e. omega (arith, e)), (stay patches.keyed 11 refl (λ e. omega (arith, e)) (λ e. omega (arith, e)), (stay votes.keyed 14 refl (λ e. omega (arith, e)) (λ e. omega (arith, e)), (stay roles.keyed 16 refl (λ e. omega (arith, e)) (λ e. omega (arith, e)), (stay comments.keyed 18 refl (λ e. omega (arith, e)) (λ e. omega (arith, e)), (stay calls.keyed 20 refl (λ e. omega (arith, e)) (λ e. omega (arith, e)), tt))))))))
-          where
-            stay : (keyed : Raw → Bool) (t : ℕ) → is_tree t ≡ true → t ≢ 25 → t ≢ 26 → filter (λ r. not (keyed r)) (new t) ≡ filter (λ r. not (keyed r)) (old t)
-            stay keyed t is p q = ap (filter (λ r. not (keyed r))) (same t is p q)
+        let rest = before.1.1.1.1.1 in
+        all_keyed keyed_tables new (
+          stay_keyed 0 accounts.keyed (kept 0 refl refl (λ e. omega (arith, e))) before.0,
+          (stay_keyed 2 members.keyed (kept 2 refl refl (λ e. omega (arith, e))) before.1.0,
+          (ap (list_any (λ r. not (project_keyed r))) files_after ∙ keyed_stays old mid version moved stay files_keyed,
+          (stay_keyed 6 bases.keyed (kept 6 refl refl (λ e. omega (arith, e))) before.1.1.1.0,
+          (ap (list_any (λ r. not (answer_keyed r))) stored_after ∙ answers_keyed (old 22) (mid 28) (stored_moved old mid version moved) stored_keyed,
+          (stay_keyed 9 headers.keyed (kept 9 refl refl (λ e. omega (arith, e))) rest.0,
+          (stay_keyed 11 patches.keyed (kept 11 refl refl (λ e. omega (arith, e))) rest.1.0,
+          (stay_keyed 14 votes.keyed (kept 14 refl refl (λ e. omega (arith, e))) rest.1.1.0,
+          (stay_keyed 16 roles.keyed (kept 16 refl refl (λ e. omega (arith, e))) rest.1.1.1.0,
+          (stay_keyed 18 comments.keyed (kept 18 refl refl (λ e. omega (arith, e))) rest.1.1.1.1.0,
+          (stay_keyed 20 calls.keyed (kept 20 refl refl (λ e. omega (arith, e))) rest.1.1.1.1.1.0, tt)))))))))),
+        )
 
     file_row : (project : List ℕ) → told FileRow (row_at projects new project) ≡ option_map FileRow (own_of h project)
     file_row project =
-        ap (λ l. told FileRow (only (reads projects) (rows_at (projects.at project) l))) projects_stay
-        ∙ by (own_of h project) (file_moved (old 4) (mid 26) moved files_keyed project (own_of h project) (told_file (row_at first_projects old project) (own_of h project) (was.row_is (FileKey project))))
+        ap (λ l. told FileRow (only (reads projects) (rows_at (projects.at project) l))) files_after
+        ∙ by (own_of h project) (file_stays old mid version moved stay files_keyed project (own_of h project) (told_file (row_at (projects_in version) old project) (own_of h project) (was.row_is (FileKey project))))
       where
-        by : (file : Option StoredFile) → only (reads projects) (rows_at (projects.at project) (mid 26)) ≡ option_map Some file → told FileRow (only (reads projects) (rows_at (projects.at project) (mid 26))) ≡ option_map FileRow file
+        by : (file : Option StoredFile) → row_at projects mid project ≡ option_map Some file → told FileRow (row_at projects mid project) ≡ option_map FileRow file
         by None is = ap (told FileRow) is
         by (Some f) is = ap (told FileRow) is
 
     rows : (k : Key) → row_in new k ≡ fact reading h k
-    rows (AccountKey n) = ap (λ l. told AccountRow (only (reads accounts) (rows_at (accounts.at n) l))) (same 0 refl (λ e. omega (arith, e)) (λ e. omega (arith, e))) ∙ was.row_is (AccountKey n)
-    rows (MemberKey group n) = ap (λ l. told (λ u. MemberRow) (only (reads members) (rows_at (members.at (record { group = group; account = n })) l))) (same 2 refl (λ e. omega (arith, e)) (λ e. omega (arith, e))) ∙ was.row_is (MemberKey group n)
+    rows (AccountKey n) = ap (λ l. told AccountRow (only (reads accounts) (rows_at (accounts.at n) l))) (kept 0 refl refl (λ e. omega (arith, e))) ∙ was.row_is (AccountKey n)
+    rows (MemberKey group n) = ap (λ l. told (λ u. MemberRow) (only (reads members) (rows_at (members.at (record { group = group; account = n })) l))) (kept 2 refl refl (λ e. omega (arith, e))) ∙ was.row_is (MemberKey group n)
     rows (FileKey project) = file_row project
-    rows (BaseKey project branch place) = ap (λ l. told BaseRow (only (reads bases) (rows_at (bases.at (record { project = project; branch = branch; place = place })) l))) (same 6 refl (λ e. omega (arith, e)) (λ e. omega (arith, e))) ∙ was.row_is (BaseKey project branch place)
+    rows (BaseKey project branch place) = ap (λ l. told BaseRow (only (reads bases) (rows_at (bases.at (record { project = project; branch = branch; place = place })) l))) (kept 6 refl refl (λ e. omega (arith, e))) ∙ was.row_is (BaseKey project branch place)
     rows (PartKey n part) = parts_stay n part ∙ was.row_is (PartKey n part)
     rows (OddKey o) = ap (λ odd. cond odd (Some OddRow) None) unkeyed
 
     counts : (c : Count) → count_in new c ≡ counted h c
-    counts Projects = ap length projects_stay ∙ (count_moved (old 4) (mid 26) moved files_keyed ∙ was.count_is Projects)
-    counts (BasesOf project) = ap (λ l. length (rows_at ((1, Text project) ∷ []) l)) (same 6 refl (λ e. omega (arith, e)) (λ e. omega (arith, e))) ∙ was.count_is (BasesOf project)
+    counts Projects = ap length files_after ∙ (count_stays old mid version moved stay files_keyed ∙ was.count_is Projects)
+    counts (BasesOf project) = ap (λ l. length (rows_at ((1, Text project) ∷ []) l)) (kept 6 refl refl (λ e. omega (arith, e))) ∙ was.count_is (BasesOf project)
 
-    shows : IsFirstDesk requests old → IsViewBy reading h (tables_at new)
+    stored : (i : Identity) → answer_in new i ≡ stored_answer h i
+    stored i =
+        ap (λ l. stored_as i (only (reads answers) (rows_at (answers.at (request_key i.caller i.id)) l))) stored_after
+        ∙ by (row_at earlier_answers old (request_key i.caller i.id)) refl (was.answer_is i)
+      where
+        moved_so : (found : Option Rest) → row_at earlier_answers old (request_key i.caller i.id) ≡ option_map Some found → answer_in mid i ≡ stored_as i (option_map Some found)
+        moved_so found is = ap (stored_as i) (answer_moved (old 22) (mid 28) (stored_moved old mid version moved) stored_keyed i.caller i.id found is)
+
+        by : (found : Option (Option Rest)) → row_at earlier_answers old (request_key i.caller i.id) ≡ found → stored_as i found ≡ stored_answer h i → answer_in mid i ≡ stored_answer h i
+        by None is told = moved_so None is ∙ told
+        by (Some None) is told = absurd (not_odd h i (sym told))
+        by (Some (Some a)) is told = moved_so (Some a) is ∙ told
+
+    pub shows : IsEarlierDesk version requests old → IsViewBy reading h (tables_at new)
     shows first = record {
       row_is = rows;
       count_is = counts;
-      answer_is = λ i. ap (λ l. stored_as i (only (reads answers) (rows_at (answers.at (record { caller = i.caller; id = i.id })) l))) (same 22 refl (λ e. omega (arith, e)) (λ e. omega (arith, e))) ∙ was.answer_is i;
-      version = ap (number_of (λ d. d.version)) sets.here;
-      requests = ap (number_of (λ d. d.requests)) sets.here ∙ (sym (ap (number_of (λ d. d.requests)) first) ∙ was.requests);
+      answer_is = stored;
+      version = ap (number_of (λ d. d.version)) sets.2.here;
+      requests = ap (number_of (λ d. d.requests)) sets.2.here ∙ (sym (ap (number_of (λ d. d.requests)) first) ∙ was.requests);
     }
 
 -- what was seen of the tables between, of ours: that the rows of each have rowids of their own
 abbrev pub Looked : Database → Database → Type 0
 Looked old new = old.schema ≡ desk_schema → (new ≡ old) × Decides true (AreAllApart old.trees)
 
-pub upgrades : (requests : ℕ) (old new : Database) → Next (Next Migrates Looked) (OnDesk (SetsDesk requests)) old new → Upgrades true requests old new
-upgrades requests old new h = record {
-  ready = λ ours has. (h.2.ready (ready has), (h.2.changes (ready has)).here);
-  keeps = λ ours has. rows_kept requests old.trees mid.trees new.trees (others has) (moved has) (h.2.changes (ready has));
+pub upgrades : (version : EarlierVersion) (requests : ℕ) (old new : Database) → Next (Next (Migrates version) Looked) (OnDesk (Then SetsLeast (SetsDesk requests))) old new → Upgrades version true requests old new
+upgrades version requests old new h = record {
+  ready = λ ours has. (h.2.ready (ready has), desk_after version requests old.trees mid.trees new.trees (stay has) (moved has) (h.2.changes (ready has)));
+  keeps = λ ours has. rows_kept version requests old.trees mid.trees new.trees (stay has) (moved has) (h.2.changes (ready has));
   view = λ ours has first history was reading right.
-      shows requests old.trees mid.trees new.trees (others has) (moved has) (h.2.changes (ready has)) reading history (was.1 reading right) first;
+      shows version requests old.trees mid.trees new.trees (stay has) (moved has) (h.2.changes (ready has)) reading history (was.1 reading right) first;
 }
   where
     mid : Database
@@ -152,21 +238,21 @@ upgrades requests old new h = record {
     between : Database
     between = h.1.0
 
-    migrated : Migrates old between
+    migrated : Migrates version old between
     migrated = h.1.1
 
-    looked : old.schema ≡ schema_1 → (mid ≡ between) × Decides true (AreAllApart between.trees)
+    looked : old.schema ≡ schema_at (version_of version) → (mid ≡ between) × Decides true (AreAllApart between.trees)
     looked has = h.1.2 (migrated.schema has)
 
-    others : old.schema ≡ schema_1 → (t : ℕ) → is_tree t ≡ true → t ≢ 26 → mid.trees t ≡ old.trees t
-    others has t is p = ap (λ (d : Database). d.trees t) (looked has).0 ∙ at_tree (λ n. n ≢ 26 → between.trees n ≡ old.trees n) desk_schema.tables (migrated.others has) t is p
+    stay : old.schema ≡ schema_at (version_of version) → (t : ℕ) → is_tree t ≡ true → is_new version t ≡ false → mid.trees t ≡ old.trees t
+    stay has t is p = ap (λ (d : Database). d.trees t) (looked has).0 ∙ at_tree (λ n. is_new version n ≡ false → between.trees n ≡ old.trees n) desk_tables (migrated.others has) t is p
 
-    moved : old.schema ≡ schema_1 → AreMoved without_parent (old.trees 4) (mid.trees 26)
-    moved has = subst (λ (d : Database). AreMoved without_parent (old.trees 4) (d.trees 26)) (sym (looked has).0) (migrated.moved has)
+    moved : old.schema ≡ schema_at (version_of version) → AllMoved version old.trees mid.trees
+    moved has = subst (λ (d : Database). AllMoved version old.trees d.trees) (sym (looked has).0) (migrated.moved has)
 
-    ready : old.schema ≡ schema_1 → IsReady mid
-    ready has = subst IsReady (sym (looked has).0) (record { schema = migrated.schema has; apart = λ t is. at_tree (λ n. AreApart (between.trees n)) desk_schema.tables ((looked has).1.0 refl) t is })
+    ready : old.schema ≡ schema_at (version_of version) → IsReady mid
+    ready has = subst IsReady (sym (looked has).0) (record { schema = migrated.schema has; apart = λ t is. at_tree (λ n. AreApart (between.trees n)) desk_tables ((looked has).1.0 refl) t is })
 
 -- of tables that are not ours nothing is said
-pub upgrades_others : (requests : ℕ) (old new : Database) → Upgrades false requests old new
-upgrades_others requests old new = record { ready = λ ours has. absurd (cc); keeps = λ ours has. absurd (cc); view = λ ours has first h was. absurd (cc) }
+pub upgrades_others : (version : EarlierVersion) (requests : ℕ) (old new : Database) → Upgrades version false requests old new
+upgrades_others version requests old new = record { ready = λ ours has. absurd (cc); keeps = λ ours has. absurd (cc); view = λ ours has first h was. absurd (cc) }

@@ -12,7 +12,7 @@ use Rattle.review_statements.specs.Content.{Then}
 use Rattle.review_tables.specs.Fronts.{SetsParts}
 use Rattle.review_statements.specs.Search.{Search, SetsRow, SetsRows}
 use Rattle.review_change_records.specs.Forms.{headers, patches, votes, roles, comments, calls}
-use Rattle.review_records.specs.Forms.{accounts, members, projects, bases, answers, desk}
+use Rattle.review_records.specs.Forms.{accounts, members, projects, bases, answers, desk, epochs, first_epoch, request_key}
 
 -- a row is put, where there is one
 abbrev pub SetsPut : {A X : Type 0} → Search A X → Option (Put A X) → Trees → Trees → Type 0
@@ -50,8 +50,12 @@ SetsDelta delta = Then (SetsUnowned delta) (SetsEdits [] delta.changes.items)
 
 -- the request is stored
 abbrev pub SetsKept : Kept → Trees → Trees → Type 0
-SetsKept kept = SetsRow answers (record { caller = kept.caller; id = kept.id }) (Some (record { request = kept.request; content = string_bytes kept.content; reply = string_bytes kept.reply }))
+SetsKept kept = SetsRow answers (request_key kept.caller kept.id) (Some (record { request = kept.request; content = string_bytes kept.content; reply = string_bytes kept.reply }))
 
--- the desk has version 2 and so many requests
+-- the first epoch is the least open
+abbrev pub SetsLeast : Trees → Trees → Type 0
+SetsLeast = SetsRow epochs tt (Some first_epoch)
+
+-- the desk has version 3 and so many requests
 abbrev pub SetsDesk : ℕ → Trees → Trees → Type 0
 SetsDesk requests = SetsRow desk tt (Some (record { version = tables_version; requests = requests }))

@@ -22,5 +22,5 @@ pub record AreSingle (db : Trees) : Type 0 where
 pub record Commits (delta : Delta) (kept : Kept) (requests : ℕ) (old new : Database) : Type 0 where
   pub ready : IsReady old → IsReady new
   pub committed : IsReady old → AreSingle old.trees → IsDesk requests old.trees → IsCommitted (tables_at old.trees) delta (kept_row kept) (tables_at new.trees)
-  pub desk : IsReady old → IsDesk (requests + 1) new.trees
+  pub desk : IsReady old → IsDesk requests old.trees → IsDesk (requests + 1) new.trees
   pub rest : IsReady old → KeepsRest delta kept old.trees new.trees

@@ -10,12 +10,12 @@ use Rattle.review_tables.specs.Made.{IsBlank}
 use Rattle.review_statements.specs.Ran.{IsReady}
 use Rattle.review_statements.specs.Search.{SetsRow}
 use Rattle.review_records.specs.Forms.{accounts, members}
-use Rattle.review_sql.specs.Changes.{SetsDesk}
+use Rattle.review_sql.specs.Changes.{SetsDesk, SetsLeast}
 use Rattle.review_lookups.specs.Tables.{tables_at, IsDesk}
 
--- the first account, which is the one administrator, and no request
+-- the first account, which is the one administrator, the first epoch and no request
 abbrev pub SetsFirst : Trees → Trees → Type 0
-SetsFirst = Then (Then (SetsRow accounts 1 (Some admin_name)) (SetsRow members (record { group = administrators; account = 1 }) (Some tt))) (SetsDesk 0)
+SetsFirst = Then (Then (Then (SetsRow accounts 1 (Some admin_name)) (SetsRow members (record { group = administrators; account = 1 }) (Some tt))) SetsLeast) (SetsDesk 0)
 
 -- of a store with no table a desk without a request is made
 pub record MakesDesk (old new : Database) : Type 0 where

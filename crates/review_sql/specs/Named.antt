@@ -11,7 +11,7 @@ use Rattle.review_statements.specs.Content.{has_key}
 use Rattle.review_statements.specs.Desk.{is_tree}
 use Rattle.review_statements.specs.Search.{Search}
 use Rattle.review_change_records.specs.Forms.{headers, patches, votes, roles, comments, calls}
-use Rattle.review_records.specs.Forms.{accounts, members, projects, bases, answers, desk}
+use Rattle.review_records.specs.Forms.{accounts, members, projects, bases, answers, desk, request_key}
 
 -- A test on the raw rows of a table.
 abbrev pub Test : Type 0
@@ -45,7 +45,7 @@ pub record SparesNamed (delta : Delta) (kept : Kept) (tree : ℕ) (test : Test) 
   pub of_file : IfSome delta.file (λ r. Spares tree test projects r.key)
   pub of_base : IfSome delta.base (λ r. Spares tree test bases r.key)
   pub of_changes : AllByRecursion (SparesEdit tree test) delta.changes.items
-  pub of_answer : Spares tree test answers (record { caller = kept.caller; id = kept.id })
+  pub of_answer : Spares tree test answers (request_key kept.caller kept.id)
   pub of_desk : Spares tree test desk tt
 
 -- of each table the rows that no named key has are as they were, whatever test finds them

@@ -10,8 +10,8 @@ use Rattle.review_statements.specs.Content.{AreApart}
 use Rattle.review_statements.specs.Desk.{desk_schema}
 use Rattle.review_statements.specs.Ran.{IsDeskIfOpen, IsReady}
 use Rattle.review_tables.specs.Versions.{schema_at}
-use Rattle.review_tables.specs.declared.creating.TablesVersion.{TablesVersion}
-use Rattle.review_tables.specs.declared.creating.TablesVersion.TheVariants.{Second}
+use Rattle.review_tables.specs.declared.versions.TablesVersion.{TablesVersion}
+use Rattle.review_tables.specs.declared.versions.TablesVersion.TheVariants.{Third}
 use Rattle.review_sql.specs.declared.seen.Seen.{Seen}
 use Rattle.review_sql.specs.declared.faults.DeskFault.{DeskFault}
 use Rattle.review_sql.specs.declared.faults.DeskFault.TheVariants.{NotADesk, WrongVersion, NotEmpty, NotOurs}
@@ -25,7 +25,7 @@ AreApartIn version db = AllByRecursion (λ t. AreApart (db t.tree)) (schema_at v
 
 -- the rows of each table of a desk have rowids of their own
 abbrev pub AreAllApart : Trees → Type 0
-AreAllApart = AreApartIn Second
+AreAllApart = AreApartIn Third
 
 -- a call that only looked at the tables of a desk, and left them
 pub record Peeks {X : Type 0} (Found : Trees → X → Type 0) (old new : State) (result : Result X Error) : Type 0 where

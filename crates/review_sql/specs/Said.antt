@@ -5,10 +5,12 @@ use Rattle.sqlite_value.specs.Order.{Row, column}
 use Rattle.sqlite_resolve.specs.declared.compiled.Compiled.{Compiled}
 use Rattle.sqlite.specs.Effect.{Database, Reads}
 use Rattle.sqlite.specs.Listing.{understood}
-use Rattle.review_statements.specs.declared.texts.TheConstants.{FIND_DESK}
+use Rattle.review_statements.specs.declared.texts.TheConstants.{FIND_DESK, FIND_EPOCHS}
 use Rattle.review_tables.specs.Columns.{number_in}
-use Rattle.review_tables.specs.declared.creating.TablesVersion.{TablesVersion}
-use Rattle.review_tables.specs.declared.creating.TablesVersion.TheVariants.{First, Second}
+use Rattle.review_tables.specs.Versions.{version_number}
+use Rattle.review_tables.specs.declared.versions.TablesVersion.{TablesVersion}
+use Rattle.review_tables.specs.declared.versions.TablesVersion.TheVariants.{First, Second, Third}
+use Rattle.review_records.specs.Forms.{first_epoch}
 use Rattle.review_sql.specs.declared.seen.Said.{Said}
 use Rattle.review_sql.specs.Shelf.{AreAllRead, IsUnderstood}
 
@@ -34,6 +36,10 @@ requests_in = number_of_one 1
 abbrev pub ShowsDesk : Database → List Row → Type 0
 ShowsDesk db rows = ShowsRows db FIND_DESK.now rows
 
+-- the rows of the table `epochs`
+abbrev pub ShowsEpochs : Database → List Row → Type 0
+ShowsEpochs db rows = ShowsRows db FIND_EPOCHS.now rows
+
 -- this is what the rows of the table `desk` say
 pub record IsSaid (db : Database) (said : Said) : Type 0 where
   pub rows : List Row
@@ -41,43 +47,55 @@ pub record IsSaid (db : Database) (said : Said) : Type 0 where
   pub version_is : said.version ≡ version_in rows
   pub requests_are : said.requests ≡ requests_in rows
 
--- the number of a version, as the table `desk` says it
-abbrev pub version_number : TablesVersion → ℕ
-version_number First = 1
-version_number Second = 2
-
 -- this is what the rows of the table `desk` say, and this version is among it
 abbrev pub SaysVersion : TablesVersion → Database → Said → Type 0
 SaysVersion version db said = IsSaid db said × (said.version ≡ Some (version_number version))
 
--- the table `desk` has one row, which says this version and so many requests, and all columns of the eleven tables of records of the version are there
+-- The one row of the table `epochs` says that the first epoch is the least open; before version 3 there are none.
+abbrev pub SaysLeast : TablesVersion → Database → Type 0
+SaysLeast First db = Unit {0}
+SaysLeast Second db = Unit {0}
+SaysLeast Third db = (rows : List Row) × ShowsEpochs db rows × (number_of_one 0 rows ≡ Some first_epoch)
+
+-- the rows of the table `epochs` say nothing, or something else
+abbrev pub LacksLeast : TablesVersion → Database → Type 0
+LacksLeast First db = ⊥
+LacksLeast Second db = ⊥
+LacksLeast Third db = (rows : List Row) × ShowsEpochs db rows × (number_of_one 0 rows ≢ Some first_epoch)
+
+-- the table `desk` has one row, which says this version and so many requests, all columns of the other tables of the version are there, and the least open epoch is the first
 pub record IsThere (version : TablesVersion) (db : Database) (requests : ℕ) : Type 0 where
   pub rows : List Row
   pub shown : ShowsDesk db rows
   pub version_is : version_in rows ≡ Some (version_number version)
   pub requests_are : requests_in rows ≡ Some requests
   pub tables : AreAllRead version db.schema
+  pub least : SaysLeast version db
 
--- a desk of version 2 is there
+-- a desk of version 3 is there
 abbrev pub IsDeskThere : Database → ℕ → Type 0
-IsDeskThere = IsThere Second
+IsDeskThere = IsThere Third
 
--- the rows say no version, or this one where they don't say how many requests there are or a table of records is missing
+-- how many requests there are is not said, a table is missing, or the least open epoch is not the first
+abbrev pub LacksPart : TablesVersion → Database → List Row → Type 0
+LacksPart version db rows = (requests_in rows ≡ None) ⊎ ((AreAllRead version db.schema → ⊥) ⊎ LacksLeast version db)
+
+-- the rows say no version, or this one and lack a part of a desk
 abbrev pub LacksDesk : TablesVersion → Database → List Row → Type 0
-LacksDesk version db rows = (version_in rows ≡ None) ⊎ ((version_in rows ≡ Some (version_number version)) × ((requests_in rows ≡ None) ⊎ (AreAllRead version db.schema → ⊥)))
+LacksDesk version db rows = (version_in rows ≡ None) ⊎ ((version_in rows ≡ Some (version_number version)) × LacksPart version db rows)
 
 -- the table `desk` isn't there with its columns, or what its rows say is no desk of this version nor of another
 abbrev pub IsNone : TablesVersion → Database → Type 0
 IsNone version db = (IsUnderstood db.schema FIND_DESK.now → ⊥) ⊎ ((rows : List Row) × ShowsDesk db rows × LacksDesk version db rows)
 
--- it is no desk of version 2 nor of another
+-- it is no desk of version 3 nor of another
 abbrev pub IsNoDesk : Database → Type 0
-IsNoDesk = IsNone Second
+IsNoDesk = IsNone Third
 
 -- the one row of the table `desk` says a version that is none of these, whatever else it says
 abbrev pub SaysOther : List TablesVersion → Database → Type 0
 SaysOther versions db = (rows : List Row) × ShowsDesk db rows × ((version : ℕ) × (version_in rows ≡ Some version) × AllByRecursion (λ v. version ≢ version_number v) versions)
 
--- the one row of the table `desk` says another version than 2
+-- the one row of the table `desk` says another version than 3
 abbrev pub IsOtherVersion : Database → Type 0
-IsOtherVersion = SaysOther (Second ∷ [])
+IsOtherVersion = SaysOther (Third ∷ [])

@@ -2,7 +2,7 @@
 use Rattle.std.specs.Prelude.{ℕ, ◌≡◌, ◌≤◌, map, false, Bool, List, Option, Some, None, Result, Ok, Err, IsTrue, if◌then◌else◌, refl, min}
 use Rattle.std.proofs.Math.Nat.{min-le_right}
 use Rattle.std.specs.List.{Contains}
-use Rattle.review_statements.specs.declared.texts.TheConstants.{ANY_ROW, READ_ROWS, READ_ROWS_1}
+use Rattle.review_statements.specs.declared.texts.TheConstants.{ANY_ROW, READ_ROWS, READ_ROWS_1, READ_ROWS_2}
 use Rattle.std.specs.Coded.{Coded, code_by, coded×, coded_ℕ}
 use Rattle.sqlite_trees.specs.declared.store.Store.{Ghosts}
 use Rattle.sqlite_trees.specs.Tree.{Trees}
@@ -21,8 +21,8 @@ use Rattle.review_rows.specs.declared.shelf.ShelfFault.TheVariants.{Memory, Dama
 use Rattle.review_lookups.specs.declared.loading.Loaded.{Loaded}
 use Rattle.review_lookups.specs.declared.loading.Loaded.TheVariants as loaded
 use Rattle.review_statements.specs.Ran.{IsReady}
-use Rattle.review_tables.specs.declared.creating.TablesVersion.{TablesVersion}
-use Rattle.review_tables.specs.declared.creating.TablesVersion.TheVariants.{First, Second}
+use Rattle.review_tables.specs.declared.versions.TablesVersion.{TablesVersion}
+use Rattle.review_tables.specs.declared.versions.TablesVersion.TheVariants.{First, Second, Third}
 use Rattle.review_sql.specs.First.{MakesDesk}
 use Rattle.review_lookups.specs.Tables.{tables_at, IsDesk}
 
@@ -80,12 +80,13 @@ pub record IsUnmade (old new : State) : Type 0 where
 abbrev pub IsAnyThere : Schema → Type 0
 IsAnyThere schema = (sql : List ℕ) × Contains (map (λ t. t.now) ANY_ROW) sql × IsUnderstood schema sql
 
--- the texts that read all columns of the eleven tables of records of a version, one of each
+-- the texts that read all columns of the tables of a version beside the table `desk`, one of each
 abbrev pub rows_read : TablesVersion → List (List ℕ)
 rows_read First = map (λ t. t.now) READ_ROWS_1
-rows_read Second = map (λ t. t.now) READ_ROWS
+rows_read Second = map (λ t. t.now) READ_ROWS_2
+rows_read Third = map (λ t. t.now) READ_ROWS
 
--- the text that reads all columns of each of the eleven tables of records of a version is understood
+-- the text that reads all columns of each of these tables of a version is understood
 pub record AreAllRead (version : TablesVersion) (schema : Schema) : Type 0 where
   pub each : (sql : List ℕ) → Contains (rows_read version) sql → IsUnderstood schema sql
 

@@ -6,11 +6,13 @@ ghost use Rattle.review_sql.specs.First.{SetsFirst, MakesDesk};
 
 use review_records::accounts::Accounts;
 use review_records::desk::Desk;
+use review_records::epochs::Epochs;
 use review_records::members::Members;
-use review_records::rows::DeskRow;
+use review_records::rows::{DeskRow, FIRST_EPOCH};
 use review_rows::MemberKey;
 use review_tables::changes::{change, set};
-use review_tables::creating::{TablesVersion, create_tables};
+use review_tables::creating::create_tables;
+use review_tables::versions::TablesVersion;
 use review_words::{AccountNo, admin_name, administrators};
 use sqlite::{Alter, Connection, Error, Transaction};
 use std::alloc::Global;
@@ -27,11 +29,12 @@ fn put_first<S: Alter>(tx: &mut Transaction<'_, S>, alloc: Global) -> Result<(),
         account: first,
     };
     let row = DeskRow {
-        version: 2,
+        version: 3,
         requests: 0,
     };
     change::<Accounts, S>(tx, alloc, &first, &name)?;
     change::<Members, S>(tx, alloc, &member, &Some(()))?;
+    set::<Epochs, S>(tx, alloc, &(), &FIRST_EPOCH)?;
     set::<Desk, S>(tx, alloc, &(), &row)
 }
 
@@ -40,7 +43,7 @@ fn make<S: Alter>(tx: &mut Transaction<'_, S>, alloc: Global) -> Result<(), Erro
     ensures ran { Within MakesDesk (state S.Store tx.old.conn.now) (state S.Store tx.new.conn.now) result }
     ensures open { Opens (state S.Store tx.old.conn.now) (state S.Store tx.new.conn.now) result }
 {
-    create_tables(tx, TablesVersion::Second)?;
+    create_tables(tx, TablesVersion::Third)?;
     put_first(tx, alloc)
 }
 

@@ -1,10 +1,10 @@
 //! Tables of an earlier version become those of a desk, in one transaction.
 ghost use Rattle.std.specs.Prelude.{◌≡◌, ◌≢◌, true, false, IsTrue, IfOk, IfErr};
 ghost use Rattle.sqlite.specs.Held.{state};
-ghost use Rattle.review_statements.specs.Desk.{schema_1};
+ghost use Rattle.review_statements.specs.Content.{Then};
 ghost use Rattle.review_statements.specs.Ran.{Inside, Within, Opens, Transacts};
-ghost use Rattle.review_tables.specs.declared.creating.TablesVersion.TheVariants.{First};
-ghost use Rattle.review_sql.specs.Changes.{SetsDesk};
+ghost use Rattle.review_tables.specs.Versions.{schema_at, version_of};
+ghost use Rattle.review_sql.specs.Changes.{SetsDesk, SetsLeast};
 ghost use Rattle.review_sql.specs.Migrated.{IsBrought, IsHindered, IsKept, IsNotMigrated, IsRaised, IsUnfit, Upgrades, if_whole};
 ghost use Rattle.review_sql.specs.Opened.{AreApartIn};
 ghost use Rattle.review_sql.specs.Said.{SaysVersion};
@@ -14,43 +14,46 @@ use crate::faults::DeskFault;
 use crate::opening::{ask, see_desk, see_tables, version_of};
 use crate::seen::Said;
 use review_records::desk::Desk;
-use review_records::rows::DeskRow;
+use review_records::epochs::Epochs;
+use review_records::rows::{DeskRow, FIRST_EPOCH};
 use review_tables::changes::set;
-use review_tables::creating::TablesVersion;
 use review_tables::migrating::migrate_tables;
 use review_tables::rowids::are_all_apart;
+use review_tables::versions::{EarlierVersion, TablesVersion};
 use sqlite::{Alter, Connection, Error, Transaction};
 use std::alloc::Global;
 
-// Says version 2, and how many requests are stored.
+// Says that the first epoch is the least open, version 3, and how many requests are stored.
 fn put_version<S: Alter>(
     tx: &mut Transaction<'_, S>,
     alloc: Global,
     requests: u64,
 ) -> Result<(), Error>
     ensures same_reference { tx.new.conn.ghost_name ≡ tx.old.conn.ghost_name }
-    ensures ran { Inside (SetsDesk requests) (state S.Store tx.old.conn.now) (state S.Store tx.new.conn.now) result }
+    ensures ran { Inside (Then SetsLeast (SetsDesk requests)) (state S.Store tx.old.conn.now) (state S.Store tx.new.conn.now) result }
     ensures open { Opens (state S.Store tx.old.conn.now) (state S.Store tx.new.conn.now) result }
 {
     let row = DeskRow {
-        version: 2,
+        version: 3,
         requests,
     };
+    set::<Epochs, S>(tx, alloc, &(), &FIRST_EPOCH)?;
     set::<Desk, S>(tx, alloc, &(), &row)
 }
 
-// Makes tables of ours those of version 2, unless two rows of one have the same rowid.
+// Makes tables of ours those of version 3, unless two rows of one have the same rowid.
 fn rewrite_ours<S: Alter>(
     tx: &mut Transaction<'_, S>,
     alloc: Global,
+    version: EarlierVersion,
     requests: u64,
 ) -> Result<bool, Error>
     ensures same_reference { tx.new.conn.ghost_name ≡ tx.old.conn.ghost_name }
-    ensures ran { Within (Upgrades true requests) (state S.Store tx.old.conn.now) (state S.Store tx.new.conn.now) (if_whole result) }
+    ensures ran { Within (Upgrades version true requests) (state S.Store tx.old.conn.now) (state S.Store tx.new.conn.now) (if_whole result) }
     ensures open { Opens (state S.Store tx.old.conn.now) (state S.Store tx.new.conn.now) (if_whole result) }
-    ensures hindered { IsHindered (state S.Store tx.old.conn.now) (state S.Store tx.new.conn.now) result }
+    ensures hindered { IsHindered version (state S.Store tx.old.conn.now) (state S.Store tx.new.conn.now) result }
 {
-    migrate_tables(tx)?;
+    migrate_tables(tx, version)?;
     if !are_all_apart(tx, alloc)? {
         return Ok(false);
     }
@@ -58,18 +61,19 @@ fn rewrite_ours<S: Alter>(
     Ok(true)
 }
 
-// Makes tables of others those of version 2.
+// Makes tables of others those of version 3.
 fn rewrite_others<S: Alter>(
     tx: &mut Transaction<'_, S>,
     alloc: Global,
+    version: EarlierVersion,
     requests: u64,
 ) -> Result<bool, Error>
     ensures same_reference { tx.new.conn.ghost_name ≡ tx.old.conn.ghost_name }
-    ensures ran { Within (Upgrades false requests) (state S.Store tx.old.conn.now) (state S.Store tx.new.conn.now) (if_whole result) }
+    ensures ran { Within (Upgrades version false requests) (state S.Store tx.old.conn.now) (state S.Store tx.new.conn.now) (if_whole result) }
     ensures open { Opens (state S.Store tx.old.conn.now) (state S.Store tx.new.conn.now) (if_whole result) }
     ensures whole { IfOk result (λ whole. whole ≡ true) }
 {
-    migrate_tables(tx)?;
+    migrate_tables(tx, version)?;
     put_version(tx, alloc, requests)?;
     Ok(true)
 }
@@ -77,38 +81,40 @@ fn rewrite_others<S: Alter>(
 fn rewrite<S: Alter>(
     tx: &mut Transaction<'_, S>,
     alloc: Global,
+    version: EarlierVersion,
     is_ours: bool,
     requests: u64,
 ) -> Result<bool, Error>
     ensures same_reference { tx.new.conn.ghost_name ≡ tx.old.conn.ghost_name }
-    ensures ran { Within (Upgrades is_ours requests) (state S.Store tx.old.conn.now) (state S.Store tx.new.conn.now) (if_whole result) }
+    ensures ran { Within (Upgrades version is_ours requests) (state S.Store tx.old.conn.now) (state S.Store tx.new.conn.now) (if_whole result) }
     ensures open { Opens (state S.Store tx.old.conn.now) (state S.Store tx.new.conn.now) (if_whole result) }
-    ensures hindered { IsHindered (state S.Store tx.old.conn.now) (state S.Store tx.new.conn.now) result }
+    ensures hindered { IsHindered version (state S.Store tx.old.conn.now) (state S.Store tx.new.conn.now) result }
     ensures ours { IfOk result (λ whole. whole ≡ false → IsTrue is_ours) }
 {
     if is_ours {
-        rewrite_ours(tx, alloc, requests)
+        rewrite_ours(tx, alloc, version, requests)
     } else {
-        rewrite_others(tx, alloc, requests)
+        rewrite_others(tx, alloc, version, requests)
     }
 }
 
-// Makes tables of version 1 those of version 2 in one transaction, or leaves them where two rows of a table of ours have the same rowid.
+// Makes tables of an earlier version those of version 3 in one transaction, or leaves them where two rows of a table of ours have the same rowid.
 fn raise<S: Alter>(
     conn: &mut Connection<S>,
     alloc: Global,
+    version: EarlierVersion,
     is_ours: bool,
     requests: u64,
 ) -> Result<bool, Error>
     requires mode { conn.old.in_transaction ≡ false }
     ensures mode { conn.new.in_transaction ≡ false }
-    ensures acts { Transacts (Upgrades is_ours requests) (state S.Store conn.old) (state S.Store conn.new) (if_whole result) }
-    ensures apart { IfOk result (λ whole. whole ≡ false → IsTrue (state S.Store conn.new).is_open → conn.old.schema ≡ schema_1 → AreApartIn First (state S.Store conn.old).now.trees → ⊥) }
+    ensures acts { Transacts (Upgrades version is_ours requests) (state S.Store conn.old) (state S.Store conn.new) (if_whole result) }
+    ensures apart { IfOk result (λ whole. whole ≡ false → IsTrue (state S.Store conn.new).is_open → conn.old.schema ≡ schema_at (version_of version) → AreApartIn (version_of version) (state S.Store conn.old).now.trees → ⊥) }
     ensures ours { IfOk result (λ whole. whole ≡ false → IsTrue is_ours) }
 {
     let _settled = conn.is_autocommit();
     let mut tx = conn.transaction();
-    if !rewrite(&mut tx, alloc, is_ours, requests)? {
+    if !rewrite(&mut tx, alloc, version, is_ours, requests)? {
         tx.rollback();
         return Ok(false);
     }
@@ -116,33 +122,34 @@ fn raise<S: Alter>(
     Ok(true)
 }
 
-// Makes tables that say version 1 those of version 2. How many requests are stored.
+// Makes tables that say an earlier version those of version 3. How many requests are stored.
 fn upgrade<S: Alter>(
     conn: &mut Connection<S>,
     alloc: Global,
+    version: EarlierVersion,
     is_ours: bool,
     said: Said,
 ) -> Result<u64, DeskFault>
     requires mode { conn.old.in_transaction ≡ false }
-    requires says { IsTrue (state S.Store conn.old).is_open → SaysVersion TablesVersion.First (state S.Store conn.old).now said }
+    requires says { IsTrue (state S.Store conn.old).is_open → SaysVersion (version_of version) (state S.Store conn.old).now said }
     ensures mode { conn.new.in_transaction ≡ false }
-    ensures raised { IfOk result (IsRaised S.Store is_ours conn.old conn.new) }
+    ensures raised { IfOk result (IsRaised S.Store version is_ours conn.old conn.new) }
     ensures refused { IfErr result (λ e. IsNotMigrated is_ours e (state S.Store conn.old) (state S.Store conn.new)) }
     ensures unfit { IsTrue (state S.Store conn.new).is_open → IfErr result (IsUnfit (state S.Store conn.old).now) }
     ensures ours { IfErr result (λ e. e ≡ DeskFault.NotOurs → IsTrue is_ours) }
 {
-    let seen = see_tables(conn, alloc, TablesVersion::First, said)?;
+    let seen = see_tables(conn, alloc, version.version(), said)?;
     if is_ours && !seen.is_ours {
         return Err(DeskFault::NotOurs);
     }
-    match raise(conn, alloc, is_ours, seen.requests) {
+    match raise(conn, alloc, version, is_ours, seen.requests) {
         Ok(true) => Ok(seen.requests),
         Ok(false) => Err(DeskFault::NotOurs),
         Err(error) => Err(DeskFault::of(error)),
     }
 }
 
-// Leaves tables of version 2. How many requests are stored.
+// Leaves tables of version 3. How many requests are stored.
 fn keep<S: Alter>(
     conn: &mut Connection<S>,
     alloc: Global,
@@ -150,7 +157,7 @@ fn keep<S: Alter>(
     said: Said,
 ) -> Result<u64, DeskFault>
     requires mode { conn.old.in_transaction ≡ false }
-    requires says { IsTrue (state S.Store conn.old).is_open → SaysVersion TablesVersion.Second (state S.Store conn.old).now said }
+    requires says { IsTrue (state S.Store conn.old).is_open → SaysVersion TablesVersion.Third (state S.Store conn.old).now said }
     ensures mode { conn.new.in_transaction ≡ false }
     ensures stays { Stays (state S.Store conn.old) (state S.Store conn.new) }
     ensures kept { IfOk result (IsKept is_ours (state S.Store conn.old) (state S.Store conn.new)) }
@@ -164,7 +171,7 @@ fn keep<S: Alter>(
     Ok(seen.requests)
 }
 
-/// Makes the tables those of the latest version, a version after the other. How many requests are stored.
+/// Makes the tables those of the latest version, or leaves them where they are. How many requests are stored.
 pub fn bring<S: Alter>(
     conn: &mut Connection<S>,
     alloc: Global,
@@ -178,8 +185,8 @@ pub fn bring<S: Alter>(
     ensures ours { IfErr result (λ e. e ≡ DeskFault.NotOurs → IsTrue is_ours) }
 {
     let said = ask(conn)?;
-    match version_of(said)? {
-        TablesVersion::First => upgrade(conn, alloc, is_ours, said),
-        TablesVersion::Second => keep(conn, alloc, is_ours, said),
+    match version_of(said)?.earlier() {
+        Some(version) => upgrade(conn, alloc, version, is_ours, said),
+        None => keep(conn, alloc, is_ours, said),
     }
 }

@@ -1,41 +1,43 @@
 //! What is seen of tables before a desk is opened: first what the table `desk` says, then the other tables, and last the rowids of tables of our form.
-ghost use Rattle.std.specs.Prelude.{◌≡◌, ◌≢◌, ◌⊎◌, ℕ, Some, None, false, IsTrue, IfOk, IfErr};
+ghost use Rattle.std.specs.Prelude.{◌≡◌, ◌≢◌, ◌⊎◌, ℕ, Some, None, true, false, IsTrue, IfOk, IfErr};
 ghost use Rattle.std.specs.Bool.{Decides};
 ghost use Rattle.sqlite.specs.Held.{state};
 ghost use Rattle.sqlite.specs.State.{HasCleanDisk};
-ghost use Rattle.review_sql.specs.Shelf.{Stays};
-ghost use Rattle.review_sql.specs.Said.{version_in, version_number, requests_in, ShowsDesk, IsSaid, IsThere, SaysVersion};
+ghost use Rattle.review_sql.specs.Shelf.{AreAllRead, Stays};
+ghost use Rattle.review_sql.specs.Said.{LacksLeast, SaysLeast, ShowsDesk, ShowsEpochs, number_of_one, version_in, requests_in, IsSaid, IsThere, SaysVersion};
 ghost use Rattle.review_sql.specs.Opened.{AreAllApart, Peeks, IsLacking, IsSeen, IsRefused};
-ghost use Rattle.review_tables.specs.Versions.{schema_at};
+ghost use Rattle.review_tables.specs.Versions.{schema_at, version_number};
 
 use crate::faults::DeskFault;
 use crate::seen::{Said, Seen};
 use crate::there::{are_all_there, is_understood};
+use review_records::rows::FIRST_EPOCH;
 use review_statements::texts;
 use review_tables::columns::number_at;
-use review_tables::creating::{TablesVersion, is_desk};
+use review_tables::creating::is_desk;
 use review_tables::rowids::are_all_apart;
+use review_tables::versions::TablesVersion;
 use sqlite::{Alter, Connection, Error, Row};
 use std::alloc::Global;
+
+// The number that the one row has in a column.
+fn number_of_one(rows: &[Row], at: usize) -> Option<u64>
+    ensures { result ≡ number_of_one at rows.now }
+{
+    if rows.len() > 1 {
+        return None;
+    }
+    number_at(rows.first()?, at)
+}
 
 // What rows of the table `desk` say.
 fn said_by(rows: &[Row]) -> Said
     ensures version { result.version ≡ version_in rows.now }
     ensures requests { result.requests ≡ requests_in rows.now }
 {
-    let nothing = Said {
-        version: None,
-        requests: None,
-    };
-    if rows.len() > 1 {
-        return nothing;
-    }
-    match rows.first() {
-        Some(row) => Said {
-            version: number_at(row, 0),
-            requests: number_at(row, 1),
-        },
-        None => nothing,
+    Said {
+        version: number_of_one(rows, 0),
+        requests: number_of_one(rows, 1),
     }
 }
 
@@ -50,13 +52,24 @@ fn desk_rows<S: Alter>(conn: &mut Connection<S>) -> Result<Vec<Row>, Error>
     conn.query_all(texts::FIND_DESK, &[])
 }
 
+// The rows of the table `epochs`.
+fn epochs_rows<S: Alter>(conn: &mut Connection<S>) -> Result<Vec<Row>, Error>
+    requires mode { conn.old.in_transaction ≡ false }
+    ensures mode { conn.new.in_transaction ≡ false }
+    ensures stays { Stays (state S.Store conn.old) (state S.Store conn.new) }
+    ensures shown { HasCleanDisk (state S.Store conn.new) → IfOk result (λ rows. ShowsEpochs (state S.Store conn.old).now rows.items) }
+{
+    let _settled = conn.is_autocommit();
+    conn.query_all(texts::FIND_EPOCHS, &[])
+}
+
 /// What the table `desk` says; it is no desk's where it isn't there.
 pub fn ask<S: Alter>(conn: &mut Connection<S>) -> Result<Said, DeskFault>
     requires mode { conn.old.in_transaction ≡ false }
     ensures mode { conn.new.in_transaction ≡ false }
     ensures stays { Stays (state S.Store conn.old) (state S.Store conn.new) }
     ensures said { IsTrue (state S.Store conn.new).is_open → IfOk result (IsSaid (state S.Store conn.old).now) }
-    ensures lacking { IsTrue (state S.Store conn.new).is_open → IfErr result (IsLacking TablesVersion.Second (state S.Store conn.old)) }
+    ensures lacking { IsTrue (state S.Store conn.new).is_open → IfErr result (IsLacking TablesVersion.Third (state S.Store conn.old)) }
     ensures not_ours { IfErr result (λ fault. fault ≢ DeskFault.NotOurs) }
 {
     match is_understood(conn, texts::FIND_DESK) {
@@ -74,17 +87,49 @@ pub fn ask<S: Alter>(conn: &mut Connection<S>) -> Result<Said, DeskFault>
 pub fn version_of(said: Said) -> Result<TablesVersion, DeskFault>
     ensures ok { IfOk result (λ version. said.version ≡ Some (version_number version)) }
     ensures err { IfErr result (λ e. ((e ≡ DeskFault.NotADesk) × (said.version ≡ None))
-        ⊎ ((e ≡ DeskFault.WrongVersion) × ((number : ℕ) × (said.version ≡ Some number) × (number ≢ 1) × (number ≢ 2)))) }
+        ⊎ ((e ≡ DeskFault.WrongVersion) × ((number : ℕ) × (said.version ≡ Some number) × (number ≢ 1) × (number ≢ 2) × (number ≢ 3)))) }
 {
     match said.version {
         None => Err(DeskFault::NotADesk),
         Some(1) => Ok(TablesVersion::First),
         Some(2) => Ok(TablesVersion::Second),
+        Some(3) => Ok(TablesVersion::Third),
         Some(_) => Err(DeskFault::WrongVersion),
     }
 }
 
-// How many requests are stored, where the table `desk` says this version and the tables of records of the version are there, of whatever form.
+// Whether the table of the epochs says that the first one is the least open, where the version has that table.
+fn says_least<S: Alter>(conn: &mut Connection<S>, version: TablesVersion) -> Result<bool, Error>
+    requires mode { conn.old.in_transaction ≡ false }
+    ensures mode { conn.new.in_transaction ≡ false }
+    ensures stays { Stays (state S.Store conn.old) (state S.Store conn.new) }
+    ensures is { IsTrue (state S.Store conn.new).is_open → IfOk result (λ is. is ≡ true → SaysLeast version (state S.Store conn.old).now) }
+    ensures other { IsTrue (state S.Store conn.new).is_open → IfOk result (λ is. is ≡ false → LacksLeast version (state S.Store conn.old).now) }
+{
+    match version {
+        TablesVersion::First | TablesVersion::Second => Ok(true),
+        TablesVersion::Third => {
+            let rows = epochs_rows(conn)?;
+            Ok(number_of_one(&rows, 0) == Some(u64::from(FIRST_EPOCH)))
+        }
+    }
+}
+
+// Whether all tables of a version beside the table `desk` are there, of whatever form, with what the desk relies on.
+fn are_whole<S: Alter>(conn: &mut Connection<S>, version: TablesVersion) -> Result<bool, Error>
+    requires mode { conn.old.in_transaction ≡ false }
+    ensures mode { conn.new.in_transaction ≡ false }
+    ensures stays { Stays (state S.Store conn.old) (state S.Store conn.new) }
+    ensures whole { IsTrue (state S.Store conn.new).is_open → IfOk result (λ is. is ≡ true → AreAllRead version (state S.Store conn.old).now.schema × SaysLeast version (state S.Store conn.old).now) }
+    ensures part { IsTrue (state S.Store conn.new).is_open → IfOk result (λ is. is ≡ false → (AreAllRead version (state S.Store conn.old).now.schema → ⊥) ⊎ LacksLeast version (state S.Store conn.old).now) }
+{
+    if !are_all_there(conn, version)? {
+        return Ok(false);
+    }
+    says_least(conn, version)
+}
+
+// How many requests are stored, where the table `desk` says this version and the other tables of the version are there, of whatever form.
 fn find_tables<S: Alter>(
     conn: &mut Connection<S>,
     version: TablesVersion,
@@ -101,7 +146,7 @@ fn find_tables<S: Alter>(
     let Some(requests) = said.requests else {
         return Err(DeskFault::NotADesk);
     };
-    match are_all_there(conn, version) {
+    match are_whole(conn, version) {
         Ok(true) => Ok(requests),
         Ok(false) => Err(DeskFault::NotADesk),
         Err(error) => Err(DeskFault::of(error)),
@@ -145,21 +190,21 @@ fn peek<S: Alter>(conn: &mut Connection<S>, alloc: Global) -> Result<bool, Error
     peeked
 }
 
-/// What is seen of tables of version 2. Nothing is written.
+/// What is seen of tables of version 3. Nothing is written.
 pub fn see_desk<S: Alter>(
     conn: &mut Connection<S>,
     alloc: Global,
     said: Said,
 ) -> Result<Seen, DeskFault>
     requires mode { conn.old.in_transaction ≡ false }
-    requires says { IsTrue (state S.Store conn.old).is_open → SaysVersion TablesVersion.Second (state S.Store conn.old).now said }
+    requires says { IsTrue (state S.Store conn.old).is_open → SaysVersion TablesVersion.Third (state S.Store conn.old).now said }
     ensures mode { conn.new.in_transaction ≡ false }
     ensures stays { Stays (state S.Store conn.old) (state S.Store conn.new) }
     ensures seen { IsTrue (state S.Store conn.new).is_open → IfOk result (IsSeen (state S.Store conn.old)) }
-    ensures lacking { IsTrue (state S.Store conn.new).is_open → IfErr result (IsLacking TablesVersion.Second (state S.Store conn.old)) }
+    ensures lacking { IsTrue (state S.Store conn.new).is_open → IfErr result (IsLacking TablesVersion.Third (state S.Store conn.old)) }
     ensures not_ours { IfErr result (λ fault. fault ≢ DeskFault.NotOurs) }
 {
-    let seen = see_tables(conn, alloc, TablesVersion::Second, said)?;
+    let seen = see_tables(conn, alloc, TablesVersion::Third, said)?;
     if !seen.is_ours {
         return Ok(seen);
     }
@@ -183,7 +228,7 @@ pub fn see<S: Alter>(conn: &mut Connection<S>, alloc: Global) -> Result<Seen, De
 {
     let said = ask(conn)?;
     match version_of(said)? {
-        TablesVersion::First => Err(DeskFault::WrongVersion),
-        TablesVersion::Second => see_desk(conn, alloc, said),
+        TablesVersion::First | TablesVersion::Second => Err(DeskFault::WrongVersion),
+        TablesVersion::Third => see_desk(conn, alloc, said),
     }
 }

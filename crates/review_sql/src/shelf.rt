@@ -155,9 +155,9 @@ impl<S: Alter + Drop, O: Origin> SqlShelf<S, O> {
     }
 
     /// Opens a desk. Nothing is written, and a refusal hands the connection back with its tables as they were. Whatever the form of the tables,
-    /// it is opened only where the table `desk` has one row, which says version 2 and so many requests, and all columns of the eleven tables
-    /// of records are there. Looked at in this order, it is NotADesk only where that row is missing, or says no version; WrongVersion only
-    /// where it says another, whatever else it says; NotADesk, where it says no requests or a table of records is missing; and NotOurs only where
+    /// it is opened only where the table `desk` has one row, which says version 3 and so many requests, all columns of the other tables
+    /// are there, and the one row of the table `epochs` says epoch 0. Looked at in this order, it is NotADesk only where that row is missing, or says no version; WrongVersion only
+    /// where it says another, whatever else it says; NotADesk, where it says no requests, a table is missing or the table `epochs` says something else; and NotOurs only where
     /// the shelf is to be ours and the tables are of another form than `create` makes, or two rows of one have the same rowid.
     ///
     /// Over the connection of a shelf that
@@ -197,13 +197,13 @@ impl<S: Alter + Drop, O: Origin> SqlShelf<S, O> {
         }
     }
 
-    /// Opens a desk whose tables are of version 2, as `open` does, or makes tables of version 1 those of version 2, in one transaction: the projects move to the
-    /// table of version 2, where none has a parent, and the table `desk` says version 2. Of tables of ours that are those of a history, as version 1 keeps
-    /// them, the shelf shows those of the same history. A refusal hands the connection back with its tables as they were; a stop
-    /// leaves the tables as they were, or, of a desk of version 1 alone, those of version 2.
+    /// Opens a desk whose tables are of version 3, as `open` does, or makes tables of version 1 or 2 those of version 3, in one transaction: the projects of version 1 move to the
+    /// table of version 2, where none has a parent, the stored requests to that of version 3, where each has epoch 0, and the table `desk` says version 3. Of tables of ours that are those of a history, as
+    /// their version keeps them, the shelf shows those of the same history. A refusal hands the connection back with its tables as they were; a stop
+    /// leaves the tables as they were, or, of a desk of version 1 or 2 alone, those of version 3.
     ///
-    /// It is NotADesk where the row of the table `desk` is missing or says no version, or says no requests, or a table of records of its version is missing;
-    /// WrongVersion where it says neither version 1 nor 2; and NotOurs where the shelf is to be ours and the tables
+    /// It is NotADesk where the row of the table `desk` is missing or says no version, or says no requests, or a table of its version is missing, or the table `epochs` of version 3 says something else than epoch 0;
+    /// WrongVersion where it says none of the versions 1 to 3; and NotOurs where the shelf is to be ours and the tables
     /// are of another form than was made here in their version, or two rows of one have the same rowid.
     pub fn migrate(
         alloc: Global,
@@ -295,10 +295,7 @@ impl<S: Alter, O: Origin> Shelf for SqlShelf<S, O> {
         caller: AccountNo,
         id: &RequestId,
     ) -> Result<Recalled, ShelfFault> {
-        let key = RequestKey {
-            caller,
-            id: id.copy(alloc)?,
-        };
+        let key = RequestKey::new(caller, id.copy(alloc)?);
         let _settled = self.conn.is_autocommit();
         let found = match find_stored(&mut self.conn, alloc, &key) {
             Ok(found) => found,
@@ -346,7 +343,11 @@ impl<S: Alter, O: Origin> Shelf for SqlShelf<S, O> {
 fn kept_of(key: RequestKey, row: Answered) -> Kept
     ensures { kept_row result ≡ record { identity = record { caller = key.caller; id = key.id }; request = row.request; content = row.content; reply = row.reply } }
 {
-    let RequestKey { caller, id } = key;
+    let RequestKey {
+        caller,
+        epoch: _,
+        id,
+    } = key;
     let Answered {
         request,
         content,

@@ -1,12 +1,12 @@
 //! Whether a text is understood by the tables of a connection.
-ghost use Rattle.std.specs.Prelude.{◌≡◌, ◌≢◌, ◌<◌, ℕ, List, true, false, map, slice_index_or, IsTrue, IfOk};
+ghost use Rattle.std.specs.Prelude.{◌≡◌, ◌≢◌, ◌<◌, ℕ, List, length, true, false, map, slice_index_or, IsTrue, IfOk};
 ghost use Rattle.review_statements.specs.declared.texts.TheConstants.{ANY_ROW};
 ghost use Rattle.sqlite.specs.Held.{state};
 ghost use Rattle.sqlite.specs.State.{HasCleanDisk};
 ghost use Rattle.review_sql.specs.Shelf.{Stays, IsUnderstood, IsAnyThere, AreAllRead, rows_read};
 
 use review_statements::texts;
-use review_tables::creating::TablesVersion;
+use review_tables::versions::TablesVersion;
 use sqlite::{Alter, Connection, Error, ErrorCode};
 
 /// Whether a text is understood.
@@ -46,7 +46,7 @@ pub fn seen<S: Alter>(conn: &mut Connection<S>, error: Error) -> Error
 
 // A text that reads no column of a table of one of the names that tables of a desk have.
 fn any_row(at: usize) -> &'static str
-    requires { at < 13 }
+    requires { at < 15 }
     ensures { (d : List ℕ) → result.now ≡ slice_index_or (map (λ t. t.now) ANY_ROW) at d }
 {
     texts::ANY_ROW[at]
@@ -60,7 +60,7 @@ pub fn is_any_there<S: Alter>(conn: &mut Connection<S>) -> Result<bool, Error>
     ensures is { HasCleanDisk (state S.Store conn.new) → IfOk result (λ is. is ≡ true → IsTrue (state S.Store conn.new).is_open → IsAnyThere (state S.Store conn.old).now.schema) }
     ensures none { HasCleanDisk (state S.Store conn.new) → IfOk result (λ is. is ≡ false → IsAnyThere (state S.Store conn.old).now.schema → ⊥) }
 {
-    for at in 0..13 {
+    for at in 0..15 {
         if is_understood(conn, any_row(at))? {
             return Ok(true);
         }
@@ -68,18 +68,30 @@ pub fn is_any_there<S: Alter>(conn: &mut Connection<S>) -> Result<bool, Error>
     Ok(false)
 }
 
-// A text that reads all columns of one of the eleven tables of records of a version.
+// How many tables a version has beside the table `desk`.
+fn count_of(version: TablesVersion) -> usize
+    ensures { result ≡ length (rows_read version) }
+{
+    match version {
+        TablesVersion::First => texts::READ_ROWS_1.len(),
+        TablesVersion::Second => texts::READ_ROWS_2.len(),
+        TablesVersion::Third => texts::READ_ROWS.len(),
+    }
+}
+
+// A text that reads all columns of one of them.
 fn read_row(version: TablesVersion, at: usize) -> &'static str
-    requires { at < 11 }
+    requires { at < length (rows_read version) }
     ensures { (d : List ℕ) → result.now ≡ slice_index_or (rows_read version) at d }
 {
     match version {
         TablesVersion::First => texts::READ_ROWS_1[at],
-        TablesVersion::Second => texts::READ_ROWS[at],
+        TablesVersion::Second => texts::READ_ROWS_2[at],
+        TablesVersion::Third => texts::READ_ROWS[at],
     }
 }
 
-/// Whether the columns of the eleven tables of records of a version are there.
+/// Whether the columns of all tables of a version beside the table `desk` are there.
 pub fn are_all_there<S: Alter>(
     conn: &mut Connection<S>,
     version: TablesVersion,
@@ -90,7 +102,8 @@ pub fn are_all_there<S: Alter>(
     ensures all { HasCleanDisk (state S.Store conn.new) → IfOk result (λ is. is ≡ true → IsTrue (state S.Store conn.new).is_open → AreAllRead version (state S.Store conn.old).now.schema) }
     ensures missing { HasCleanDisk (state S.Store conn.new) → IfOk result (λ is. is ≡ false → AreAllRead version (state S.Store conn.old).now.schema → ⊥) }
 {
-    for at in 0..11 {
+    let count = count_of(version);
+    for at in 0..count {
         if !is_understood(conn, read_row(version, at))? {
             return Ok(false);
         }

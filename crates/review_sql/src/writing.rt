@@ -138,7 +138,7 @@ fn write<S: Alter>(
     write_delta(tx, alloc, delta)?;
     answers::put(tx, alloc, kept)?;
     let row = DeskRow {
-        version: 2,
+        version: 3,
         requests: requests + 1,
     };
     set::<Desk, S>(tx, alloc, &(), &row)

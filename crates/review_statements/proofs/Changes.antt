@@ -12,12 +12,17 @@ use Rattle.sqlite.specs.Listing.{understood}
 use Rattle.sqlite.specs.State.{State, Executes}
 use Rattle.sqlite.proofs.Callers.{command_of}
 use Rattle.review_statements.specs.Desk.{simple, desk_schema}
-use Rattle.review_statements.specs.Content.{Adds, Removes}
+use Rattle.review_statements.specs.Content.{Adds, Removes, RemovesBelow, SparesOthers, has_key, is_below}
 use Rattle.review_statements.specs.Ran.{IsReady}
 use Rattle.review_statements.specs.Search.{At}
-use Rattle.review_statements.specs.Texts.{Deletes, Inserts, rows_where, tests_from, values_of, new_terms}
+use Rattle.review_statements.specs.Texts.{Alters, Deletes, DeletesBelow, Inserts, over_table, tests_below, tests_from, values_of, new_terms}
 use Rattle.review_statements.proofs.Statements.{inserts, deletes}
-use Rattle.review_statements.proofs.Meaning.{tested, plain}
+use Rattle.review_statements.proofs.Meaning.{tested, tested_below, plain}
+use Rattle.review_statements.proofs.Queries.{passes}
+use Rattle.sqlite_sql.specs.Term.{Term, col}
+use Rattle.sqlite_value.specs.declared.value.Value.TheVariants.{Int}
+use Rattle.sqlite_value.specs.Order.{column}
+use Rattle.std.proofs.Common.{filter, not}
 
 -- ---- the tables of a desk
 
@@ -25,7 +30,7 @@ abbrev pub IsSimple : Table → Type 0
 IsSimple t = t ≡ simple t.name t.tree t.columns t.key t.primary t.uniques t.orders
 
 pub are_simple : AllByRecursion IsSimple desk_schema.tables
-are_simple = (refl, (refl, (refl, (refl, (refl, (refl, (refl, (refl, (refl, (refl, (refl, (refl, tt))))))))))))
+are_simple = (refl, (refl, (refl, (refl, (refl, (refl, (refl, (refl, (refl, (refl, (refl, (refl, (refl, tt)))))))))))))
 
 at_place : (P : Table → Type 0) (tables : List Table) (at : ℕ) (t : Table) → AllByRecursion P tables → slice_get tables at ≡ Some t → P t
 at_place P [] at t all is = absurd (cc)
@@ -42,15 +47,23 @@ is_there (x ∷ tables) (suc at) t is = more (eqb x.tree t.tree) _ (is_there tab
     more false b is = is
 
 module _ (sql : List ℕ) (old new : State) (has : IsReady old.now) (count : ℕ) where
+  -- the rows that pass the tests of a text are taken out
+  removes : (tree : ℕ) (params : Row) (tests : List Term) → Alters sql tree (λ at table. Delete at (record { lets = []; body = over_table tree tests (col 1 0 ∷ []) [] })) → Executes sql params old new (Ok count)
+      → (test : Row → Bool) → ((row : Row) → passes params tests row ≡ test row) → IsReady new.now × (new.now.trees tree ≡ filter (λ r. not (test r)) (old.now.trees tree)) × SparesOthers tree old.now.trees new.now.trees
+  removes tree params tests it h test same =
+      let t = it.table in
+      let is : command_of (understood desk_schema sql) ≡ Delete it.at (record { lets = []; body = over_table t.tree tests (col 1 0 ∷ []) [] }) = subst (λ n. command_of (understood desk_schema sql) ≡ Delete it.at (record { lets = []; body = over_table n tests (col 1 0 ∷ []) [] })) (sym it.tree_is) it.is in
+      let simply = at_place IsSimple desk_schema.tables it.at t are_simple it.there in
+      subst (λ n. IsReady new.now × (new.now.trees n ≡ filter (λ r. not (test r)) (old.now.trees n)) × SparesOthers n old.now.trees new.now.trees) it.tree_is
+      (deletes t.name t.tree t.columns t.key t.primary t.uniques t.orders sql params old new has it.plain it.at (it.there ∙ ap Some simply) (is_there desk_schema.tables it.at t it.there) tests is (plain old.now.trees t.tree) count h test same)
+
   -- the rows of a key are taken out
   pub deleted : (tree : ℕ) (key : At) → Deletes sql tree key → Executes sql (values_of key) old new (Ok count) → IsReady new.now × Removes tree key old.now.trees new.now.trees
-  deleted tree key it h =
-      let t = it.table in
-      let is : command_of (understood desk_schema sql) ≡ Delete it.at (record { lets = []; body = rows_where t.tree key (0 ∷ []) }) = subst (λ n. command_of (understood desk_schema sql) ≡ Delete it.at (record { lets = []; body = rows_where n key (0 ∷ []) })) (sym it.tree_is) it.is in
-      let simply = at_place IsSimple desk_schema.tables it.at t are_simple it.there in
-      subst (λ n. IsReady new.now × Removes n key old.now.trees new.now.trees) it.tree_is
-      (deletes t.name t.tree t.columns t.key t.primary t.uniques t.orders sql (values_of key) old new has it.plain it.at (it.there ∙ ap Some simply) (is_there desk_schema.tables it.at t it.there)
-      (tests_from 0 key) is (plain old.now.trees t.tree) count h key (tested key))
+  deleted tree key it h = let done = removes tree (values_of key) (tests_from 0 key) it h (has_key key) (tested key) in (done.0, record { rows = done.1; others = done.2 })
+
+  -- the rows that are below a number are taken out
+  pub deleted_below : (tree place : ℕ) (least : ℤ) → DeletesBelow sql tree place → Executes sql (Int least ∷ []) old new (Ok count) → IsReady new.now × RemovesBelow tree place least old.now.trees new.now.trees
+  deleted_below tree place least it h = let done = removes tree (Int least ∷ []) (tests_below place) it h (λ r. is_below (column r place) least) (tested_below place least) in (done.0, record { rows = done.1; others = done.2 })
 
   -- values are put in as a row
   pub inserted : (tree : ℕ) (values : Row) (stored : ℤ → Row) → Inserts sql tree values stored → Executes sql values old new (Ok count) → IsReady new.now × ((id : ℤ) × Adds tree (stored id) old.now.trees new.now.trees)

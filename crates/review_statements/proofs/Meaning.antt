@@ -1,7 +1,7 @@
 -- What the parts of texts mean: the tests of a WHERE, the values of an INSERT, and whole queries.
 use Rattle.std.proofs.Common.{codes, ◌≡◌, ◌∙◌, ◌&&◌, ◌++◌, ◌^◌, ◌-◌, ℕ, zero, suc, ℤ, get_or, List, [], ◌∷◌, Bool, cond, Some, true, false, refl, sym, ap, map, filter, drop, nat_le, subst, subst₂}
 use Rattle.std.specs.List.{list_all}
-use Rattle.std.specs.Ordering.{is_eq, nat_cmp}
+use Rattle.std.specs.Ordering.{is_eq, is_lt, nat_cmp}
 use Rattle.std.specs.Cmp.Lexicographic.{slice_cmp}
 use Rattle.std.specs.List.Sorted.{IsPermutation}
 use Rattle.std.proofs.lemmas.List.{get_or-drop}
@@ -16,7 +16,7 @@ use Rattle.sqlite_sql.specs.Term.{col, eval, holds}
 use Rattle.sqlite_sql.specs.Ops.{unary, binary, is_true, is_null, from_truth}
 use Rattle.sqlite_sql.specs.Program.{overlay}
 use Rattle.sqlite_sql.specs.declared.ops.BinaryOp.TheVariants.{Compare}
-use Rattle.sqlite_sql.specs.declared.ops.CompareOp.TheVariants.{Eq}
+use Rattle.sqlite_sql.specs.declared.ops.CompareOp.TheVariants.{Eq, Lt}
 use Rattle.sqlite_sql.specs.declared.ops.UnaryOp.TheVariants.{ToNumeric, TypeOf}
 use Rattle.sqlite_rules.specs.Cast.{cast}
 use Rattle.sqlite_keyed.proofs.ListLemmas.{filter_same, map-map}
@@ -24,9 +24,9 @@ use Rattle.sqlite.specs.State.{State, Shown}
 use Rattle.sqlite.proofs.Callers.{reads_as}
 use Rattle.review_statements.specs.Desk.{desk_schema}
 use Rattle.sqlite_trees.specs.View.{is_int}
-use Rattle.review_statements.specs.Content.{has_key, is_integer, is_value}
+use Rattle.review_statements.specs.Content.{has_key, is_below, is_integer, is_value}
 use Rattle.review_statements.specs.Search.{At, FindsIds}
-use Rattle.review_statements.specs.Texts.{Asks, number_at, tests_for, tests_from, values_of, rows_where}
+use Rattle.review_statements.specs.Texts.{Asks, number_at, tests_below, tests_for, tests_from, values_of, rows_where}
 use Rattle.review_statements.proofs.Queries.{passes, shows, selects}
 
 either : (b : Bool) (x : Value) → cond b x x ≡ x
@@ -74,6 +74,10 @@ typed (Real x) = is_named (codes "real")
 typed (Text t) = is_named (codes "text")
 typed (Blob b) = is_named (codes "blob")
 
+and_true : (b : Bool) → (b && true) ≡ b
+and_true true = refl
+and_true false = refl
+
 and_false : (b : Bool) → (b && false) ≡ false
 and_false true = refl
 and_false false = refl
@@ -85,11 +89,18 @@ exact_integer (Real x) n = and_false _
 exact_integer (Text t) n = and_false _
 exact_integer (Blob b) n = and_false _
 
--- ---- the tests of a key
+is_less : (m n : ℤ) → is_true (binary (Compare Lt Binary) (Int m) (Int n)) ≡ is_lt (value_cmp (Int m) (Int n))
+unfolding binary
+is_less m n = told_true _
 
-and_true : (b : Bool) → (b && true) ≡ b
-and_true true = refl
-and_true false = refl
+below_integer : (v : Value) (n : ℤ) → (is_true (binary (Compare Lt Binary) v (Int n)) && (is_int v && true)) ≡ is_below v n
+below_integer Null n = and_false _
+below_integer (Int m) n = (λ i. is_less m n i && true) ∙ and_true (is_lt (value_cmp (Int m) (Int n)))
+below_integer (Real x) n = and_false _
+below_integer (Text t) n = and_false _
+below_integer (Blob b) n = and_false _
+
+-- ---- the tests of a key
 
 all_append : {X : Type 0} (p : X → Bool) (xs ys : List X) → list_all p (xs ++ ys) ≡ (list_all p xs && list_all p ys)
 all_append p [] ys = refl
@@ -131,6 +142,11 @@ module _ (params row : Row) where
 -- a row passes the tests of a key where it has the key
 pub tested : (key : At) (row : Row) → passes (values_of key) (tests_from 0 key) row ≡ has_key key row
 tested key row = passes_from (values_of key) row key 0 refl
+
+-- a row passes the test of a column where it has an integer below the number that is bound
+pub tested_below : (place : ℕ) (least : ℤ) (row : Row) → passes (Int least ∷ []) (tests_below place) row ≡ is_below (column row place) least
+tested_below place least row =
+    (λ i. is_true (binary (Compare Lt Binary) (column row place) (as_number (Int least ∷ []) row place 0 least refl i)) && (typed (column row place) i && true)) ∙ below_integer (column row place) least
 
 -- ---- queries
 

@@ -30,7 +30,6 @@ use Rattle.std.specs.List.{list_any}
 use Rattle.std.specs.List.Sorted.{IsPermutation}
 use Rattle.std.proofs.lemmas.Bool.{or_cases, cases_Bool, eqb-false, and_parts, not-true}
 use Rattle.std.proofs.lemmas.List.Sorted.{IsPermutation-map}
-use Rattle.sqlite_value.specs.declared.value.Value.{Value}
 use Rattle.sqlite_value.specs.declared.value.Value.TheVariants.{Null}
 use Rattle.sqlite_value.specs.Order.{column}
 use Rattle.sqlite_trees.specs.Tree.{rowid, put_row}
@@ -41,7 +40,7 @@ use Rattle.sqlite_rules.specs.Cast.{cast_row}
 use Rattle.sqlite_rules.specs.Edit.{id_in, have_rowids, are_fresh, left_by, numbered, put_all, is_taken}
 use Rattle.sqlite_keyed.proofs.ListLemmas.{map-map, filter_same}
 use Rattle.review_statements.specs.Desk.{desk_schema, is_tree}
-use Rattle.review_statements.specs.Content.{AreApart, IsAdded, Adds, Removes, SparesOthers, has_key}
+use Rattle.review_statements.specs.Content.{AreApart, IsAdded, Adds, SparesOthers}
 use Rattle.review_statements.specs.Ran.{IsReady}
 use Rattle.review_statements.specs.Moved.{columns_of}
 use Rattle.review_statements.proofs.Lists.{id_of, added, removed, apart_put, apart_filter}
@@ -240,9 +239,9 @@ module _ (name : List ℕ) (tree : ℕ) (columns : List Column) (key : Option �
     -- the statement takes out the rows that pass its tests
     pub deletes : (tests : List Term) → command_of (understood desk_schema sql) ≡ Delete at (record { lets = []; body = over_table tree tests (col 1 0 ∷ []) [] })
         → overlay old.now.trees [] tree ≡ old.now.trees tree → (count : ℕ) → Executes sql params old new (Ok count)
-        → (key : List (ℕ × Value)) → ((row : Row) → passes params tests row ≡ has_key key row)
-        → IsReady new.now × Removes tree key old.now.trees new.now.trees
-    deletes tests is own count h key same =
+        → (test : Row → Bool) → ((row : Row) → passes params tests row ≡ test row)
+        → IsReady new.now × (new.now.trees tree ≡ filter (λ r. not (test r)) (old.now.trees tree)) × SparesOthers tree old.now.trees new.now.trees
+    deletes tests is own count h test same =
         let q : Program = record { lets = []; body = over_table tree tests (col 1 0 ∷ []) [] } in
         let command = Delete at q in
         let w = runs_as sql params old new desk_schema has.schema command is plain count h in
@@ -250,7 +249,7 @@ module _ (name : List ℕ) (tree : ℕ) (columns : List Column) (key : Option �
         let found = selects tree tests (col 1 0 ∷ []) [] old.now.trees params it.1 own (it.2.answer Null) in
         let up = has.apart tree listed in
         let ids : IsPermutation (map id_of (filter (passes params tests) (old.now.trees tree))) (ids_of it.1) = subst (λ l. IsPermutation l (ids_of it.1)) (ids_shown params (filter (passes params tests) (old.now.trees tree))) (IsPermutation-map _ _ _ found) in
-        let rows : new.now.trees tree ≡ filter (λ r. not (has_key key r)) (old.now.trees tree) =
+        let rows : new.now.trees tree ≡ filter (λ r. not (test r)) (old.now.trees tree) =
         it.3.is ∙ (removed (passes params tests) (old.now.trees tree) (ids_of it.1) up ids ∙ filter_same _ _ (λ r. ap not (same r)) (old.now.trees tree)) in
         let others = spares _ it.3 in
-        (ready_after tree old new has it.0 (subst AreApart (sym rows) (apart_filter _ _ up)) others, record { rows = rows; others = others })
+        (ready_after tree old new has it.0 (subst AreApart (sym rows) (apart_filter _ _ up)) others, rows, others)

@@ -4,9 +4,9 @@ use Rattle.sqlite_value.specs.declared.value.Value.TheVariants.{Null, Int, Text}
 use Rattle.sqlite_rules.specs.Edit.{next_rowid}
 use Rattle.sqlite_tied.specs.Compute.{everything}
 use Rattle.sqlite.specs.Listing.{understood}
-use Rattle.review_statements.specs.declared.texts.TheConstants.{INSERT_ACCOUNT, DELETE_ACCOUNT, INSERT_MEMBER, DELETE_MEMBER, INSERT_PROJECT, DELETE_PROJECT, INSERT_BASE, DELETE_BASE, INSERT_CHANGE, DELETE_CHANGE, INSERT_PATCH, DELETE_PATCH, INSERT_VOTE, DELETE_VOTE, INSERT_REVIEWER, DELETE_REVIEWER, INSERT_COMMENT, DELETE_COMMENT, INSERT_ATTENTION, DELETE_ATTENTION, INSERT_ANSWER, DELETE_ANSWER, INSERT_DESK, DELETE_DESK}
-use Rattle.review_statements.specs.Desk.{accounts, members, projects_2, bases, changes, patches, votes, reviewers, comments, attention, answers, desk}
-use Rattle.review_statements.specs.Texts.{Deletes, Inserts}
+use Rattle.review_statements.specs.declared.texts.TheConstants.{INSERT_ACCOUNT, DELETE_ACCOUNT, INSERT_MEMBER, DELETE_MEMBER, INSERT_PROJECT, DELETE_PROJECT, INSERT_BASE, DELETE_BASE, INSERT_CHANGE, DELETE_CHANGE, INSERT_PATCH, DELETE_PATCH, INSERT_VOTE, DELETE_VOTE, INSERT_REVIEWER, DELETE_REVIEWER, INSERT_COMMENT, DELETE_COMMENT, INSERT_ATTENTION, DELETE_ATTENTION, INSERT_ANSWER, DELETE_ANSWER, INSERT_DESK, DELETE_DESK, INSERT_EPOCHS, DELETE_EPOCHS, DELETE_ANSWERS_BELOW}
+use Rattle.review_statements.specs.Desk.{accounts, members, projects_2, bases, changes, patches, votes, reviewers, comments, attention, answers_3, desk, epochs}
+use Rattle.review_statements.specs.Texts.{Deletes, DeletesBelow, Inserts}
 use Rattle.review_statements.proofs.Meaning.{cast_null, cast_int}
 
 pub insert_account : (number : ℤ) (name : List ℕ) → Inserts INSERT_ACCOUNT.now accounts.tree (Int number ∷ Text name ∷ []) (λ id. Int number ∷ Null ∷ Text name ∷ [])
@@ -34,13 +34,13 @@ delete_member grp account = record { table = members; at = 1; there = refl; tree
 pub insert_project : (name : List ℕ) (file : List ℕ) (parent : List ℕ) → Inserts INSERT_PROJECT.now projects_2.tree (Text name ∷ Text file ∷ Text parent ∷ []) (λ id. Int id ∷ Text name ∷ Text file ∷ Text parent ∷ [])
 unfolding understood everything
 insert_project name file parent = record {
-  alters = record { table = projects_2; at = 11; there = refl; tree_is = refl; is = refl; plain = (refl, refl) };
+  alters = record { table = projects_2; at = 10; there = refl; tree_is = refl; is = refl; plain = (refl, refl) };
   row = λ db. (next_rowid (db projects_2.tree), rw (cast_null) refl);
 }
 
 pub delete_project : (name : List ℕ) → Deletes DELETE_PROJECT.now projects_2.tree ((1, Text name) ∷ [])
 unfolding understood everything
-delete_project name = record { table = projects_2; at = 11; there = refl; tree_is = refl; is = refl; plain = (refl, refl) }
+delete_project name = record { table = projects_2; at = 10; there = refl; tree_is = refl; is = refl; plain = (refl, refl) }
 
 pub insert_base : (project : List ℕ) (branch : List ℕ) (place : ℤ) (commit_name : List ℕ) → Inserts INSERT_BASE.now bases.tree (Text project ∷ Text branch ∷ Int place ∷ Text commit_name ∷ []) (λ id. Int id ∷ Text project ∷ Text branch ∷ Int place ∷ Text commit_name ∷ [])
 unfolding understood everything
@@ -119,24 +119,39 @@ pub delete_attention : (change : ℤ) (account : ℤ) → Deletes DELETE_ATTENTI
 unfolding understood everything
 delete_attention change account = record { table = attention; at = 8; there = refl; tree_is = refl; is = refl; plain = (refl, refl) }
 
-pub insert_answer : (caller : ℤ) (request_id : List ℕ) (request : ℤ) (content : List ℕ) (reply : List ℕ) → Inserts INSERT_ANSWER.now answers.tree (Int caller ∷ Text request_id ∷ Int request ∷ Text content ∷ Text reply ∷ []) (λ id. Int id ∷ Int caller ∷ Text request_id ∷ Int request ∷ Text content ∷ Text reply ∷ [])
+pub insert_answer : (caller : ℤ) (epoch : ℤ) (request_id : List ℕ) (request : ℤ) (content : List ℕ) (reply : List ℕ) → Inserts INSERT_ANSWER.now answers_3.tree (Int caller ∷ Int epoch ∷ Text request_id ∷ Int request ∷ Text content ∷ Text reply ∷ []) (λ id. Int id ∷ Int caller ∷ Int epoch ∷ Text request_id ∷ Int request ∷ Text content ∷ Text reply ∷ [])
 unfolding understood everything
-insert_answer caller request_id request content reply = record {
-  alters = record { table = answers; at = 9; there = refl; tree_is = refl; is = refl; plain = (refl, refl) };
-  row = λ db. (next_rowid (db answers.tree), rw (cast_null, cast_int caller, cast_int request) refl);
+insert_answer caller epoch request_id request content reply = record {
+  alters = record { table = answers_3; at = 11; there = refl; tree_is = refl; is = refl; plain = (refl, refl) };
+  row = λ db. (next_rowid (db answers_3.tree), rw (cast_null, cast_int caller, cast_int epoch, cast_int request) refl);
 }
 
-pub delete_answer : (caller : ℤ) (request_id : List ℕ) → Deletes DELETE_ANSWER.now answers.tree ((1, Int caller) ∷ (2, Text request_id) ∷ [])
+pub delete_answer : (caller : ℤ) (epoch : ℤ) (request_id : List ℕ) → Deletes DELETE_ANSWER.now answers_3.tree ((1, Int caller) ∷ (2, Int epoch) ∷ (3, Text request_id) ∷ [])
 unfolding understood everything
-delete_answer caller request_id = record { table = answers; at = 9; there = refl; tree_is = refl; is = refl; plain = (refl, refl) }
+delete_answer caller epoch request_id = record { table = answers_3; at = 11; there = refl; tree_is = refl; is = refl; plain = (refl, refl) }
+
+pub delete_answers_below : DeletesBelow DELETE_ANSWERS_BELOW.now answers_3.tree 2
+unfolding understood everything
+delete_answers_below = record { table = answers_3; at = 11; there = refl; tree_is = refl; is = refl; plain = (refl, refl) }
 
 pub insert_desk : (version : ℤ) (requests : ℤ) → Inserts INSERT_DESK.now desk.tree (Int version ∷ Int requests ∷ []) (λ id. Int id ∷ Int version ∷ Int requests ∷ [])
 unfolding understood everything
 insert_desk version requests = record {
-  alters = record { table = desk; at = 10; there = refl; tree_is = refl; is = refl; plain = (refl, refl) };
+  alters = record { table = desk; at = 9; there = refl; tree_is = refl; is = refl; plain = (refl, refl) };
   row = λ db. (next_rowid (db desk.tree), rw (cast_null, cast_int version, cast_int requests) refl);
 }
 
 pub delete_desk : Deletes DELETE_DESK.now desk.tree []
 unfolding understood everything
-delete_desk = record { table = desk; at = 10; there = refl; tree_is = refl; is = refl; plain = (refl, refl) }
+delete_desk = record { table = desk; at = 9; there = refl; tree_is = refl; is = refl; plain = (refl, refl) }
+
+pub insert_epochs : (least : ℤ) → Inserts INSERT_EPOCHS.now epochs.tree (Int least ∷ []) (λ id. Int id ∷ Int least ∷ [])
+unfolding understood everything
+insert_epochs least = record {
+  alters = record { table = epochs; at = 12; there = refl; tree_is = refl; is = refl; plain = (refl, refl) };
+  row = λ db. (next_rowid (db epochs.tree), rw (cast_null, cast_int least) refl);
+}
+
+pub delete_epochs : Deletes DELETE_EPOCHS.now epochs.tree []
+unfolding understood everything
+delete_epochs = record { table = epochs; at = 12; there = refl; tree_is = refl; is = refl; plain = (refl, refl) }

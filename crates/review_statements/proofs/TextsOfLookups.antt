@@ -3,8 +3,8 @@ use Rattle.std.proofs.Common.{ℕ, ℤ, List, [], ◌∷◌, codes, refl}
 use Rattle.sqlite_value.specs.declared.value.Value.TheVariants.{Int, Text}
 use Rattle.sqlite_tied.specs.Compute.{everything}
 use Rattle.sqlite.specs.Listing.{understood}
-use Rattle.review_statements.specs.declared.texts.TheConstants.{FIND_ACCOUNT, FIND_MEMBER, FIND_PROJECT, FIND_BASE, FIND_CHANGE, FIND_PATCH, FIND_VOTE, FIND_REVIEWER, FIND_COMMENT, FIND_ATTENTION, FIND_ANSWER, FIND_DESK, FIND_ACCOUNT_NAMED, FIND_GROUP, FIND_PROJECT_NAME, FIND_BASE_COMMIT, FIND_BRANCH, FIND_PATCHES, FIND_VOTES, FIND_REVIEWERS, FIND_COMMENTS, FIND_CALLS, FIND_CHANGE_BRANCH, FIND_SENT, FIND_CHANGE_AT, FIND_LAST_ACCOUNT, FIND_LAST_PLACE, FIND_LAST_CHANGE, FIND_LAST_JOINED, FIND_LAST_PATCH, FIND_PROJECT_BEYOND, FIND_BASE_BEYOND}
-use Rattle.review_statements.specs.Desk.{accounts, members, projects_2, bases, changes, patches, votes, reviewers, comments, attention, answers, desk}
+use Rattle.review_statements.specs.declared.texts.TheConstants.{FIND_ACCOUNT, FIND_MEMBER, FIND_PROJECT, FIND_BASE, FIND_CHANGE, FIND_PATCH, FIND_VOTE, FIND_REVIEWER, FIND_COMMENT, FIND_ATTENTION, FIND_ANSWER, FIND_DESK, FIND_EPOCHS, FIND_ACCOUNT_NAMED, FIND_GROUP, FIND_PROJECT_NAME, FIND_BASE_COMMIT, FIND_BRANCH, FIND_PATCHES, FIND_VOTES, FIND_REVIEWERS, FIND_COMMENTS, FIND_CALLS, FIND_CHANGE_BRANCH, FIND_SENT, FIND_CHANGE_AT, FIND_LAST_ACCOUNT, FIND_LAST_PLACE, FIND_LAST_CHANGE, FIND_LAST_JOINED, FIND_LAST_PATCH, FIND_PROJECT_BEYOND, FIND_BASE_BEYOND}
+use Rattle.review_statements.specs.Desk.{accounts, members, projects_2, bases, changes, patches, votes, reviewers, comments, attention, answers_3, desk, epochs}
 use Rattle.review_statements.specs.Texts.{Asks, rows_where, last_where, beyond_where}
 
 pub find_account : (number : ℤ) → Asks FIND_ACCOUNT.now (rows_where accounts.tree ((0, Int number) ∷ []) (2 ∷ []))
@@ -47,13 +47,17 @@ pub find_attention : (change : ℤ) (account : ℤ) → Asks FIND_ATTENTION.now 
 unfolding understood everything
 find_attention change account = record { names = codes "reason" ∷ codes "request" ∷ []; is = refl; plain = (refl, refl); unlisted = refl }
 
-pub find_answer : (caller : ℤ) (request_id : List ℕ) → Asks FIND_ANSWER.now (rows_where answers.tree ((1, Int caller) ∷ (2, Text request_id) ∷ []) (3 ∷ 4 ∷ 5 ∷ []))
+pub find_answer : (caller : ℤ) (epoch : ℤ) (request_id : List ℕ) → Asks FIND_ANSWER.now (rows_where answers_3.tree ((1, Int caller) ∷ (2, Int epoch) ∷ (3, Text request_id) ∷ []) (4 ∷ 5 ∷ 6 ∷ []))
 unfolding understood everything
-find_answer caller request_id = record { names = codes "request" ∷ codes "content" ∷ codes "reply" ∷ []; is = refl; plain = (refl, refl); unlisted = refl }
+find_answer caller epoch request_id = record { names = codes "request" ∷ codes "content" ∷ codes "reply" ∷ []; is = refl; plain = (refl, refl); unlisted = refl }
 
 pub find_desk : Asks FIND_DESK.now (rows_where desk.tree [] (1 ∷ 2 ∷ []))
 unfolding understood everything
 find_desk = record { names = codes "version" ∷ codes "requests" ∷ []; is = refl; plain = (refl, refl); unlisted = refl }
+
+pub find_epochs : Asks FIND_EPOCHS.now (rows_where epochs.tree [] (1 ∷ []))
+unfolding understood everything
+find_epochs = record { names = codes "least" ∷ []; is = refl; plain = (refl, refl); unlisted = refl }
 
 pub find_account_named : (name : List ℕ) → Asks FIND_ACCOUNT_NAMED.now (rows_where accounts.tree ((2, Text name) ∷ []) (0 ∷ []))
 unfolding understood everything

@@ -43,7 +43,8 @@ ids_asked =
     record { names = codes "rowid" ∷ []; is = refl; plain = (refl, refl); unlisted = refl } also
     record { names = codes "rowid" ∷ []; is = refl; plain = (refl, refl); unlisted = refl } also
     record { names = codes "rowid" ∷ []; is = refl; plain = (refl, refl); unlisted = refl } also
+    record { names = codes "rowid" ∷ []; is = refl; plain = (refl, refl); unlisted = refl } also
     tt
 
-pub ids_at : (at : ℕ) (d : List ℕ) → at < 12 → (t : Table) × (table_at at ≡ t ∷ []) × AsksIds (slice_index_or (map (λ t. t.now) ROW_IDS) at d) t
+pub ids_at : (at : ℕ) (d : List ℕ) → at < 13 → (t : Table) × (table_at at ≡ t ∷ []) × AsksIds (slice_index_or (map (λ t. t.now) ROW_IDS) at d) t
 ids_at at d low = pair_at AsksIds (map (λ t. t.now) ROW_IDS) desk_tables ids_asked at d low

@@ -1,7 +1,7 @@
 -- What the rows of a table have at a key.
 use Rattle.std.specs.Prelude.{ℕ, ℤ, ◌≡◌, ◌≢◌, ◌+◌, Bool, true, false, not, List, [], ◌∷◌, filter, length, IsTrue}
 use Rattle.std.specs.List.{list_all}
-use Rattle.std.specs.Ordering.{is_eq}
+use Rattle.std.specs.Ordering.{is_eq, is_lt}
 use Rattle.sqlite_value.specs.declared.value.Value.{Value}
 use Rattle.sqlite_value.specs.declared.value.Value.TheVariants.{Null, Int, Real, Text, Blob}
 use Rattle.review_statements.specs.Desk.{is_tree}
@@ -50,6 +50,16 @@ pub record Adds (tree : ℕ) (row : Row) (old new : Trees) : Type 0 where
 -- a table has no more the rows of a key
 pub record Removes (tree : ℕ) (key : List (ℕ × Value)) (old new : Trees) : Type 0 where
   pub rows : new tree ≡ filter (λ r. not (has_key key r)) (old tree)
+  pub others : SparesOthers tree old new
+
+-- whether a value is an integer below this one
+abbrev pub is_below : Value → ℤ → Bool
+is_below (Int m) n = is_lt (value_cmp (Int m) (Int n))
+is_below v n = false
+
+-- a table has no more the rows that have an integer below this one in a column
+pub record RemovesBelow (tree place : ℕ) (least : ℤ) (old new : Trees) : Type 0 where
+  pub rows : new tree ≡ filter (λ r. not (is_below (column r place) least)) (old tree)
   pub others : SparesOthers tree old new
 
 -- one after the other

@@ -9,7 +9,7 @@ use Rattle.sqlite_trees.specs.Tree.{Trees}
 use Rattle.sqlite_sql.specs.Term.{Term, lit, col, op1, op2}
 use Rattle.sqlite_sql.specs.Query.{Query, inner, end}
 use Rattle.sqlite_sql.specs.declared.ops.BinaryOp.TheVariants.{Compare}
-use Rattle.sqlite_sql.specs.declared.ops.CompareOp.TheVariants.{Eq}
+use Rattle.sqlite_sql.specs.declared.ops.CompareOp.TheVariants.{Eq, Lt}
 use Rattle.sqlite_sql.specs.declared.ops.UnaryOp.TheVariants.{ToNumeric, TypeOf}
 use Rattle.sqlite_schema.specs.declared.schema.Column.{Column}
 use Rattle.sqlite_schema.specs.declared.schema.Table.{Table}
@@ -105,6 +105,14 @@ pub record Alters (sql : List ℕ) (tree : ℕ) (command : ℕ → Table → Com
 -- a text takes the rows of a key out of a table
 abbrev pub Deletes : List ℕ → ℕ → At → Type 0
 Deletes sql tree key = Alters sql tree (λ at table. Delete at (record { lets = []; body = rows_where tree key (0 ∷ []) }))
+
+-- a column has an integer below the number that is bound
+abbrev pub tests_below : ℕ → List Term
+tests_below place = op2 (Compare Lt Binary) (col 1 place) (number_at place 0) ∷ has_integer place ∷ []
+
+-- a text takes the rows out of a table that have an integer in a column below the number that is bound
+abbrev pub DeletesBelow : List ℕ → ℕ → ℕ → Type 0
+DeletesBelow sql tree place = Alters sql tree (λ at table. Delete at (record { lets = []; body = over_table tree (tests_below place) (col 1 0 ∷ []) [] }))
 
 -- for each column what is bound at its place
 abbrev pub bound_from : ℕ → List Column → List Term

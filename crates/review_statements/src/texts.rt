@@ -64,10 +64,22 @@ pub const MOVE_PROJECTS: &str =
 
 pub const DROP_PROJECTS: &str = "DROP TABLE projects";
 
+// ---- from version 2 to version 3, where the identity of a stored request has an epoch
+
+pub const CREATE_ANSWERS_3: &str =
+    "CREATE TABLE answers_3 (caller INTEGER NOT NULL, epoch INTEGER NOT NULL, id TEXT NOT NULL, request INTEGER NOT NULL, content TEXT NOT NULL, reply TEXT NOT NULL, PRIMARY KEY (caller, epoch, id), UNIQUE (request))";
+
+pub const MOVE_ANSWERS: &str =
+    "INSERT INTO answers_3 (caller, epoch, id, request, content, reply) SELECT caller, 0, id, request, content, reply FROM answers";
+
+pub const DROP_ANSWERS: &str = "DROP TABLE answers";
+
+pub const CREATE_EPOCHS: &str = "CREATE TABLE epochs (least INTEGER NOT NULL)";
+
 // ---- rowids
 
 /// Texts that read the rowids of the tables.
-pub const ROW_IDS: [&str; 12] = [
+pub const ROW_IDS: [&str; 13] = [
     "SELECT rowid FROM accounts",
     "SELECT rowid FROM members",
     "SELECT rowid FROM bases",
@@ -77,9 +89,10 @@ pub const ROW_IDS: [&str; 12] = [
     "SELECT rowid FROM reviewers",
     "SELECT rowid FROM comments",
     "SELECT rowid FROM attention",
-    "SELECT rowid FROM answers",
     "SELECT rowid FROM desk",
     "SELECT rowid FROM projects_2",
+    "SELECT rowid FROM answers_3",
+    "SELECT rowid FROM epochs",
 ];
 
 // ---- rows
@@ -173,12 +186,20 @@ pub const FIND_ATTENTION: &str =
     "SELECT reason, request FROM attention WHERE change = ?1 AND typeof(change) = 'integer' AND account = ?2 AND typeof(account) = 'integer'";
 
 pub const INSERT_ANSWER: &str =
-    "INSERT INTO answers (caller, id, request, content, reply) VALUES (?1, ?2, ?3, ?4, ?5)";
+    "INSERT INTO answers_3 (caller, epoch, id, request, content, reply) VALUES (?1, ?2, ?3, ?4, ?5, ?6)";
 
 pub const DELETE_ANSWER: &str =
-    "DELETE FROM answers WHERE caller = ?1 AND typeof(caller) = 'integer' AND id = ?2";
+    "DELETE FROM answers_3 WHERE caller = ?1 AND typeof(caller) = 'integer' AND epoch = ?2 AND typeof(epoch) = 'integer' AND id = ?3";
+
+/// The stored requests of the epochs below one.
+pub const DELETE_ANSWERS_BELOW: &str =
+    "DELETE FROM answers_3 WHERE epoch < ?1 AND typeof(epoch) = 'integer'";
 
 pub const FIND_ANSWER: &str =
+    "SELECT request, content, reply FROM answers_3 WHERE caller = ?1 AND typeof(caller) = 'integer' AND epoch = ?2 AND typeof(epoch) = 'integer' AND id = ?3";
+
+/// The stored request as versions 1 and 2 have it.
+pub const FIND_ANSWER_1: &str =
     "SELECT request, content, reply FROM answers WHERE caller = ?1 AND typeof(caller) = 'integer' AND id = ?2";
 
 pub const INSERT_DESK: &str = "INSERT INTO desk (version, requests) VALUES (?1, ?2)";
@@ -186,6 +207,12 @@ pub const INSERT_DESK: &str = "INSERT INTO desk (version, requests) VALUES (?1, 
 pub const DELETE_DESK: &str = "DELETE FROM desk";
 
 pub const FIND_DESK: &str = "SELECT version, requests FROM desk";
+
+pub const INSERT_EPOCHS: &str = "INSERT INTO epochs (least) VALUES (?1)";
+
+pub const DELETE_EPOCHS: &str = "DELETE FROM epochs";
+
+pub const FIND_EPOCHS: &str = "SELECT least FROM epochs";
 
 // ---- other look-ups
 
@@ -251,7 +278,7 @@ pub const FIND_BASE_BEYOND: &str =
 // ---- whether a table is there
 
 /// Texts that read no column of a table of one of the names that tables of a desk have, of whatever version.
-pub const ANY_ROW: [&str; 13] = [
+pub const ANY_ROW: [&str; 15] = [
     "SELECT 1 FROM accounts LIMIT 1",
     "SELECT 1 FROM members LIMIT 1",
     "SELECT 1 FROM projects LIMIT 1",
@@ -265,10 +292,12 @@ pub const ANY_ROW: [&str; 13] = [
     "SELECT 1 FROM answers LIMIT 1",
     "SELECT 1 FROM desk LIMIT 1",
     "SELECT 1 FROM projects_2 LIMIT 1",
+    "SELECT 1 FROM answers_3 LIMIT 1",
+    "SELECT 1 FROM epochs LIMIT 1",
 ];
 
-/// Texts that read each column of a table, of the eleven tables of records.
-pub const READ_ROWS: [&str; 11] = [
+/// Texts that read each column of a table, of the tables of version 3 beside the table `desk`.
+pub const READ_ROWS: [&str; 12] = [
     FIND_ACCOUNT,
     FIND_MEMBER,
     FIND_PROJECT,
@@ -280,6 +309,22 @@ pub const READ_ROWS: [&str; 11] = [
     FIND_COMMENT,
     FIND_ATTENTION,
     FIND_ANSWER,
+    FIND_EPOCHS,
+];
+
+/// The same of version 2.
+pub const READ_ROWS_2: [&str; 11] = [
+    FIND_ACCOUNT,
+    FIND_MEMBER,
+    FIND_PROJECT,
+    FIND_BASE,
+    FIND_CHANGE,
+    FIND_PATCH,
+    FIND_VOTE,
+    FIND_REVIEWER,
+    FIND_COMMENT,
+    FIND_ATTENTION,
+    FIND_ANSWER_1,
 ];
 
 /// The same of version 1.
@@ -294,5 +339,5 @@ pub const READ_ROWS_1: [&str; 11] = [
     FIND_REVIEWER,
     FIND_COMMENT,
     FIND_ATTENTION,
-    FIND_ANSWER,
+    FIND_ANSWER_1,
 ];

@@ -6,4 +6,5 @@ pub mod Owned
 pub mod Made
 pub mod Ids
 pub mod Single
+pub mod ByTree
 pub mod Migrated

@@ -6,7 +6,7 @@ use Rattle.std.proofs.lemmas.Bool.{or_cases, and_parts}
 use Rattle.sqlite_trees.specs.Tree.{Trees}
 use Rattle.review_statements.specs.Content.{AreApart}
 use Rattle.review_statements.specs.Desk.{desk_schema}
-use Rattle.review_statements.specs.Desk.{schema_of, schema_0, tables_1}
+use Rattle.review_statements.specs.Desk.{schema_of, schema_0, tables_1, tables_2}
 use Rattle.review_statements.specs.declared.texts.TheConstants.{CREATE}
 use Rattle.review_statements.proofs.TextsOfTables.{◌also◌}
 use Rattle.sqlite_schema.specs.declared.schema.Table.{Table}
@@ -36,8 +36,8 @@ use Rattle.sqlite_value.specs.declared.value.Value.TheVariants.{Null, Int, Real,
 use Rattle.sqlite_sql.specs.Ops.{is_null}
 use Rattle.sqlite_schema.specs.declared.schema.Column.{Column}
 use Rattle.review_statements.proofs.Changes.{IsSimple, are_simple}
-use Rattle.review_tables.specs.declared.creating.TablesVersion.{TablesVersion}
-use Rattle.review_tables.specs.declared.creating.TablesVersion.TheVariants.{First, Second}
+use Rattle.review_tables.specs.declared.versions.TablesVersion.{TablesVersion}
+use Rattle.review_tables.specs.declared.versions.TablesVersion.TheVariants.{First, Second, Third}
 use Rattle.review_tables.specs.Versions.{schema_at}
 use Rattle.review_statements.proofs.Statements.{went, same_value}
 use Rattle.review_tables.proofs.Sequences.{Next}
@@ -179,9 +179,13 @@ plain_forms (t ∷ tables) all none = let parts = and_parts _ _ none in (plain_f
 first_are_simple : AllByRecursion IsSimple tables_1
 first_are_simple = (refl, (refl, (refl, (refl, (refl, (refl, (refl, (refl, (refl, (refl, (refl, (refl, tt))))))))))))
 
+second_are_simple : AllByRecursion IsSimple tables_2
+second_are_simple = (refl, (refl, (refl, (refl, (refl, (refl, (refl, (refl, (refl, (refl, (refl, (refl, tt))))))))))))
+
 is_plain : (version : TablesVersion) → IsPlainSchema (schema_at version)
 is_plain First = (refl, plain_forms tables_1 first_are_simple refl)
-is_plain Second = (refl, plain_forms desk_schema.tables are_simple refl)
+is_plain Second = (refl, plain_forms tables_2 second_are_simple refl)
+is_plain Third = (refl, plain_forms desk_schema.tables are_simple refl)
 
 -- the tables that were made in memory
 pub made_in_memory : (schema : Schema) (old new : Held MemStore) (x : Unit {0}) → IsEmpty (state over_memory old) → Transacts (Grows schema_0 schema) (state over_memory old) (state over_memory new) (Ok x) → new.schema ≡ schema

@@ -1,14 +1,39 @@
 -- From the tables of one version to those of the next.
-use Rattle.std.specs.Prelude.{◌≡◌, ◌≢◌}
+use Rattle.std.specs.Prelude.{ℕ, ◌≡◌, ◌≢◌, false, List, []}
 use Rattle.std.specs.List.{AllByRecursion}
 use Rattle.sqlite.specs.Effect.{Database}
+use Rattle.sqlite_trees.specs.Tree.{Trees}
 use Rattle.review_statements.specs.Content.{AreApart}
-use Rattle.review_statements.specs.Desk.{desk_schema, desk_tables, schema_1, projects, projects_2}
-use Rattle.review_statements.specs.Moved.{AreMoved, without_parent}
+use Rattle.review_statements.specs.Desk.{desk_schema, desk_tables, epochs, schema_of}
+use Rattle.review_statements.specs.Moved.{AreMoved, Drops, Fills, Move, with_both}
+use Rattle.review_statements.proofs.TextsOfMoves.{DropsText, FillsText}
+use Rattle.review_tables.specs.Versions.{is_new, moves_since, schema_at, tables_since, version_of}
+use Rattle.review_tables.specs.declared.versions.EarlierVersion.{EarlierVersion}
 
--- From version 1 to version 2: the projects move to the table of version 2, where none has a parent and each has a rowid of its own, and all other tables keep their rows, also the one that says the version.
-pub record Migrates (old new : Database) : Type 0 where
-  pub schema : old.schema ≡ schema_1 → new.schema ≡ desk_schema
-  pub moved : old.schema ≡ schema_1 → AreMoved without_parent (old.trees projects.tree) (new.trees projects_2.tree)
-  pub apart : old.schema ≡ schema_1 → AreApart (new.trees projects_2.tree)
-  pub others : old.schema ≡ schema_1 → AllByRecursion (λ t. t.tree ≢ projects_2.tree → new.trees t.tree ≡ old.trees t.tree) desk_tables
+-- rows are moved to an empty table, where the text is one that moves them
+abbrev pub FillsBy : List ℕ → Database → Database → Type 0
+FillsBy sql old new = (move : Move) → FillsText sql move → old.schema ≡ schema_of (with_both move) → old.trees move.come.tree ≡ [] → Fills move old new
+
+-- a table goes, where the text is one that drops it
+abbrev pub DropsBy : List ℕ → Database → Database → Type 0
+DropsBy sql old new = (move : Move) → DropsText sql move → old.schema ≡ schema_of (with_both move) → Drops move old new
+
+-- The rows of one table move to a new one, where each has a rowid of its own, and all other tables keep their rows.
+pub record Moves (move : Move) (old new : Database) : Type 0 where
+  pub schema : old.schema ≡ schema_of move.before → new.schema ≡ schema_of move.after
+  pub moved : old.schema ≡ schema_of move.before → AreMoved move.made (old.trees move.gone.tree) (new.trees move.come.tree)
+  pub apart : old.schema ≡ schema_of move.before → AreApart (new.trees move.come.tree)
+  pub others : old.schema ≡ schema_of move.before → AllByRecursion (λ t. t.tree ≢ move.come.tree → new.trees t.tree ≡ old.trees t.tree) move.after
+
+-- the rows of the tables that went since a version stand in those that came
+abbrev pub AllMoved : EarlierVersion → Trees → Trees → Type 0
+AllMoved version old new = AllByRecursion (λ m. AreMoved m.made (old m.gone.tree) (new m.come.tree)) (moves_since version)
+
+-- From an earlier version to the latest: the rows of the tables that went move to those that came, where each has a rowid of its own, the epochs are empty, and all other tables keep their rows, also
+-- the one that says the version.
+pub record Migrates (version : EarlierVersion) (old new : Database) : Type 0 where
+  pub schema : old.schema ≡ schema_at (version_of version) → new.schema ≡ desk_schema
+  pub moved : old.schema ≡ schema_at (version_of version) → AllMoved version old.trees new.trees
+  pub apart : old.schema ≡ schema_at (version_of version) → AllByRecursion (λ t. AreApart (new.trees t.tree)) (tables_since version)
+  pub empty : old.schema ≡ schema_at (version_of version) → new.trees epochs.tree ≡ []
+  pub others : old.schema ≡ schema_at (version_of version) → AllByRecursion (λ t. is_new version t.tree ≡ false → new.trees t.tree ≡ old.trees t.tree) desk_tables

@@ -8,20 +8,12 @@ ghost use Rattle.review_tables.specs.Made.{Grows};
 ghost use Rattle.review_tables.specs.Versions.{schema_at};
 
 use crate::making::make_first_tables;
-use crate::migrating::migrate_tables;
+use crate::migrating::{migrate_tables, move_projects};
 use crate::schemas::is_same_schema;
+use crate::versions::{EarlierVersion, TablesVersion};
 use sqlite::{Alter, Connection, Error, Transaction};
 use sqlite_schema::schema::Schema;
 use std::alloc::Global;
-
-/// A version of the tables.
-#[derive(Clone, Copy, Debug, PartialEq, Eq)]
-pub enum TablesVersion {
-    /// No project has a parent.
-    First,
-    /// Each project has a parent or none.
-    Second,
-}
 
 /// Makes the tables of a version, where there is none: those of version 1, and then those of each next version out of them, so that tables that are made
 /// and tables that were migrated are the same.
@@ -36,7 +28,8 @@ pub fn create_tables<S: Alter>(
     make_first_tables(tx)?;
     match version {
         TablesVersion::First => Ok(()),
-        TablesVersion::Second => migrate_tables(tx),
+        TablesVersion::Second => move_projects(tx),
+        TablesVersion::Third => migrate_tables(tx, EarlierVersion::First),
     }
 }
 

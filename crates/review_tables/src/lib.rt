@@ -13,3 +13,4 @@ pub mod reads;
 pub mod rowids;
 mod schemas;
 pub mod table;
+pub mod versions;

@@ -62,7 +62,7 @@ fn are_own(alloc: Global, rows: &[Row]) -> Result<bool, AllocError>
 
 // The text that reads the rowids of a table of the list.
 fn ids_text(at: usize) -> &'static str
-    requires { at < 12 }
+    requires { at < 13 }
     ensures { (d : List ℕ) → result.now ≡ slice_index_or (map (λ t. t.now) ROW_IDS) at d }
 {
     texts::ROW_IDS[at]
@@ -70,7 +70,7 @@ fn ids_text(at: usize) -> &'static str
 
 // The rowids of a table of the list, in any order.
 fn select_ids<S: Alter>(tx: &mut Transaction<'_, S>, at: usize) -> Result<Vec<Row>, Error>
-    requires { at < 12 }
+    requires { at < 13 }
     ensures same_reference { tx.new.conn.ghost_name ≡ tx.old.conn.ghost_name }
     ensures looks { Looks (λ db rows. AllByRecursion (λ t. FindsIds t.tree db rows.items) (table_at at)) (state S.Store tx.old.conn.now) (state S.Store tx.new.conn.now) result }
 {
@@ -79,7 +79,7 @@ fn select_ids<S: Alter>(tx: &mut Transaction<'_, S>, at: usize) -> Result<Vec<Ro
 
 // Whether the rows of a table of the list have rowids of their own.
 fn are_apart<S: Alter>(tx: &mut Transaction<'_, S>, alloc: Global, at: usize) -> Result<bool, Error>
-    requires { at < 12 }
+    requires { at < 13 }
     ensures same_reference { tx.new.conn.ghost_name ≡ tx.old.conn.ghost_name }
     ensures looks { Looks (λ db is. Decides is (AllByRecursion (λ t. AreApart (db t.tree)) (table_at at))) (state S.Store tx.old.conn.now) (state S.Store tx.new.conn.now) result }
 {
@@ -93,7 +93,7 @@ pub fn are_all_apart<S: Alter>(tx: &mut Transaction<'_, S>, alloc: Global) -> Re
     ensures looks { Looks (λ db is. Decides is (AllByRecursion (λ t. AreApart (db t.tree)) desk_schema.tables)) (state S.Store tx.old.conn.now) (state S.Store tx.new.conn.now) result }
 {
     let mut are = are_apart(tx, alloc, 0)?;
-    for at in 1..12 {
+    for at in 1..13 {
         are = are & are_apart(tx, alloc, at)?;
     }
     Ok(are)

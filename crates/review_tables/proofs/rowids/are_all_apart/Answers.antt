@@ -33,5 +33,5 @@ loop-at-preserved g c =
 
 pub returns-clause-looks : goal.returns-clause-looks
 returns-clause-looks g c =
-    let whole : c.loop-at.at ≡ 12 = omega (arith, c.loop-at-test.false, c.loop-at.invariant.within) in
+    let whole : c.loop-at.at ≡ 13 = omega (arith, c.loop-at-test.false, c.loop-at.invariant.within) in
     subst (λ n. Looks (λ db is. Decides is (Apart db (take n desk_tables))) (state g.S.Store c.args.tx.now.conn.now) (state g.S.Store c.loop-at.tx.conn.now) (Ok c.loop-at.are)) whole c.loop-at.invariant.looks

@@ -1,0 +1,44 @@
+-- A database as the tables of a desk of an earlier version.
+use Rattle.std.specs.Prelude.{ℕ, ◌≡◌, Bool, List, length, Option, Some, None, if◌then◌else◌}
+use Rattle.sqlite_value.specs.Order.{Row as Raw}
+use Rattle.sqlite_trees.specs.Tree.{Trees}
+use Rattle.review_words.specs.History.{Identity}
+use Rattle.review_rows.specs.declared.rows.StoredFile.{StoredFile}
+use Rattle.review_rows.specs.Rows.{Key, FileKey, OddKey, Row, FileRow, OddRow, Count, Projects, Stored, Tables}
+use Rattle.review_statements.specs.Search.{Search, row_at}
+use Rattle.review_tables.specs.Versions.{version_number, version_of}
+use Rattle.review_tables.specs.declared.versions.EarlierVersion.{EarlierVersion}
+use Rattle.review_tables.specs.declared.versions.EarlierVersion.TheVariants as earlier
+use Rattle.review_records.specs.declared.rows.DeskRow.{DeskRow}
+use Rattle.review_records.specs.Forms.{desk, earlier_answers, first_projects, projects, request_key}
+use Rattle.review_lookups.specs.Tables.{count_in, has_unkeyed, keyed_with, row_in, stored_as, tables_at, told}
+
+-- the files of the projects as a version keeps them
+abbrev pub projects_in : EarlierVersion → Search (List ℕ) StoredFile
+projects_in earlier.First = first_projects
+projects_in earlier.Second = projects
+
+-- the tables of records of a version, and which of their rows have a key
+abbrev pub keyed_tables_in : EarlierVersion → List (ℕ × (Raw → Bool))
+keyed_tables_in version = keyed_with ((projects_in version).tree, (projects_in version).keyed) (earlier_answers.tree, earlier_answers.keyed)
+
+-- What stands at a key: in version 1 no project has a parent, and all else is as in version 3.
+abbrev pub earlier_row_in : EarlierVersion → Trees → Key → Option Row
+earlier_row_in version db (FileKey project) = told FileRow (row_at (projects_in version) db project)
+earlier_row_in version db (OddKey o) = if has_unkeyed (keyed_tables_in version) db then Some OddRow else None
+earlier_row_in version db key = row_in db key
+
+abbrev pub earlier_count_in : EarlierVersion → Trees → Count → ℕ
+earlier_count_in version db Projects = length (db (projects_in version).tree)
+earlier_count_in version db count = count_in db count
+
+-- a stored request, whose identity has no epoch
+abbrev pub earlier_answer_in : Trees → Identity → Option Stored
+earlier_answer_in db i = stored_as i (row_at earlier_answers db (request_key i.caller i.id))
+
+abbrev pub tables_in : EarlierVersion → Trees → Tables
+tables_in version db = record (tables_at db) { row = earlier_row_in version db; count = earlier_count_in version db; answer = earlier_answer_in db }
+
+-- the row of the desk says this version and so many requests
+abbrev pub IsEarlierDesk : EarlierVersion → ℕ → Trees → Type 0
+IsEarlierDesk version requests db = row_at desk db tt ≡ Some (Some (record { version = version_number (version_of version); requests = requests }))

@@ -1,0 +1,86 @@
+//! The least open epoch.
+
+use crate::names::{small, small_at};
+use review_statements::texts;
+use review_tables::bound::Bound;
+use review_tables::table::{Lookup, Table};
+use sqlite::{Error, Row};
+use std::alloc::{AllocError, Global};
+
+/// The one row of the epochs, which says the least open one.
+pub struct Epochs;
+
+impl Lookup for Epochs {
+    ghost use Rattle.review_statements.specs.declared.texts.TheConstants.{FIND_EPOCHS};
+    ghost use Rattle.review_statements.proofs.TextsOfLookups.{find_epochs};
+    ghost use Rattle.review_records.specs.Forms.{epochs};
+
+    type Key = ();
+
+    type Item = u32;
+
+    ghost sql = { FIND_EPOCHS.now };
+
+    ghost search = { epochs };
+
+    fn text() -> &'static str {
+        texts::FIND_EPOCHS
+    }
+
+    fn bind<'a>(_key: &'a ()) -> Result<Bound<'a>, Error> {
+        Ok(Bound::new())
+    }
+
+    fn read(_alloc: Global, row: &Row) -> Result<Option<u32>, AllocError> {
+        Ok(small_at(row, 0))
+    }
+
+    ghost asks = { λ _. find_epochs };
+}
+
+impl Table for Epochs {
+    ghost use Rattle.std.specs.Prelude.{pos};
+    ghost use Rattle.review_statements.specs.declared.texts.TheConstants.{INSERT_EPOCHS, DELETE_EPOCHS};
+    ghost use Rattle.review_statements.proofs.TextsOfChanges.{insert_epochs, delete_epochs};
+    ghost use Rattle.review_records.specs.Forms.{epochs, epochs_form};
+    ghost use Rattle.review_records.specs.Laws.{epochs_lawful};
+
+    type Key = ();
+
+    type Item = u32;
+
+    ghost insert_sql = { INSERT_EPOCHS.now };
+
+    ghost delete_sql = { DELETE_EPOCHS.now };
+
+    ghost search = { epochs };
+
+    ghost form = { epochs_form };
+
+    fn insert_text() -> &'static str {
+        texts::INSERT_EPOCHS
+    }
+
+    fn delete_text() -> &'static str {
+        texts::DELETE_EPOCHS
+    }
+
+    fn bind_key<'a>(_key: &'a ()) -> Result<Bound<'a>, Error> {
+        Ok(Bound::new())
+    }
+
+    fn bind_row<'a>(
+        _alloc: Global,
+        _key: &'a (),
+        row: &'a u32,
+        _buffer: &'a mut String,
+    ) -> Result<Bound<'a>, Error> {
+        Ok(Bound::new().number(small(*row)))
+    }
+
+    ghost inserts = { λ _ least. insert_epochs (pos least) };
+
+    ghost deletes = { λ _. delete_epochs };
+
+    ghost lawful = { epochs_lawful };
+}
