@@ -1,5 +1,5 @@
 -- What a delivery does to any tables whatever.
-use Rattle.std.proofs.Common.{◌≡◌, ℕ, ◌+◌, ◌≤◌, List, [], Option, Some, None, Result, Ok, Err, cond, sym, ◌∙◌, subst, inl, inr, Bool, true, false, ap}
+use Rattle.std.proofs.Common.{◌≡◌, ℕ, ◌+◌, ◌≤◌, List, [], Option, Some, None, Result, Ok, Err, cond, refl, sym, ◌∙◌, subst, inl, inr, Bool, true, false, ap}
 use Rattle.review_words.specs.declared.command.Command.{Command}
 use Rattle.review_words.specs.declared.command.Delivery.TheVariants.{Write}
 use Rattle.review_words.specs.declared.reply.Reply.{Reply}
@@ -49,7 +49,7 @@ stored_request i command reply delta file rows row t u none agree left quiet clo
     record {
       new = none;
       answer_is = λ j. c.answer_is j ∙ (λ k. cond (is_below (closes k) j.epoch) None (cond (is_same (same k).identity j) (Some (Answered (same k))) (t.answer j)))
-          ∙ own_stays i j (is_below (closing (if_done reply command)) j.epoch) (Some (Answered (answer_row (record { identity = i; command = command; reply = reply }) (t.requests + 1)))) (t.answer j)
+          ∙ own_stays i j (is_below (closing (if_done reply command)) j.epoch) (Some (Answered (answer_row (record { identity = i; version = latest; command = command; reply = reply }) (t.requests + 1)))) (t.answer j)
           (λ here. ap (λ n. is_below (closing (if_done reply command)) n) (λ k. (sym (same_from i j here) k).epoch) ∙ (ap (λ o. is_below o i.epoch) (sym closes) ∙ own));
       version = c.version;
       requests = c.requests;

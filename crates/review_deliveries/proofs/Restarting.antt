@@ -11,7 +11,7 @@ use Rattle.review_words.specs.declared.command.Delivery.TheVariants.{Write, Read
 use Rattle.review_words.specs.declared.reply.Reply.{Reply}
 use Rattle.review_words.specs.declared.reply.Reply.TheVariants.{Done, Refused, IdentityReused, EpochClosed, NotTaken}
 use Rattle.review_words.specs.History.{Entry, Identity, IsFirst, stored, is_same, entry_of, is_closed}
-use Rattle.review_rows.specs.Answer.{IsHistory, IsFirst, IsAnswer}
+use Rattle.review_rows.specs.Answer.{IsHistory, IsAnswer}
 use Rattle.review_rows.specs.Rows.{Tables}
 use Rattle.review_rows.specs.View.{IsView}
 use Rattle.review_rows.proofs.Epochs.{closed_stays, open_before}

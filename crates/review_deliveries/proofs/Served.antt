@@ -22,7 +22,7 @@ use Rattle.review_rows.specs.declared.rows.Delta.{Delta}
 use Rattle.review_rows.specs.declared.rows.Rows.{Rows}
 use Rattle.review_rows.specs.Rows.{AnswerRow, Answered, Tables, ClosedEpochs}
 use Rattle.review_rows.specs.Steps.{OfCommand, OfQuery}
-use Rattle.review_rows.specs.Answer.{IsHistory, IsFirst, IsAnswer, most_requests}
+use Rattle.review_rows.specs.Answer.{IsHistory, IsAnswer, most_requests}
 use Rattle.review_rows.specs.Questions.{IsQueryAnswer, IsQueryAnswerBy}
 use Rattle.review_rows.specs.View.{AreEnough, IsView, IsDecidedAt, answer_row}
 use Rattle.review_rows.specs.Shelf.{Answers, IsCommitted, Shown, Shows, Views, LeavesBy, StopLeavesOwnTables, AddsNoStop, IsCounted, Blames, cause_of, IsClosedIn}

@@ -8,7 +8,7 @@ use Rattle.review_words.specs.declared.reply.NotTaken.TheVariants.{Memory, Store
 use Rattle.review_words.specs.History.{Entry, IsFirst}
 use Rattle.review_rows.specs.declared.rows.Rows.{Rows}
 use Rattle.review_rows.specs.declared.rows.Want.TheVariants.{Requests}
-use Rattle.review_rows.specs.Answer.{IsHistory, IsFirst, most_requests}
+use Rattle.review_rows.specs.Answer.{IsHistory, most_requests}
 use Rattle.review_rows.specs.Changes.{Reading, Reads}
 use Rattle.review_rows.specs.Files.{File}
 use Rattle.review_rows.specs.Known.{Agrees, known, number_of}
