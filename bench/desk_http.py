@@ -15,6 +15,7 @@ ROUTES = {
     "RemoveReviewer": ("POST", "/changes/{change}/reviewers/{account}/delete"), "SetWip": ("POST", "/changes/{change}/wip"), "SetReady": ("POST", "/changes/{change}/ready"),
     "Abandon": ("POST", "/changes/{change}/abandon"), "Restore": ("POST", "/changes/{change}/restore"), "Submit": ("POST", "/changes/{change}/submit"),
     "AddAttention": ("POST", "/changes/{change}/attention"), "RemoveAttention": ("POST", "/changes/{change}/attention/{account}/delete"),
+    "CloseEpoch": ("POST", "/epochs/close"),
 }
 
 
@@ -28,7 +29,7 @@ class Asked:
         self.fields = {"X-Account": str(said["caller"])}
         self.body = None
         if self.method != "GET":
-            self.fields["Request-Id"] = said["id"]
+            self.fields.update({"Request-Id": said["id"], **({"Request-Epoch": str(said["epoch"])} if "epoch" in said else {})})
             self.body = json.dumps(said.get("body", {}), ensure_ascii=False).encode()
 
 

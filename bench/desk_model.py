@@ -210,7 +210,7 @@ NUMBERS = {
     "UNKNOWN_CALLER": 1, "NOT_ADMIN": 2, "NO_PROJECT": 3, "NO_BRANCH": 4, "NO_CHANGE": 5, "NO_PATCH_SET": 6, "NO_ACCOUNT": 7, "NO_COMMENT": 8,
     "NOT_ALLOWED": 9, "CLOSED": 10, "SAME_STATE": 11, "WORK_IN_PROGRESS": 12, "STALE_PATCH_SET": 13, "NO_LABEL": 14, "VALUE_OUT": 15, "VOTE_RESTRICTED": 16, "COMMIT_KNOWN": 17, "UNKNOWN_PARENT": 18,
     "CHAIN_OUTDATED": 19, "CHAIN_ABANDONED": 20, "CHAIN_WIP": 21, "CHAIN_TOO_LONG": 22, "REQUIREMENT_UNSATISFIED": 23, "NOT_ELIGIBLE": 24, "NAME_TAKEN": 25, "BAD_FILE": 26, "LABEL_NARROWED": 27,
-    "NO_PARENT": 29, "PARENT_FIXED": 30, "PARENT_DEPTH": 31,
+    "NO_PARENT": 29, "PARENT_FIXED": 30, "PARENT_DEPTH": 31, "EPOCH_AHEAD": 32,
 }
 
 
@@ -232,8 +232,8 @@ QUESTIONS = ("Branch", "Change", "Requirements", "Threads", "Attention")
 class Desk:
     def __init__(self):
         self.names, self.groups, self.projects, self.bases, self.changes, self.stored = ["admin"], {"Administrators": {1}}, {}, {}, [], {}
-        # Of each branch the numbers of the changes that joined it, in their order.
-        self.joined = {}
+        # Of each branch the numbers of the changes that joined it, in their order; and the least epoch whose requests are taken.
+        self.joined, self.least = {}, 0
 
     def is_in(self, group, account):
         return group == "Registered-Users" or account in self.groups.get(group, ())
@@ -266,7 +266,9 @@ class Desk:
         """The answer to a line."""
         if line["do"] in QUESTIONS:
             return self.ask(line)
-        identity, content = (line["caller"], line["id"]), content_of(line)
+        identity, content = (line["caller"], epoch_of(line), line["id"]), content_of(line)
+        if epoch_of(line) < self.least:
+            return {"refused": "EPOCH_CLOSED"}
         if identity in self.stored:
             kept = self.stored[identity]
             return kept[1] if kept[0] == content else {"refused": "IDENTITY_REUSED"}
@@ -555,6 +557,13 @@ class Desk:
         self.joined.setdefault((change["project"], change["branch"]), []).extend(chain)
         return {"joined": chain}
 
+    def CloseEpoch(self, line, caller, body):
+        unless(not self.is_in("Administrators", caller), "NOT_ADMIN")
+        unless(body["epoch"] > epoch_of(line), "EPOCH_AHEAD")
+        unless(body["epoch"] <= self.least, "SAME_STATE")
+        self.least = body["epoch"]
+        return {}
+
     def AddAttention(self, line, caller, body):
         change, account = self.change(line["change"]), int(body["user"])
         unless(account > len(self.names), "NO_ACCOUNT")
@@ -618,8 +627,13 @@ def status(applicable_if, override_if, submittable_if, facts):
 # Which members of a line say what its request is about; `change` alone, where none stand here. The others are ignored.
 ROUTES = {
     "CreateAccount": (), "PutGroup": ("group",), "PutProject": ("project",), "RecordBase": ("project", "branch"), "CreateChange": (), "Review": ("change", "patch_set"),
-    "RemoveReviewer": ("change", "account"), "RemoveAttention": ("change", "account"),
+    "RemoveReviewer": ("change", "account"), "RemoveAttention": ("change", "account"), "CloseEpoch": (),
 }
+
+
+def epoch_of(line):
+    """The epoch of a request, the first where its line names none."""
+    return line.get("epoch", 0)
 
 
 def content_of(line):

@@ -6,7 +6,7 @@
     status, told = desk.ask("POST", path_of("changes", 1, "submit"), id=new_id())
 
 `ask` gives the HTTP status and the answer of the desk, a refusal too. It raises NoAnswer where none came in time: then the request was taken, or it wasn't, and the
-same call with the same id finds out. It raises NotOfTheDesk where sending again can't help, as where a password is wrong.
+same call with the same id and epoch finds out. It raises NotOfTheDesk where sending again can't help, as where a password is wrong.
 
 A program that may be killed before its answer came, and has to go on where it was, keeps the request in a file meanwhile:
 
@@ -62,9 +62,9 @@ class Desk:
         else:
             self.fields = {"Authorization": "Basic " + base64.b64encode(f"{user}:{password}".encode()).decode()}
 
-    def ask(self, method, path, body=None, id=None):
-        """The status and the answer of the desk to a request, or to a question, which needs no id."""
-        fields = {**self.fields, **({"Request-Id": id} if id else {})}
+    def ask(self, method, path, body=None, id=None, epoch=None):
+        """The status and the answer of the desk to a request, or to a question, which needs no id. A request is of epoch 0 where none is said."""
+        fields = {**self.fields, **({"Request-Id": id} if id else {}), **({} if epoch is None else {"Request-Epoch": str(epoch)})}
         text = None if body is None else json.dumps(body, ensure_ascii=False).encode()
         end, pause = time.monotonic() + self.seconds, FIRST_PAUSE
         while True:

@@ -7,6 +7,7 @@ use review_http::{ServeFault, Served};
 use review_machine::{FaultyShelf, MemoryShelf, serve_one};
 use review_names::{AccountNo, RequestId};
 use review_rows::{Recalled, Shelf};
+use review_words::Epoch;
 use std::alloc::{AllocError, Global};
 
 /// How a request is to be served.
@@ -139,9 +140,10 @@ fn told<S: Shelf>(
 /// Whether the request `a1` of account 1 is kept.
 fn kept_word<S: Shelf>(alloc: Global, shelf: &mut S) -> Result<&'static str, Fault> {
     let id = RequestId::read(alloc, "a1")?;
-    match shelf.recall(alloc, AccountNo::first(), &id) {
+    match shelf.recall(alloc, AccountNo::first(), Epoch::first(), &id) {
         Ok(Recalled::Kept(_)) => Ok("kept"),
         Ok(Recalled::Fresh) => Ok("not kept"),
+        Ok(Recalled::Closed) => Ok("closed"),
         Err(_) => Ok("a fault"),
     }
 }

@@ -6,6 +6,7 @@ use Rattle.review_names.specs.Forms.{is_within, is_path, text_set, most_changes,
 use Rattle.review_names.specs.Kinds.{kind_named}
 use Rattle.review_names.specs.Names.{is_account_number, set_of, most_members}
 use Rattle.review_names.specs.declared.kinds.ChangeKind.{ChangeKind}
+use Rattle.review_words.specs.Epochs.{is_epoch}
 use Rattle.review_bodies.specs.declared.fault.BadBody.{BadBody}
 use Rattle.review_bodies.specs.declared.fault.BadBody.TheVariants.{Form, Memory}
 
@@ -72,6 +73,22 @@ number_of most d = option_and_then (within most) (option_and_then as_u64 (as_num
 -- the change of a member
 unfoldable pub change_at : List ℕ → Data → Option ℕ
 change_at key d = option_and_then (number_of most_changes) (get key d)
+
+-- the number, where it is that of an epoch
+abbrev pub epoch_from : ℕ → Option ℕ
+epoch_from n = if is_epoch n then Some n else None
+
+-- the epoch of a number
+abbrev pub epoch_of : Data → Option ℕ
+epoch_of d = option_and_then epoch_from (option_and_then as_u64 (as_number d))
+
+-- the epoch of a member
+unfoldable pub epoch_at : List ℕ → Data → Option ℕ
+epoch_at key d = option_and_then epoch_of (get key d)
+
+-- the epoch of a member, the first one where it is absent
+unfoldable pub epoch_or_first : List ℕ → Data → Option ℕ
+epoch_or_first key d = or_absent 0 epoch_of (get key d)
 
 -- a truth value, if the member is there
 unfoldable pub flag_at : List ℕ → Data → Option (Option Bool)

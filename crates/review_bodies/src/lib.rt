@@ -15,6 +15,8 @@ pub mod votes;
 
 pub use changes::{new_change, new_patch};
 pub use fault::BadBody;
-pub use parts::{account_at, change_at, file_at, members_at, name_at, text_at};
+pub use parts::{
+    account_at, change_at, epoch_at, epoch_or_first, file_at, members_at, name_at, text_at,
+};
 pub use reviews::{has_refused, patch_in, said};
 pub use roles::{account_named_at, role_in};

@@ -1,11 +1,11 @@
 //! What the members of an object spell.
 ghost use Rattle.std.specs.Prelude.{◌≡◌, Some, None, Err, IfOk, option_map};
 ghost use Rattle.serde_json.specs.View.{view, items_view};
-ghost use Rattle.review_bodies.specs.Parts.{Gives, text_at, name_at, account_of, account_at, accounts_in, members_from, members_at, number_of, change_at, flag_at};
+ghost use Rattle.review_bodies.specs.Parts.{Gives, text_at, name_at, account_of, account_at, accounts_in, members_from, members_at, number_of, change_at, epoch_of, epoch_at, epoch_or_first, flag_at};
 ghost use Rattle.review_names.specs.Forms.{most_changes};
 
 use crate::fault::BadBody;
-use review_words::{AccountNo, ChangeNo, FileText, Form, Members, Name};
+use review_words::{AccountNo, ChangeNo, Epoch, FileText, Form, Members, Name};
 use serde_json::Value;
 use std::alloc::Global;
 
@@ -91,6 +91,31 @@ pub fn change_at(key: &str, value: &Value) -> Result<ChangeNo, BadBody>
     ensures { Gives result (change_at key.now (view value.now)) }
 {
     value.get(key).and_then(change_of).ok_or(BadBody::Form)
+}
+
+fn epoch_of(value: &Value) -> Option<Epoch>
+    ensures { result ≡ epoch_of (view value.now) }
+{
+    Epoch::from_number(value.as_u64()?)
+}
+
+/// The epoch of the member `key`, a whole number.
+#[tactic(auto, unfolding(crate::specs::Parts::epoch_at))]
+pub fn epoch_at(key: &str, value: &Value) -> Result<Epoch, BadBody>
+    ensures { Gives result (epoch_at key.now (view value.now)) }
+{
+    value.get(key).and_then(epoch_of).ok_or(BadBody::Form)
+}
+
+/// The epoch of the member `key`, a whole number; the first epoch where the member is absent.
+#[tactic(auto, unfolding(crate::specs::Parts::epoch_or_first))]
+pub fn epoch_or_first(key: &str, value: &Value) -> Result<Epoch, BadBody>
+    ensures { Gives result (epoch_or_first key.now (view value.now)) }
+{
+    match value.get(key) {
+        Some(epoch) => epoch_of(epoch).ok_or(BadBody::Form),
+        None => Ok(Epoch::first()),
+    }
 }
 
 /// The truth value of the member `key`, if it is there.

@@ -12,10 +12,10 @@ use Rattle.review_words.specs.declared.shown.ShownComment.{ShownComment}
 use Rattle.review_words.specs.declared.shown.ShownVote.{ShownVote}
 use Rattle.review_words.specs.declared.shown.Thread.{Thread}
 use Rattle.review_words.specs.declared.reply.Reply.{Reply}
-use Rattle.review_words.specs.declared.reply.Reply.TheVariants.{Done, Refused, IdentityReused, NotTaken}
+use Rattle.review_words.specs.declared.reply.Reply.TheVariants.{Done, Refused, IdentityReused, EpochClosed, NotTaken}
 use Rattle.review_words.specs.declared.reply.Answer.TheVariants.{Account, Nothing, Change, Patch, Reviewed, Submitted, Branch, Shown, Requirements, Threads, Attention}
 use Rattle.review_words.specs.declared.reply.Refusal.{Refusal}
-use Rattle.review_words.specs.declared.reply.Refusal.TheVariants.{UnknownCaller, NotAdmin, NoProject, NoBranch, NoChange, NoPatchSet, NoAccount, NoComment, NotAllowed, Closed, SameState, WorkInProgress, StalePatchSet, NoLabel, ValueOut, VoteRestricted, CommitKnown, UnknownParent, ChainOutdated, ChainAbandoned, ChainWip, ChainTooLong, RequirementUnsatisfied, NotEligible, NameTaken, BadFile, LabelNarrowed, Limit, NoParent, ParentFixed, ParentDepth}
+use Rattle.review_words.specs.declared.reply.Refusal.TheVariants.{UnknownCaller, NotAdmin, NoProject, NoBranch, NoChange, NoPatchSet, NoAccount, NoComment, NotAllowed, Closed, SameState, WorkInProgress, StalePatchSet, NoLabel, ValueOut, VoteRestricted, CommitKnown, UnknownParent, ChainOutdated, ChainAbandoned, ChainWip, ChainTooLong, RequirementUnsatisfied, NotEligible, NameTaken, BadFile, LabelNarrowed, Limit, NoParent, ParentFixed, ParentDepth, EpochAhead}
 use Rattle.review_words.specs.declared.faults.FileFault.{FileFault}
 use Rattle.review_words.specs.declared.faults.FileFault.TheVariants.{Toml, UnknownKey, Missing, BadName, Twice, BadValues, Expr, UnknownLabel, Limit as PastLimit}
 
@@ -92,6 +92,7 @@ in_refusal Limit = refl
 in_refusal NoParent = refl
 in_refusal ParentFixed = refl
 in_refusal ParentDepth = refl
+in_refusal EpochAhead = refl
 
 pub no_float : (r : Reply) → has_float (reply_data r) ≡ false
 no_float (Done (Account n)) = refl
@@ -107,4 +108,5 @@ no_float (Done (Threads threads)) = in_list thread_data in_thread threads
 no_float (Done (Attention calls)) = in_list call_data (λ call. refl) calls
 no_float (Refused refusal) = in_refusal refusal
 no_float IdentityReused = refl
+no_float EpochClosed = refl
 no_float (NotTaken cause) = refl

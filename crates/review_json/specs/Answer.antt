@@ -4,7 +4,7 @@ use Rattle.serde_json.specs.Data.{Data, string, array, object, no_members, membe
 use Rattle.review_words.specs.Refusals.{refusal_number, refusal_name}
 use Rattle.review_words.specs.Faults.{code_name, file_fault_name}
 use Rattle.review_words.specs.declared.reply.Reply.{Reply}
-use Rattle.review_words.specs.declared.reply.Reply.TheVariants.{Done, Refused, IdentityReused, NotTaken}
+use Rattle.review_words.specs.declared.reply.Reply.TheVariants.{Done, Refused, IdentityReused, EpochClosed, NotTaken}
 use Rattle.review_words.specs.declared.reply.Answer.{Answer}
 use Rattle.review_words.specs.declared.reply.Answer.TheVariants.{Account, Nothing, Change, Patch, Reviewed, Submitted, Branch, Shown, Requirements, Threads, Attention}
 use Rattle.review_words.specs.declared.reply.Refusal.{Refusal}
@@ -84,4 +84,5 @@ abbrev pub reply_data : Reply → Data
 reply_data (Done answer) = answer_data answer
 reply_data (Refused refusal) = refusal_data refusal
 reply_data IdentityReused = object (member (codes "refused") (string (codes "IDENTITY_REUSED")) no_members)
+reply_data EpochClosed = object (member (codes "refused") (string (codes "EPOCH_CLOSED")) no_members)
 reply_data (NotTaken cause) = object (member (codes "not_taken") (string (cause_name cause)) no_members)

@@ -7,7 +7,7 @@ use Rattle.review_names.specs.Numerals.{◌>>=◌}
 use Rattle.review_words.specs.declared.command.Command.{Command}
 use Rattle.review_words.specs.declared.command.Delivery.{Delivery}
 use Rattle.review_words.specs.declared.command.Delivery.TheVariants.{Write, Read}
-use Rattle.review_bodies.specs.Parts.{or_absent, text_at, name_at, account_at}
+use Rattle.review_bodies.specs.Parts.{or_absent, text_at, name_at, account_at, epoch_or_first}
 use Rattle.review_routes.specs.declared.route.Route.{Route}
 use Rattle.review_routes.specs.Texts.{value_spelled, if_object}
 use Rattle.review_routes.specs.Commands.{command_in}
@@ -22,14 +22,15 @@ body_in line = or_absent (object no_members) if_object (get (codes "body") line)
 unfoldable pub command_in_line : Route → Data → Option Command
 command_in_line route line = option_and_then (command_in route) (body_in line)
 
--- a write: the request's id and the command
+-- a write: the request's id, its epoch, which is the first one where the line names none, and the command
 unfoldable pub write_in : ℕ → Route → Data → Option Delivery
 write_in caller route line = do
   id ← name_at is_word (codes "id") line
+  epoch ← epoch_or_first (codes "epoch") line
   command ← command_in_line route line
-  Some (Write caller id command)
+  Some (Write caller epoch id command)
 
--- a read: the question, without an id and a body
+-- a read: the question, without an id, an epoch and a body
 unfoldable pub read_in : ℕ → Route → Option Delivery
 read_in caller route = option_map (λ query. Read caller query) (query_of route)
 

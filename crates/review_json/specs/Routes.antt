@@ -12,7 +12,7 @@ use Rattle.review_bodies.specs.Reviews.{patch_in}
 use Rattle.review_routes.specs.declared.route.ChangeRoute.{ChangeRoute}
 use Rattle.review_routes.specs.declared.route.ChangeRoute.TheVariants.{Upload, Review, AddReviewer, RemoveReviewer, SetWip, SetReady, Abandon, Restore, AddAttention, RemoveAttention}
 use Rattle.review_routes.specs.declared.route.Route.{Route}
-use Rattle.review_routes.specs.declared.route.Route.TheVariants.{CreateAccount, PutGroup, PutProject, RecordBase, CreateChange, OnChange, Submit, Branch, AskChange}
+use Rattle.review_routes.specs.declared.route.Route.TheVariants.{CreateAccount, PutGroup, PutProject, RecordBase, CreateChange, OnChange, Submit, CloseEpoch, Branch, AskChange}
 
 -- what a question of the name asks of a change
 unfoldable pub change_query_named : List ℕ → Option ChangeQuery
@@ -61,4 +61,5 @@ route_named name line =
     else (if bytes_eq name (codes "RecordBase") then of_branch (λ project branch. RecordBase project branch) line
     else (if bytes_eq name (codes "CreateChange") then Some CreateChange
     else (if bytes_eq name (codes "Submit") then option_map (λ change. Submit change) (change_at (codes "change") line)
-    else (if bytes_eq name (codes "Branch") then of_branch (λ project branch. Branch project branch) line else route_of_change name line))))))
+    else (if bytes_eq name (codes "CloseEpoch") then Some CloseEpoch
+    else (if bytes_eq name (codes "Branch") then of_branch (λ project branch. Branch project branch) line else route_of_change name line)))))))

@@ -203,6 +203,7 @@ fn reply_value(alloc: Global, reply: &Reply) -> Result<Value, AllocError>
         Reply::Done(answer) => answer_value(alloc, answer),
         Reply::Refused(refusal) => refusal_value(alloc, refusal),
         Reply::IdentityReused => json!(in alloc; {"refused": "IDENTITY_REUSED"}),
+        Reply::EpochClosed => json!(in alloc; {"refused": "EPOCH_CLOSED"}),
         Reply::NotTaken(cause) => json!(in alloc; {"not_taken": cause_name(*cause)}),
     }
 }

@@ -4,7 +4,7 @@ ghost use Rattle.review_bodies.specs.Parts.{Gives};
 ghost use Rattle.review_json.specs.Line.{command_in_line, write_in, read_in, delivery_in, delivery_spelled};
 
 use crate::routes::route_named;
-use review_bodies::{BadBody, account_at, name_at, text_at};
+use review_bodies::{BadBody, account_at, epoch_or_first, name_at, text_at};
 use review_routes::{Route, command_in, is_question, query_of, value_of};
 use review_words::{AccountNo, Command, Delivery};
 use serde_json::{Map, Value};
@@ -38,9 +38,11 @@ fn write_in(
     ensures { Gives result (write_in caller route.now (view line.now)) }
 {
     let id = name_at(alloc, "id", line)?;
+    let epoch = epoch_or_first("epoch", line)?;
     let command = command_in_line(alloc, route, line)?;
     Ok(Delivery::Write {
         caller,
+        epoch,
         id,
         command,
     })
@@ -72,10 +74,10 @@ fn delivery_in(alloc: Global, line: &Value) -> Result<Delivery, BadBody>
 ///
 /// A line is an object with `caller`, a number; `do`, the name of a command or a query; and the segments of its route, as
 /// `group`, or `project` and `branch`, or `change`, and with it `patch_set` or `account`, of which a change and an account are
-/// numbers, and a patch set a number or the text `current`. A command's line has `id`, a name, too, and `body`, an object with
-/// the command's other parts, which is `{}` where it is absent.
-/// Members may come in any order; other members are ignored, as `id` and `body` of a query; of a key that is given twice
-/// the last value stays.
+/// numbers, and a patch set a number or the text `current`. A command's line has `id`, a name, too, and `epoch`, a number, which
+/// is 0 where it is absent, and `body`, an object with the command's other parts, which is `{}` where it is absent.
+/// Members may come in any order; other members are ignored, as `id`, `epoch` and `body` of a query; of a key that is given
+/// twice the last value stays.
 /// A whole number is one that is written so: `2.0` and `1e0` are none. `null` isn't absent.
 ///
 /// Form exactly where the line spells no delivery, which is also where any value in it can't be read.

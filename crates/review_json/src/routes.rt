@@ -91,6 +91,7 @@ pub fn route_named(alloc: Global, name: &str, line: &Value) -> Result<Route, Bad
             let change = change_at("change", line)?;
             Ok(Route::Submit { change })
         }
+        "CloseEpoch" => Ok(Route::CloseEpoch),
         "Branch" => {
             let project = name_at(alloc, "project", line)?;
             let branch = name_at(alloc, "branch", line)?;

@@ -13,7 +13,7 @@ use Rattle.review_words.specs.declared.changes.NewComment.{NewComment}
 use Rattle.review_words.specs.declared.command.ChangeCommand.{ChangeCommand}
 use Rattle.review_words.specs.declared.command.Command.{Command}
 use Rattle.review_words.specs.declared.command.Delivery.{Delivery}
-use Rattle.review_bodies.specs.Parts.{text_at, name_at, members_at, account_at}
+use Rattle.review_bodies.specs.Parts.{text_at, name_at, members_at, account_at, epoch_at, epoch_or_first}
 use Rattle.review_bodies.specs.Changes.{new_change, new_patch}
 use Rattle.review_bodies.specs.Comments.{comments_in}
 use Rattle.review_bodies.specs.Reviews.{message_in, has_refused, said}
@@ -22,7 +22,7 @@ use Rattle.review_bodies.specs.Votes.{labels_in}
 use Rattle.review_routes.specs.declared.route.ChangeRoute.{ChangeRoute}
 use Rattle.review_routes.specs.declared.route.ChangeRoute.TheVariants.{Upload, Review, AddReviewer, RemoveReviewer, SetWip, SetReady, Abandon, Restore, AddAttention, RemoveAttention}
 use Rattle.review_routes.specs.declared.route.Route.{Route}
-use Rattle.review_routes.specs.declared.route.Route.TheVariants.{CreateAccount, PutGroup, PutProject, RecordBase, CreateChange, OnChange, Submit, Branch, AskChange}
+use Rattle.review_routes.specs.declared.route.Route.TheVariants.{CreateAccount, PutGroup, PutProject, RecordBase, CreateChange, OnChange, Submit, CloseEpoch, Branch, AskChange}
 use Rattle.review_routes.specs.Texts.{text_of, value_spelled, if_object, body_spelled}
 use Rattle.review_routes.specs.Commands.{change_command_in, command_in, command_of}
 use Rattle.review_routes.specs.Questions.{query_of, is_question}
@@ -68,6 +68,7 @@ in_command (RecordBase project branch) body h = map_any IsByPlace _ (λ commit. 
 in_command CreateChange body h = map_any IsByPlace _ (λ change. tt) (new_change body)
 in_command (OnChange change asked) body h = map_some IsAskedByPlace IsByPlace _ (λ what p. p) (change_command_in asked body) (in_change_command asked body h)
 in_command (Submit change) body h = tt
+in_command CloseEpoch body h = map_any IsByPlace _ (λ epoch. tt) (epoch_at (codes "epoch") body)
 in_command (Branch project branch) body h = tt
 in_command (AskChange change query) body h = tt
 
@@ -106,7 +107,8 @@ IsDeliveredByPlace delivery = GoByPlace (delivered_comments delivery)
 in_write : (caller : ℕ) (route : Route) (line : Data) → IsInOrder line → IfSome (write_in caller route line) IsDeliveredByPlace
 unfolding write_in
 in_write caller route line h =
-    next_some IsDeliveredByPlace _ (λ id. bind_some IsByPlace IsDeliveredByPlace _ (λ command p. p) (command_in_line route line) (in_command_in_line route line h)) (name_at is_word (codes "id") line)
+    next_some IsDeliveredByPlace _ (λ id. next_some IsDeliveredByPlace _
+    (λ epoch. bind_some IsByPlace IsDeliveredByPlace _ (λ command p. p) (command_in_line route line) (in_command_in_line route line h)) (epoch_or_first (codes "epoch") line)) (name_at is_word (codes "id") line)
 
 in_read : (caller : ℕ) (route : Route) → IfSome (read_in caller route) IsDeliveredByPlace
 unfolding read_in

@@ -26,7 +26,7 @@ made_comments _ = []
 
 -- the comments that a delivery is to make
 abbrev pub delivered_comments : Delivery → List NewComment
-delivered_comments (Write caller id command) = made_comments command
+delivered_comments (Write caller epoch id command) = made_comments command
 delivered_comments (Read caller query) = []
 
 -- Whatever the order in a body, the comments of the command to which it completes a route go by the bytes of their places.

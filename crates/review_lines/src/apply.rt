@@ -79,7 +79,9 @@ fn outcome_of(reply: Reply) -> Outcome
 {
     match reply {
         Reply::NotTaken(_) => Outcome::Incomplete,
-        Reply::Done(_) | Reply::Refused(_) | Reply::IdentityReused => Outcome::Complete,
+        Reply::Done(_) | Reply::Refused(_) | Reply::IdentityReused | Reply::EpochClosed => {
+            Outcome::Complete
+        }
     }
 }
 

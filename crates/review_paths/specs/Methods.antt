@@ -6,7 +6,7 @@ use Rattle.review_routes.specs.declared.route.ChangeRoute.TheVariants as asked
 use Rattle.review_routes.specs.declared.route.Route.{Route}
 use Rattle.review_routes.specs.declared.route.Route.TheVariants as route
 use Rattle.review_paths.specs.declared.resources.Resource.{Resource}
-use Rattle.review_paths.specs.declared.resources.Resource.TheVariants.{Accounts, Group, Project, Branch, Changes, AskChange, OnChange, Attention, Submit}
+use Rattle.review_paths.specs.declared.resources.Resource.TheVariants.{Accounts, Group, Project, Branch, Changes, AskChange, OnChange, Attention, Submit, CloseEpoch}
 use Rattle.review_paths.specs.declared.methods.Methods.{Methods}
 use Rattle.review_paths.specs.declared.methods.Methods.TheVariants.{Get, GetAndPost, GetAndPut, Post, Put}
 
@@ -53,3 +53,4 @@ route_of method (AskChange change query) = by_get method (route.AskChange change
 route_of method (OnChange change asked) = by_post method (route.OnChange change asked)
 route_of method (Attention change) = of_attention method change
 route_of method (Submit change) = by_post method (route.Submit change)
+route_of method CloseEpoch = by_post method route.CloseEpoch

@@ -9,7 +9,7 @@ use Rattle.review_routes.specs.declared.route.ChangeRoute.TheVariants as asked
 use Rattle.review_paths.specs.declared.table.Place.{Place}
 use Rattle.review_paths.specs.declared.table.Place.TheVariants as place
 use Rattle.review_paths.specs.declared.resources.Resource.{Resource}
-use Rattle.review_paths.specs.declared.resources.Resource.TheVariants.{Accounts, Group, Project, Branch, Changes, AskChange, OnChange, Attention, Submit}
+use Rattle.review_paths.specs.declared.resources.Resource.TheVariants.{Accounts, Group, Project, Branch, Changes, AskChange, OnChange, Attention, Submit, CloseEpoch}
 use Rattle.review_paths.specs.Segments.{segment, name_in, account_in, change_in, patch_in}
 use Rattle.review_paths.specs.Table.{place_of}
 
@@ -55,6 +55,7 @@ resource_at place.Abandon path = asked_at asked.Abandon path
 resource_at place.Restore path = asked_at asked.Restore path
 resource_at place.Submit path = option_map (λ change. Submit change) (change_in (segment 2 path))
 resource_at place.AttentionDelete path = about_at (λ account. asked.RemoveAttention account) path
+resource_at place.EpochsClose path = Some CloseEpoch
 
 -- what a path names: it is routed, and then its segments are decoded
 unfoldable pub resource_of : List ℕ → Option Resource

@@ -7,7 +7,7 @@ use Rattle.matchit.specs.declared.error.InsertError.{InsertError}
 use Rattle.matchit.specs.Order.{placed}
 use Rattle.matchit.specs.Seek.{first}
 use Rattle.review_paths.specs.declared.table.Place.{Place}
-use Rattle.review_paths.specs.declared.table.Place.TheVariants.{Accounts, Group, Project, Branch, Changes, Change, Requirements, Threads, Attention, Revisions, Review, Reviewers, ReviewerDelete, Wip, Ready, Abandon, Restore, Submit, AttentionDelete}
+use Rattle.review_paths.specs.declared.table.Place.TheVariants.{Accounts, Group, Project, Branch, Changes, Change, Requirements, Threads, Attention, Revisions, Review, Reviewers, ReviewerDelete, Wip, Ready, Abandon, Restore, Submit, AttentionDelete, EpochsClose}
 
 -- paths as the router keeps them, each with its place
 abbrev pub Rows : Type 0
@@ -44,6 +44,7 @@ paths =
     ∷ (codes "/changes/{change}/restore", Restore)
     ∷ (codes "/changes/{change}/submit", Submit)
     ∷ (codes "/changes/{change}/attention/{account}/delete", AttentionDelete)
+    ∷ (codes "/epochs/close", EpochsClose)
     ∷ []
 
 -- the paths with more, one after the other

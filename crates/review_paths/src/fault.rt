@@ -18,6 +18,8 @@ pub enum HttpFault {
     NoCaller,
     /// There isn't one field `Request-Id` of the form of a request's id. It is asked of commands alone, not of questions, and so is all that follows.
     NoRequestId,
+    /// The field `Request-Epoch` stands more than once, or isn't the number of an epoch.
+    BadEpoch,
     /// There is a `Transfer-Encoding`, or no `Content-Length` where a body is needed.
     LengthRequired,
     /// The body has more than 262,144 bytes.

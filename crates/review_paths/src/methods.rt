@@ -101,5 +101,6 @@ pub fn route_of(method: &[u8], resource: Resource) -> Result<Route, Methods>
         Resource::OnChange { change, asked } => by_post(method, Route::OnChange { change, asked }),
         Resource::Attention { change } => of_attention(method, change),
         Resource::Submit { change } => by_post(method, Route::Submit { change }),
+        Resource::CloseEpoch => by_post(method, Route::CloseEpoch),
     }
 }

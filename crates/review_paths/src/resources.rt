@@ -53,6 +53,8 @@ pub enum Resource {
     Submit {
         change: ChangeNo,
     },
+    /// That epochs are closed.
+    CloseEpoch,
 }
 
 fn group_at(alloc: Global, path: &str) -> Result<Resource, BadBody>
@@ -161,6 +163,7 @@ fn resource_at(alloc: Global, place: Place, path: &str) -> Result<Resource, BadB
         Place::Restore => asked_at(alloc, ChangeRoute::Restore, path),
         Place::Submit => submit_at(alloc, path),
         Place::AttentionDelete => called_at(alloc, path),
+        Place::EpochsClose => Ok(Resource::CloseEpoch),
     }
 }
 

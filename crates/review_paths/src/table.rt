@@ -28,6 +28,7 @@ pub enum Place {
     Restore,
     Submit,
     AttentionDelete,
+    EpochsClose,
 }
 
 fn insert_path(router: &mut Router<Place>, text: &str, place: Place) -> Result<(), InsertError>
@@ -81,6 +82,7 @@ fn router(alloc: Global) -> Result<Router<Place>, InsertError>
         "/changes/{change}/attention/{account}/delete",
         Place::AttentionDelete,
     )?;
+    insert_path(&mut router, "/epochs/close", Place::EpochsClose)?;
     Ok(router)
 }
 

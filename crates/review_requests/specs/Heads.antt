@@ -4,14 +4,15 @@ use Rattle.std.specs.List.{before_first}
 use Rattle.httparse.specs.Grammar.{RequestHead}
 use Rattle.httparse.specs.Spans.{name_and_value}
 use Rattle.review_names.specs.Names.{is_word}
-use Rattle.review_names.specs.Numerals.{account_of}
+use Rattle.review_names.specs.Numerals.{account_of, number_of}
+use Rattle.review_bodies.specs.Parts.{epoch_from}
 use Rattle.review_routes.specs.Texts.{name_of_bytes}
 use Rattle.review_routes.specs.Questions.{is_question, needs_body}
 use Rattle.review_routes.specs.declared.route.Route.{Route}
 use Rattle.review_paths.specs.Resources.{resource_of}
 use Rattle.review_paths.specs.Methods.{route_of}
 use Rattle.review_paths.specs.declared.fault.HttpFault.{HttpFault}
-use Rattle.review_paths.specs.declared.fault.HttpFault.TheVariants.{BadHead, NoRoute, Method, NoCaller, NoRequestId, LengthRequired, TooLarge}
+use Rattle.review_paths.specs.declared.fault.HttpFault.TheVariants.{BadHead, NoRoute, Method, NoCaller, NoRequestId, BadEpoch, LengthRequired, TooLarge}
 use Rattle.review_paths.specs.declared.methods.Methods.{Methods}
 use Rattle.review_paths.specs.declared.resources.Resource.{Resource}
 use Rattle.review_requests.specs.declared.asked.Asked.{Asked}
@@ -41,7 +42,7 @@ routed method path = or_fault NoRoute (resource_of path) >>= method_of method
 unfoldable pub routed_by : List ℕ → List ℕ → Result Route HttpFault
 routed_by method target = routed method (path_of target)
 
--- ---- who asks, under which id
+-- ---- who asks, under which id, in which epoch
 
 -- one field `X-Account`, the number of an account
 unfoldable pub caller_of : Fields → Result ℕ HttpFault
@@ -58,6 +59,24 @@ some_id id = Ok (Some id)
 -- the id of a request; a question has none
 abbrev pub id_for : Route → Fields → Result (Option (List ℕ)) HttpFault
 id_for route fields = if is_question route then Ok None else id_of fields >>= some_id
+
+-- the epoch whose number a value shows in decimal without leading zeros
+abbrev pub epoch_shown : List ℕ → Option ℕ
+epoch_shown value = option_and_then epoch_from (number_of value)
+
+-- the epoch that a field names, the first one where it is absent
+abbrev pub epoch_named : Occurs → Result ℕ HttpFault
+epoch_named absent = Ok 0
+epoch_named (once value) = or_fault BadEpoch (epoch_shown value)
+epoch_named again = Err BadEpoch
+
+-- the epoch of the field `Request-Epoch`
+unfoldable pub epoch_of : Fields → Result ℕ HttpFault
+epoch_of fields = epoch_named (occurs (codes "request-epoch") fields)
+
+-- the epoch of a request; a question has the first one, whatever is said of it
+abbrev pub epoch_for : Route → Fields → Result ℕ HttpFault
+epoch_for route fields = if is_question route then Ok 0 else epoch_of fields
 
 -- ---- how long its body is
 
@@ -90,8 +109,8 @@ length_for route fields = if is_question route then Ok 0 else length_of (needs_b
 -- what a head asks for; the first fault counts
 unfoldable pub asked_by : List ℕ → List ℕ → Fields → Result Asked HttpFault
 asked_by method target fields =
-    routed_by method target >>= λ route. caller_of fields >>= λ caller. id_for route fields >>= λ id. length_for route fields
-    >>= λ n. Ok (record { caller = caller; id = id; route = route; length = n })
+    routed_by method target >>= λ route. caller_of fields >>= λ caller. id_for route fields >>= λ id. epoch_for route fields >>= λ epoch. length_for route fields
+    >>= λ n. Ok (record { caller = caller; id = id; epoch = epoch; route = route; length = n })
 
 -- what a head asks for, by its method, its target and its fields
 abbrev pub asked : RequestHead → Result Asked HttpFault

@@ -14,13 +14,13 @@ use Rattle.review_requests.specs.Faults.{or_fault}
 use Rattle.review_requests.specs.Heads.{asked}
 
 -- the question that a route is, or the command that a body completes it to
-abbrev pub delivered_by : ℕ → Option (List ℕ) → Route → List ℕ → Option Delivery
-delivered_by caller None route body = option_map (λ query. Read caller query) (query_of route)
-delivered_by caller (Some id) route body = option_map (λ command. Write caller id command) (command_of route body)
+abbrev pub delivered_by : ℕ → ℕ → Option (List ℕ) → Route → List ℕ → Option Delivery
+delivered_by caller epoch None route body = option_map (λ query. Read caller query) (query_of route)
+delivered_by caller epoch (Some id) route body = option_map (λ command. Write caller epoch id command) (command_of route body)
 
 -- the delivery that a body completes what was asked for to
 abbrev pub delivered : Asked → List ℕ → Option Delivery
-delivered a body = delivered_by a.caller a.id a.route body
+delivered a body = delivered_by a.caller a.epoch a.id a.route body
 
 -- the same, or that the body is bad
 unfoldable pub delivery_of : Asked → List ℕ → Result Delivery HttpFault

@@ -3,17 +3,17 @@ ghost use Rattle.std.specs.Prelude.{◌≡◌, ◌≤◌, length, map, All};
 ghost use Rattle.std.specs.Str.{IsUtf8};
 ghost use Rattle.httparse.specs.Spans.{header_bytes, IsHeaderWithin};
 ghost use Rattle.review_requests.specs.Faults.{Answers};
-ghost use Rattle.review_requests.specs.Heads.{caller_of, id_of, id_for, capped, length_from, length_of, length_for, path_of, routed, routed_by, asked_by};
+ghost use Rattle.review_requests.specs.Heads.{caller_of, id_of, id_for, epoch_shown, epoch_named, epoch_of, epoch_for, capped, length_from, length_of, length_for, path_of, routed, routed_by, asked_by};
 ghost use Rattle.review_requests.specs.Seen.{seen};
 
 use crate::asked::Asked;
 use crate::fault::{Refused, unless_memory};
 use crate::fields::{Field, find_field, number_shown, one_value};
 use httparse::spans::HeaderSpan;
-use review_names::read_account;
+use review_names::{read_account, read_number};
 use review_paths::{HttpFault, Routes, resource_of, route_of};
 use review_routes::{Route, is_question, name_of_bytes, needs_body};
-use review_words::{AccountNo, RequestId};
+use review_words::{AccountNo, Epoch, RequestId};
 use std::alloc::Global;
 
 #[tactic(auto, unfolding(crate::specs::Heads::caller_of))]
@@ -60,6 +60,41 @@ fn id_for(
         Ok(id) => Ok(Some(id)),
         Err(refused) => Err(refused),
     }
+}
+
+fn epoch_shown(value: &[u8]) -> Option<Epoch>
+    ensures { result ≡ epoch_shown value.now }
+{
+    Epoch::from_number(read_number(value)?)
+}
+
+fn epoch_named(found: Field<'_>) -> Result<Epoch, Refused>
+    ensures { Answers result (epoch_named (seen found.entry)) }
+{
+    match found {
+        Field::Absent => Ok(Epoch::first()),
+        Field::Again => Err(Refused::Http(HttpFault::BadEpoch)),
+        Field::Once(value) => epoch_shown(value).ok_or(Refused::Http(HttpFault::BadEpoch)),
+    }
+}
+
+#[tactic(auto, unfolding(crate::specs::Heads::epoch_of))]
+fn epoch_of(buf: &[u8], headers: &[HeaderSpan]) -> Result<Epoch, Refused>
+    requires { All (IsHeaderWithin (length buf.now)) headers.now }
+    ensures { Answers result (epoch_of (map (header_bytes buf.now) headers.now)) }
+{
+    epoch_named(find_field(buf, headers, b"request-epoch"))
+}
+
+/// The epoch of a request. That of a question is the first, whatever is said of it.
+fn epoch_for(route: &Route, buf: &[u8], headers: &[HeaderSpan]) -> Result<Epoch, Refused>
+    requires { All (IsHeaderWithin (length buf.now)) headers.now }
+    ensures { Answers result (epoch_for route.now (map (header_bytes buf.now) headers.now)) }
+{
+    if is_question(route) {
+        return Ok(Epoch::first());
+    }
+    epoch_of(buf, headers)
 }
 
 fn capped(length: usize) -> Result<usize, Refused>
@@ -164,10 +199,12 @@ pub fn asked_by(
     let route = routed_by(alloc, routes, method, target)?;
     let caller = caller_of(buf, headers)?;
     let id = id_for(alloc, &route, buf, headers)?;
+    let epoch = epoch_for(&route, buf, headers)?;
     let length = length_for(&route, buf, headers)?;
     Ok(Asked {
         caller,
         id,
+        epoch,
         route,
         length,
     })

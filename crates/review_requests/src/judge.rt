@@ -64,6 +64,7 @@ fn delivered(alloc: Global, asked: Asked, body: &[u8]) -> Result<Delivery, BadBo
     let Asked {
         caller,
         id,
+        epoch,
         route,
         length: _,
     } = asked;
@@ -76,6 +77,7 @@ fn delivered(alloc: Global, asked: Asked, body: &[u8]) -> Result<Delivery, BadBo
             let command = command_of(alloc, &route, body)?;
             Ok(Delivery::Write {
                 caller,
+                epoch,
                 id,
                 command,
             })

@@ -5,7 +5,7 @@ use Rattle.review_words.specs.Refusals.{refusal_status}
 use Rattle.review_words.specs.declared.reply.Refusal.{Refusal}
 use Rattle.review_words.specs.declared.reply.Refusal.TheVariants.{UnknownCaller}
 use Rattle.review_words.specs.declared.reply.Reply.{Reply}
-use Rattle.review_words.specs.declared.reply.Reply.TheVariants.{Done, Refused, IdentityReused, NotTaken}
+use Rattle.review_words.specs.declared.reply.Reply.TheVariants.{Done, Refused, IdentityReused, EpochClosed, NotTaken}
 use Rattle.review_paths.specs.declared.fault.HttpFault.{HttpFault}
 use Rattle.review_paths.specs.declared.fault.HttpFault.TheVariants.{BadHead}
 use Rattle.review_responses.specs.Statuses.{status_of, fault_status}
@@ -22,5 +22,6 @@ pub valid : (told : Result Reply HttpFault) → IsStatusCode (status_of told)
 valid (Ok (Done answer)) = (lit≤ tt, lit< tt)
 valid (Ok (Refused refusal)) = of_refusal refusal
 valid (Ok IdentityReused) = (lit≤ tt, lit< tt)
+valid (Ok EpochClosed) = (lit≤ tt, lit< tt)
 valid (Ok (NotTaken cause)) = (lit≤ tt, lit< tt)
 valid (Err fault) = of_fault fault

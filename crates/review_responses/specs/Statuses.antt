@@ -2,15 +2,16 @@
 use Rattle.std.specs.Prelude.{ℕ, List, codes, Result, Ok, Err}
 use Rattle.review_words.specs.Refusals.{refusal_status}
 use Rattle.review_words.specs.declared.reply.Reply.{Reply}
-use Rattle.review_words.specs.declared.reply.Reply.TheVariants.{Done, Refused, IdentityReused, NotTaken}
+use Rattle.review_words.specs.declared.reply.Reply.TheVariants.{Done, Refused, IdentityReused, EpochClosed, NotTaken}
 use Rattle.review_paths.specs.declared.fault.HttpFault.{HttpFault}
-use Rattle.review_paths.specs.declared.fault.HttpFault.TheVariants.{BadHead, HeadTooLarge, NoRoute, Method, NoCaller, NoRequestId, LengthRequired, TooLarge, BadBody}
+use Rattle.review_paths.specs.declared.fault.HttpFault.TheVariants.{BadHead, HeadTooLarge, NoRoute, Method, NoCaller, NoRequestId, BadEpoch, LengthRequired, TooLarge, BadBody}
 
 -- the status of a reply
 abbrev pub reply_status : Reply → ℕ
 reply_status (Done answer) = 200
 reply_status (Refused refusal) = refusal_status refusal
 reply_status IdentityReused = 409
+reply_status EpochClosed = 409
 reply_status (NotTaken cause) = 503
 
 -- the status of a fault
@@ -21,6 +22,7 @@ fault_status NoRoute = 404
 fault_status (Method methods) = 405
 fault_status NoCaller = 400
 fault_status NoRequestId = 400
+fault_status BadEpoch = 400
 fault_status LengthRequired = 411
 fault_status TooLarge = 413
 fault_status BadBody = 400
@@ -33,6 +35,7 @@ fault_name NoRoute = codes "NO_ROUTE"
 fault_name (Method methods) = codes "METHOD"
 fault_name NoCaller = codes "NO_CALLER"
 fault_name NoRequestId = codes "NO_REQUEST_ID"
+fault_name BadEpoch = codes "BAD_EPOCH"
 fault_name LengthRequired = codes "LENGTH_REQUIRED"
 fault_name TooLarge = codes "TOO_LARGE"
 fault_name BadBody = codes "BAD_BODY"

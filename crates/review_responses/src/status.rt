@@ -13,6 +13,7 @@ fn reply_status(reply: &Reply) -> u16
         Reply::Done(_) => 200,
         Reply::Refused(refusal) => refusal.status(),
         Reply::IdentityReused => 409,
+        Reply::EpochClosed => 409,
         Reply::NotTaken(_) => 503,
     }
 }
@@ -27,6 +28,7 @@ fn fault_status(fault: HttpFault) -> u16
         HttpFault::Method(_) => 405,
         HttpFault::NoCaller => 400,
         HttpFault::NoRequestId => 400,
+        HttpFault::BadEpoch => 400,
         HttpFault::LengthRequired => 411,
         HttpFault::TooLarge => 413,
         HttpFault::BadBody => 400,
@@ -43,6 +45,7 @@ pub fn fault_name(fault: HttpFault) -> &'static str
         HttpFault::Method(_) => "METHOD",
         HttpFault::NoCaller => "NO_CALLER",
         HttpFault::NoRequestId => "NO_REQUEST_ID",
+        HttpFault::BadEpoch => "BAD_EPOCH",
         HttpFault::LengthRequired => "LENGTH_REQUIRED",
         HttpFault::TooLarge => "TOO_LARGE",
         HttpFault::BadBody => "BAD_BODY",

@@ -8,14 +8,14 @@ use Rattle.review_words.specs.declared.command.ChangeCommand.{ChangeCommand}
 use Rattle.review_words.specs.declared.command.ChangeCommand.TheVariants as change_command
 use Rattle.review_words.specs.declared.command.Command.{Command}
 use Rattle.review_words.specs.declared.command.Command.TheVariants as command
-use Rattle.review_bodies.specs.Parts.{text_at, name_at, members_at}
+use Rattle.review_bodies.specs.Parts.{text_at, name_at, members_at, epoch_at}
 use Rattle.review_bodies.specs.Changes.{new_change, new_patch}
 use Rattle.review_bodies.specs.Reviews.{has_refused, said}
 use Rattle.review_bodies.specs.Roles.{account_named_at, role_in}
 use Rattle.review_routes.specs.declared.route.ChangeRoute.{ChangeRoute}
 use Rattle.review_routes.specs.declared.route.ChangeRoute.TheVariants.{Upload, Review, AddReviewer, RemoveReviewer, SetWip, SetReady, Abandon, Restore, AddAttention, RemoveAttention}
 use Rattle.review_routes.specs.declared.route.Route.{Route}
-use Rattle.review_routes.specs.declared.route.Route.TheVariants.{CreateAccount, PutGroup, PutProject, RecordBase, CreateChange, OnChange, Submit, Branch, AskChange}
+use Rattle.review_routes.specs.declared.route.Route.TheVariants.{CreateAccount, PutGroup, PutProject, RecordBase, CreateChange, OnChange, Submit, CloseEpoch, Branch, AskChange}
 use Rattle.review_routes.specs.Texts.{body_spelled}
 
 -- what is asked of a change, with what the body says of it
@@ -46,6 +46,7 @@ command_in (RecordBase project branch) body = option_map (λ commit. command.Rec
 command_in CreateChange body = option_map (λ change. command.CreateChange change) (new_change body)
 command_in (OnChange change asked) body = option_map (λ what. command.OnChange change what) (change_command_in asked body)
 command_in (Submit change) body = Some (command.Submit change)
+command_in CloseEpoch body = option_map (λ epoch. command.CloseEpoch epoch) (epoch_at (codes "epoch") body)
 command_in (Branch project branch) body = None
 command_in (AskChange change query) body = None
 

@@ -1,13 +1,13 @@
 //! The commands that bodies complete routes to, one function for each whose body has members.
 ghost use Rattle.serde_json.specs.View.{view};
 ghost use Rattle.review_bodies.specs.Parts.{Gives};
-ghost use Rattle.review_routes.specs.declared.route.Route.TheVariants.{CreateAccount, PutGroup, PutProject, RecordBase, CreateChange, OnChange};
+ghost use Rattle.review_routes.specs.declared.route.Route.TheVariants.{CreateAccount, PutGroup, PutProject, RecordBase, CreateChange, OnChange, CloseEpoch};
 ghost use Rattle.review_routes.specs.Commands.{command_in, command_of};
 
 use crate::asked::change_command_in;
 use crate::route::{ChangeRoute, Route};
 use crate::texts::body_of;
-use review_bodies::{BadBody, file_at, members_at, name_at, new_change};
+use review_bodies::{BadBody, epoch_at, file_at, members_at, name_at, new_change};
 use review_words::{BranchName, ChangeNo, Command, GroupName, ProjectName};
 use serde_json::Value;
 use std::alloc::Global;
@@ -82,6 +82,15 @@ fn on_change(
     Ok(Command::OnChange { change, command })
 }
 
+/// The least epoch that stays open: `epoch` in the body.
+#[tactic(auto, unfolding(crate::specs::Commands::command_in))]
+fn close_epoch(body: &Value) -> Result<Command, BadBody>
+    ensures { Gives result (command_in CloseEpoch (view body.now)) }
+{
+    let epoch = epoch_at("epoch", body)?;
+    Ok(Command::CloseEpoch { epoch })
+}
+
 /// The command that an object completes a route to. Its members that the route has no use for are ignored.
 ///
 /// Form exactly where it completes the route to none, as where the route is a question.
@@ -97,6 +106,7 @@ pub fn command_in(alloc: Global, route: &Route, body: &Value) -> Result<Command,
         Route::CreateChange => create_change(alloc, body),
         Route::OnChange { change, asked } => on_change(alloc, *change, *asked, body),
         Route::Submit { change } => Ok(Command::Submit { change: *change }),
+        Route::CloseEpoch => close_epoch(body),
         Route::Branch { .. } | Route::AskChange { .. } => Err(BadBody::Form),
     }
 }

@@ -55,7 +55,7 @@ fn needs_members(asked: ChangeRoute) -> bool
 
 /// Whether a route needs a body: it is no question, and an object without members completes it to no command. The body of any
 /// other may be empty or absent.
-#[tactic(auto, unfolding(crate::specs::Commands::command_in, review_bodies::specs::Parts::name_at, review_bodies::specs::Parts::text_at, review_bodies::specs::Parts::members_at, review_bodies::specs::Changes::new_change))]
+#[tactic(auto, unfolding(crate::specs::Commands::command_in, review_bodies::specs::Parts::name_at, review_bodies::specs::Parts::text_at, review_bodies::specs::Parts::members_at, review_bodies::specs::Parts::epoch_at, review_bodies::specs::Changes::new_change))]
 pub fn needs_body(route: &Route) -> bool
     ensures { result ≡ needs_body route.now }
 {
@@ -64,7 +64,8 @@ pub fn needs_body(route: &Route) -> bool
         | Route::PutGroup { .. }
         | Route::PutProject { .. }
         | Route::RecordBase { .. }
-        | Route::CreateChange => true,
+        | Route::CreateChange
+        | Route::CloseEpoch => true,
         Route::OnChange { asked, .. } => needs_members(*asked),
         Route::Submit { .. } | Route::Branch { .. } | Route::AskChange { .. } => false,
     }

@@ -25,6 +25,7 @@ pub enum Route {
     Submit {
         change: ChangeNo,
     },
+    CloseEpoch,
     Branch {
         project: ProjectName,
         branch: BranchName,

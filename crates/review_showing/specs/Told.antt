@@ -12,7 +12,7 @@ use Rattle.review_words.specs.declared.reply.NotTaken.TheVariants as cause
 use Rattle.review_words.specs.declared.reply.Refusal.{Refusal}
 use Rattle.review_words.specs.declared.reply.Refusal.TheVariants as refusal
 use Rattle.review_words.specs.declared.reply.Reply.{Reply}
-use Rattle.review_words.specs.declared.reply.Reply.TheVariants.{Done, Refused, IdentityReused, NotTaken}
+use Rattle.review_words.specs.declared.reply.Reply.TheVariants.{Done, Refused, IdentityReused, EpochClosed, NotTaken}
 use Rattle.review_words.specs.declared.shown.JoinedChange.{JoinedChange}
 use Rattle.review_words.specs.declared.shown.ShownCall.{ShownCall}
 use Rattle.review_words.specs.declared.shown.ShownChange.{ShownChange}
@@ -53,6 +53,7 @@ abbrev pub told : Reply → Result Answer ShowFault
 told (Done a) = Ok a
 told (Refused r) = Err (missing r)
 told IdentityReused = Err Damaged
+told EpochClosed = Err Damaged
 told (NotTaken c) = Err (untaken c)
 
 -- what is made of what was found, unless a fault came

@@ -45,7 +45,7 @@ fn told(reply: &Reply) -> Result<&Answer, ShowFault>
     match reply {
         Reply::Done(answer) => Ok(answer),
         Reply::Refused(refusal) => Err(ShowFault::of_refusal(refusal)),
-        Reply::IdentityReused => Err(ShowFault::Damaged),
+        Reply::IdentityReused | Reply::EpochClosed => Err(ShowFault::Damaged),
         Reply::NotTaken(cause) => Err(ShowFault::of_cause(*cause)),
     }
 }

@@ -8,7 +8,8 @@ use crate::texts::{answered, cut, cut_thrice, cut_twice, on_a_line, truth, whole
 use review_texts::content_text;
 use review_words::{
     BranchName, ChangeCommand, ChangeKind, ChangeNo, Command, CommentNo, Comments, CommitName,
-    Message, NewChange, NewComment, NewPatch, PatchNo, Paths, Place, ProjectName, Review, Subject,
+    Epoch, Message, NewChange, NewComment, NewPatch, PatchNo, Paths, Place, ProjectName, Review,
+    Subject,
 };
 use std::alloc::Global;
 
@@ -215,6 +216,12 @@ fn upload(alloc: Global, text: &str) -> Result<Option<String>, Fault> {
     form(alloc, new_patch(alloc, text)?)
 }
 
+fn close_epoch(alloc: Global, text: &str) -> Result<Option<String>, Fault> {
+    let number = whole_number(text)?;
+    let epoch = Epoch::from_number(number as u64).ok_or(Fault::Form)?;
+    form(alloc, Command::CloseEpoch { epoch })
+}
+
 /// The content text of what a word asks of the change that a text names first, if both are so.
 fn on_change(alloc: Global, word: &str, text: &str) -> Result<Option<String>, Fault> {
     let (change, rest) = text.split_once(" ").unwrap_or((text, ""));
@@ -233,6 +240,7 @@ pub fn command(alloc: Global, word: &str, text: &str) -> Result<Option<String>, 
         "create-change" => create_change(alloc, text),
         "upload" => upload(alloc, text),
         "review" => review(alloc, text),
+        "close-epoch" => close_epoch(alloc, text),
         _ => on_change(alloc, word, text),
     }
 }

@@ -4,20 +4,28 @@ use crate::fault::Fault;
 use crate::texts::{on_a_line, with_byte};
 use review_json::{BadBody, delivery_of_line};
 use review_texts::content_text;
-use review_words::{AccountNo, ChangeQuery, Command, Delivery, Query, RequestId};
+use review_words::{AccountNo, ChangeQuery, Command, Delivery, Epoch, Query, RequestId};
 use std::alloc::{AllocError, Global};
 
-fn write_text(
+/// Which request it is. The first epoch isn't told.
+fn identity_text(
     alloc: Global,
     caller: AccountNo,
+    epoch: Epoch,
     id: &RequestId,
-    command: &Command,
-) -> Result<String, Fault> {
+) -> Result<String, AllocError> {
     let number = caller.get();
     let name = id.as_str();
+    match epoch.get() {
+        0 => format!(in alloc; "account {number}, id {name}"),
+        epoch => format!(in alloc; "account {number}, epoch {epoch}, id {name}"),
+    }
+}
+
+fn write_text(alloc: Global, identity: &str, command: &Command) -> Result<String, Fault> {
     let content = content_text(alloc, command)?;
     let content = on_a_line(alloc, content.as_str())?;
-    Ok(format!(in alloc; "account {number}, id {name}: {content}")?)
+    Ok(format!(in alloc; "{identity}: {content}")?)
 }
 
 fn what_of_change(query: ChangeQuery) -> &'static str {
@@ -49,9 +57,13 @@ fn delivery_text(alloc: Global, delivery: &Delivery) -> Result<String, Fault> {
     match delivery {
         Delivery::Write {
             caller,
+            epoch,
             id,
             command,
-        } => write_text(alloc, *caller, id, command),
+        } => {
+            let identity = identity_text(alloc, *caller, *epoch, id)?;
+            write_text(alloc, identity.as_str(), command)
+        }
         Delivery::Read { caller, query } => Ok(read_text(alloc, *caller, query)?),
     }
 }

@@ -6,7 +6,7 @@
 //! - a name or a number: `account-name TEXT`, `request-id TEXT`, `group TEXT`, `project TEXT`, `branch TEXT`, `commit TEXT`, `label TEXT`,
 //!   `path TEXT`, `place TEXT`, `subject TEXT`, `reason TEXT`, `message TEXT`, `account-number TEXT`, `change-number TEXT`,
 //!   `patch-number TEXT`, `comment-number TEXT`. The answer is the text of a copy of what was read, or `no form`; `kind TEXT` likewise;
-//! - `account-of N`, `change-of N`, `patch-of N`, `comment-of N`, `account-after N`: the number of that count, or `none`;
+//! - `account-of N`, `change-of N`, `patch-of N`, `comment-of N`, `epoch-of N`, `account-after N`: the number of that count, or `none`;
 //! - `first-account`, `last-account`, `name-of-account-1`, `group-of-administrators`, `place-of-patch-sets`;
 //! - `label-order NAME NAME`, `account-order NAME NAME`: how the first name stands to the second;
 //! - `members N,N,..`, `paths PATH,PATH,..`: the set of a list: how many, and the first 20 paths, or the accounts, if there are
@@ -18,15 +18,15 @@
 //!   text of the command. An empty list is `-`, and what isn't said of a comment is `absent`. Or `no form`, for comments without a message;
 //! - `add-reviewer CHANGE ACCOUNT ROLE`, where a role is `reviewer` or `cc`, `remove-reviewer CHANGE ACCOUNT`, `set-wip CHANGE`,
 //!   `set-ready CHANGE`, `abandon CHANGE`, `restore CHANGE`, `add-attention CHANGE ACCOUNT REASON`, `remove-attention CHANGE ACCOUNT REASON`:
-//!   the content text of the command;
-//! - `line LINE`: who asks for what by a line of JSON, under which id, and the content text of a command; or `no delivery`. In
-//!   `line-with-byte HEX LINE` each star of the line is the byte of two digits;
+//!   the content text of the command; `close-epoch EPOCH` likewise;
+//! - `line LINE`: who asks for what by a line of JSON, in which epoch but for the first, under which id, and the content text of a command;
+//!   or `no delivery`. In `line-with-byte HEX LINE` each star of the line is the byte of two digits;
 //! - `route LINE`: whether the route of a line of JSON is a question, or a command whose body may be empty or not. `body LINE BODY`, where the
 //!   line has no space: the content text of the command to which the bytes of a body complete its route, or `no command`.
 //!   `request-id-with-byte HEX TEXT`: the id that these bytes are, or `no form`;
 //! - `reply TEXT`: the stored reply of a text: its JSON, the status of a refusal, and its text again; or `no stored reply`. Replies that
 //!   have no text are `branch-with COMMIT,.. CHANGE@COMMIT,..`, a branch's bases and what joined it, `not-taken CAUSE`,
-//!   `identity-reused`, and the answers to questions about a change:
+//!   `identity-reused`, `epoch-closed`, and the answers to questions about a change:
 //!   `change-with CHANGE PROJECT BRANCH OWNER|STATE WIP UPDATED|PATCH-SET COMMIT UPLOADER|REVIEWER,.. CC,.. LABEL=VALUE@ACCOUNT,..|SUBJECT`,
 //!   `requirements-with NAME=STATUS,..`, `attention-with ACCOUNT REQUEST REASON|..`, and `threads-with ROOT UNRESOLVED COMMENT;COMMENT;..|..`,
 //!   where a comment is `NUMBER PATCH-SET PLACE LINE AUTHOR UNRESOLVED ANSWERED MESSAGE`. An empty list is `-`.

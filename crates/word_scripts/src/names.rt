@@ -4,8 +4,8 @@ use crate::fault::{Fault, named};
 use crate::texts::on_a_line;
 use review_words::{
     AccountName, AccountNo, BadName, BranchName, ChangeKind, ChangeNo, CommentNo, CommitName,
-    FileText, Form, GroupName, LabelName, Message, Name, PatchNo, Path, Place, ProjectName, Reason,
-    RequestId, Subject, admin_name, administrators, patch_set_level,
+    Epoch, FileText, Form, GroupName, LabelName, Message, Name, PatchNo, Path, Place, ProjectName,
+    Reason, RequestId, Subject, admin_name, administrators, patch_set_level,
 };
 use std::alloc::Global;
 use std::cmp::Ordering;
@@ -74,6 +74,7 @@ pub fn counted(alloc: Global, word: &str, text: &str) -> Result<Option<String>, 
         "change-of" => ChangeNo::from_number(count).map(ChangeNo::get),
         "patch-of" => PatchNo::from_number(count).map(PatchNo::get),
         "comment-of" => CommentNo::from_number(count).map(CommentNo::get),
+        "epoch-of" => Epoch::from_number(count).map(Epoch::get),
         "account-after" => {
             let last = u32::try_from(count).map_err(|_| Fault::Form)?;
             AccountNo::after(last).map(AccountNo::get)

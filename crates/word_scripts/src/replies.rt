@@ -102,6 +102,7 @@ pub fn reply(alloc: Global, word: &str, text: &str) -> Result<Option<String>, Fa
         "branch-with" => branch_told(alloc, text),
         "not-taken" => not_taken(alloc, text),
         "identity-reused" => told(alloc, Reply::IdentityReused),
+        "epoch-closed" => told(alloc, Reply::EpochClosed),
         _ => return answer(alloc, word, text),
     };
     Ok(Some(reply?))

@@ -6,6 +6,7 @@ pub returns : goal.returns
 unfolding table
 returns c =
     rw (
+      c.in_ok-insert_path-20.ensures,
       c.in_ok-insert_path-19.ensures,
       c.in_ok-insert_path-18.ensures,
       c.in_ok-insert_path-17.ensures,
