@@ -9,7 +9,6 @@ use Rattle.review_statements.specs.Search.{Search, row_at}
 use Rattle.review_tables.specs.Versions.{version_number, version_of}
 use Rattle.review_tables.specs.declared.versions.EarlierVersion.{EarlierVersion}
 use Rattle.review_tables.specs.declared.versions.EarlierVersion.TheVariants as earlier
-use Rattle.review_records.specs.declared.rows.DeskRow.{DeskRow}
 use Rattle.review_records.specs.Forms.{desk, earlier_answers, first_projects, projects, request_key}
 use Rattle.review_lookups.specs.Tables.{count_in, has_unkeyed, keyed_with, row_in, stored_as, tables_at, told}
 
