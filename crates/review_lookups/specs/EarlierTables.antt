@@ -9,7 +9,6 @@ use Rattle.review_statements.specs.Search.{Search, row_at}
 use Rattle.review_tables.specs.Versions.{version_number, version_of}
 use Rattle.review_tables.specs.declared.versions.EarlierVersion.{EarlierVersion}
 use Rattle.review_tables.specs.declared.versions.EarlierVersion.TheVariants as earlier
-use Rattle.review_records.specs.declared.rows.DeskRow.{DeskRow}
 use Rattle.review_records.specs.Forms.{desk, earlier_answers, earlier_key, first_epoch, first_projects, projects}
 use Rattle.review_lookups.specs.Tables.{count_in, has_unkeyed, keyed_with, number_of, row_in, stored_as, tables_at, told}
 

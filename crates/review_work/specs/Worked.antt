@@ -82,7 +82,7 @@ pub record OnShelf {S : Type 0} (g : Ghosts S) (is_ours : Bool) (Did : Bool → 
   pub opened : ShelfView S
   pub left : ShelfView S
   pub is_opened : IsOpened g old opened
-  pub there : IsTrue (state g opened.conn).is_open → IsDeskThere (state g old).now opened.requests
+  pub there : IsTrue (state g opened.conn).is_open → IsDeskThere (state g old).now opened.numbers
   pub goes_on : ReopensLast g is_ours old opened
   pub did : Did is_ours (shown g is_ours) opened left
   pub closed : IsClosed g is_ours left new
