@@ -158,9 +158,10 @@ impl<S: Alter + Drop, O: Origin> SqlShelf<S, O> {
 
     /// Opens a desk. Nothing is written, and a refusal hands the connection back with its tables as they were. Whatever the form of the tables,
     /// it is opened only where the table `desk` has one row, which says version 3 and so many requests, all columns of the other tables
-    /// are there, and the one row of the table `epochs` says epoch 0. Looked at in this order, it is NotADesk only where that row is missing, or says no version; WrongVersion only
-    /// where it says another, whatever else it says; NotADesk, where it says no requests, a table is missing or the table `epochs` says something else; and NotOurs only where
-    /// the shelf is to be ours and the tables are of another form than `create` makes, or two rows of one have the same rowid.
+    /// are there, and the one row of the table `epochs` says which epoch is the least open one. Looked at in this order, it is NotADesk only where
+    /// that row is missing, or says no version; WrongVersion only where it says another, whatever else it says; NotADesk, where it says no requests,
+    /// a table is missing or the table `epochs` says no epoch; and NotOurs only where the shelf is to be ours and the tables are of another form
+    /// than `create` makes, or two rows of one have the same rowid.
     ///
     /// Over the connection of a shelf that
     /// was closed it is that shelf: it shows the tables that it showed, unless it is shut, and a stop leaves nothing that it could not
@@ -204,8 +205,8 @@ impl<S: Alter + Drop, O: Origin> SqlShelf<S, O> {
     /// their version keeps them, the shelf shows those of the same history. A refusal hands the connection back with its tables as they were; a stop
     /// leaves the tables as they were, or, of a desk of version 1 or 2 alone, those of version 3.
     ///
-    /// It is NotADesk where the row of the table `desk` is missing or says no version, or says no requests, or a table of its version is missing, or the table `epochs` of version 3 says something else than epoch 0;
-    /// WrongVersion where it says none of the versions 1 to 3; and NotOurs where the shelf is to be ours and the tables
+    /// It is NotADesk where the row of the table `desk` is missing or says no version, or says no requests, or a table of its version is missing,
+    /// or the table `epochs` of version 3 says no epoch; WrongVersion where it says none of the versions 1 to 3; and NotOurs where the shelf is to be ours and the tables
     /// are of another form than was made here in their version, or two rows of one have the same rowid.
     pub fn migrate(
         alloc: Global,
