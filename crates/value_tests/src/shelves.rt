@@ -244,6 +244,7 @@ fn a_shelf_that_shuts_fails_for_good(rt: HostRuntime) -> Result<(), Fail> {
 }
 
 /// What is known of three requests after epoch 0 was closed.
+#[derive(Drop)]
 struct Closed {
     before: &'static str,
     own: &'static str,
