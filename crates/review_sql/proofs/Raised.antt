@@ -1,5 +1,5 @@
 -- Tables of an earlier version that are made those of a desk, in one transaction.
-use Rattle.std.proofs.Common.{◌≡◌, ◌≢◌, ◌∙◌, ◌⊎◌, inl, inr, ℕ, Bool, true, false, Some, Ok, Err, Result, OnOk, OnErr, IfOk, IfErr, IsTrue, refl, sym, ap, subst, arith}
+use Rattle.std.proofs.Common.{◌≡◌, ◌≢◌, ◌∙◌, ◌⊎◌, inl, inr, ℕ, Bool, true, false, Some, Ok, Err, Result, List, OnOk, OnErr, IfOk, IfErr, IsTrue, refl, sym, ap, subst, arith}
 use Rattle.std.specs.Bool.{Decides}
 use Rattle.std.specs.Result.{is_ok}
 use Rattle.sqlite_tied.specs.Compute.{everything}
@@ -11,6 +11,8 @@ use Rattle.sqlite.specs.Listing.{listing_schema, understood}
 use Rattle.sqlite.specs.State.{State, HasCleanDisk, Survives}
 use Rattle.sqlite.specs.declared.error.Error.{Error}
 use Rattle.sqlite.proofs.StateLemmas.{survives_then, survives_weaker}
+use Rattle.review_words.specs.History.{Entry}
+use Rattle.review_rows.specs.View.{IsView}
 use Rattle.review_statements.specs.declared.texts.TheConstants.{FIND_ANSWER}
 use Rattle.review_statements.specs.Content.{Then}
 use Rattle.review_statements.specs.Desk.{desk_schema}
@@ -28,8 +30,9 @@ use Rattle.review_sql.specs.declared.faults.DeskFault.{DeskFault}
 use Rattle.review_sql.specs.declared.faults.DeskFault.TheVariants.{NotADesk, WrongVersion, NotEmpty, NotOurs}
 use Rattle.review_sql.specs.declared.seen.Seen.{Seen}
 use Rattle.review_sql.specs.Changes.{SetsDesk, SetsLeast}
+use Rattle.review_lookups.specs.EarlierTables.{tables_in}
 use Rattle.review_lookups.specs.Tables.{tables_at}
-use Rattle.review_sql.specs.Migrated.{IsBrought, IsNotMigrated, IsOpenedAsIs, IsRaised, IsUnfit, IsUpgraded, LeavesUpgraded, Upgrades, if_whole}
+use Rattle.review_sql.specs.Migrated.{IsBrought, IsNotMigrated, IsOpenedAsIs, IsRaised, IsUnfit, IsUpgraded, IsViewIn, LeavesUpgraded, Upgrades, if_whole}
 use Rattle.review_sql.specs.Opened.{AreAllApart, AreApartIn, IsLacking, IsSeen}
 use Rattle.review_sql.specs.Said.{IsThere}
 use Rattle.review_sql.specs.Shelf.{Holds, Stays}
@@ -89,6 +92,12 @@ stays_acts {X} R s0 s1 s2 r stays acts = record {
     by_undone (Ok x) h = tt
     by_undone (Err e) h = let was = stays.kept h.0 in (was.0, h.1 ∙ was.1)
 
+-- tables of an earlier version that are there, where they are ours, become those of the same history
+same_history : (version : EarlierVersion) (is_ours : Bool) (numbers : Numbers) (old after : Database) (db : Trees) → (IsTrue is_ours → old.schema ≡ schema_at (version_of version)) → IsThere (version_of version) old numbers
+    → Upgrades version is_ours numbers old after → db ≡ after.trees → IsTrue is_ours → (h : List Entry) → IsViewIn version h (tables_in version old.trees) → IsView h (tables_at db)
+same_history version is_ours numbers old after db form there upgrades is ours h was =
+    subst (λ (t : Trees). IsView h (tables_at t)) (sym is) (upgrades.view ours (form ours) (earlier_of_ours version old (form ours) numbers there) (first_least version old numbers.least there.least) h was)
+
 -- ---- refusals
 
 -- in tables of our form of an earlier version no desk of version 3 is there
@@ -125,7 +134,20 @@ pub taken_back : {X : Type 0} (version : EarlierVersion) (is_ours : Bool) (numbe
 taken_back version is_ours numbers fault r s t e plain stays there form acts = unmigrated is_ours fault r t
     (λ is_open. let u = acts.undone is_open in let was = stays.kept u.0 in (was.0, u.1 ∙ was.1))
     (survives_then r s t _ _ _ (λ _ db h. absurd h)
-    (λ clean db h. let was = stays.kept h.0 in record { version = version; is_open = was.0; numbers = numbers; there = there h.0; form = form; after = h.1.0; left = h.1.1; upgrades = subst (λ (d : Database). Upgrades version is_ours numbers d h.1.0) was.1 h.1.2 }) stays.survives acts.survives)
+    (λ clean db h.
+    let was = stays.kept h.0 in
+    let made = subst (λ (d : Database). Upgrades version is_ours numbers d h.1.0) was.1 h.1.2 in
+    record {
+      version = version;
+      is_open = was.0;
+      numbers = numbers;
+      there = there h.0;
+      form = form;
+      after = h.1.0;
+      left = h.1.1;
+      upgrades = made;
+      view = same_history version is_ours numbers r.now h.1.0 db form (there h.0) made h.1.1;
+    }) stays.survives acts.survives)
     (λ is. absurd (elim is [ inl no_desk ↦ plain.0 no_desk | inr other ↦ plain.1 other ]))
 
 pub unmigrated_then : (is_ours : Bool) (fault : DeskFault) (s0 s1 s2 : State) → Stays s0 s1 → IsNotMigrated is_ours fault s1 s2 → IsNotMigrated is_ours fault s0 s2
@@ -141,6 +163,7 @@ unmigrated_then is_ours fault s0 s1 s2 stays it = unmigrated is_ours fault s0 s2
       after = h.after;
       left = h.left;
       upgrades = subst (λ (d : Database). Upgrades h.version is_ours h.numbers d h.after) was.1 h.upgrades;
+      view = subst (λ (d : Database). IsTrue is_ours → (entries : List Entry) → IsViewIn h.version entries (tables_in h.version d.trees) → IsView entries (tables_at db)) was.1 h.view;
     }) stays.survives it.survives)
     (λ is. stays_then s0 s1 s2 stays (it.no_earlier is))
 
@@ -208,11 +231,11 @@ module _ {S : Type 0} (g : Ghosts S) (is_ours : Bool) (c0 c1 : Held S) (numbers 
     form = it.form;
     there = λ clean. ((it.acts.done clean).1, it.there clean);
     keeps = λ clean ours. (it.acts.done clean).2.keeps ours (it.form clean ours);
-    view = λ clean ours h was. (it.acts.done clean).2.view ours (it.form clean ours) (earlier_of_ours version (state g c0).now (it.form clean ours) numbers (it.there clean)) (first_least version (state g c0).now numbers.least (it.there clean).least) h was;
+    view = λ clean. same_history version is_ours numbers (state g c0).now (state g c1).now (state g c1).now.trees (it.form clean) (it.there clean) (it.acts.done clean).2 refl;
     alone = λ clean t left.
         let d = it.acts.done clean in
         rw d.1 (ap (λ (t : Trees). Some (tables_at t)) (ap (λ (d : Database). d.trees) (settled d.1) ∙ sym (law left.0 d.1 left.1)) ∙ ap Some (sym left.2));
-    survives = it.acts.survives;
+    survives = survives_weaker (state g c0) (state g c1) _ _ (λ clean db h. (h.0, (h.1.0, h.1.1, h.1.2, same_history version is_ours numbers (state g c0).now h.1.0 db (it.form clean) (it.there clean) h.1.2 h.1.1))) it.acts.survives;
   })
   migrated settled law (inr it) =
       let opened = is_opened g c0 c1 (record { is_ours = it.has_form; numbers = numbers }) it.stays in

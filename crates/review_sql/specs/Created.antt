@@ -11,7 +11,7 @@ use Rattle.review_sql.specs.First.{MakesDesk}
 use Rattle.review_lookups.specs.Tables.{tables_at}
 use Rattle.review_sql.specs.Shelf.{ShelfView, IsAnyThere, shown}
 
--- No table of one of the names that tables of a desk have was there. In a store with no table, the tables are those of the empty history; a stop within it leaves what one could leave before, or these, and one after it these alone.
+-- No table of one of the names that tables of a desk have in any version was there. In a store with no table, the tables are those of the empty history; a stop within it leaves what one could leave before, or these, and one after it these alone.
 pub record IsCreated {S : Type 0} (g : Ghosts S) (is_ours : Bool) (conn : Held S) (shelf : ShelfView S) : Type 0 where
   pub faults : shelf.faults ≡ 0
   pub view : HasCleanDisk (state g shelf.conn) → conn.schema ≡ schema_0 → IsTrue (state g shelf.conn).is_open × IsView [] (tables_at (state g shelf.conn).now.trees)

@@ -42,7 +42,7 @@ pub record KeepsRows (version : EarlierVersion) (old new : Trees) : Type 0 where
   pub moved : AllMoved version old new
   pub others : AllByRecursion (λ t. is_new version t.tree ≡ false → t.tree ≢ table.desk.tree → new t.tree ≡ old t.tree) table.desk_tables
 
--- Tables of an earlier version, where they are ours, become those of a desk of version 3 with so many requests, of the same history.
+-- Tables of an earlier version, where they are ours, become those of a desk of version 3 with so many requests and this least open epoch, of the same history.
 pub record Upgrades (version : EarlierVersion) (is_ours : Bool) (numbers : Numbers) (old new : Database) : Type 0 where
   pub ready : IsTrue is_ours → old.schema ≡ schema_at (version_of version) → IsReady new × IsDesk numbers new.trees
   pub keeps : IsTrue is_ours → old.schema ≡ schema_at (version_of version) → KeepsRows version old.trees new.trees
@@ -77,7 +77,7 @@ abbrev pub IsBrought : {S : Type 0} → Ghosts S → Bool → Held S → Held S 
 IsBrought g is_ours old new numbers = ((version : EarlierVersion) × IsRaised g version is_ours old new numbers) ⊎ IsKept is_ours (state g old) (state g new) numbers
 
 -- Of tables of an earlier version those of version 3 were made. Where they are ours, these keep the rows, and view the same history, if the old ones view it as that version keeps it; and a stop within it leaves what one could leave before, or
--- these, and one after it these alone.
+-- tables of version 3 of which the same holds, and one after it these alone.
 pub record IsUpgraded {S : Type 0} (g : Ghosts S) (is_ours : Bool) (conn : Held S) (shelf : ShelfView S) : Type 0 where
   pub version : EarlierVersion
   pub faults : shelf.faults ≡ 0
@@ -86,7 +86,7 @@ pub record IsUpgraded {S : Type 0} (g : Ghosts S) (is_ours : Bool) (conn : Held 
   pub keeps : HasCleanDisk (state g shelf.conn) → IsTrue is_ours → KeepsRows version (state g conn).now.trees (state g shelf.conn).now.trees
   pub view : HasCleanDisk (state g shelf.conn) → IsTrue is_ours → (h : List Entry) → IsViewIn version h (tables_in version (state g conn).now.trees) → IsView h (tables_at (state g shelf.conn).now.trees)
   pub alone : HasCleanDisk (state g shelf.conn) → StopLeavesOwnTables (shown g is_ours shelf)
-  pub survives : Survives (state g conn) (state g shelf.conn) (λ db. IsTrue (state g conn).is_open × ((after : Database) × (db ≡ after.trees) × Upgrades version is_ours shelf.numbers (state g conn).now after))
+  pub survives : Survives (state g conn) (state g shelf.conn) (λ db. IsTrue (state g conn).is_open × ((after : Database) × (db ≡ after.trees) × Upgrades version is_ours shelf.numbers (state g conn).now after × (IsTrue is_ours → (h : List Entry) → IsViewIn version h (tables_in version (state g conn).now.trees) → IsView h (tables_at db))))
 
 -- A desk of version 3 was opened, as `open` says.
 pub record IsOpenedAsIs {S : Type 0} (g : Ghosts S) (is_ours : Bool) (conn : Held S) (shelf : ShelfView S) : Type 0 where
@@ -104,6 +104,7 @@ pub record LeavesUpgraded (is_ours : Bool) (old : State) (db : Trees) : Type 0 w
   pub after : Database
   pub left : db ≡ after.trees
   pub upgrades : Upgrades version is_ours numbers old.now after
+  pub view : IsTrue is_ours → (h : List Entry) → IsViewIn version h (tables_in version old.now.trees) → IsView h (tables_at db)
 
 -- A refusal leaves what was. A stop within it leaves that or, of a desk of an earlier version alone, what it becomes; and nothing but what was where it is refused as no desk or as another version,
 -- or where a desk of version 3 is there that is to be ours.

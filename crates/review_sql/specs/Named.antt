@@ -39,7 +39,7 @@ pub record SparesEdit (tree : ℕ) (test : Test) (e : ChangeEdit) : Type 0 where
   pub of_comments : SparesParts tree test comments e.change e.comments.items
   pub of_calls : SparesParts tree test calls e.change e.attention.items
 
--- the test passes no row that a delta names, nor the row of the request, nor that of the desk, nor where an epoch is named that of the epochs and the stored requests of lower ones
+-- the test passes no row that a delta names, nor the row of the request, nor that of the table `desk`; and where the delta names an epoch, neither the row of the table `epochs` nor a stored request of a lower epoch
 pub record SparesNamed (delta : Delta) (kept : Kept) (tree : ℕ) (test : Test) : Type 0 where
   pub of_accounts : SparesAll tree test accounts delta.accounts.items
   pub of_members : SparesAll tree test members delta.members.items
@@ -51,6 +51,6 @@ pub record SparesNamed (delta : Delta) (kept : Kept) (tree : ℕ) (test : Test) 
   pub of_epochs : IfSome delta.epoch (λ least. Spares tree test epochs tt)
   pub of_closed : IfSome delta.epoch (λ least. tree ≡ answers.tree → (r : Raw) → is_below (column r epoch_place) (pos least) ≡ true → test r ≡ false)
 
--- of each table the rows that no named key has are as they were, whatever test finds them
+-- of each table the rows that no named key has are as they were, whatever test finds them, but for the stored requests of lower epochs where an epoch is named
 pub record KeepsRest (delta : Delta) (kept : Kept) (old new : Trees) : Type 0 where
   pub each : (tree : ℕ) (test : Test) → is_tree tree ≡ true → SparesNamed delta kept tree test → filter test (new tree) ≡ filter test (old tree)

@@ -38,7 +38,7 @@ pub record IsOpened {S : Type 0} (g : Ghosts S) (conn : Held S) (shelf : ShelfVi
   pub faults : shelf.faults ≡ 0
   pub stays : Stays (state g conn) (state g shelf.conn)
 
--- the tables are ours only where they are those of a desk with so many requests, and wherever they have the form and their rows rowids of their own; of any form, a desk is there
+-- the tables are ours only where they are those of a desk with so many requests and this least open epoch, and wherever they have the form and their rows rowids of their own; of any form, a desk is there
 pub record IsSeen (s : State) (seen : Seen) : Type 0 where
   pub ready : seen.is_ours ≡ true → IsReady s.now × IsDesk seen.numbers s.now.trees
   pub ours : s.now.schema ≡ desk_schema → AreAllApart s.now.trees → seen.is_ours ≡ true

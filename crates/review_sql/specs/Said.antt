@@ -69,7 +69,7 @@ LacksLeast First db = ⊥
 LacksLeast Second db = ⊥
 LacksLeast Third db = (rows : List Row) × ShowsEpochs db rows × (least_in rows ≡ None)
 
--- the table `desk` has one row, which says this version and so many requests, all columns of the other tables of the version are there, and that the least open epoch is this one
+-- the table `desk` has one row, which says this version and so many requests, all columns of the other tables of the version are there, and this epoch is said to be the least open one
 pub record IsThere (version : TablesVersion) (db : Database) (numbers : Numbers) : Type 0 where
   pub rows : List Row
   pub shown : ShowsDesk db rows

@@ -114,7 +114,7 @@ impl<S: Alter + Drop, O: Origin> SqlShelf<S, O> {
     ghost use Rattle.review_sql.specs.Migrated.{IsNotMigrated, IsOpenedAsIs, IsUnfit, IsUpgraded};
 
     /// Makes an empty desk, in one transaction: over a store with no table as ours. A refusal hands the connection back with its tables as
-    /// they were: NotEmpty where a table of one of the names that tables of a desk have is there, and NotOurs where the shelf is to be ours and other tables
+    /// they were: NotEmpty where a table of one of the names that tables of a desk have in any version is there, and NotOurs where the shelf is to be ours and other tables
     /// are, both with nothing touched.
     pub fn create(
         alloc: Global,
