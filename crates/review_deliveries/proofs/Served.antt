@@ -300,9 +300,12 @@ entered h (Write caller epoch id command) reply old new s r = at (is_closed h ep
     at : (b : Bool) (o : Option Entry) → is_closed h epoch ≡ b → stored h (record { caller = caller; epoch = epoch; id = id }) ≡ o → IsEntered (Write caller epoch id command) reply (history_after h (Write caller epoch id command ∷ []) (reply ∷ []))
     at true o closed is = absurd (subst IsDoneOrRefused (told_where h caller epoch id command reply true o closed is (told_of h (Write caller epoch id command) reply old.faults new.faults r s.right)) r)
     at false None opened none =
-        subst (IsEntered (Write caller epoch id command) reply) (sym (new_history h caller epoch id command reply r (none, opened)))
-        (entry_of caller epoch id command reply,
-        stored_here (entry_of caller epoch id command reply) h (record { caller = caller; epoch = epoch; id = id }) (same_to (record { caller = caller; epoch = epoch; id = id }) (record { caller = caller; epoch = epoch; id = id }) refl), refl, refl)
+        subst (IsEntered (Write caller epoch id command) reply) (sym (new_history h caller epoch id command reply r (none, opened))) (
+          entry_of caller epoch id command reply,
+          stored_here (entry_of caller epoch id command reply) h (record { caller = caller; epoch = epoch; id = id }) (same_to (record { caller = caller; epoch = epoch; id = id }) (record { caller = caller; epoch = epoch; id = id }) refl),
+          refl,
+          refl,
+        )
     at false (Some e) opened some =
         let told = told_where h caller epoch id command reply false (Some e) opened some (told_of h (Write caller epoch id command) reply old.faults new.faults r s.right) in
         subst (IsEntered (Write caller epoch id command) reply) (sym (same_history h caller epoch id command reply e some))

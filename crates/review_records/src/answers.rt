@@ -41,7 +41,9 @@ impl Lookup for Answers {
     }
 
     fn bind<'a>(key: &'a RequestKey) -> Result<Bound<'a>, Error> {
-        let values = Bound::new().number(key.caller.get()).number(key.epoch.get());
+        let values = Bound::new()
+            .number(key.caller.get())
+            .number(key.epoch.get());
         Ok(values.text(key.id.as_str()))
     }
 

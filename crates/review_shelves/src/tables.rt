@@ -145,12 +145,7 @@ impl MemoryTables {
     }
 
     /// Applies a delta but for its epoch and stores its request, or changes no row. Places that got no row are given back.
-    fn commit_beside(
-        &mut self,
-        alloc: Global,
-        delta: &Delta,
-        kept: &Kept,
-    ) -> Result<(), AllocError>
+    fn commit_beside(&mut self, alloc: Global, delta: &Delta, kept: &Kept) -> Result<(), AllocError>
         requires sound { IsSound self.old }
         requires room { self.old.requests < 2 ^ 64 - 1 }
         ensures sound { IsSound self.new }
