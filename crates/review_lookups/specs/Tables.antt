@@ -41,8 +41,7 @@ keyed_with files stored =
     (accounts.tree, accounts.keyed) ∷ (members.tree, members.keyed) ∷ files ∷ (bases.tree, bases.keyed) ∷ stored
     ∷ (headers.tree, headers.keyed) ∷ (patches.tree, patches.keyed) ∷ (votes.tree, votes.keyed) ∷ (roles.tree, roles.keyed) ∷ (comments.tree, comments.keyed) ∷ (calls.tree, calls.keyed) ∷ []
 
--- The tables of records, and which of their rows have a key. A stored request is looked up by its whole identity alone, so a row without one is met by
--- nothing, and goes where the answers of lower epochs are given up.
+-- The tables of records, and which of their rows have a key. Each row of the stored requests counts as having one, also one that reads as no identity, which no look-up meets.
 abbrev pub keyed_tables : List (ℕ × (Raw → Bool))
 keyed_tables = keyed_with (projects.tree, projects.keyed) (answers.tree, λ r. true)
 
