@@ -175,7 +175,7 @@ eq_sym m n = grind (arith, nat_tests)
 -- the new account is the only new row
 pub create_decided : {reading : Reading} (h : List Entry) (caller : ℕ) (name : List ℕ) (delta : Delta) (number : ℕ) →
     is_account h caller ≡ true → is_admin h caller ≡ true → name_taken h name ≡ false → nat_lt (account_count h) 1000000 ≡ true → number ≡ account_count h + 1 →
-    delta.accounts.items ≡ record { key = number; row = Some name } ∷ [] → delta.members.items ≡ [] → delta.file ≡ None → delta.base ≡ None → delta.changes.items ≡ [] → delta.epoch ≡ None →
+    delta.accounts.items ≡ record { key = number; row = Some name } ∷ [] → delta.members.items ≡ [] → delta.file ≡ None → delta.base ≡ None → delta.changes.items ≡ [] → delta.least_epoch ≡ None →
     IsDecided reading h caller (CreateAccount name) delta (Done (made.Account number))
 create_decided {reading = reading} h caller name delta number a b c d n da dm df db dc de = record {
   reply_is = outcome_answer reading h caller (CreateAccount name) (Done (made.Account number)) (create_refused reading h caller name true true false true a b c d) (ap (λ x. Done (made.Account x)) n);
@@ -205,7 +205,7 @@ create_decided {reading = reading} h caller name delta number a b c d n da dm df
 -- the rows of the group become those of its new members
 pub put_decided : {reading : Reading} {file : Option File} (h : List Entry) (caller : ℕ) (group members : List ℕ) (rows : Rows) (delta : Delta) → AreEnough reading h caller (OfCommand (PutGroup group members)) file rows →
     is_account h caller ≡ true → is_admin h caller ≡ true → bytes_eq group registered_users ≡ false → list_all (is_account h) members ≡ true →
-    delta.accounts.items ≡ [] → delta.members.items ≡ added group (members_of (known rows (want.Group group))) members ++ dropped group (members_of (known rows (want.Group group))) members → delta.file ≡ None → delta.base ≡ None → delta.changes.items ≡ [] → delta.epoch ≡ None →
+    delta.accounts.items ≡ [] → delta.members.items ≡ added group (members_of (known rows (want.Group group))) members ++ dropped group (members_of (known rows (want.Group group))) members → delta.file ≡ None → delta.base ≡ None → delta.changes.items ≡ [] → delta.least_epoch ≡ None →
     IsDecided reading h caller (PutGroup group members) delta (Done made.Nothing)
 put_decided {reading = reading} h caller group members rows delta l a b c d da dm df db dc de = record {
   reply_is = outcome_answer reading h caller (PutGroup group members) (Done made.Nothing) (put_refused reading h caller group members true true false true a b c d) refl;
@@ -267,7 +267,7 @@ base_rows h project branch commit place p b n is =
 -- the base is the last of its branch
 pub base_decided : {reading : Reading} (h : List Entry) (caller : ℕ) (project branch commit : List ℕ) (place : ℕ) (delta : Delta) → place ≡ length (bases h project branch) + 1 →
     is_account h caller ≡ true → is_admin h caller ≡ true → is_project h project ≡ true → is_known reading h project branch commit ≡ false → nat_lt (base_count h project) 100000 ≡ true →
-    delta.accounts.items ≡ [] → delta.members.items ≡ [] → delta.file ≡ None → delta.base ≡ Some (record { key = record { project = project; branch = branch; place = place }; row = commit }) → delta.changes.items ≡ [] → delta.epoch ≡ None →
+    delta.accounts.items ≡ [] → delta.members.items ≡ [] → delta.file ≡ None → delta.base ≡ Some (record { key = record { project = project; branch = branch; place = place }; row = commit }) → delta.changes.items ≡ [] → delta.least_epoch ≡ None →
     IsDecided reading h caller (RecordBase project branch commit) delta (Done made.Nothing)
 base_decided {reading = reading} h caller project branch commit place delta is a b c d e da dm df db dc de = record {
   reply_is = outcome_answer reading h caller (RecordBase project branch commit) (Done made.Nothing) (base_refused reading h caller project branch commit true true true false true a b c d e) refl;
@@ -299,7 +299,7 @@ base_decided {reading = reading} h caller project branch commit place delta is a
 -- the project has the file that is put
 pub file_decided : {reading : Reading} (h : List Entry) (caller : ℕ) (project text : List ℕ) (delta : Delta) →
     IsAnswerBy reading h caller (PutProject project text) (Done made.Nothing) →
-    delta.accounts.items ≡ [] → delta.members.items ≡ [] → delta.file ≡ Some (record { key = project; row = record { text = text; parent = named_parent text } }) → delta.base ≡ None → delta.changes.items ≡ [] → delta.epoch ≡ None →
+    delta.accounts.items ≡ [] → delta.members.items ≡ [] → delta.file ≡ Some (record { key = project; row = record { text = text; parent = named_parent text } }) → delta.base ≡ None → delta.changes.items ≡ [] → delta.least_epoch ≡ None →
     IsDecided reading h caller (PutProject project text) delta (Done made.Nothing)
 file_decided {reading = reading} h caller project text delta is da dm df db dc de = record {
   reply_is = is;

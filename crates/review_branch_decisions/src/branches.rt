@@ -34,7 +34,7 @@ pub fn record_base(
     ensures cause { IfErr result (λ e. e ≡ Memory) }
     ensures stored { IfOk result (λ r. IsStored r.1) }
     ensures refused { IfOk result (λ r. HasNoEffect r.1 r.0) }
-    ensures epoch { IfOk result (λ r. r.0.epoch ≡ None) }
+    ensures epoch { IfOk result (λ r. r.0.least_epoch ≡ None) }
     ensures once { IfOk result (λ r. NamesEachOnce r.0) }
 {
     let admin = is_admin(alloc, rows, caller)?;

@@ -122,7 +122,7 @@ none_yet reading h = at (change reading h (change_count h + 1)) (change_there re
 -- the change is made
 pub create_decided : (reading : Reading) (h : List Entry) (caller : ℕ) (new : NewChange) (number patch : ℕ) (c : Change) (e : ChangeEdit) (delta : Delta) → refused_by reading h caller (CreateChange new) ≡ None →
     number ≡ change_count h + 1 → patch ≡ 1 → c ≡ begun new caller (length h + 1) → e.change ≡ number → ((part : Part) → after_change (part_change e part) None ≡ part_row c part) →
-    delta.accounts.items ≡ [] → delta.members.items ≡ [] → delta.file ≡ None → delta.base ≡ None → delta.changes.items ≡ e ∷ [] → delta.epoch ≡ None →
+    delta.accounts.items ≡ [] → delta.members.items ≡ [] → delta.file ≡ None → delta.base ≡ None → delta.changes.items ≡ e ∷ [] → delta.least_epoch ≡ None →
     IsDecided reading h caller (CreateChange new) delta (Done (made.Change number patch))
 create_decided reading h caller new number patch c e delta passes n p made_is of turns da dm df db dc de = record {
   reply_is = outcome_answer reading h caller (CreateChange new) (Done (made.Change number patch)) passes (λ i. Done (made.Change (n i) (p i)));

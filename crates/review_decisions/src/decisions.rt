@@ -37,8 +37,8 @@ pub fn decide(
     ensures cause { IfErr result (IsUndecided caller command.now (option_copied had.entry) rows.now) }
     ensures stored { IfOk result (λ r. IsStored r.1) }
     ensures refused { IfOk result (λ r. HasNoEffect r.1 r.0) }
-    ensures closes { IfOk result (λ r. r.0.epoch ≡ closing (if_done r.1 command.now)) }
-    ensures own { IfOk result (λ r. is_below r.0.epoch epoch ≡ false) }
+    ensures closes { IfOk result (λ r. r.0.least_epoch ≡ closing (if_done r.1 command.now)) }
+    ensures own { IfOk result (λ r. is_below r.0.least_epoch epoch ≡ false) }
     ensures once { IfOk result (λ r. NamesEachOnce r.0) }
 {
     if !rows.is_account(caller) {
@@ -61,8 +61,8 @@ fn decide_for(
     ensures cause { IfErr result (IsUndecided caller command.now (option_copied had.entry) rows.now) }
     ensures stored { IfOk result (λ r. IsStored r.1) }
     ensures refused { IfOk result (λ r. HasNoEffect r.1 r.0) }
-    ensures closes { IfOk result (λ r. r.0.epoch ≡ closing (if_done r.1 command.now)) }
-    ensures own { IfOk result (λ r. is_below r.0.epoch epoch ≡ false) }
+    ensures closes { IfOk result (λ r. r.0.least_epoch ≡ closing (if_done r.1 command.now)) }
+    ensures own { IfOk result (λ r. is_below r.0.least_epoch epoch ≡ false) }
     ensures once { IfOk result (λ r. NamesEachOnce r.0) }
 {
     match command {

@@ -42,7 +42,7 @@ own_stays i j b x y own = at b (is_same i j) own
 
 -- a first arrival whose request was stored
 stored_request : (i : Identity) (command : Command) (reply : Reply) (delta : Delta) (file : Option File) (rows : Rows) (row : AnswerRow) (t u : Tables) →
-    Answers t i None → Agrees t rows → next file rows i.caller (OfCommand command) ≡ [] → HasNoEffect reply delta → delta.epoch ≡ closing (if_done reply command) → is_below delta.epoch i.epoch ≡ false → IsCommitted t delta row u →
+    Answers t i None → Agrees t rows → next file rows i.caller (OfCommand command) ≡ [] → HasNoEffect reply delta → delta.least_epoch ≡ closing (if_done reply command) → is_below delta.least_epoch i.epoch ≡ false → IsCommitted t delta row u →
     ((n : ℕ) → number_of (known rows Requests) ≡ n → row ≡ answer_row (record { identity = i; version = latest; command = command; reply = reply }) (n + 1)) → StoresRequest i command reply t u
 stored_request i command reply delta file rows row t u none agree left quiet closes own c is =
     let same : row ≡ answer_row (record { identity = i; version = latest; command = command; reply = reply }) (t.requests + 1) = is t.requests (requests_are t file rows i.caller command agree left) in
@@ -57,7 +57,7 @@ stored_request i command reply delta file rows row t u none agree left quiet clo
     }
 
 pub stored_shown : (i : Identity) (command : Command) (reply : Reply) (delta : Delta) (file : Option File) (rows : Rows) (row : AnswerRow) (old mid new : Option Tables) →
-    mid ≡ old → Shows old (λ t. Answers t i None) → Shows old (λ t. Agrees t rows) → next file rows i.caller (OfCommand command) ≡ [] → HasNoEffect reply delta → delta.epoch ≡ closing (if_done reply command) → is_below delta.epoch i.epoch ≡ false → Shows mid (λ t. Shows new (IsCommitted t delta row)) →
+    mid ≡ old → Shows old (λ t. Answers t i None) → Shows old (λ t. Agrees t rows) → next file rows i.caller (OfCommand command) ≡ [] → HasNoEffect reply delta → delta.least_epoch ≡ closing (if_done reply command) → is_below delta.least_epoch i.epoch ≡ false → Shows mid (λ t. Shows new (IsCommitted t delta row)) →
     ((n : ℕ) → number_of (known rows Requests) ≡ n → row ≡ answer_row (record { identity = i; version = latest; command = command; reply = reply }) (n + 1)) →
     IsFoundOrStored i command reply old new
 stored_shown i command reply delta file rows row old mid new stays none agree left quiet closes own c is =

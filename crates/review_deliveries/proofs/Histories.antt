@@ -255,8 +255,8 @@ view_grows h t new delta row caller epoch id command reply view opened decided c
       row_is = λ k. c.row_is k ∙ (ap (after delta k) (v.row_is k) ∙ sym (d.row_is id k));
       count_is = λ n. c.count_is n ∙ ((λ i. count_after delta (row i) n (v.count_is n i)) ∙ sym (d.count_is id n));
       answer_is = λ i. c.answer_is i
-          ∙ ((λ j. cond (is_below delta.epoch i.epoch) None (cond (is_same (is j).identity i) (Some (Answered (is j))) (v.answer_is i j)))
-          ∙ kept_with e h delta.epoch i (d.count_is id ClosedEpochs) (own_open reading h caller epoch command reply d.reply_is opened));
+          ∙ ((λ j. cond (is_below delta.least_epoch i.epoch) None (cond (is_same (is j).identity i) (Some (Answered (is j))) (v.answer_is i j)))
+          ∙ kept_with e h delta.least_epoch i (d.count_is id ClosedEpochs) (own_open reading h caller epoch command reply d.reply_is opened));
       version = c.version ∙ v.version;
       requests = let x = c.requests in let y = v.requests in omega arith;
     }

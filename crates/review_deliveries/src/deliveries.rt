@@ -208,8 +208,8 @@ fn decide<R: Rules>(
     ensures decided { IfOk result (λ d. (reading : Reading) (h : List Entry) → length h < most_requests → RestsOn (OfCommand command.now) h → AreEnough reading h caller (OfCommand command.now) (option_copied read.entry) rows.now → IsDecidedAt reading h caller epoch command.now d.delta d.reply) }
     ensures stored { IfOk result (λ d. IsStored d.reply) }
     ensures refused { IfOk result (λ d. HasNoEffect d.reply d.delta) }
-    ensures closes { IfOk result (λ d. d.delta.epoch ≡ closing (if_done d.reply command.now)) }
-    ensures own { IfOk result (λ d. is_below d.delta.epoch epoch ≡ false) }
+    ensures closes { IfOk result (λ d. d.delta.least_epoch ≡ closing (if_done d.reply command.now)) }
+    ensures own { IfOk result (λ d. is_below d.delta.least_epoch epoch ≡ false) }
     ensures cause { IfErr result (IsUnstored caller command.now (option_copied read.entry) rows.now) }
 {
     let requests = rows.requests();

@@ -49,7 +49,7 @@ pub record PutsFile (project : List ℕ) (file : StoredFile) (delta : Delta) : T
   pub file_is : delta.file ≡ Some (record { key = project; row = file })
   pub base : delta.base ≡ None
   pub changes : delta.changes.items ≡ []
-  pub epoch : delta.epoch ≡ None
+  pub epoch : delta.least_epoch ≡ None
 
 -- whether a project has this parent, as rows know its file: one that has no file yet may have any
 abbrev pub keeps_parent : Option StoredFile → Option (List ℕ) → Bool

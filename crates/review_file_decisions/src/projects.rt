@@ -46,7 +46,7 @@ pub fn put_project(
     ensures cause { IfErr result (IsUndecided caller (PutProject project.now file.now) (option_copied had.entry) rows.now) }
     ensures stored { IfOk result (λ r. IsStored r.1) }
     ensures refused { IfOk result (λ r. HasNoEffect r.1 r.0) }
-    ensures epoch { IfOk result (λ r. r.0.epoch ≡ None) }
+    ensures epoch { IfOk result (λ r. r.0.least_epoch ≡ None) }
     ensures once { IfOk result (λ r. NamesEachOnce r.0) }
 {
     one_effective_file();
@@ -65,7 +65,7 @@ fn refuse_file(alloc: Global, fault: ReadFault) -> Result<(Delta, Reply), NotTak
     ensures file { IfOk result (λ r. IsEmpty r.0 × ((f : FileFault) × (fault ≡ File f) × (r.1 ≡ Refused (BadFile f)))) }
     ensures cause { IfErr result (IsReadCause fault) }
     ensures stored { IfOk result (λ r. IsStored r.1) }
-    ensures epoch { IfOk result (λ r. r.0.epoch ≡ None) }
+    ensures epoch { IfOk result (λ r. r.0.least_epoch ≡ None) }
 {
     match fault {
         ReadFault::File(fault) => Ok(refused(alloc, Refusal::BadFile(fault))),
@@ -87,7 +87,7 @@ fn put_file(
     ensures cause { IfErr result (λ cause. (cause ≡ Memory) ⊎ ((keeps_parent (own_in rows.now project.now) new.file.parent ≡ true) × IsUnread (texts_in rows.now new.file.parent) cause)) }
     ensures stored { IfOk result (λ r. IsStored r.1) }
     ensures refused { IfOk result (λ r. HasNoEffect r.1 r.0) }
-    ensures epoch { IfOk result (λ r. r.0.epoch ≡ None) }
+    ensures epoch { IfOk result (λ r. r.0.least_epoch ≡ None) }
     ensures once { IfOk result (λ r. NamesEachOnce r.0) }
 {
     let put = row_put(alloc, project, &new)?;
@@ -146,7 +146,7 @@ fn put_below(
     ensures cause { IfErr result (IsUnread (texts_in rows.now put.row.parent)) }
     ensures stored { IfOk result (λ r. IsStored r.1) }
     ensures refused { IfOk result (λ r. HasNoEffect r.1 r.0) }
-    ensures epoch { IfOk result (λ r. r.0.epoch ≡ None) }
+    ensures epoch { IfOk result (λ r. r.0.least_epoch ≡ None) }
     ensures once { IfOk result (λ r. NamesEachOnce r.0) }
 {
     let above = read_line(alloc, memo, rows, put.row.parent.as_ref())?;
@@ -212,7 +212,7 @@ fn put_line(
     ensures cause { IfErr result (λ cause. cause ≡ Memory) }
     ensures stored { IfOk result (λ r. IsStored r.1) }
     ensures refused { IfOk result (λ r. HasNoEffect r.1 r.0) }
-    ensures epoch { IfOk result (λ r. r.0.epoch ≡ None) }
+    ensures epoch { IfOk result (λ r. r.0.least_epoch ≡ None) }
     ensures once { IfOk result (λ r. NamesEachOnce r.0) }
 {
     let covered = is_covered(had, line.file());

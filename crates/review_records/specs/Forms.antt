@@ -107,7 +107,7 @@ project_names = record { tree = table.projects_2.tree; keyed = project_keyed; at
 
 -- the file of a project as version 1 keeps it, where no project has a parent
 abbrev pub first_projects : Search (List ℕ) StoredFile
-first_projects = record { tree = table.projects.tree; keyed = project_keyed; at = λ project. (1, Text project) ∷ []; columns = 2 ∷ []; read = λ r. option_map file_without_parent (text_in (column r 0)) }
+first_projects = record { tree = table.projects_1.tree; keyed = project_keyed; at = λ project. (1, Text project) ∷ []; columns = 2 ∷ []; read = λ r. option_map file_without_parent (text_in (column r 0)) }
 
 -- ---- bases
 
@@ -196,7 +196,7 @@ earlier_key caller id = record { caller = caller; epoch = first_epoch; id = id }
 -- the stored requests as versions 1 and 2 keep them, whose identities have no epoch
 abbrev pub earlier_answers : Search RequestKey Answered
 earlier_answers = record {
-  tree = table.answers.tree;
+  tree = table.answers_1.tree;
   keyed = earlier_answer_keyed;
   at = λ i. (1, Int (pos i.caller)) ∷ (2, Text i.id) ∷ [];
   columns = 3 ∷ 4 ∷ 5 ∷ [];

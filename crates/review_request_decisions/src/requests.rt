@@ -43,7 +43,7 @@ pub fn on_change(
     ensures cause { IfErr result (IsUndecided caller (OnChange change command.now) (option_copied had.entry) rows.now) }
     ensures stored { IfOk result (λ r. IsStored r.1) }
     ensures refused { IfOk result (λ r. HasNoEffect r.1 r.0) }
-    ensures epoch { IfOk result (λ r. r.0.epoch ≡ None) }
+    ensures epoch { IfOk result (λ r. r.0.least_epoch ≡ None) }
     ensures once { IfOk result (λ r. NamesEachOnce r.0) }
 {
     match command {
@@ -84,7 +84,7 @@ fn request(
     ensures cause { IfErr result (IsUndecided caller (OnChange change command.now) (option_copied had.entry) rows.now) }
     ensures stored { IfOk result (λ r. IsStored r.1) }
     ensures refused { IfOk result (λ r. HasNoEffect r.1 r.0) }
-    ensures epoch { IfOk result (λ r. r.0.epoch ≡ None) }
+    ensures epoch { IfOk result (λ r. r.0.least_epoch ≡ None) }
     ensures once { IfOk result (λ r. NamesEachOnce r.0) }
 {
     one_effective_file();
@@ -189,7 +189,7 @@ fn done(
     ensures made { IfOk result (λ r. IsPlainlyDone change command.now caller rows.now (seen found.now) r.0 r.1) }
     ensures stored { IfOk result (λ r. IsStored r.1) }
     ensures refused { IfOk result (λ r. HasNoEffect r.1 r.0) }
-    ensures epoch { IfOk result (λ r. r.0.epoch ≡ None) }
+    ensures epoch { IfOk result (λ r. r.0.least_epoch ≡ None) }
     ensures once { IfOk result (λ r. NamesEachOnce r.0) }
 {
     let request = rows.requests().saturating_add(1);

@@ -141,7 +141,7 @@ count_put test (Some put) row n = if test put.key then (if is_some (row put.key)
 abbrev pub count_after : Delta → (Key → Option Row) → Count → ℕ → ℕ
 count_after delta row Projects n = count_put (λ p. true) delta.file (λ p. row (FileKey p)) n
 count_after delta row (BasesOf project) n = count_put (λ k. bytes_eq k.project project) delta.base (λ k. row (BaseKey k.project k.branch k.place)) n
-count_after delta row ClosedEpochs n = unwrap_or delta.epoch n
+count_after delta row ClosedEpochs n = unwrap_or delta.least_epoch n
 
 -- whether an epoch is below the one that is named, if one is
 abbrev pub is_below : Option ℕ → ℕ → Bool
@@ -155,7 +155,7 @@ closing _ = None
 
 -- no row and no count is changed, whatever they were, and no kept answer is given up
 pub record ChangesNothing (delta : Delta) : Type 0 where
-  pub answers : delta.epoch ≡ None
+  pub answers : delta.least_epoch ≡ None
   pub rows : (k : Key) (was : Option Row) → after delta k was ≡ was
   pub counts : (row : Key → Option Row) (c : Count) (n : ℕ) → count_after delta row c n ≡ n
 

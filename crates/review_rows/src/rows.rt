@@ -224,7 +224,7 @@ pub struct Delta {
     pub base: Option<Put<PlaceKey, CommitName>>,
     pub changes: Vec<ChangeEdit>,
     /// The least open epoch from now on.
-    pub epoch: Option<Epoch>,
+    pub least_epoch: Option<Epoch>,
 }
 
 /// A stored request, with the texts of its command and its reply.

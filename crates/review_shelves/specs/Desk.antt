@@ -119,7 +119,7 @@ with_answers t answers least = record {
 
 -- a delta but for the epoch that it names
 abbrev pub beside_epoch : Delta → Delta
-beside_epoch delta = record delta { epoch = None }
+beside_epoch delta = record delta { least_epoch = None }
 
 -- whether a key is among these
 abbrev pub is_among : List AnswerKey → AnswerKey → Bool

@@ -107,9 +107,9 @@ impl MemoryTables {
         ensures done { OnOk result (IsCommitted (tables_of (desk_of self.old)) delta.now (kept_row kept.now) (tables_of (desk_of self.new))) }
         ensures same { OnErr result (tables_of (desk_of self.new) ≡ tables_of (desk_of self.old)) }
     {
-        let lower = self.lower_keys(alloc, delta.epoch, kept)?;
+        let lower = self.lower_keys(alloc, delta.least_epoch, kept)?;
         self.commit_beside(alloc, delta, kept)?;
-        self.give_up(delta.epoch, &lower);
+        self.give_up(delta.least_epoch, &lower);
         Ok(())
     }
 

@@ -224,7 +224,7 @@ module _ (epoch : Option ℕ) (old new : Trees) (h : GivesUp epoch old new) wher
 
 -- ---- all of it
 
-module _ (delta : Delta) (kept : Kept) (n : Numbers) (a b : Trees) (was : IsDesk n a) (h : Then (Then (Then (SetsDelta delta) (SetsKept kept)) (GivesUp delta.epoch)) (SetsDesk (n.requests + 1)) a b) where
+module _ (delta : Delta) (kept : Kept) (n : Numbers) (a b : Trees) (was : IsDesk n a) (h : Then (Then (Then (SetsDelta delta) (SetsKept kept)) (GivesUp delta.least_epoch)) (SetsDesk (n.requests + 1)) a b) where
   abbrev t3 : Trees
   t3 = h.0
 
@@ -247,7 +247,7 @@ module _ (delta : Delta) (kept : Kept) (n : Numbers) (a b : Trees) (was : IsDesk
   d1 = h.1.1.1.1.1.1.0
 
   last : (t : ℕ) → is_tree t ≡ true → t ≢ 28 → t ≢ 31 → t ≢ 25 → b t ≡ t1 t
-  last t is p o q = h.2.others t is q ∙ (given_up_spares delta.epoch t2 t3 h.1.2 t is p o ∙ h.1.1.2.others t is p)
+  last t is p o q = h.2.others t is q ∙ (given_up_spares delta.least_epoch t2 t3 h.1.2 t is p o ∙ h.1.1.2.others t is p)
 
   late : (t : ℕ) → is_tree t ≡ true → is_part_tree t ≡ false → t ≢ 28 → t ≢ 31 → t ≢ 25 → b t ≡ u t
   late t is other p o q = last t is p o q ∙ edits_spare [] delta.changes.items u t1 h.1.1.1.2 t is other
@@ -331,28 +331,28 @@ module _ (delta : Delta) (kept : Kept) (n : Numbers) (a b : Trees) (was : IsDesk
       ∙ ap (λ l. count_put (λ (k : PlaceKey). bytes_eq k.project project) delta.base (λ k. told BaseRow (only (reads bases) (rows_at (bases.at k) l))) (length (rows_at ((1, Text project) ∷ []) l))) was_6)
   counts single ClosedEpochs =
       ap (λ l. least_in (only (reads epochs) (rows_at (epochs.at tt) l))) (h.2.others 31 refl (λ e. omega (arith, e)))
-      ∙ (least_after delta.epoch t2 t3 h.1.2 ∙ ap (λ l. unwrap_or delta.epoch (least_in (only (reads epochs) (rows_at (epochs.at tt) l)))) (h.1.1.2.others 31 refl (λ e. omega (arith, e)) ∙ was_31))
+      ∙ (least_after delta.least_epoch t2 t3 h.1.2 ∙ ap (λ l. unwrap_or delta.least_epoch (least_in (only (reads epochs) (rows_at (epochs.at tt) l)))) (h.1.1.2.others 31 refl (λ e. omega (arith, e)) ∙ was_31))
 
-  least_said : row_at epochs b tt ≡ Some (Some (unwrap_or delta.epoch n.least))
+  least_said : row_at epochs b tt ≡ Some (Some (unwrap_or delta.least_epoch n.least))
   least_said =
       ap (λ l. only (reads epochs) (rows_at (epochs.at tt) l)) (h.2.others 31 refl (λ e. omega (arith, e)))
-      ∙ said_after delta.epoch t2 t3 h.1.2 n.least (ap (λ l. only (reads epochs) (rows_at (epochs.at tt) l)) (h.1.1.2.others 31 refl (λ e. omega (arith, e)) ∙ was_31) ∙ was.least_is)
+      ∙ said_after delta.least_epoch t2 t3 h.1.2 n.least (ap (λ l. only (reads epochs) (rows_at (epochs.at tt) l)) (h.1.1.2.others 31 refl (λ e. omega (arith, e)) ∙ was_31) ∙ was.least_is)
 
   pub committed : AreSingle a → IsCommitted (tables_at a) delta (kept_row kept) (tables_at b)
   committed single = record {
     row_is = rows;
     count_is = counts single;
     answer_is = λ i. ap (λ l. stored_as i (only (reads answers) (rows_at (answers.at (request_key i)) l))) (h.2.others 28 refl (λ e. omega (arith, e)))
-        ∙ (answer_after delta.epoch t2 t3 h.1.2 i ∙ ap (λ o. cond (lower delta.epoch i.epoch) None o)
+        ∙ (answer_after delta.least_epoch t2 t3 h.1.2 i ∙ ap (λ o. cond (lower delta.least_epoch i.epoch) None o)
         (answer_row kept t1 t2 h.1.1.2 i ∙ ap (λ l. cond (is_same (kept_row kept).identity i) (Some (Answered (kept_row kept))) (stored_as i (only (reads answers) (rows_at (answers.at (request_key i)) l)))) was_28));
     version = (λ k. version_in (least_said k) (h.2.here k)) ∙ sym (λ k. version_in (was.least_is k) (was.desk_is k));
     requests = ap (number_of (λ d. d.requests)) h.2.here ∙ sym (ap (λ o. number_of (λ d. d.requests) o + 1) was.desk_is);
   }
 
-  pub still_desk : IsDesk (more n delta.epoch) b
+  pub still_desk : IsDesk (more n delta.least_epoch) b
   still_desk = record { desk_is = h.2.here; least_is = least_said }
 
-pub commits : (delta : Delta) (kept : Kept) (n : Numbers) (old new : Database) → OnDesk (Then (Then (Then (SetsDelta delta) (SetsKept kept)) (GivesUp delta.epoch)) (SetsDesk (n.requests + 1))) old new → Commits delta kept n old new
+pub commits : (delta : Delta) (kept : Kept) (n : Numbers) (old new : Database) → OnDesk (Then (Then (Then (SetsDelta delta) (SetsKept kept)) (GivesUp delta.least_epoch)) (SetsDesk (n.requests + 1))) old new → Commits delta kept n old new
 commits delta kept n old new h = record {
   ready = h.ready;
   committed = λ ready single was. committed delta kept n old.trees new.trees was (h.changes ready) single;

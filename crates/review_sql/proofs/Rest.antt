@@ -91,11 +91,11 @@ module _ (tree : ℕ) (test : Test) (is : is_tree tree ≡ true) where
       by true e = refl
       by false e = absurd (cc)
 
-pub keeps_rest : (delta : Delta) (kept : Kept) (n : ℕ) (old new : Trees) → Then (Then (Then (SetsDelta delta) (SetsKept kept)) (GivesUp delta.epoch)) (SetsDesk n) old new → KeepsRest delta kept old new
+pub keeps_rest : (delta : Delta) (kept : Kept) (n : ℕ) (old new : Trees) → Then (Then (Then (SetsDelta delta) (SetsKept kept)) (GivesUp delta.least_epoch)) (SetsDesk n) old new → KeepsRest delta kept old new
 keeps_rest delta kept n old new sets = record {
   each = λ tree test is spares.
       row_same tree test is desk tt (Some (record { version = 3; requests = n })) sets.0 new spares.of_desk sets.2
-      ∙ (given_up_same tree test is delta.epoch sets.1.0 sets.0 spares.of_epochs spares.of_closed sets.1.2
+      ∙ (given_up_same tree test is delta.least_epoch sets.1.0 sets.0 spares.of_epochs spares.of_closed sets.1.2
       ∙ (row_same tree test is answers (request_key (kept_row kept).identity) (Some (record { request = kept.request; content = string_bytes kept.content; reply = string_bytes kept.reply })) sets.1.1.0 sets.1.0 spares.of_answer sets.1.1.2
       ∙ delta_same tree test is delta kept old sets.1.1.0 spares sets.1.1.1));
 }

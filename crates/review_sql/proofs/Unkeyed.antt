@@ -112,7 +112,7 @@ keeps_given_up None old new h = keeps_same old new h
 keeps_given_up (Some least) old new h = keeps_then old h.0 new (keeps_answers old h.0 h.1.others) (keeps_row epochs refl _ _ h.0 new h.2)
 
 -- a commit leaves the rows that have no key
-pub commit_keeps : (delta : Delta) (kept : Kept) (n : ℕ) (a b : Trees) → Then (Then (Then (SetsDelta delta) (SetsKept kept)) (GivesUp delta.epoch)) (SetsDesk (n + 1)) a b → Keeps a b
+pub commit_keeps : (delta : Delta) (kept : Kept) (n : ℕ) (a b : Trees) → Then (Then (Then (SetsDelta delta) (SetsKept kept)) (GivesUp delta.least_epoch)) (SetsDesk (n + 1)) a b → Keeps a b
 commit_keeps delta kept n a b h =
     let t3 = h.0 in
     let t2 = h.1.0 in
@@ -123,7 +123,7 @@ commit_keeps delta kept n a b h =
     let d1 = h.1.1.1.1.1.1.0 in
     keeps_then a t3 b (keeps_then a t2 t3 (keeps_then a t1 t2 (keeps_then a u t1 (keeps_then a d3 u (keeps_then a d2 d3 (keeps_then a d1 d2 (keeps_rows accounts refl delta.accounts.items a d1 h.1.1.1.1.1.1.1)
     (keeps_rows members refl delta.members.items d1 d2 h.1.1.1.1.1.1.2)) (keeps_put projects refl delta.file d2 d3 h.1.1.1.1.1.2)) (keeps_put bases refl delta.base d3 u h.1.1.1.1.2)) (keeps_edits [] delta.changes.items u t1 h.1.1.1.2))
-    (keeps_answers t1 t2 h.1.1.2.others)) (keeps_given_up delta.epoch t2 t3 h.1.2)) (keeps_row desk refl _ _ t3 b h.2)
+    (keeps_answers t1 t2 h.1.1.2.others)) (keeps_given_up delta.least_epoch t2 t3 h.1.2)) (keeps_row desk refl _ _ t3 b h.2)
 
 -- so do the first rows of a desk
 pub first_keeps : (a b : Trees) → SetsFirst a b → Keeps a b

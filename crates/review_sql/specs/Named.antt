@@ -48,8 +48,8 @@ pub record SparesNamed (delta : Delta) (kept : Kept) (tree : ℕ) (test : Test) 
   pub of_changes : AllByRecursion (SparesEdit tree test) delta.changes.items
   pub of_answer : Spares tree test answers (request_key (kept_row kept).identity)
   pub of_desk : Spares tree test desk tt
-  pub of_epochs : IfSome delta.epoch (λ least. Spares tree test epochs tt)
-  pub of_closed : IfSome delta.epoch (λ least. tree ≡ answers.tree → (r : Raw) → is_below (column r epoch_place) (pos least) ≡ true → test r ≡ false)
+  pub of_epochs : IfSome delta.least_epoch (λ least. Spares tree test epochs tt)
+  pub of_closed : IfSome delta.least_epoch (λ least. tree ≡ answers.tree → (r : Raw) → is_below (column r epoch_place) (pos least) ≡ true → test r ≡ false)
 
 -- of each table the rows that no named key has are as they were, whatever test finds them, but for the stored requests of lower epochs where an epoch is named
 pub record KeepsRest (delta : Delta) (kept : Kept) (old new : Trees) : Type 0 where

@@ -321,7 +321,7 @@ impl<S: Alter, O: Origin> Shelf for SqlShelf<S, O> {
 
     fn commit(&mut self, alloc: Global, delta: &Delta, kept: &Kept) -> Result<(), ShelfFault> {
         let numbers = self.numbers;
-        let Some(more) = numbers.more(delta.epoch) else {
+        let Some(more) = numbers.more(delta.least_epoch) else {
             return Err(refuse(&mut self.faults));
         };
         let _live = self.conn.schema();

@@ -167,7 +167,7 @@ fn write<S: Alter>(
 {
     write_delta(tx, alloc, delta)?;
     answers::put(tx, alloc, kept)?;
-    give_up(tx, alloc, delta.epoch)?;
+    give_up(tx, alloc, delta.least_epoch)?;
     let row = DeskRow {
         version: 3,
         requests: numbers.requests + 1,

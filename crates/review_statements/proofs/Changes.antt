@@ -12,7 +12,7 @@ use Rattle.sqlite.specs.Listing.{understood}
 use Rattle.sqlite.specs.State.{State, Executes}
 use Rattle.sqlite.proofs.Callers.{command_of}
 use Rattle.review_statements.specs.Desk.{simple, desk_schema}
-use Rattle.review_statements.specs.Content.{Adds, Removes, RemovesBelow, SparesOthers, has_key, is_below}
+use Rattle.review_statements.specs.Content.{Adds, Removes, RemovesWhere, SparesOthers, has_key, is_below, is_natural, is_text}
 use Rattle.review_statements.specs.Ran.{IsReady}
 use Rattle.review_statements.specs.Search.{At}
 use Rattle.review_statements.specs.Texts.{Alters, Deletes, DeletesBelow, Inserts, over_table, tests_below, tests_from, values_of, new_terms}
@@ -22,7 +22,7 @@ use Rattle.review_statements.proofs.Queries.{passes}
 use Rattle.sqlite_sql.specs.Term.{Term, col}
 use Rattle.sqlite_value.specs.declared.value.Value.TheVariants.{Int}
 use Rattle.sqlite_value.specs.Order.{column}
-use Rattle.std.proofs.Common.{filter, not}
+use Rattle.std.proofs.Common.{filter, not, pos, ◌&&◌}
 
 -- ---- the tables of a desk
 
@@ -61,9 +61,11 @@ module _ (sql : List ℕ) (old new : State) (has : IsReady old.now) (count : ℕ
   pub deleted : (tree : ℕ) (key : At) → Deletes sql tree key → Executes sql (values_of key) old new (Ok count) → IsReady new.now × Removes tree key old.now.trees new.now.trees
   deleted tree key it h = let done = removes tree (values_of key) (tests_from 0 key) it h (has_key key) (tested key) in (done.0, record { rows = done.1; others = done.2 })
 
-  -- the rows that are below a number are taken out
-  pub deleted_below : (tree place : ℕ) (least : ℤ) → DeletesBelow sql tree place → Executes sql (Int least ∷ []) old new (Ok count) → IsReady new.now × RemovesBelow tree place least old.now.trees new.now.trees
-  deleted_below tree place least it h = let done = removes tree (Int least ∷ []) (tests_below place) it h (λ r. is_below (column r place) least) (tested_below place least) in (done.0, record { rows = done.1; others = done.2 })
+  -- the rows of a number below another are taken out
+  pub deleted_below : (tree place number text least : ℕ) → DeletesBelow sql tree place number text → Executes sql (Int (pos least) ∷ []) old new (Ok count)
+      → IsReady new.now × RemovesWhere tree (λ r. is_below least (column r place) && (is_natural (column r number) && is_text (column r text))) old.now.trees new.now.trees
+  deleted_below tree place number text least it h =
+      let done = removes tree (Int (pos least) ∷ []) (tests_below place number text) it h _ (tested_below place number text least) in (done.0, record { rows = done.1; others = done.2 })
 
   -- values are put in as a row
   pub inserted : (tree : ℕ) (values : Row) (stored : ℤ → Row) → Inserts sql tree values stored → Executes sql values old new (Ok count) → IsReady new.now × ((id : ℤ) × Adds tree (stored id) old.now.trees new.now.trees)

@@ -1,22 +1,26 @@
 -- What the parts of texts mean: the tests of a WHERE, the values of an INSERT, and whole queries.
-use Rattle.std.proofs.Common.{codes, ◌≡◌, ◌∙◌, ◌&&◌, ◌++◌, ◌^◌, ◌-◌, ℕ, zero, suc, ℤ, get_or, List, [], ◌∷◌, Bool, cond, Some, true, false, refl, sym, ap, map, filter, drop, nat_le, subst, subst₂}
+use Rattle.std.proofs.Common.{arith, inl, inr, codes, ◌≡◌, ◌∙◌, ◌&&◌, ◌++◌, ◌^◌, ◌-◌, ℕ, zero, suc, ℤ, get_or, List, [], ◌∷◌, Bool, cond, Some, true, false, refl, sym, ap, map, filter, drop, nat_le, subst, subst₂}
 use Rattle.std.specs.List.{list_all}
-use Rattle.std.specs.Ordering.{is_eq, is_lt, nat_cmp}
+use Rattle.std.specs.Prelude.{int_lt, pos, negsuc, nat_lt}
+use Rattle.std.specs.declared.cmp.Ordering.TheVariants.{Less, Equal, Greater}
+use Rattle.std.specs.Ordering.{is_eq, nat_cmp}
 use Rattle.std.specs.Cmp.Lexicographic.{slice_cmp}
 use Rattle.std.specs.List.Sorted.{IsPermutation}
+use Rattle.std.proofs.lemmas.Bool.{cases_Bool, ltb-true}
 use Rattle.std.proofs.lemmas.List.{get_or-drop}
 use Rattle.sqlite_schema.specs.declared.schema.Kind.TheVariants.{Integer}
 use Rattle.sqlite_value.specs.declared.value.Value.{Value}
 use Rattle.sqlite_value.specs.declared.value.Value.TheVariants.{Null, Int, Real, Text, Blob}
 use Rattle.sqlite_value.specs.declared.keys.Collation.TheVariants.{Binary}
 use Rattle.sqlite_value.specs.Order.{Row, column, value_cmp}
-use Rattle.sqlite_value.proofs.OrderLemmas.{value_cmp-Null, value_cmp-Text}
+use Rattle.sqlite_value.proofs.OrderLemmas.{value_cmp-Int, value_cmp-Null, value_cmp-Text}
 use Rattle.sqlite_trees.specs.Tree.{Trees, rowid}
 use Rattle.sqlite_sql.specs.Term.{col, eval, holds}
-use Rattle.sqlite_sql.specs.Ops.{unary, binary, is_true, is_null, from_truth}
+use Rattle.sqlite_sql.specs.Ops.{unary, binary, is_true, is_null, from_truth, test}
 use Rattle.sqlite_sql.specs.Program.{overlay}
 use Rattle.sqlite_sql.specs.declared.ops.BinaryOp.TheVariants.{Compare}
-use Rattle.sqlite_sql.specs.declared.ops.CompareOp.TheVariants.{Eq, Lt}
+use Rattle.sqlite_sql.specs.declared.ops.CompareOp.{CompareOp}
+use Rattle.sqlite_sql.specs.declared.ops.CompareOp.TheVariants.{Eq, Ge, Lt}
 use Rattle.sqlite_sql.specs.declared.ops.UnaryOp.TheVariants.{ToNumeric, TypeOf}
 use Rattle.sqlite_rules.specs.Cast.{cast}
 use Rattle.sqlite_keyed.proofs.ListLemmas.{filter_same, map-map}
@@ -24,7 +28,7 @@ use Rattle.sqlite.specs.State.{State, Shown}
 use Rattle.sqlite.proofs.Callers.{reads_as}
 use Rattle.review_statements.specs.Desk.{desk_schema}
 use Rattle.sqlite_trees.specs.View.{is_int}
-use Rattle.review_statements.specs.Content.{has_key, is_below, is_integer, is_value}
+use Rattle.review_statements.specs.Content.{has_key, is_below, is_integer, is_natural, is_text, is_value}
 use Rattle.review_statements.specs.Search.{At, FindsIds}
 use Rattle.review_statements.specs.Texts.{Asks, number_at, tests_below, tests_for, tests_from, values_of, rows_where}
 use Rattle.review_statements.proofs.Queries.{passes, shows, selects}
@@ -62,17 +66,26 @@ equals (Text t) w there = rw there (told_true _)
 equals (Blob b) w there = rw there (told_true _)
 
 -- the name of a type is the one that is asked for
-is_named : (name : List ℕ) → is_true (binary (Compare Eq Binary) (Text name) (Text (codes "integer"))) ≡ is_eq (slice_cmp nat_cmp name (codes "integer"))
-is_named name = equals (Text name) (Text (codes "integer")) refl ∙ ap is_eq (value_cmp-Text name (codes "integer"))
+is_named : (type name : List ℕ) → is_true (binary (Compare Eq Binary) (Text name) (Text type)) ≡ is_eq (slice_cmp nat_cmp name type)
+is_named type name = equals (Text name) (Text type) refl ∙ ap is_eq (value_cmp-Text name type)
 
 -- only an integer has this type
 typed : (v : Value) → is_true (binary (Compare Eq Binary) (unary TypeOf v) (Text (codes "integer"))) ≡ is_int v
 unfolding unary
-typed Null = is_named (codes "null")
-typed (Int n) = is_named (codes "integer")
-typed (Real x) = is_named (codes "real")
-typed (Text t) = is_named (codes "text")
-typed (Blob b) = is_named (codes "blob")
+typed Null = is_named (codes "integer") (codes "null")
+typed (Int n) = is_named (codes "integer") (codes "integer")
+typed (Real x) = is_named (codes "integer") (codes "real")
+typed (Text t) = is_named (codes "integer") (codes "text")
+typed (Blob b) = is_named (codes "integer") (codes "blob")
+
+-- only a text has this one
+typed_text : (v : Value) → is_true (binary (Compare Eq Binary) (unary TypeOf v) (Text (codes "text"))) ≡ is_text v
+unfolding unary
+typed_text Null = is_named (codes "text") (codes "null")
+typed_text (Int n) = is_named (codes "text") (codes "integer")
+typed_text (Real x) = is_named (codes "text") (codes "real")
+typed_text (Text t) = is_named (codes "text") (codes "text")
+typed_text (Blob b) = is_named (codes "text") (codes "blob")
 
 and_true : (b : Bool) → (b && true) ≡ b
 and_true true = refl
@@ -89,16 +102,43 @@ exact_integer (Real x) n = and_false _
 exact_integer (Text t) n = and_false _
 exact_integer (Blob b) n = and_false _
 
-is_less : (m n : ℤ) → is_true (binary (Compare Lt Binary) (Int m) (Int n)) ≡ is_lt (value_cmp (Int m) (Int n))
+compares : (op : CompareOp) (m n : ℤ) → is_true (binary (Compare op Binary) (Int m) (Int n)) ≡ test op (cond (int_lt m n) Less (cond (int_lt n m) Greater Equal))
 unfolding binary
-is_less m n = told_true _
+compares op m n = told_true _ ∙ ap (test op) (value_cmp-Int m n)
 
-below_integer : (v : Value) (n : ℤ) → (is_true (binary (Compare Lt Binary) v (Int n)) && (is_int v && true)) ≡ is_below v n
-below_integer Null n = and_false _
-below_integer (Int m) n = (λ i. is_less m n i && true) ∙ and_true (is_lt (value_cmp (Int m) (Int n)))
-below_integer (Real x) n = and_false _
-below_integer (Text t) n = and_false _
-below_integer (Blob b) n = and_false _
+less_by : (a b : Bool) → test Lt (cond a Less (cond b Greater Equal)) ≡ a
+less_by true b = refl
+less_by false true = refl
+less_by false false = refl
+
+-- whether an integer is not below zero
+from_zero : (m : ℤ) → is_true (binary (Compare Ge Binary) (Int m) (Int (pos 0))) ≡ is_natural (Int m)
+from_zero (pos n) = compares Ge (pos n) (pos 0) ∙ at_least (nat_lt n 0) (nat_lt 0 n) (never n)
+  where
+    never : (n : ℕ) → nat_lt n 0 ≡ false
+    never n = elim (cases_Bool (nat_lt n 0)) [ inl is ↦ absurd (omega (arith, ltb-true n 0 is)) | inr other ↦ other ]
+
+    at_least : (a b : Bool) → a ≡ false → test Ge (cond a Less (cond b Greater Equal)) ≡ true
+    at_least a true is = rw is refl
+    at_least a false is = rw is refl
+from_zero (negsuc n) = compares Ge (negsuc n) (pos 0)
+
+-- a number that isn't negative, whatever else is asked
+natural : (v : Value) (b : Bool) → (is_true (binary (Compare Ge Binary) v (Int (pos 0))) && (is_int v && b)) ≡ (is_natural v && b)
+natural Null b = and_false _
+natural (Int m) b = ap (λ a. a && b) (from_zero m)
+natural (Real x) b = and_false _
+natural (Text t) b = and_false _
+natural (Blob c) b = and_false _
+
+-- the same, and below another
+below : (v : Value) (least : ℕ) (b : Bool) → (is_true (binary (Compare Lt Binary) v (Int (pos least))) && (is_natural v && b)) ≡ (is_below least v && b)
+below Null least b = and_false _
+below (Int (pos n)) least b = ap (λ a. a && b) (compares Lt (pos n) (pos least) ∙ less_by (nat_lt n least) (nat_lt least n))
+below (Int (negsuc n)) least b = and_false _
+below (Real x) least b = and_false _
+below (Text t) least b = and_false _
+below (Blob c) least b = and_false _
 
 -- ---- the tests of a key
 
@@ -143,10 +183,15 @@ module _ (params row : Row) where
 pub tested : (key : At) (row : Row) → passes (values_of key) (tests_from 0 key) row ≡ has_key key row
 tested key row = passes_from (values_of key) row key 0 refl
 
--- a row passes the test of a column where it has an integer below the number that is bound
-pub tested_below : (place : ℕ) (least : ℤ) (row : Row) → passes (Int least ∷ []) (tests_below place) row ≡ is_below (column row place) least
-tested_below place least row =
-    (λ i. is_true (binary (Compare Lt Binary) (column row place) (as_number (Int least ∷ []) row place 0 least refl i)) && (typed (column row place) i && true)) ∙ below_integer (column row place) least
+-- which rows pass the tests of a number below the one that is bound
+pub tested_below : (place number text least : ℕ) (row : Row) → passes (Int (pos least) ∷ []) (tests_below place number text) row ≡ (is_below least (column row place) && (is_natural (column row number) && is_text (column row text)))
+unfolding unary
+tested_below place number text least row =
+    let v = column row place in
+    let w = column row number in
+    (λ i. is_true (binary (Compare Lt Binary) v (as_number (Int (pos least) ∷ []) row place 0 (pos least) refl i)) && (is_true (binary (Compare Ge Binary) v (Int (pos 0))) && (typed v i
+    && (is_true (binary (Compare Ge Binary) w (Int (pos 0))) && (typed w i && (typed_text (column row text) i && true))))))
+    ∙ ((λ i. is_true (binary (Compare Lt Binary) v (Int (pos least))) && natural v (natural w (and_true (is_text (column row text)) i) i) i) ∙ below v least (is_natural w && is_text (column row text)))
 
 -- ---- queries
 

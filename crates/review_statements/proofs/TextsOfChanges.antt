@@ -130,7 +130,7 @@ pub delete_answer : (caller : ℤ) (epoch : ℤ) (request_id : List ℕ) → Del
 unfolding understood everything
 delete_answer caller epoch request_id = record { table = answers_3; at = 11; there = refl; tree_is = refl; is = refl; plain = (refl, refl) }
 
-pub delete_answers_below : DeletesBelow DELETE_ANSWERS_BELOW.now answers_3.tree 2
+pub delete_answers_below : DeletesBelow DELETE_ANSWERS_BELOW.now answers_3.tree 2 1 3
 unfolding understood everything
 delete_answers_below = record { table = answers_3; at = 11; there = refl; tree_is = refl; is = refl; plain = (refl, refl) }
 

@@ -1,7 +1,7 @@
 -- What the rows of a table have at a key.
-use Rattle.std.specs.Prelude.{ℕ, ℤ, ◌≡◌, ◌≢◌, ◌+◌, Bool, true, false, not, List, [], ◌∷◌, filter, length, IsTrue}
+use Rattle.std.specs.Prelude.{ℕ, ℤ, pos, ◌≡◌, ◌≢◌, ◌+◌, Bool, true, false, nat_lt, not, List, [], ◌∷◌, filter, length, IsTrue}
 use Rattle.std.specs.List.{list_all}
-use Rattle.std.specs.Ordering.{is_eq, is_lt}
+use Rattle.std.specs.Ordering.{is_eq}
 use Rattle.sqlite_value.specs.declared.value.Value.{Value}
 use Rattle.sqlite_value.specs.declared.value.Value.TheVariants.{Null, Int, Real, Text, Blob}
 use Rattle.review_statements.specs.Desk.{is_tree}
@@ -52,14 +52,24 @@ pub record Removes (tree : ℕ) (key : List (ℕ × Value)) (old new : Trees) : 
   pub rows : new tree ≡ filter (λ r. not (has_key key r)) (old tree)
   pub others : SparesOthers tree old new
 
--- whether a value is an integer below this one
-abbrev pub is_below : Value → ℤ → Bool
-is_below (Int m) n = is_lt (value_cmp (Int m) (Int n))
-is_below v n = false
+-- whether a value is a number that isn't negative
+abbrev pub is_natural : Value → Bool
+is_natural (Int (pos n)) = true
+is_natural v = false
 
--- a table has no more the rows that have an integer below this one in a column
-pub record RemovesBelow (tree place : ℕ) (least : ℤ) (old new : Trees) : Type 0 where
-  pub rows : new tree ≡ filter (λ r. not (is_below (column r place) least)) (old tree)
+-- whether a value is such a number, and below this one
+abbrev pub is_below : ℕ → Value → Bool
+is_below least (Int (pos n)) = nat_lt n least
+is_below least v = false
+
+-- whether a value is a text
+abbrev pub is_text : Value → Bool
+is_text (Text t) = true
+is_text v = false
+
+-- a table has no more the rows that pass a test
+pub record RemovesWhere (tree : ℕ) (test : Row → Bool) (old new : Trees) : Type 0 where
+  pub rows : new tree ≡ filter (λ r. not (test r)) (old tree)
   pub others : SparesOthers tree old new
 
 -- one after the other

@@ -9,7 +9,7 @@ use Rattle.sqlite_schema.specs.declared.schema.Kind.TheVariants.{Integer}
 use Rattle.sqlite_schema.specs.declared.schema.Table.{Table}
 use Rattle.sqlite.specs.Effect.{Database}
 use Rattle.review_statements.specs.Content.{AreApart}
-use Rattle.review_statements.specs.Desk.{accounts, answers, answers_3, attention, bases, changes, comments, desk, members, patches, projects, projects_2, reviewers, schema_of, tables_1, tables_2, votes}
+use Rattle.review_statements.specs.Desk.{accounts, answers_1, answers_3, attention, bases, changes, comments, desk, members, patches, projects_1, projects_2, reviewers, schema_of, tables_1, tables_2, votes}
 
 -- the columns of a row, behind its rowid
 abbrev pub columns_of : Row → Row
@@ -51,7 +51,7 @@ without_parent r = as_text (column r 1) ∷ as_text (column r 2) ∷ Text [] ∷
 
 -- the projects of version 1 move
 abbrev pub projects_move : Move
-projects_move = record { before = tables_1; gone = projects; come = projects_2; after = tables_2; made = without_parent }
+projects_move = record { before = tables_1; gone = projects_1; come = projects_2; after = tables_2; made = without_parent }
 
 -- ---- from version 2 to version 3
 
@@ -65,4 +65,4 @@ tables_without_epochs = accounts ∷ members ∷ bases ∷ changes ∷ patches �
 
 -- the stored requests of version 2 move
 abbrev pub answers_move : Move
-answers_move = record { before = tables_2; gone = answers; come = answers_3; after = tables_without_epochs; made = with_first_epoch }
+answers_move = record { before = tables_2; gone = answers_1; come = answers_3; after = tables_without_epochs; made = with_first_epoch }

@@ -9,7 +9,7 @@ use Rattle.sqlite_trees.specs.Tree.{Trees}
 use Rattle.sqlite_sql.specs.Term.{Term, lit, col, op1, op2}
 use Rattle.sqlite_sql.specs.Query.{Query, inner, end}
 use Rattle.sqlite_sql.specs.declared.ops.BinaryOp.TheVariants.{Compare}
-use Rattle.sqlite_sql.specs.declared.ops.CompareOp.TheVariants.{Eq, Lt}
+use Rattle.sqlite_sql.specs.declared.ops.CompareOp.TheVariants.{Eq, Ge, Lt}
 use Rattle.sqlite_sql.specs.declared.ops.UnaryOp.TheVariants.{ToNumeric, TypeOf}
 use Rattle.sqlite_schema.specs.declared.schema.Column.{Column}
 use Rattle.sqlite_schema.specs.declared.schema.Table.{Table}
@@ -106,13 +106,23 @@ pub record Alters (sql : List ℕ) (tree : ℕ) (command : ℕ → Table → Com
 abbrev pub Deletes : List ℕ → ℕ → At → Type 0
 Deletes sql tree key = Alters sql tree (λ at table. Delete at (record { lets = []; body = rows_where tree key (0 ∷ []) }))
 
--- a column has an integer below the number that is bound
-abbrev pub tests_below : ℕ → List Term
-tests_below place = op2 (Compare Lt Binary) (col 1 place) (number_at place 0) ∷ has_integer place ∷ []
+-- a column has no negative number
+abbrev pub not_negative : ℕ → Term
+not_negative place = op2 (Compare Ge Binary) (col 1 place) (lit (Int (pos 0)))
 
--- a text takes the rows out of a table that have an integer in a column below the number that is bound
-abbrev pub DeletesBelow : List ℕ → ℕ → ℕ → Type 0
-DeletesBelow sql tree place = Alters sql tree (λ at table. Delete at (record { lets = []; body = over_table tree (tests_below place) (col 1 0 ∷ []) [] }))
+-- a column has a text
+abbrev pub has_text : ℕ → Term
+has_text place = op2 (Compare Eq Binary) (op1 TypeOf (col 1 place)) (lit (Text (codes "text")))
+
+-- a row has a number in one column that isn't negative and is below the one that is bound, a number in another that isn't negative, and a text in a third
+abbrev pub tests_below : ℕ → ℕ → ℕ → List Term
+tests_below below number text =
+    op2 (Compare Lt Binary) (col 1 below) (number_at below 0) ∷ not_negative below ∷ has_integer below ∷ not_negative number ∷ has_integer number ∷ has_text text ∷ []
+
+-- a text takes these rows out of a table
+abbrev pub DeletesBelow : List ℕ → ℕ → ℕ → ℕ → ℕ → Type 0
+DeletesBelow sql tree below number text =
+    Alters sql tree (λ at table. Delete at (record { lets = []; body = over_table tree (tests_below below number text) (col 1 0 ∷ []) [] }))
 
 -- for each column what is bound at its place
 abbrev pub bound_from : ℕ → List Column → List Term

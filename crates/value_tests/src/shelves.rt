@@ -30,7 +30,7 @@ fn second_account(alloc: Global, name: &str) -> Result<Delta, Fail> {
         file: None,
         base: None,
         changes: Vec::new(alloc),
-        epoch: None,
+        least_epoch: None,
     })
 }
 
@@ -42,7 +42,7 @@ fn closing(alloc: Global) -> Delta {
         file: None,
         base: None,
         changes: Vec::new(alloc),
-        epoch: Epoch::from_number(1),
+        least_epoch: Epoch::from_number(1),
     }
 }
 

@@ -13,7 +13,7 @@ pub invariant_of-self-in-Ok : goal.invariant_of-self-in-Ok
 invariant_of-self-in-Ok g c =
     let old = c.self.inside.conn in
     let last = c.transact.new.conn in
-    let more : more c.self.inside.numbers c.args.delta.now.epoch ≡ c.in-Some.more = search rules in
+    let more : more c.self.inside.numbers c.args.delta.now.least_epoch ≡ c.in-Some.more = search rules in
     let done : c.transact.result ≡ Ok (tt {0}) = search rules in
     subst (Holds g.S.Store last g.O.Origin.IS_OURS) more
     (holds_committed g.S.Store old last g.O.Origin.IS_OURS c.self.inside.numbers c.self.invariant c.args.delta.now c.args.kept.now c.transact.result c.transact.ensures.acts
