@@ -5,7 +5,9 @@ ghost use Rattle.review_words.specs.History.{Entry, if_done, is_account};
 ghost use Rattle.review_rows.specs.Answer.{most_requests};
 ghost use Rattle.review_rows.specs.Changes.{Reading};
 ghost use Rattle.review_rows.specs.Decisions.{IsUndecided, NamesEachOnce, RestsOn};
-ghost use Rattle.review_rows.specs.Rows.{HasNoEffect, closing, is_below};
+ghost use Rattle.review_rows.specs.Rows.{HasNoEffect, closing, is_above, is_below};
+ghost use Rattle.review_rows.specs.Known.{known, number_of};
+ghost use Rattle.review_rows.specs.declared.rows.Want.TheVariants as want;
 ghost use Rattle.review_rows.specs.Steps.{OfCommand};
 ghost use Rattle.review_rows.specs.View.{AreEnough, IsDecidedAt};
 
@@ -39,6 +41,7 @@ pub fn decide(
     ensures refused { IfOk result (λ r. HasNoEffect r.1 r.0) }
     ensures closes { IfOk result (λ r. r.0.least_epoch ≡ closing (if_done r.1 command.now)) }
     ensures own { IfOk result (λ r. is_below r.0.least_epoch epoch ≡ false) }
+    ensures raises { IfOk result (λ r. is_above r.0.least_epoch (number_of (known rows.now want.LeastEpoch)) ≡ true) }
     ensures once { IfOk result (λ r. NamesEachOnce r.0) }
 {
     if !rows.is_account(caller) {
@@ -63,6 +66,7 @@ fn decide_for(
     ensures refused { IfOk result (λ r. HasNoEffect r.1 r.0) }
     ensures closes { IfOk result (λ r. r.0.least_epoch ≡ closing (if_done r.1 command.now)) }
     ensures own { IfOk result (λ r. is_below r.0.least_epoch epoch ≡ false) }
+    ensures raises { IfOk result (λ r. is_above r.0.least_epoch (number_of (known rows.now want.LeastEpoch)) ≡ true) }
     ensures once { IfOk result (λ r. NamesEachOnce r.0) }
 {
     match command {

@@ -1,18 +1,21 @@
 -- What a delivery does to any tables whatever.
-use Rattle.std.proofs.Common.{◌≡◌, ℕ, ◌+◌, ◌≤◌, List, [], Option, Some, None, Result, Ok, Err, cond, refl, sym, ◌∙◌, subst, inl, inr, Bool, true, false, ap}
+use Rattle.std.proofs.Common.{arith, ◌≡◌, ℕ, ◌+◌, ◌≤◌, List, [], Option, Some, None, Result, Ok, Err, cond, refl, sym, ◌∙◌, subst, inl, inr, Bool, true, false, ap}
+use Rattle.std.specs.Prelude.{unwrap_or}
+use Rattle.std.proofs.lemmas.Bool.{ltb-true}
 use Rattle.review_words.specs.declared.command.Command.{Command}
+use Rattle.review_words.specs.declared.command.Command.TheVariants.{CreateAccount, PutGroup, PutProject, RecordBase, CreateChange, OnChange, Submit, CloseEpoch}
 use Rattle.review_words.specs.declared.command.Delivery.TheVariants.{Write}
 use Rattle.review_words.specs.declared.reply.Reply.{Reply}
 use Rattle.review_words.specs.declared.reply.Reply.TheVariants.{Done, Refused, IdentityReused, EpochClosed, NotTaken}
 use Rattle.review_words.specs.History.{Identity, is_same, latest, if_done}
 use Rattle.review_rows.specs.declared.rows.Delta.{Delta}
 use Rattle.review_rows.specs.declared.rows.Rows.{Rows}
-use Rattle.review_rows.specs.Rows.{Key, Count, AnswerRow, Stored, Answered, Tables, HasNoEffect, after, count_after, closing, is_below}
-use Rattle.review_rows.specs.declared.rows.Want.TheVariants.{Requests}
+use Rattle.review_rows.specs.Rows.{Key, Count, ClosedEpochs, AnswerRow, Stored, Answered, Tables, HasNoEffect, after, count_after, closing, is_above, is_below}
+use Rattle.review_rows.specs.declared.rows.Want.TheVariants.{LeastEpoch, Requests}
 use Rattle.review_rows.specs.Files.{File}
 use Rattle.review_rows.specs.Known.{Agrees, known, number_of}
 use Rattle.review_rows.specs.Steps.{OfCommand, next}
-use Rattle.review_rows.proofs.Asked.{requests_are}
+use Rattle.review_rows.proofs.Asked.{least_epoch_is, requests_are}
 use Rattle.review_rows.specs.Shelf.{Answers, IsCommitted, Shows, LeavesBy, IsCounted, cause_of}
 use Rattle.review_rows.specs.declared.shelf.ShelfFault.{ShelfFault}
 use Rattle.review_rows.specs.declared.shelf.ShelfFault.TheVariants as fault
@@ -40,12 +43,33 @@ own_stays i j b x y own = at b (is_same i j) own
     at true false up = refl
     at false c up = refl
 
+-- an epoch that is closed stays so
+stays_closed : (command : Command) (reply : Reply) (o : Option ℕ) (file : Option File) (rows : Rows) (caller : ℕ) (t : Tables) →
+    Agrees t rows → next file rows caller (OfCommand command) ≡ [] → o ≡ closing (if_done reply command) → is_above o (number_of (known rows LeastEpoch)) ≡ true →
+    t.count ClosedEpochs ≤ unwrap_or (closing (if_done reply command)) (t.count ClosedEpochs)
+stays_closed (CloseEpoch least) (Done a) o file rows caller t agree left closes above =
+    let more = ltb-true (number_of (known rows LeastEpoch)) least (ap (λ p. is_above p (number_of (known rows LeastEpoch))) (sym closes) ∙ above) in
+    let same = least_epoch_is t file rows caller least agree left in
+    omega (arith, more, same)
+stays_closed (CreateAccount name) (Done a) o file rows caller t agree left closes above = omega arith
+stays_closed (PutGroup group members) (Done a) o file rows caller t agree left closes above = omega arith
+stays_closed (PutProject project text) (Done a) o file rows caller t agree left closes above = omega arith
+stays_closed (RecordBase project branch new) (Done a) o file rows caller t agree left closes above = omega arith
+stays_closed (CreateChange new) (Done a) o file rows caller t agree left closes above = omega arith
+stays_closed (OnChange change on) (Done a) o file rows caller t agree left closes above = omega arith
+stays_closed (Submit change) (Done a) o file rows caller t agree left closes above = omega arith
+stays_closed command (Refused r) o file rows caller t agree left closes above = omega arith
+stays_closed command IdentityReused o file rows caller t agree left closes above = omega arith
+stays_closed command EpochClosed o file rows caller t agree left closes above = omega arith
+stays_closed command (NotTaken cause) o file rows caller t agree left closes above = omega arith
+
 -- a first arrival whose request was stored
 stored_request : (i : Identity) (command : Command) (reply : Reply) (delta : Delta) (file : Option File) (rows : Rows) (row : AnswerRow) (t u : Tables) →
-    Answers t i None → Agrees t rows → next file rows i.caller (OfCommand command) ≡ [] → HasNoEffect reply delta → delta.least_epoch ≡ closing (if_done reply command) → is_below delta.least_epoch i.epoch ≡ false → IsCommitted t delta row u →
+    Answers t i None → Agrees t rows → next file rows i.caller (OfCommand command) ≡ [] → HasNoEffect reply delta → delta.least_epoch ≡ closing (if_done reply command) → is_below delta.least_epoch i.epoch ≡ false → is_above delta.least_epoch (number_of (known rows LeastEpoch)) ≡ true → IsCommitted t delta row u →
     ((n : ℕ) → number_of (known rows Requests) ≡ n → row ≡ answer_row (record { identity = i; version = latest; command = command; reply = reply }) (n + 1)) → StoresRequest i command reply t u
-stored_request i command reply delta file rows row t u none agree left quiet closes own c is =
+stored_request i command reply delta file rows row t u none agree left quiet closes own above c is =
     let same : row ≡ answer_row (record { identity = i; version = latest; command = command; reply = reply }) (t.requests + 1) = is t.requests (requests_are t file rows i.caller command agree left) in
+    let least : u.count ClosedEpochs ≡ unwrap_or (closing (if_done reply command)) (t.count ClosedEpochs) = c.count_is ClosedEpochs ∙ ap (λ o. unwrap_or o (t.count ClosedEpochs)) closes in
     record {
       new = none;
       answer_is = λ j. c.answer_is j ∙ (λ k. cond (is_below (closes k) j.epoch) None (cond (is_same (same k).identity j) (Some (Answered (same k))) (t.answer j)))
@@ -54,20 +78,22 @@ stored_request i command reply delta file rows row t u none agree left quiet clo
       version = c.version;
       requests = c.requests;
       rows = kept reply delta t u quiet c.row_is c.count_is;
+      least = least;
+      stays_closed = subst (λ n. t.count ClosedEpochs ≤ n) (sym least) (stays_closed command reply delta.least_epoch file rows i.caller t agree left closes above);
     }
 
 pub stored_shown : (i : Identity) (command : Command) (reply : Reply) (delta : Delta) (file : Option File) (rows : Rows) (row : AnswerRow) (old mid new : Option Tables) →
-    mid ≡ old → Shows old (λ t. Answers t i None) → Shows old (λ t. Agrees t rows) → next file rows i.caller (OfCommand command) ≡ [] → HasNoEffect reply delta → delta.least_epoch ≡ closing (if_done reply command) → is_below delta.least_epoch i.epoch ≡ false → Shows mid (λ t. Shows new (IsCommitted t delta row)) →
+    mid ≡ old → Shows old (λ t. Answers t i None) → Shows old (λ t. Agrees t rows) → next file rows i.caller (OfCommand command) ≡ [] → HasNoEffect reply delta → delta.least_epoch ≡ closing (if_done reply command) → is_below delta.least_epoch i.epoch ≡ false → is_above delta.least_epoch (number_of (known rows LeastEpoch)) ≡ true → Shows mid (λ t. Shows new (IsCommitted t delta row)) →
     ((n : ℕ) → number_of (known rows Requests) ≡ n → row ≡ answer_row (record { identity = i; version = latest; command = command; reply = reply }) (n + 1)) →
     IsFoundOrStored i command reply old new
-stored_shown i command reply delta file rows row old mid new stays none agree left quiet closes own c is =
+stored_shown i command reply delta file rows row old mid new stays none agree left quiet closes own above c is =
     inr (both old new none agree (subst (λ (m : Option Tables). Shows m (λ t. Shows new (IsCommitted t delta row))) stays c))
   where
     both : (old new : Option Tables) → Shows old (λ t. Answers t i None) → Shows old (λ t. Agrees t rows) → Shows old (λ t. Shows new (IsCommitted t delta row)) →
         Shows old (λ t. Shows new (StoresRequest i command reply t))
     both None new none agree c = absurd c
     both (Some t) None none agree c = absurd c
-    both (Some t) (Some u) none agree c = stored_request i command reply delta file rows row t u none agree left quiet closes own c is
+    both (Some t) (Some u) none agree c = stored_request i command reply delta file rows row t u none agree left quiet closes own above c is
 
 pub stores_once : (caller epoch : ℕ) (id : List ℕ) (command : Command) (reply : Reply) (old new : Option Tables) →
     IsFoundOrStored (record { caller = caller; epoch = epoch; id = id }) command reply old new → StoresOnce (Write caller epoch id command) reply old new

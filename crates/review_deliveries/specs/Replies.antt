@@ -1,5 +1,5 @@
 -- Deliveries that each act once: which are first arrivals, what history they leave, and which replies are right.
-use Rattle.std.specs.Prelude.{ℕ, ◌<◌, ◌≤◌, ◌≡◌, List, [], ◌∷◌, ◌++◌, Option, Some, None, Bool, ◌||◌, is_some, length, take, slice_index_or, Result, Ok, Err, ◌+◌, if◌then◌else◌, ◌⊎◌, true, false, nat_lt}
+use Rattle.std.specs.Prelude.{ℕ, ◌<◌, ◌≤◌, ◌≡◌, List, [], ◌∷◌, ◌++◌, Option, Some, None, Bool, ◌||◌, is_some, length, take, slice_index_or, Result, Ok, Err, ◌+◌, if◌then◌else◌, ◌⊎◌, true, false, nat_lt, unwrap_or}
 use Rattle.review_words.specs.declared.command.Command.{Command}
 use Rattle.review_words.specs.declared.command.Delivery.{Delivery}
 use Rattle.review_words.specs.declared.command.Delivery.TheVariants.{Write, Read}
@@ -11,7 +11,7 @@ use Rattle.review_words.specs.History.{Entry, Identity, IsFirst, entry_of, store
 use Rattle.review_words.specs.Texts.{content_text, reply_text, IsStored}
 use Rattle.review_rows.specs.Answer.{IsHistory, IsAnswer, most_requests}
 use Rattle.review_rows.specs.Questions.{IsQueryAnswer}
-use Rattle.review_rows.specs.Rows.{Key, Count, Tables, AnswerRow, Answered, is_below, closing}
+use Rattle.review_rows.specs.Rows.{Key, Count, ClosedEpochs, Tables, AnswerRow, Answered, is_below, closing}
 use Rattle.review_rows.specs.View.{IsView, answer_row}
 use Rattle.review_rows.specs.Changes.{Reading, Reads}
 use Rattle.review_rows.specs.Decisions.{HasPatternIn, ReadsPattern, IsDoneOrRefused, asking_project}
@@ -205,7 +205,8 @@ abbrev pub KeepsRows : Reply → Tables → Tables → Type 0
 KeepsRows (Refused r) t u = SameRows t u
 KeepsRows _ t u = Unit {0}
 
--- the request is stored beside the others under the next number; an accepted CloseEpoch gives up the answers of lower epochs, and a refusal does nothing else
+-- The request is stored beside the others under the next number. An accepted CloseEpoch makes the epoch that it names the least open one, and gives up the answers of lower epochs;
+-- nothing else does either, and no epoch opens again. A refusal does nothing else.
 pub record StoresRequest (i : Identity) (command : Command) (reply : Reply) (t u : Tables) : Type 0 where
   pub new : Answers t i None
   pub answer_is : (j : Identity) → u.answer j ≡ (if is_same i j then Some (Answered (answer_row (record { identity = i; version = latest; command = command; reply = reply }) (t.requests + 1)))
@@ -213,6 +214,8 @@ pub record StoresRequest (i : Identity) (command : Command) (reply : Reply) (t u
   pub version : u.version ≡ t.version
   pub requests : u.requests ≡ t.requests + 1
   pub rows : KeepsRows reply t u
+  pub least : u.count ClosedEpochs ≡ unwrap_or (closing (if_done reply command)) (t.count ClosedEpochs)
+  pub stays_closed : t.count ClosedEpochs ≤ u.count ClosedEpochs
 
 -- the identity was stored with this command and this reply, and nothing is changed; or the request is stored
 abbrev pub IsFoundOrStored : Identity → Command → Reply → Option Tables → Option Tables → Type 0

@@ -9,7 +9,7 @@ ghost use Rattle.review_rows.specs.Decisions.{RestsOn};
 ghost use Rattle.review_rows.specs.declared.rows.Want.{Want};
 ghost use Rattle.review_rows.specs.declared.rows.Want.TheVariants as want;
 ghost use Rattle.review_rows.specs.Known.{known, number_of};
-ghost use Rattle.review_rows.specs.Rows.{HasNoEffect, Tables, closing, is_below, kept_row};
+ghost use Rattle.review_rows.specs.Rows.{HasNoEffect, Tables, closing, is_above, is_below, kept_row};
 ghost use Rattle.review_rows.specs.Shelf.{Answers, BlamesTables, CountsFaults, IsCommitted, LeavesUndone, Shows, StopLeavesOwnTables, Views};
 ghost use Rattle.review_rows.specs.Steps.{OfCommand};
 ghost use Rattle.review_rows.specs.View.{AreEnough, IsDecidedAt};
@@ -210,6 +210,7 @@ fn decide<R: Rules>(
     ensures refused { IfOk result (λ d. HasNoEffect d.reply d.delta) }
     ensures closes { IfOk result (λ d. d.delta.least_epoch ≡ closing (if_done d.reply command.now)) }
     ensures own { IfOk result (λ d. is_below d.delta.least_epoch epoch ≡ false) }
+    ensures raises { IfOk result (λ d. is_above d.delta.least_epoch (number_of (known rows.now want.LeastEpoch)) ≡ true) }
     ensures cause { IfErr result (IsUnstored caller command.now (option_copied read.entry) rows.now) }
 {
     let requests = rows.requests();

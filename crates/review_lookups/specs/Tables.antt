@@ -1,5 +1,5 @@
 -- A database as the tables of a desk.
-use Rattle.std.specs.Prelude.{option_map, ℤ, ℕ, ◌≡◌, Bool, true, not, List, [], ◌∷◌, length, Option, Some, None, if◌then◌else◌}
+use Rattle.std.specs.Prelude.{option_map, ℤ, ℕ, ◌≡◌, Bool, not, List, [], ◌∷◌, length, Option, Some, None, if◌then◌else◌}
 use Rattle.std.specs.List.{list_any}
 use Rattle.sqlite_value.specs.Order.{Row as Raw}
 use Rattle.sqlite_value.specs.declared.value.Value.TheVariants.{Text}
@@ -41,9 +41,9 @@ keyed_with files stored =
     (accounts.tree, accounts.keyed) ∷ (members.tree, members.keyed) ∷ files ∷ (bases.tree, bases.keyed) ∷ stored
     ∷ (headers.tree, headers.keyed) ∷ (patches.tree, patches.keyed) ∷ (votes.tree, votes.keyed) ∷ (roles.tree, roles.keyed) ∷ (comments.tree, comments.keyed) ∷ (calls.tree, calls.keyed) ∷ []
 
--- The tables of records, and which of their rows have a key. Each row of the stored requests counts as having one, also one that reads as no identity, which no look-up meets.
+-- the tables of records, and which of their rows have a key
 abbrev pub keyed_tables : List (ℕ × (Raw → Bool))
-keyed_tables = keyed_with (projects.tree, projects.keyed) (answers.tree, λ r. true)
+keyed_tables = keyed_with (projects.tree, projects.keyed) (answers.tree, answers.keyed)
 
 -- whether a row has no key of its table, as a member with a negative number
 abbrev pub has_unkeyed : List (ℕ × (Raw → Bool)) → Trees → Bool

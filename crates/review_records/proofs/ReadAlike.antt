@@ -1,5 +1,5 @@
 -- Rows that moved to the table of a later version read there as they did.
-use Rattle.std.proofs.Common.{◌≡◌, ◌≢◌, ◌∙◌, ◌&&◌, ◌||◌, ℕ, ℤ, pos, suc, Bool, true, false, not, List, [], ◌∷◌, Option, Some, None, option_map, map, filter, length, get_or, refl, sym, ap, subst, subst₂, inl, inr}
+use Rattle.std.proofs.Common.{◌≡◌, ◌≢◌, ◌∙◌, ◌&&◌, ◌||◌, ℕ, ℤ, pos, negsuc, suc, Bool, true, false, not, List, [], ◌∷◌, Option, Some, None, option_map, map, filter, length, get_or, refl, sym, ap, subst, subst₂, inl, inr}
 use Rattle.std.specs.List.{AllByRecursion, list_any}
 use Rattle.std.specs.List.Sorted.{IsPermutation}
 use Rattle.std.proofs.lemmas.Bool.{and_from, and_parts, cases_Bool, or_parts}
@@ -13,15 +13,13 @@ use Rattle.sqlite_value.specs.declared.value.Value.{Value}
 use Rattle.sqlite_value.specs.declared.value.Value.TheVariants.{Null, Int, Real, Text, Blob}
 use Rattle.sqlite_value.specs.Order.{Row as Raw, column}
 use Rattle.sqlite_rules.specs.Cast.{as_text, cast}
-use Rattle.review_names.specs.Names.{is_account_number}
-use Rattle.review_words.specs.Epochs.{is_epoch}
 use Rattle.review_statements.specs.Content.{has_key, is_value}
 use Rattle.review_statements.specs.Moved.{AreMoved, columns_of, with_first_epoch, without_parent}
 use Rattle.review_statements.specs.Search.{Search, only, reads, rows_at}
 use Rattle.review_statements.proofs.Meaning.{cast_int}
 use Rattle.review_tables.specs.Columns.{number_in, text_in}
 use Rattle.review_tables.proofs.Keys.{itself, same_int}
-use Rattle.review_records.specs.Keyed.{answer_keyed, earlier_answer_keyed, is_number, is_text, project_keyed, where_is}
+use Rattle.review_records.specs.Keyed.{answer_keyed, earlier_answer_keyed, is_natural, is_text, project_keyed}
 use Rattle.review_records.specs.Forms.{answered, answers, earlier_answers, earlier_key, first_epoch, stored_file, first_projects, file_without_parent, stored_parent, projects}
 use Rattle.review_rows.specs.declared.rows.StoredFile.{StoredFile}
 use Rattle.review_records.specs.declared.rows.Answered.{Answered as Rest}
@@ -49,12 +47,13 @@ reads_text (Blob b) t is = absurd (cc)
 reads_number : (v : Value) (n : ℕ) → number_in v ≡ Some n → cast Integer v ≡ v
 reads_number v n is = let same = number_is v n is in subst (λ w. cast Integer w ≡ w) (sym same) (cast_int (pos n))
 
-number_stays : (test : ℕ → Bool) (v : Value) → is_number test v ≡ true → cast Integer v ≡ v
-number_stays test v is = by (number_in v) refl is
-  where
-    by : (o : Option ℕ) → number_in v ≡ o → Rattle.std.proofs.Common.is_some (where_is test o) ≡ true → cast Integer v ≡ v
-    by None e h = absurd (cc)
-    by (Some n) e h = reads_number v n e
+natural_stays : (v : Value) → is_natural v ≡ true → cast Integer v ≡ v
+natural_stays Null is = absurd (cc)
+natural_stays (Int (pos n)) is = cast_int (pos n)
+natural_stays (Int (negsuc n)) is = absurd (cc)
+natural_stays (Real x) is = absurd (cc)
+natural_stays (Text t) is = absurd (cc)
+natural_stays (Blob b) is = absurd (cc)
 
 filter_as : {X : Type 0} (p q : X → Bool) (xs : List X) → AllByRecursion (λ x. p x ≡ q x) xs → filter p xs ≡ filter q xs
 filter_as p q [] all = refl
@@ -187,7 +186,7 @@ module _ (old new : List Raw) (moved : AreMoved with_first_epoch old new) where
     identified_before : (caller : ℕ) (id : List ℕ) (r : Raw) → earlier_answer_keyed r ≡ true → identified caller first_epoch id (with_first_epoch r) ≡ has_key (earlier_answers.at (earlier_key caller id)) r
     identified_before caller id r is =
         let parts = and_parts _ _ is in
-        (λ i. is_value (number_stays is_account_number (column r 1) parts.0 i) (Int (pos caller)) && (itself (Int (pos first_epoch)) i && (is_value (text_stays (column r 2) parts.1 i) (Text id) && true)))
+        (λ i. is_value (natural_stays (column r 1) parts.0 i) (Int (pos caller)) && (itself (Int (pos first_epoch)) i && (is_value (text_stays (column r 2) parts.1 i) (Text id) && true)))
 
     answer_on : (r q : Raw) (x : Rest) → columns_of q ≡ with_first_epoch r → reads earlier_answers r ≡ Some x → reads answers q ≡ Some x
     answer_on r q x same is = by (number_in (column r 3)) (text_in (column r 4)) (text_in (column r 5)) refl refl refl is
@@ -207,6 +206,6 @@ module _ (old new : List Raw) (moved : AreMoved with_first_epoch old new) where
 
     pub answers_keyed : list_any (λ r. not (answer_keyed r)) new ≡ false
     answers_keyed = still_keyed earlier_answers answers with_first_epoch old new moved keyed
-        (λ columns. is_number is_account_number (column columns 0) && (is_number is_epoch (column columns 1) && is_text (column columns 2)))
-        (λ r is. let parts = and_parts _ _ is in and_from _ _ (ap (is_number is_account_number) (number_stays is_account_number (column r 1) parts.0) ∙ parts.0) (and_from _ _ refl (ap is_text (text_stays (column r 2) parts.1) ∙ parts.1)))
-        (λ r. (λ i. is_number is_account_number (behind r 0 i) && (is_number is_epoch (behind r 1 i) && is_text (behind r 2 i))))
+        (λ columns. is_natural (column columns 0) && (is_natural (column columns 1) && is_text (column columns 2)))
+        (λ r is. let parts = and_parts _ _ is in and_from _ _ (ap is_natural (natural_stays (column r 1) parts.0) ∙ parts.0) (and_from _ _ refl (ap is_text (text_stays (column r 2) parts.1) ∙ parts.1)))
+        (λ r. (λ i. is_natural (behind r 0 i) && (is_natural (behind r 1 i) && is_text (behind r 2 i))))

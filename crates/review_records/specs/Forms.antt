@@ -2,7 +2,8 @@
 use Rattle.std.specs.Prelude.{nat_le, ℕ, pos, ◌&&◌, Bool, List, [], ◌∷◌, Option, Some, None, option_map, if◌then◌else◌}
 use Rattle.std.specs.Str.{is_utf8}
 use Rattle.sqlite_value.specs.declared.value.Value.TheVariants.{Int, Text}
-use Rattle.sqlite_value.specs.Order.{column}
+use Rattle.sqlite_value.specs.Order.{Row, column}
+use Rattle.review_statements.specs.Content.{is_below, is_natural, is_text}
 use Rattle.review_names.specs.Names.{is_word}
 use Rattle.review_names.specs.Names.{is_account_number}
 use Rattle.review_words.specs.Epochs.{is_epoch}
@@ -177,9 +178,9 @@ answers = record {
 abbrev pub answer_form : Form RequestKey Answered
 answer_form = with_rowid (λ i a. Int (pos i.caller) ∷ Int (pos i.epoch) ∷ Text i.id ∷ Int (pos a.request) ∷ Text a.content ∷ Text a.reply ∷ []) (λ i. is_account_number i.caller && is_epoch i.epoch) (λ a. is_utf8 a.content && is_utf8 a.reply)
 
--- the column of a stored request that has its epoch
-abbrev pub epoch_place : ℕ
-epoch_place = 2
+-- whether a row is the stored request of an identity with a lower epoch
+abbrev pub is_of_lower : ℕ → Row → Bool
+is_of_lower least r = is_below least (column r 2) && (is_natural (column r 1) && is_text (column r 3))
 
 -- the key of an identity
 abbrev pub request_key : Identity → RequestKey

@@ -1,11 +1,10 @@
 -- Which stored rows have a key of their table: those whose columns of the key read as values of its kinds.
 use Rattle.std.specs.Prelude.{ℕ, ◌&&◌, Bool, true, false, Option, Some, None, is_some, nat_lt, if◌then◌else◌}
 use Rattle.sqlite_value.specs.declared.value.Value.{Value}
-use Rattle.sqlite_value.specs.declared.value.Value.TheVariants.{Null, Int, Real, Text, Blob}
 use Rattle.sqlite_value.specs.Order.{Row, column}
 use Rattle.review_names.specs.Names.{is_account_number}
-use Rattle.review_words.specs.Epochs.{is_epoch}
 use Rattle.review_tables.specs.Columns.{number_in}
+pub use Rattle.review_statements.specs.Content.{is_natural, is_text}
 
 -- a number below 2^32
 abbrev pub is_small : ℕ → Bool
@@ -20,14 +19,6 @@ where_is test (Some x) = if test x then Some x else None
 abbrev pub is_number : (ℕ → Bool) → Value → Bool
 is_number test v = is_some (where_is test (number_in v))
 
--- whether a value is a text
-abbrev pub is_text : Value → Bool
-is_text Null = false
-is_text (Int n) = false
-is_text (Real x) = false
-is_text (Text t) = true
-is_text (Blob b) = false
-
 abbrev pub account_keyed : Row → Bool
 account_keyed r = is_number is_account_number (column r 0)
 
@@ -40,9 +31,10 @@ project_keyed r = is_text (column r 1)
 abbrev pub base_keyed : Row → Bool
 base_keyed r = is_text (column r 1) && (is_text (column r 2) && is_number is_small (column r 3))
 
+-- a stored request of any identity
 abbrev pub answer_keyed : Row → Bool
-answer_keyed r = is_number is_account_number (column r 1) && (is_number is_epoch (column r 2) && is_text (column r 3))
+answer_keyed r = is_natural (column r 1) && (is_natural (column r 2) && is_text (column r 3))
 
 -- the same in versions 1 and 2, where identities have no epoch
 abbrev pub earlier_answer_keyed : Row → Bool
-earlier_answer_keyed r = is_number is_account_number (column r 1) && is_text (column r 2)
+earlier_answer_keyed r = is_natural (column r 1) && is_text (column r 2)

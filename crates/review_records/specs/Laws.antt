@@ -18,13 +18,17 @@ use Rattle.review_tables.specs.Fronts.{IsExact, IsFront}
 use Rattle.review_statements.specs.Search.{IsLawful}
 use Rattle.review_statements.specs.Content.{is_value}
 use Rattle.review_tables.proofs.Keys.{equal_is, int_is, itself, same_int, same_text, text_is}
-use Rattle.review_records.specs.Keyed.{is_number, is_small, is_text}
+use Rattle.review_records.specs.Keyed.{is_natural, is_number, is_small, is_text}
 use Rattle.review_records.specs.Forms.{where_is, alone, both, member_parts, group_members, base_parts, branch_bases, accounts, account_form, members, member_form, projects, project_form, stored_parent, parent_text, is_parent, stored_file, bases, base_form, answers, answer_form, epochs, epochs_form, desk, desk_form}
 use Rattle.review_names.specs.Forms.{is_commit, is_slashed_name, is_step}
 
 -- a value that has a number of a kind is one of that kind
 pub keyed_number : (test : ℕ → Bool) (v : Value) (n : ℕ) → test n ≡ true → is_value v (Int (pos n)) ≡ true → is_number test v ≡ true
 keyed_number test v n good has = let is = int_is v (pos n) has in rw (is, good) refl
+
+-- a value that has a number is one
+pub keyed_natural : (v : Value) (n : ℕ) → is_value v (Int (pos n)) ≡ true → is_natural v ≡ true
+keyed_natural v n has = let is = int_is v (pos n) has in rw is refl
 
 -- a value that has a text is one
 pub keyed_text : (v : Value) (t : List ℕ) → is_value v (Text t) ≡ true → is_text v ≡ true
@@ -118,10 +122,9 @@ answer_lawful = record {
       let id : a.id ≡ b.id = same_text (column r 3) a.id b.id (and_parts _ _ one_more.1).0 (and_parts _ _ two_more.1).0 in
       (λ k. record { caller = caller k; epoch = epoch k; id = id k });
   known = λ a r formed has.
-      let is = and_parts (is_account_number a.caller) (is_epoch a.epoch) formed in
       let one = and_parts _ _ has in
       let two = and_parts _ _ one.1 in
-      and_from _ _ (keyed_number is_account_number (column r 1) a.caller is.0 one.0) (and_from _ _ (keyed_number is_epoch (column r 2) a.epoch is.1 two.0) (keyed_text (column r 3) a.id (and_parts _ _ two.1).0));
+      and_from _ _ (keyed_natural (column r 1) a.caller one.0) (and_from _ _ (keyed_natural (column r 2) a.epoch two.0) (keyed_text (column r 3) a.id (and_parts _ _ two.1).0));
 }
 
 pub epochs_lawful : IsLawful epochs epochs_form

@@ -1,11 +1,11 @@
 //! The stored requests.
-ghost use Rattle.std.specs.Prelude.{◌≡◌, Some, pos, string_bytes, IfOk};
+ghost use Rattle.std.specs.Prelude.{◌≡◌, Some, string_bytes, IfOk};
 ghost use Rattle.sqlite.specs.Held.{state};
-ghost use Rattle.review_statements.specs.Content.{RemovesBelow};
+ghost use Rattle.review_statements.specs.Content.{RemovesWhere};
 ghost use Rattle.review_statements.specs.Ran.{Inside, Opens};
 ghost use Rattle.review_statements.specs.Search.{SetsRow};
 ghost use Rattle.review_rows.specs.Rows.{kept_row};
-ghost use Rattle.review_records.specs.Forms.{answers, epoch_place, request_key};
+ghost use Rattle.review_records.specs.Forms.{answers, is_of_lower, request_key};
 
 use crate::names::{account_number, epoch_number};
 use crate::rows::{Answered, RequestKey, Text};
@@ -147,10 +147,10 @@ pub fn put<S: Alter>(tx: &mut Transaction<'_, S>, alloc: Global, kept: &Kept) ->
     set::<Answers, S>(tx, alloc, &key, &row)
 }
 
-/// Takes away the stored requests of all epochs below one.
+/// Takes away the stored requests of all identities with an epoch below one. A row that is of no identity, as one with a negative epoch, stays.
 pub fn remove_below<S: Alter>(tx: &mut Transaction<'_, S>, epoch: Epoch) -> Result<usize, Error>
     ensures same_reference { tx.new.conn.ghost_name ≡ tx.old.conn.ghost_name }
-    ensures ran { Inside (RemovesBelow answers.tree epoch_place (pos epoch)) (state S.Store tx.old.conn.now) (state S.Store tx.new.conn.now) result }
+    ensures ran { Inside (RemovesWhere answers.tree (is_of_lower epoch)) (state S.Store tx.old.conn.now) (state S.Store tx.new.conn.now) result }
     ensures open { Opens (state S.Store tx.old.conn.now) (state S.Store tx.new.conn.now) result }
 {
     let values = Bound::new().number(epoch.get());

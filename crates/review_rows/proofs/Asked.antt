@@ -11,7 +11,7 @@ use Rattle.review_words.specs.declared.command.Query.TheVariants as asked
 use Rattle.review_rows.specs.declared.rows.Want.{Want}
 use Rattle.review_rows.specs.declared.rows.Want.TheVariants as want
 use Rattle.review_rows.specs.declared.rows.Rows.{Rows}
-use Rattle.review_rows.specs.Rows.{Tables}
+use Rattle.review_rows.specs.Rows.{ClosedEpochs, Tables}
 use Rattle.review_rows.specs.Known.{Found, Stands, IsFound, known, number_of, change_in, standing_of, file_in, Agrees, IsKnown, AreAdded}
 use Rattle.review_rows.specs.Files.{File}
 use Rattle.review_rows.specs.Rows.{base_cmp}
@@ -488,6 +488,13 @@ asks_first file rows caller (OfQuery (asked.OnChange change query)) nothing none
 pub requests_are : (t : Tables) (file : Option File) (rows : Rows) (caller : ℕ) (command : Command) → Agrees t rows → next file rows caller (OfCommand command) ≡ [] → number_of (known rows want.Requests) ≡ t.requests
 requests_are t file rows caller command agree none =
     let r = found_of t rows want.Requests agree (all_asked file rows caller (OfCommand command) none).0 in
+    let x = r.2 in
+    ap number_of (r.1 ∙ ap Some x.1) ∙ x.2
+
+-- the least open epoch that tables have, as rows say that know what a CloseEpoch asks
+pub least_epoch_is : (t : Tables) (file : Option File) (rows : Rows) (caller least : ℕ) → Agrees t rows → next file rows caller (OfCommand (CloseEpoch least)) ≡ [] → number_of (known rows want.LeastEpoch) ≡ t.count ClosedEpochs
+least_epoch_is t file rows caller least agree none =
+    let r = found_of t rows want.LeastEpoch agree (all_asked file rows caller (OfCommand (CloseEpoch least)) none).1.1.1.0 in
     let x = r.2 in
     ap number_of (r.1 ∙ ap Some x.1) ∙ x.2
 

@@ -148,6 +148,11 @@ abbrev pub is_below : Option ℕ → ℕ → Bool
 is_below None epoch = false
 is_below (Some least) epoch = nat_lt epoch least
 
+-- whether the epoch that is named, if one is, is above another
+abbrev pub is_above : Option ℕ → ℕ → Bool
+is_above None epoch = true
+is_above (Some least) epoch = nat_lt epoch least
+
 -- the epoch that an accepted command makes the least open one
 abbrev pub closing : Option Command → Option ℕ
 closing (Some (CloseEpoch least)) = Some least

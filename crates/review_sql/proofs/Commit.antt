@@ -3,13 +3,12 @@ use Rattle.std.proofs.Common.{◌≡◌, ◌≢◌, ◌∙◌, ◌+◌, ◌≤�
 use Rattle.std.specs.Prelude.{nat_lt, unwrap_or}
 use Rattle.std.specs.Str.{bytes_eq}
 use Rattle.std.specs.BTreeMap.{is_at}
-use Rattle.std.specs.Ordering.{nat_cmp, is_eq, is_lt, ordering_then}
+use Rattle.std.specs.Ordering.{nat_cmp, is_eq, ordering_then}
 use Rattle.std.specs.Cmp.Lexicographic.{slice_cmp}
 use Rattle.std.proofs.lemmas.Bool.{cases_Bool, and_parts, and_from, both_ways}
 use Rattle.std.proofs.lemmas.Cmp.{nat_cmp_total, tied_itself, nat_list_cmp_total}
 use Rattle.std.proofs.lemmas.Map.Lookups.{exact_unsigned, exact_bytes}
 use Rattle.sqlite_value.specs.declared.value.Value.TheVariants.{Int, Text}
-use Rattle.sqlite_value.proofs.OrderLemmas.{value_cmp-Int}
 use Rattle.sqlite_value.specs.Order.{Row as Raw, column}
 use Rattle.sqlite_trees.specs.Tree.{Trees}
 use Rattle.sqlite.specs.Effect.{Database}
@@ -24,18 +23,19 @@ use Rattle.review_rows.specs.Shelf.{IsCommitted}
 use Rattle.review_rows.proofs.Puts.{exact_place, place_total}
 use Rattle.review_rows.specs.declared.rows.PlaceKey.{PlaceKey}
 use Rattle.review_rows.specs.declared.rows.StoredFile.{StoredFile}
-use Rattle.review_statements.specs.Content.{SparesOthers, Then, has_key, is_below, is_value}
+use Rattle.review_statements.specs.Content.{SparesOthers, Then, has_key, is_below, is_natural, is_text, is_value}
+use Rattle.review_statements.proofs.Meaning.{and_true}
 use Rattle.review_statements.specs.Desk.{is_tree}
 use Rattle.review_statements.specs.Ran.{OnDesk}
 use Rattle.review_statements.specs.Search.{row_at, rows_at, only, reads, Search}
 use Rattle.review_tables.specs.Fronts.{IsExact}
 use Rattle.review_tables.proofs.Changed.{rows_changed, rows_spare}
-use Rattle.review_tables.proofs.Keys.{equal_is, int_is, same_text}
+use Rattle.review_tables.proofs.Keys.{equal_is, int_is, same_text, text_is}
 use Rattle.review_sql.specs.Numbers.{IsDesk}
 use Rattle.review_sql.specs.Changes.{GivesUp, SetsDelta, SetsKept, SetsDesk, SetsPut}
 use Rattle.review_sql.specs.Numbers.{more}
 use Rattle.review_sql.specs.declared.seen.Numbers.{Numbers}
-use Rattle.review_records.specs.Forms.{accounts, members, projects, bases, answers, epochs, request_key}
+use Rattle.review_records.specs.Forms.{accounts, members, projects, bases, answers, epochs, is_of_lower, request_key}
 use Rattle.review_lookups.specs.Tables.{told, row_in, count_in, answer_in, least_in, stored_as, number_of, tables_at, version_in}
 use Rattle.review_sql.specs.Commits.{Commits, AreSingle}
 use Rattle.review_sql.proofs.Unkeyed.{commit_keeps, unkeyed_same}
@@ -164,21 +164,12 @@ filter_twice p q b (r ∷ rows) each = elim (cases_Bool (q r)) [
     one true asked stays same = rw (stays, asked) (ap (λ l. r ∷ l) same)
     one false asked goes same = rw goes same
 
-lt_by : (a b : Bool) → is_lt (cond a Less (cond b Greater Equal)) ≡ a
-lt_by true b = refl
-lt_by false true = refl
-lt_by false false = refl
-
--- an integer is below another where the numbers are
-below_is : (epoch least : ℕ) → is_below (Int (pos epoch)) (pos least) ≡ nat_lt epoch least
-below_is epoch least = ap is_lt (value_cmp-Int (pos epoch) (pos least)) ∙ lt_by (nat_lt epoch least) (nat_lt least epoch)
-
--- a stored request of an identity has its epoch
-epoch_of : (i : Identity) (r : Raw) → has_key (answers.at (request_key i)) r ≡ true → column r 2 ≡ Int (pos i.epoch)
-epoch_of i r has =
+-- a stored request of an identity is of a lower epoch where the identity is
+lower_is : (i : Identity) (least : ℕ) (r : Raw) → has_key (answers.at (request_key i)) r ≡ true → is_of_lower least r ≡ nat_lt i.epoch least
+lower_is i least r has =
     let p = and_parts (is_value (column r 1) (Int (pos i.caller))) (is_value (column r 2) (Int (pos i.epoch)) && (is_value (column r 3) (Text i.id) && true)) has in
     let q = and_parts (is_value (column r 2) (Int (pos i.epoch))) (is_value (column r 3) (Text i.id) && true) p.1 in
-    int_is (column r 2) (pos i.epoch) q.0
+    (λ k. is_below least (int_is (column r 2) (pos i.epoch) q.0 k) && (is_natural (int_is (column r 1) (pos i.caller) p.0 k) && is_text (text_is (column r 3) i.id (and_parts _ _ q.1).0 k))) ∙ and_true (nat_lt i.epoch least)
 
 module _ (epoch : Option ℕ) (old new : Trees) (h : GivesUp epoch old new) where
   given_up_spares : (t : ℕ) → is_tree t ≡ true → t ≢ 28 → t ≢ 31 → new t ≡ old t
@@ -208,11 +199,11 @@ module _ (epoch : Option ℕ) (old new : Trees) (h : GivesUp epoch old new) wher
       at : Rattle.review_statements.specs.Search.At
       at = answers.at (request_key i)
 
-      gone : (least : ℕ) (b : Bool) → nat_lt i.epoch least ≡ b → new 28 ≡ filter (λ r. not (is_below (column r 2) (pos least))) (old 28) → answer_in new i ≡ cond b None (answer_in old i)
+      gone : (least : ℕ) (b : Bool) → nat_lt i.epoch least ≡ b → new 28 ≡ filter (λ r. not (is_of_lower least r)) (old 28) → answer_in new i ≡ cond b None (answer_in old i)
       gone least b is rows =
-          let each : (r : Raw) → has_key at r ≡ true → not (is_below (column r 2) (pos least)) ≡ not b = λ r has. ap (λ v. not (is_below v (pos least))) (epoch_of i r has) ∙ ap not (below_is i.epoch least ∙ is) in
+          let each : (r : Raw) → has_key at r ≡ true → not (is_of_lower least r) ≡ not b = λ r has. ap not (lower_is i least r has ∙ is) in
           ap (λ l. stored_as i (only (reads answers) (rows_at at l))) rows
-          ∙ (ap (λ l. stored_as i (only (reads answers) l)) (filter_twice (λ r. not (is_below (column r 2) (pos least))) (has_key at) (not b) (old 28) each) ∙ either b)
+          ∙ (ap (λ l. stored_as i (only (reads answers) l)) (filter_twice (λ r. not (is_of_lower least r)) (has_key at) (not b) (old 28) each) ∙ either b)
         where
           either : (b : Bool) → stored_as i (only (reads answers) (cond (not b) (rows_at at (old 28)) [])) ≡ cond b None (answer_in old i)
           either true = refl

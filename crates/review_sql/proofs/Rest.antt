@@ -3,19 +3,20 @@ use Rattle.review_rows.specs.Rows.{kept_row}
 use Rattle.std.proofs.Common.{◌≡◌, ◌∙◌, ℕ, List, [], ◌∷◌, ◌++◌, Option, Some, None, Bool, true, false, filter, IfSome, string_bytes, sym, ap, subst, inl, inr, eqb, eqb-true, not, pos, ◌==◌, refl}
 use Rattle.std.proofs.lemmas.Bool.{cases_Bool, eqb-false}
 use Rattle.std.specs.List.{AllByRecursion}
-use Rattle.sqlite_value.specs.Order.{Row as Raw, column}
+use Rattle.sqlite_value.specs.Order.{Row as Raw}
 use Rattle.sqlite_trees.specs.Tree.{Trees}
 use Rattle.review_table.specs.declared.table.Change.{Change}
 use Rattle.review_rows.specs.declared.rows.ChangeEdit.{ChangeEdit}
 use Rattle.review_rows.specs.declared.rows.Delta.{Delta}
 use Rattle.review_rows.specs.declared.rows.Kept.{Kept}
 use Rattle.review_rows.specs.declared.rows.Put.{Put}
-use Rattle.review_statements.specs.Content.{Then, is_below}
+use Rattle.review_statements.specs.Content.{Then}
 use Rattle.review_statements.specs.Desk.{is_tree}
 use Rattle.review_statements.specs.Search.{Search, SetsRow, SetsRows}
 use Rattle.review_tables.specs.Fronts.{SetsParts}
 use Rattle.review_change_records.specs.Forms.{headers, patches, votes, roles, comments, calls}
-use Rattle.review_records.specs.Forms.{accounts, members, projects, bases, answers, desk, epochs, request_key}
+use Rattle.review_records.specs.Forms.{accounts, members, projects, bases, answers, desk, epochs, is_of_lower, request_key}
+use Rattle.review_sql.proofs.Unkeyed.{not_not, pass_still}
 use Rattle.review_sql.specs.Changes.{GivesUp, SetsDelta, SetsEdit, SetsEdits, SetsUnless, SetsKept, SetsPut, SetsDesk, is_named}
 use Rattle.review_sql.specs.Named.{Test, Spares, SparesAll, SparesParts, SparesEdit, SparesNamed, KeepsRest}
 
@@ -68,28 +69,16 @@ module _ (tree : ℕ) (test : Test) (is : is_tree tree ≡ true) where
       ∙ (rows_same members delta.members.items sets.1.1.1.0 sets.1.1.0 spares.of_members sets.1.1.1.2
       ∙ rows_same accounts delta.accounts.items old sets.1.1.1.0 spares.of_accounts sets.1.1.1.1)))
 
-  -- rows that a test passes are none that go
-  pass_still : (p q : Raw → Bool) (rows : List Raw) → ((r : Raw) → q r ≡ false → p r ≡ false) → filter p (filter q rows) ≡ filter p rows
-  pass_still p q [] goes = refl
-  pass_still p q (r ∷ rows) goes = elim (cases_Bool (q r)) [
-    | inl stays ↦ rw stays (elim (cases_Bool (p r)) [ inl asked ↦ rw asked (ap (λ l. r ∷ l) (pass_still p q rows goes)) | inr other ↦ rw other (pass_still p q rows goes) ])
-    | inr gone ↦ rw (gone, goes r gone) (pass_still p q rows goes)
-  ]
-
-  given_up_same : (epoch : Option ℕ) (old new : Trees) → IfSome epoch (λ least. Spares tree test epochs tt) → IfSome epoch (λ least. tree ≡ 28 → (r : Raw) → is_below (column r 2) (pos least) ≡ true → test r ≡ false) → GivesUp epoch old new → Same old new
+  given_up_same : (epoch : Option ℕ) (old new : Trees) → IfSome epoch (λ least. Spares tree test epochs tt) → IfSome epoch (λ least. tree ≡ 28 → (r : Raw) → is_of_lower least r ≡ true → test r ≡ false) → GivesUp epoch old new → Same old new
   given_up_same None old new row closed gives = ap (λ (db : Trees). filter test (db tree)) gives
   given_up_same (Some least) old new row closed gives = row_same epochs tt (Some least) gives.0 new row gives.2 ∙ elim (cases_Bool (tree == 28)) [
     | inl here ↦
         let same : tree ≡ 28 = eqb-true tree 28 here in
         subst (λ n. filter test (gives.0 n) ≡ filter test (old n)) (sym same)
-        (ap (filter test) gives.1.rows ∙ pass_still test (λ r. not (is_below (column r 2) (pos least))) (old 28)
-        (λ r gone. closed same r (by (is_below (column r 2) (pos least)) gone)))
+        (ap (filter test) gives.1.rows ∙ pass_still test (λ r. not (is_of_lower least r)) (old 28)
+        (λ r gone. closed same r (not_not (is_of_lower least r) gone)))
     | inr other ↦ ap (filter test) (gives.1.others tree is (eqb-false tree 28 other))
   ]
-    where
-      by : (b : Bool) → not b ≡ false → b ≡ true
-      by true e = refl
-      by false e = absurd (cc)
 
 pub keeps_rest : (delta : Delta) (kept : Kept) (n : ℕ) (old new : Trees) → Then (Then (Then (SetsDelta delta) (SetsKept kept)) (GivesUp delta.least_epoch)) (SetsDesk n) old new → KeepsRest delta kept old new
 keeps_rest delta kept n old new sets = record {

@@ -1,19 +1,21 @@
 -- What is written leaves the rows that have no key of their table.
-use Rattle.std.proofs.Common.{◌≡◌, ◌∙◌, ◌==◌, ◌++◌, ◌||◌, ◌+◌, ℕ, List, [], ◌∷◌, Bool, cond, true, false, not, Option, Some, None, filter, refl, sym, ap, subst, inl, inr, eqb-true}
+use Rattle.std.proofs.Common.{pos, negsuc, ◌≡◌, ◌∙◌, ◌==◌, ◌++◌, ◌||◌, ◌+◌, ℕ, List, [], ◌∷◌, Bool, cond, true, false, not, Option, Some, None, filter, refl, sym, ap, subst, inl, inr, eqb-true}
 use Rattle.std.specs.List.{AllByRecursion, list_any}
-use Rattle.std.proofs.lemmas.Bool.{cases_Bool, eqb-false}
-use Rattle.sqlite_value.specs.Order.{Row as Raw}
+use Rattle.std.proofs.lemmas.Bool.{and_from, and_parts, cases_Bool, eqb-false}
+use Rattle.sqlite_value.specs.declared.value.Value.{Value}
+use Rattle.sqlite_value.specs.declared.value.Value.TheVariants.{Null, Int, Real, Text, Blob}
+use Rattle.sqlite_value.specs.Order.{Row as Raw, column}
 use Rattle.sqlite_trees.specs.Tree.{Trees}
 use Rattle.review_table.specs.declared.table.Change.{Change}
 use Rattle.review_rows.specs.declared.rows.ChangeEdit.{ChangeEdit}
 use Rattle.review_rows.specs.declared.rows.Delta.{Delta}
 use Rattle.review_rows.specs.declared.rows.Kept.{Kept}
 use Rattle.review_rows.specs.declared.rows.Put.{Put}
-use Rattle.review_statements.specs.Content.{SparesOthers, Then}
+use Rattle.review_statements.specs.Content.{RemovesWhere, Then, is_below, is_natural}
 use Rattle.review_statements.specs.Desk.{is_tree}
 use Rattle.review_statements.specs.Search.{Search, SetsRow, SetsRows}
 use Rattle.review_tables.specs.Fronts.{SetsParts}
-use Rattle.review_records.specs.Forms.{accounts, members, projects, bases, answers, desk, epochs}
+use Rattle.review_records.specs.Forms.{accounts, members, projects, bases, answers, desk, epochs, is_of_lower}
 use Rattle.review_change_records.specs.Forms.{headers, patches, votes, roles, comments, calls}
 use Rattle.review_lookups.specs.Tables.{has_unkeyed, keyed_tables}
 use Rattle.review_sql.specs.First.{SetsFirst}
@@ -23,7 +25,7 @@ use Rattle.review_sql.specs.Changes.{GivesUp, SetsDelta, SetsDesk, SetsEdit, Set
 abbrev keyed_of : ℕ → Raw → Bool
 keyed_of t =
     cond (t == 0) accounts.keyed (cond (t == 2) members.keyed (cond (t == 26) projects.keyed (cond (t == 6) bases.keyed (cond (t == 9) headers.keyed (cond (t == 11) patches.keyed
-    (cond (t == 14) votes.keyed (cond (t == 16) roles.keyed (cond (t == 18) comments.keyed (cond (t == 20) calls.keyed desk.keyed)))))))))
+    (cond (t == 14) votes.keyed (cond (t == 16) roles.keyed (cond (t == 18) comments.keyed (cond (t == 20) calls.keyed (cond (t == 28) answers.keyed desk.keyed))))))))))
 
 -- the rows without a key are as they were
 pub record Keeps (old new : Trees) : Type 0 where
@@ -35,16 +37,40 @@ keeps_same old new same = record { rows = λ t is. ap (λ (d : Trees). filter (�
 keeps_then : (old mid new : Trees) → Keeps old mid → Keeps mid new → Keeps old new
 keeps_then old mid new one two = record { rows = λ t is. two.rows t is ∙ one.rows t is }
 
--- of the stored requests none counts as without a key
-none_without : (rows : List Raw) → filter (λ r. false) rows ≡ []
-none_without [] = refl
-none_without (r ∷ rows) = none_without rows
+-- rows that a test passes are none that go
+pub pass_still : (p q : Raw → Bool) (rows : List Raw) → ((r : Raw) → q r ≡ false → p r ≡ false) → filter p (filter q rows) ≡ filter p rows
+pass_still p q [] goes = refl
+pass_still p q (r ∷ rows) goes = elim (cases_Bool (q r)) [
+  | inl stays ↦ rw stays (elim (cases_Bool (p r)) [ inl asked ↦ rw asked (ap (λ l. r ∷ l) (pass_still p q rows goes)) | inr other ↦ rw other (pass_still p q rows goes) ])
+  | inr gone ↦ rw (gone, goes r gone) (pass_still p q rows goes)
+]
 
-keeps_answers : (old new : Trees) → SparesOthers 28 old new → Keeps old new
-keeps_answers old new others = record {
+-- what is so of no value is so of none that isn't
+pub not_not : (b : Bool) → not b ≡ false → b ≡ true
+not_not true e = refl
+not_not false e = absurd (cc)
+
+-- a stored request of a lower epoch has a key
+lower_keyed : (least : ℕ) (r : Raw) → is_of_lower least r ≡ true → answers.keyed r ≡ true
+lower_keyed least r is =
+    let parts = and_parts _ _ is in
+    let rest = and_parts _ _ parts.1 in
+    and_from _ _ rest.0 (and_from _ _ (number (column r 2) parts.0) rest.1)
+  where
+    number : (v : Value) → is_below least v ≡ true → is_natural v ≡ true
+    number Null is = absurd (cc)
+    number (Int (pos n)) is = refl
+    number (Int (negsuc n)) is = absurd (cc)
+    number (Real x) is = absurd (cc)
+    number (Text t) is = absurd (cc)
+    number (Blob b) is = absurd (cc)
+
+keeps_removed : (least : ℕ) (old new : Trees) → RemovesWhere 28 (is_of_lower least) old new → Keeps old new
+keeps_removed least old new h = record {
   rows = λ t is. elim (cases_Bool (t == 28)) [
-    | inl here ↦ subst (λ n. filter (λ r. not (keyed_of n r)) (new n) ≡ filter (λ r. not (keyed_of n r)) (old n)) (sym (eqb-true t 28 here)) (none_without (new 28) ∙ sym (none_without (old 28)))
-    | inr other ↦ ap (filter (λ r. not (keyed_of t r))) (others t is (eqb-false t 28 other))
+    | inl here ↦ subst (λ n. filter (λ r. not (keyed_of n r)) (new n) ≡ filter (λ r. not (keyed_of n r)) (old n)) (sym (eqb-true t 28 here))
+        (ap (filter (λ r. not (answers.keyed r))) h.rows ∙ pass_still (λ r. not (answers.keyed r)) (λ r. not (is_of_lower least r)) (old 28) (λ r gone. ap not (lower_keyed least r (not_not (is_of_lower least r) gone))))
+    | inr other ↦ ap (filter (λ r. not (keyed_of t r))) (h.others t is (eqb-false t 28 other))
   ];
 }
 
@@ -109,7 +135,7 @@ unkeyed_same old new keeps = all_same keyed_tables old new
 
 keeps_given_up : (epoch : Option ℕ) (old new : Trees) → GivesUp epoch old new → Keeps old new
 keeps_given_up None old new h = keeps_same old new h
-keeps_given_up (Some least) old new h = keeps_then old h.0 new (keeps_answers old h.0 h.1.others) (keeps_row epochs refl _ _ h.0 new h.2)
+keeps_given_up (Some least) old new h = keeps_then old h.0 new (keeps_removed least old h.0 h.1) (keeps_row epochs refl _ _ h.0 new h.2)
 
 -- a commit leaves the rows that have no key
 pub commit_keeps : (delta : Delta) (kept : Kept) (n : ℕ) (a b : Trees) → Then (Then (Then (SetsDelta delta) (SetsKept kept)) (GivesUp delta.least_epoch)) (SetsDesk (n + 1)) a b → Keeps a b
@@ -123,7 +149,7 @@ commit_keeps delta kept n a b h =
     let d1 = h.1.1.1.1.1.1.0 in
     keeps_then a t3 b (keeps_then a t2 t3 (keeps_then a t1 t2 (keeps_then a u t1 (keeps_then a d3 u (keeps_then a d2 d3 (keeps_then a d1 d2 (keeps_rows accounts refl delta.accounts.items a d1 h.1.1.1.1.1.1.1)
     (keeps_rows members refl delta.members.items d1 d2 h.1.1.1.1.1.1.2)) (keeps_put projects refl delta.file d2 d3 h.1.1.1.1.1.2)) (keeps_put bases refl delta.base d3 u h.1.1.1.1.2)) (keeps_edits [] delta.changes.items u t1 h.1.1.1.2))
-    (keeps_answers t1 t2 h.1.1.2.others)) (keeps_given_up delta.least_epoch t2 t3 h.1.2)) (keeps_row desk refl _ _ t3 b h.2)
+    (keeps_row answers refl _ _ t1 t2 h.1.1.2)) (keeps_given_up delta.least_epoch t2 t3 h.1.2)) (keeps_row desk refl _ _ t3 b h.2)
 
 -- so do the first rows of a desk
 pub first_keeps : (a b : Trees) → SetsFirst a b → Keeps a b

@@ -162,10 +162,6 @@ module _ (version : EarlierVersion) (numbers : Numbers) (old mid new : Trees) (s
     stay_keyed : (t : ℕ) (keyed : Raw → Bool) → new t ≡ old t → AllKeyed old (t, keyed) → AllKeyed new (t, keyed)
     stay_keyed t keyed is was = ap (list_any (λ r. not (keyed r))) is ∙ was
 
-    none_apart : (rows : List Raw) → list_any (λ r. false) rows ≡ false
-    none_apart [] = refl
-    none_apart (r ∷ rows) = none_apart rows
-
     unkeyed : has_unkeyed keyed_tables new ≡ false
     unkeyed =
         let rest = before.1.1.1.1.1 in
@@ -178,7 +174,7 @@ module _ (version : EarlierVersion) (numbers : Numbers) (old mid new : Trees) (s
               (
                 stay_keyed 6 bases.keyed (kept 6 refl refl (λ e. omega (arith, e))) before.1.1.1.0,
                 (
-                  none_apart (new 28),
+                  ap (list_any (λ r. not (answer_keyed r))) stored_after ∙ answers_keyed (old 22) (mid 28) (stored_moved old mid version moved) stored_keyed,
                   (
                     stay_keyed 9 headers.keyed (kept 9 refl refl (λ e. omega (arith, e))) rest.0,
                     (

@@ -1,5 +1,5 @@
 -- What a delta does to the trees, table by table.
-use Rattle.std.specs.Prelude.{ℕ, pos, ◌≡◌, ◌==◌, ◌++◌, Bool, true, false, List, [], ◌∷◌, Option, Some, None}
+use Rattle.std.specs.Prelude.{ℕ, ◌≡◌, ◌==◌, ◌++◌, Bool, true, false, List, [], ◌∷◌, Option, Some, None}
 use Rattle.std.specs.List.{list_any}
 use Rattle.sqlite_trees.specs.Tree.{Trees}
 use Rattle.review_rows.specs.declared.rows.ChangeEdit.{ChangeEdit}
@@ -9,11 +9,11 @@ use Rattle.review_rows.specs.declared.rows.Put.{Put}
 use Rattle.review_rows.specs.Rows.{kept_row}
 use Rattle.review_rows.specs.View.{tables_version}
 use Rattle.std.specs.Prelude.{string_bytes}
-use Rattle.review_statements.specs.Content.{Then, RemovesBelow}
+use Rattle.review_statements.specs.Content.{Then, RemovesWhere}
 use Rattle.review_tables.specs.Fronts.{SetsParts}
 use Rattle.review_statements.specs.Search.{Search, SetsRow, SetsRows}
 use Rattle.review_change_records.specs.Forms.{headers, patches, votes, roles, comments, calls}
-use Rattle.review_records.specs.Forms.{accounts, members, projects, bases, answers, desk, epoch_place, epochs, request_key}
+use Rattle.review_records.specs.Forms.{accounts, members, projects, bases, answers, desk, epochs, is_of_lower, request_key}
 
 -- a row is put, where there is one
 abbrev pub SetsPut : {A X : Type 0} → Search A X → Option (Put A X) → Trees → Trees → Type 0
@@ -60,7 +60,7 @@ SetsLeast least = SetsRow epochs tt (Some least)
 -- an epoch becomes the least open one, if one is named, and the kept answers of lower ones go
 abbrev pub GivesUp : Option ℕ → Trees → Trees → Type 0
 GivesUp None old new = new ≡ old
-GivesUp (Some least) old new = Then (RemovesBelow answers.tree epoch_place (pos least)) (SetsLeast least) old new
+GivesUp (Some least) old new = Then (RemovesWhere answers.tree (is_of_lower least)) (SetsLeast least) old new
 
 -- the desk has version 3 and so many requests
 abbrev pub SetsDesk : ℕ → Trees → Trees → Type 0

@@ -8,11 +8,11 @@ use Rattle.review_rows.specs.declared.rows.ChangeEdit.{ChangeEdit}
 use Rattle.review_rows.specs.declared.rows.Delta.{Delta}
 use Rattle.review_rows.specs.declared.rows.Kept.{Kept}
 use Rattle.review_rows.specs.Rows.{kept_row}
-use Rattle.review_statements.specs.Content.{has_key, is_below}
+use Rattle.review_statements.specs.Content.{has_key}
 use Rattle.review_statements.specs.Desk.{is_tree}
 use Rattle.review_statements.specs.Search.{Search}
 use Rattle.review_change_records.specs.Forms.{headers, patches, votes, roles, comments, calls}
-use Rattle.review_records.specs.Forms.{accounts, members, projects, bases, answers, desk, epoch_place, epochs, request_key}
+use Rattle.review_records.specs.Forms.{accounts, members, projects, bases, answers, desk, epochs, is_of_lower, request_key}
 
 -- A test on the raw rows of a table.
 abbrev pub Test : Type 0
@@ -49,7 +49,7 @@ pub record SparesNamed (delta : Delta) (kept : Kept) (tree : ℕ) (test : Test) 
   pub of_answer : Spares tree test answers (request_key (kept_row kept).identity)
   pub of_desk : Spares tree test desk tt
   pub of_epochs : IfSome delta.least_epoch (λ least. Spares tree test epochs tt)
-  pub of_closed : IfSome delta.least_epoch (λ least. tree ≡ answers.tree → (r : Raw) → is_below (column r epoch_place) (pos least) ≡ true → test r ≡ false)
+  pub of_closed : IfSome delta.least_epoch (λ least. tree ≡ answers.tree → (r : Raw) → is_of_lower least r ≡ true → test r ≡ false)
 
 -- of each table the rows that no named key has are as they were, whatever test finds them, but for the stored requests of lower epochs where an epoch is named
 pub record KeepsRest (delta : Delta) (kept : Kept) (old new : Trees) : Type 0 where

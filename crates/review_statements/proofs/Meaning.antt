@@ -87,7 +87,7 @@ typed_text (Real x) = is_named (codes "text") (codes "real")
 typed_text (Text t) = is_named (codes "text") (codes "text")
 typed_text (Blob b) = is_named (codes "text") (codes "blob")
 
-and_true : (b : Bool) → (b && true) ≡ b
+pub and_true : (b : Bool) → (b && true) ≡ b
 and_true true = refl
 and_true false = refl
 

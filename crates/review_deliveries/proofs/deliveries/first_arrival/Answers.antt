@@ -86,7 +86,7 @@ returns-clause-once g c = λ honest none.
     stores_once a.caller a.epoch a.id.now a.command.now c.in_ok-decided.decided.reply (g.S.Shelf.state a.shelf.now).tables (g.S.Shelf.state c.store.new.shelf).tables
     (stored_shown i a.command.now c.in_ok-decided.decided.reply c.in_ok-decided.decided.delta (option_copied c.as_ref.result) c.gathered.new.rows _
     (g.S.Shelf.state a.shelf.now).tables (g.S.Shelf.state c.gathered.new.shelf).tables (g.S.Shelf.state c.store.new.shelf).tables
-    (c.in_ok-read.ensures.tables (y.honest honest)) none (c.in_ok-read.ensures.found (y.honest honest) (inl c.requires.nothing)) enough.0 c.in_ok-decided.ensures.refused c.in_ok-decided.ensures.closes c.in_ok-decided.ensures.own (y.done honest)
+    (c.in_ok-read.ensures.tables (y.honest honest)) none (c.in_ok-read.ensures.found (y.honest honest) (inl c.requires.nothing)) enough.0 c.in_ok-decided.ensures.refused c.in_ok-decided.ensures.closes c.in_ok-decided.ensures.own c.in_ok-decided.ensures.raises (y.done honest)
     (λ n e k. record { identity = record { caller = a.caller; epoch = a.epoch; id = a.id.now }; request = (c.in_ok-decided.ensures.request.0 ∙ ap (λ m. m + 1) e) k; content = c.requires.content k; reply = reply_text c.in_ok-decided.decided.reply }))
 
 pub returns-in_err-decided-clause-served : goal.returns-in_err-decided-clause-served
