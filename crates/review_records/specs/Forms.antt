@@ -3,7 +3,7 @@ use Rattle.std.specs.Prelude.{nat_le, ℕ, pos, ◌&&◌, Bool, List, [], ◌∷
 use Rattle.std.specs.Str.{is_utf8}
 use Rattle.sqlite_value.specs.declared.value.Value.TheVariants.{Int, Text}
 use Rattle.sqlite_value.specs.Order.{Row, column}
-use Rattle.review_statements.specs.Content.{is_below, is_natural, is_text}
+use Rattle.review_statements.specs.Content.{is_number_below, is_natural, is_text}
 use Rattle.review_names.specs.Names.{is_word}
 use Rattle.review_names.specs.Names.{is_account_number}
 use Rattle.review_words.specs.Epochs.{is_epoch}
@@ -180,7 +180,7 @@ answer_form = with_rowid (λ i a. Int (pos i.caller) ∷ Int (pos i.epoch) ∷ T
 
 -- whether a row is the stored request of an identity with a lower epoch
 abbrev pub is_of_lower : ℕ → Row → Bool
-is_of_lower least r = is_below least (column r 2) && (is_natural (column r 1) && is_text (column r 3))
+is_of_lower least r = is_number_below least (column r 2) && (is_natural (column r 1) && is_text (column r 3))
 
 -- the key of an identity
 abbrev pub request_key : Identity → RequestKey

@@ -18,12 +18,12 @@ use Rattle.review_rows.specs.declared.rows.Delta.{Delta}
 use Rattle.review_rows.specs.declared.rows.Kept.{Kept}
 use Rattle.review_rows.specs.declared.rows.MemberKey.{MemberKey as Member}
 use Rattle.review_rows.specs.declared.rows.Put.{Put}
-use Rattle.review_rows.specs.Rows.{is_below as lower, Key, AccountKey, MemberKey, FileKey, BaseKey, PartKey, OddKey, Row, AccountRow, MemberRow, FileRow, BaseRow, APart, OddRow, edited, Count, Projects, BasesOf, ClosedEpochs, Answered, member_cmp, member_change, account_change, after_put, count_put, place_cmp, kept_row, after, count_after}
+use Rattle.review_rows.specs.Rows.{is_below, Key, AccountKey, MemberKey, FileKey, BaseKey, PartKey, OddKey, Row, AccountRow, MemberRow, FileRow, BaseRow, APart, OddRow, edited, Count, Projects, BasesOf, ClosedEpochs, Answered, member_cmp, member_change, account_change, after_put, count_put, place_cmp, kept_row, after, count_after}
 use Rattle.review_rows.specs.Shelf.{IsCommitted}
 use Rattle.review_rows.proofs.Puts.{exact_place, place_total}
 use Rattle.review_rows.specs.declared.rows.PlaceKey.{PlaceKey}
 use Rattle.review_rows.specs.declared.rows.StoredFile.{StoredFile}
-use Rattle.review_statements.specs.Content.{SparesOthers, Then, has_key, is_below, is_natural, is_text, is_value}
+use Rattle.review_statements.specs.Content.{SparesOthers, Then, has_key, is_number_below, is_natural, is_text, is_value}
 use Rattle.review_statements.proofs.Meaning.{and_true}
 use Rattle.review_statements.specs.Desk.{is_tree}
 use Rattle.review_statements.specs.Ran.{OnDesk}
@@ -33,7 +33,7 @@ use Rattle.review_tables.proofs.Changed.{rows_changed, rows_spare}
 use Rattle.review_tables.proofs.Keys.{equal_is, int_is, same_text, text_is}
 use Rattle.review_sql.specs.Numbers.{IsDesk}
 use Rattle.review_sql.specs.Changes.{GivesUp, SetsDelta, SetsKept, SetsDesk, SetsPut}
-use Rattle.review_sql.specs.Numbers.{more}
+use Rattle.review_sql.specs.Numbers.{with_request}
 use Rattle.review_sql.specs.declared.seen.Numbers.{Numbers}
 use Rattle.review_records.specs.Forms.{accounts, members, projects, bases, answers, epochs, is_of_lower, request_key}
 use Rattle.review_lookups.specs.Tables.{told, row_in, count_in, answer_in, least_in, stored_as, number_of, tables_at, version_in}
@@ -169,7 +169,7 @@ lower_is : (i : Identity) (least : ℕ) (r : Raw) → has_key (answers.at (reque
 lower_is i least r has =
     let p = and_parts (is_value (column r 1) (Int (pos i.caller))) (is_value (column r 2) (Int (pos i.epoch)) && (is_value (column r 3) (Text i.id) && true)) has in
     let q = and_parts (is_value (column r 2) (Int (pos i.epoch))) (is_value (column r 3) (Text i.id) && true) p.1 in
-    (λ k. is_below least (int_is (column r 2) (pos i.epoch) q.0 k) && (is_natural (int_is (column r 1) (pos i.caller) p.0 k) && is_text (text_is (column r 3) i.id (and_parts _ _ q.1).0 k))) ∙ and_true (nat_lt i.epoch least)
+    (λ k. is_number_below least (int_is (column r 2) (pos i.epoch) q.0 k) && (is_natural (int_is (column r 1) (pos i.caller) p.0 k) && is_text (text_is (column r 3) i.id (and_parts _ _ q.1).0 k))) ∙ and_true (nat_lt i.epoch least)
 
 module _ (epoch : Option ℕ) (old new : Trees) (h : GivesUp epoch old new) where
   given_up_spares : (t : ℕ) → is_tree t ≡ true → t ≢ 28 → t ≢ 31 → new t ≡ old t
@@ -193,7 +193,7 @@ module _ (epoch : Option ℕ) (old new : Trees) (h : GivesUp epoch old new) wher
       by None same = ap (λ (d : Trees). row_at epochs d tt) same ∙ is
       by (Some n) it = it.2.here
 
-  answer_after : (i : Identity) → answer_in new i ≡ cond (lower epoch i.epoch) None (answer_in old i)
+  answer_after : (i : Identity) → answer_in new i ≡ cond (is_below epoch i.epoch) None (answer_in old i)
   answer_after i = by epoch h
     where
       at : Rattle.review_statements.specs.Search.At
@@ -209,7 +209,7 @@ module _ (epoch : Option ℕ) (old new : Trees) (h : GivesUp epoch old new) wher
           either true = refl
           either false = refl
 
-      by : (o : Option ℕ) → GivesUp o old new → answer_in new i ≡ cond (lower o i.epoch) None (answer_in old i)
+      by : (o : Option ℕ) → GivesUp o old new → answer_in new i ≡ cond (is_below o i.epoch) None (answer_in old i)
       by None same = ap (λ (d : Trees). answer_in d i) same
       by (Some least) it = gone least (nat_lt i.epoch least) refl (it.2.others 28 refl (λ e. omega (arith, e)) ∙ it.1.rows)
 
@@ -334,13 +334,13 @@ module _ (delta : Delta) (kept : Kept) (n : Numbers) (a b : Trees) (was : IsDesk
     row_is = rows;
     count_is = counts single;
     answer_is = λ i. ap (λ l. stored_as i (only (reads answers) (rows_at (answers.at (request_key i)) l))) (h.2.others 28 refl (λ e. omega (arith, e)))
-        ∙ (answer_after delta.least_epoch t2 t3 h.1.2 i ∙ ap (λ o. cond (lower delta.least_epoch i.epoch) None o)
+        ∙ (answer_after delta.least_epoch t2 t3 h.1.2 i ∙ ap (λ o. cond (is_below delta.least_epoch i.epoch) None o)
         (answer_row kept t1 t2 h.1.1.2 i ∙ ap (λ l. cond (is_same (kept_row kept).identity i) (Some (Answered (kept_row kept))) (stored_as i (only (reads answers) (rows_at (answers.at (request_key i)) l)))) was_28));
     version = (λ k. version_in (least_said k) (h.2.here k)) ∙ sym (λ k. version_in (was.least_is k) (was.desk_is k));
     requests = ap (number_of (λ d. d.requests)) h.2.here ∙ sym (ap (λ o. number_of (λ d. d.requests) o + 1) was.desk_is);
   }
 
-  pub still_desk : IsDesk (more n delta.least_epoch) b
+  pub still_desk : IsDesk (with_request n delta.least_epoch) b
   still_desk = record { desk_is = h.2.here; least_is = least_said }
 
 pub commits : (delta : Delta) (kept : Kept) (n : Numbers) (old new : Database) → OnDesk (Then (Then (Then (SetsDelta delta) (SetsKept kept)) (GivesUp delta.least_epoch)) (SetsDesk (n.requests + 1))) old new → Commits delta kept n old new

@@ -20,7 +20,7 @@ use Rattle.review_sql.specs.declared.faults.DeskFault.TheVariants.{NotADesk, Wro
 use Rattle.review_sql.specs.Shelf.{AreAllRead}
 use Rattle.review_tables.specs.declared.versions.TablesVersion.{TablesVersion}
 use Rattle.review_tables.specs.declared.versions.TablesVersion.TheVariants.{Third}
-use Rattle.review_sql.specs.Said.{IsSaid, IsDeskThere, IsNoDesk, IsNone, IsOtherVersion, IsThere, LacksLeast, SaysLeast, SaysOther, least_in, ShowsEpochs}
+use Rattle.review_sql.specs.Said.{IsSaid, IsDeskThere, IsNoDesk, IsNone, IsOtherVersion, IsThere, LacksLeast, SaysLeast, SaysOther, least_shown, ShowsEpochs}
 use Rattle.review_tables.specs.Versions.{version_number}
 use Rattle.review_tables.proofs.ByTree.{at_tree}
 use Rattle.review_sql.specs.Opened.{AreAllApart, Peeks, IsLacking, IsSeen, IsRefused}
@@ -127,9 +127,9 @@ module _ (version : TablesVersion) (s t : State) (r : Result (Option ℕ) Error)
 
 -- what the rows of the epochs say, or that they say none
 module _ (db : Database) (rows : List Row) (shown : ShowsEpochs db rows) where
-  pub says_if : (said : Option ℕ) → said ≡ least_in rows → IfSome said (SaysLeast Third db)
+  pub says_if : (said : Option ℕ) → said ≡ least_shown rows → IfSome said (SaysLeast Third db)
   says_if None is = tt
   says_if (Some least) is = (rows, shown, sym is)
 
-  pub lacks_if : (said : Option ℕ) → said ≡ least_in rows → said ≡ None → LacksLeast Third db
+  pub lacks_if : (said : Option ℕ) → said ≡ least_shown rows → said ≡ None → LacksLeast Third db
   lacks_if said is none = (rows, shown, sym is ∙ none)

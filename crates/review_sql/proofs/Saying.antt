@@ -39,7 +39,7 @@ use Rattle.review_tables.specs.declared.versions.TablesVersion.TheVariants.{Firs
 use Rattle.review_lookups.specs.EarlierTables.{IsEarlierDesk}
 use Rattle.review_sql.specs.Numbers.{IsDesk}
 use Rattle.review_sql.specs.declared.seen.Numbers.{Numbers}
-use Rattle.review_sql.specs.Said.{number_of_one, version_in, requests_in, ShowsDesk, ShowsEpochs, ShowsRows, IsDeskThere, IsThere, IsNoDesk, IsNone, IsOtherVersion, LacksDesk, least_in, SaysLeast}
+use Rattle.review_sql.specs.Said.{number_of_one, version_shown, requests_shown, ShowsDesk, ShowsEpochs, ShowsRows, IsDeskThere, IsThere, IsNoDesk, IsNone, IsOtherVersion, LacksDesk, least_shown, SaysLeast}
 use Rattle.review_sql.specs.Shelf.{AreAllRead, IsUnderstood}
 
 -- ---- the texts over our form
@@ -124,7 +124,7 @@ module _ (version : TablesVersion) (db : Database) (has : db.schema ≡ schema_a
   says_row (r ∷ []) number requests v n = rw (v, n) refl
   says_row (r ∷ s ∷ raws) number requests v n = absurd (cc)
 
-  pub is_desk : (number requests : ℕ) → version_in rows ≡ Some number → requests_in rows ≡ Some requests → row_at desk db.trees tt ≡ Some (Some (record { version = number; requests = requests }))
+  pub is_desk : (number requests : ℕ) → version_shown rows ≡ Some number → requests_shown rows ≡ Some requests → row_at desk db.trees tt ≡ Some (Some (record { version = number; requests = requests }))
   is_desk number requests v n = says_row stored number requests (says 0 ∙ v) (says 1 ∙ n)
 
   parts_of : (a b : Option ℕ) (d : DeskRow) → Some (desk_row a b) ≡ Some (Some d) → (a ≡ Some d.version) × (b ≡ Some d.requests)
@@ -139,7 +139,7 @@ module _ (version : TablesVersion) (db : Database) (has : db.schema ≡ schema_a
   row_says (r ∷ []) d is = parts_of _ _ d is
   row_says (r ∷ s ∷ raws) d is = absurd (let e = same_Some None (Some d) is in cc)
 
-  pub desk_says : (numbers : Numbers) → IsDesk numbers db.trees → (version_in rows ≡ Some 3) × (requests_in rows ≡ Some numbers.requests)
+  pub desk_says : (numbers : Numbers) → IsDesk numbers db.trees → (version_shown rows ≡ Some 3) × (requests_shown rows ≡ Some numbers.requests)
   desk_says numbers is =
       let it = row_says stored (record { version = 3; requests = numbers.requests }) is.desk_is in
       (sym (says 0) ∙ it.0, sym (says 1) ∙ it.1)
@@ -155,7 +155,7 @@ module _ (db : Database) (has : db.schema ≡ desk_schema) (rows : List Row) (sh
   number_same : number_of_one 0 (map one kept) ≡ number_of_one 0 rows
   number_same = same_number 0 (map one kept) rows (shown_of FIND_EPOCHS.now desk_schema 31 (col 1 1 ∷ []) (codes "least" ∷ []) find_epochs_is db rows has shown)
 
-  is_least : (least : ℕ) → least_in rows ≡ Some least → row_at epochs db.trees tt ≡ Some (Some least)
+  is_least : (least : ℕ) → least_shown rows ≡ Some least → row_at epochs db.trees tt ≡ Some (Some least)
   is_least least says = by kept (ap (where_is is_epoch) number_same ∙ says)
     where
       by : (raws : List Row) → where_is is_epoch (number_of_one 0 (map one raws)) ≡ Some least → only (reads epochs) raws ≡ Some (Some least)
@@ -163,7 +163,7 @@ module _ (db : Database) (has : db.schema ≡ desk_schema) (rows : List Row) (sh
       by (r ∷ []) n = ap (λ o. Some o) n
       by (r ∷ s ∷ raws) n = absurd (cc)
 
-  least_says : (least : ℕ) → row_at epochs db.trees tt ≡ Some (Some least) → least_in rows ≡ Some least
+  least_says : (least : ℕ) → row_at epochs db.trees tt ≡ Some (Some least) → least_shown rows ≡ Some least
   least_says least is = sym (ap (where_is is_epoch) number_same) ∙ by kept is
     where
       by : (raws : List Row) → only (reads epochs) raws ≡ Some (Some least) → where_is is_epoch (number_of_one 0 (map one raws)) ≡ Some least
@@ -195,7 +195,7 @@ pub never_no_desk : (db : Database) → db.schema ≡ desk_schema → (numbers :
 never_no_desk db has numbers is (inl missing) = missing (subst (λ s. IsUnderstood s FIND_DESK.now) (sym has) understands)
 never_no_desk db has numbers is (inr odd) = let it = desk_says Third db has odd.0 odd.1 numbers is in lacks odd.0 it.0 it.1 odd.2
   where
-    lacks : (rows : List Row) → version_in rows ≡ Some 3 → requests_in rows ≡ Some numbers.requests → LacksDesk Third db rows → ⊥
+    lacks : (rows : List Row) → version_shown rows ≡ Some 3 → requests_shown rows ≡ Some numbers.requests → LacksDesk Third db rows → ⊥
     lacks rows v n (inl none) = no_some _ _ v none
     lacks rows v n (inr (_, inl none)) = no_some _ _ n none
     lacks rows v n (inr (_, inr (inl missing))) = missing (subst (AreAllRead Third) (sym has) reads_all)
@@ -206,7 +206,7 @@ pub never_earlier : (version : TablesVersion) → version_number version ≢ 3 �
 never_earlier version other db has numbers is (inl missing) = missing (subst (λ s. IsUnderstood s FIND_DESK.now) (sym has) understands)
 never_earlier version other db has numbers is (inr odd) = lacks odd.0 (desk_says Third db has odd.0 odd.1 numbers is).0 odd.2
   where
-    lacks : (rows : List Row) → version_in rows ≡ Some 3 → LacksDesk version db rows → ⊥
+    lacks : (rows : List Row) → version_shown rows ≡ Some 3 → LacksDesk version db rows → ⊥
     lacks rows v (inl none) = no_some _ _ v none
     lacks rows v (inr (is, _)) = other (same_Some _ _ (sym is ∙ v))
 

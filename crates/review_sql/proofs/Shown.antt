@@ -18,7 +18,7 @@ use Rattle.review_rows.specs.declared.shelf.ShelfFault.TheVariants.{Memory, Stor
 use Rattle.review_rows.specs.Shelf.{Blames, LeavesBy, StaysOrShuts, Shows, IsCommitted, IsDamaged, cause_of}
 use Rattle.review_statements.specs.Ran.{IsReady, IsDeskIfOpen, Serves, Transacts}
 use Rattle.review_lookups.specs.Tables.{tables_at}
-use Rattle.review_sql.specs.Numbers.{IsDesk, more}
+use Rattle.review_sql.specs.Numbers.{IsDesk, with_request}
 use Rattle.review_sql.specs.declared.seen.Numbers.{Numbers}
 use Rattle.review_sql.specs.Commits.{AreSingle, Commits}
 use Rattle.review_sql.specs.Shelf.{Holds, Stays, tables_of, stops_of}
@@ -97,7 +97,7 @@ module _ {S : Type 0} (g : Ghosts S) (old new : Held S) where
       done_as : r ≡ Ok (tt {0}) → HasCleanDisk (state g new) → IsTrue (state g old).is_open × IsTrue (state g new).is_open × Commits delta kept numbers (state g old).now (state g new).now
       done_as is clean = subst (λ q. OnOk q (IsTrue (state g old).is_open × IsTrue (state g new).is_open × Commits delta kept numbers (state g old).now (state g new).now)) is (acts.done clean)
 
-      pub holds_committed : r ≡ Ok (tt {0}) → new.in_transaction ≡ false → (IsTrue (state g new).is_open → HasCleanDisk (state g new)) → Holds g new is_ours (more numbers delta.least_epoch)
+      pub holds_committed : r ≡ Ok (tt {0}) → new.in_transaction ≡ false → (IsTrue (state g new).is_open → HasCleanDisk (state g new)) → Holds g new is_ours (with_request numbers delta.least_epoch)
       holds_committed is mode clean = record {
         autocommit = mode;
         ready = λ ours is_open.

@@ -11,7 +11,7 @@ use Rattle.review_rows.specs.declared.rows.ChangeEdit.{ChangeEdit}
 use Rattle.review_rows.specs.declared.rows.Delta.{Delta}
 use Rattle.review_rows.specs.declared.rows.Kept.{Kept}
 use Rattle.review_rows.specs.declared.rows.Put.{Put}
-use Rattle.review_statements.specs.Content.{RemovesWhere, Then, is_below, is_natural}
+use Rattle.review_statements.specs.Content.{RemovesWhere, Then, is_number_below, is_natural}
 use Rattle.review_statements.specs.Desk.{is_tree}
 use Rattle.review_statements.specs.Search.{Search, SetsRow, SetsRows}
 use Rattle.review_tables.specs.Fronts.{SetsParts}
@@ -57,7 +57,7 @@ lower_keyed least r is =
     let rest = and_parts _ _ parts.1 in
     and_from _ _ rest.0 (and_from _ _ (number (column r 2) parts.0) rest.1)
   where
-    number : (v : Value) → is_below least v ≡ true → is_natural v ≡ true
+    number : (v : Value) → is_number_below least v ≡ true → is_natural v ≡ true
     number Null is = absurd (cc)
     number (Int (pos n)) is = refl
     number (Int (negsuc n)) is = absurd (cc)

@@ -11,7 +11,7 @@ use Rattle.review_statements.specs.Search.{rows_at}
 use Rattle.review_rows.specs.declared.rows.PlaceKey.{PlaceKey}
 use Rattle.review_records.specs.Forms.{projects, bases}
 use Rattle.review_lookups.specs.Tables.{tables_at}
-use Rattle.review_sql.specs.Numbers.{IsDesk, more}
+use Rattle.review_sql.specs.Numbers.{IsDesk, with_request}
 use Rattle.review_sql.specs.declared.seen.Numbers.{Numbers}
 use Rattle.review_sql.specs.Named.{KeepsRest}
 
@@ -24,5 +24,5 @@ pub record AreSingle (db : Trees) : Type 0 where
 pub record Commits (delta : Delta) (kept : Kept) (numbers : Numbers) (old new : Database) : Type 0 where
   pub ready : IsReady old → IsReady new
   pub committed : IsReady old → AreSingle old.trees → IsDesk numbers old.trees → IsCommitted (tables_at old.trees) delta (kept_row kept) (tables_at new.trees)
-  pub desk : IsReady old → IsDesk numbers old.trees → IsDesk (more numbers delta.least_epoch) new.trees
+  pub desk : IsReady old → IsDesk numbers old.trees → IsDesk (with_request numbers delta.least_epoch) new.trees
   pub rest : IsReady old → KeepsRest delta kept old.trees new.trees

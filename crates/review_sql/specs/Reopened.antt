@@ -6,7 +6,7 @@ use Rattle.sqlite.specs.Held.{Held, state}
 use Rattle.review_rows.specs.Shelf.{AddsNoStop, StaysOrShuts}
 use Rattle.review_sql.specs.declared.faults.DeskFault.{DeskFault}
 use Rattle.review_sql.specs.declared.faults.DeskFault.TheVariants.{Memory, Store}
-use Rattle.review_sql.specs.Shelf.{IsClosed, ShelfView, shown, tables_of}
+use Rattle.review_sql.specs.Shelf.{IsHandedBack, ShelfView, shown, tables_of}
 
 -- The tables stay, or the store is shut; it is honest only where the shelf before it was; and, while the disk is clean, a stop leaves nothing new.
 pub record IsReopened {S : Type 0} (g : Ghosts S) (is_ours : Bool) (old new : ShelfView S) : Type 0 where
@@ -16,8 +16,8 @@ pub record IsReopened {S : Type 0} (g : Ghosts S) (is_ours : Bool) (old new : Sh
 
 -- whatever shelf was closed last, this is that shelf opened again
 abbrev pub ReopensLast : {S : Type 0} → Ghosts S → Bool → Held S → ShelfView S → Type 0
-ReopensLast {S} g is_ours conn new = (old : ShelfView S) → IsClosed g is_ours old conn → IsReopened g is_ours old new
+ReopensLast {S} g is_ours conn new = (old : ShelfView S) → IsHandedBack g is_ours old conn → IsReopened g is_ours old new
 
 -- what a shelf of ours left is refused only for want of memory or for a fault of the store, where that is not shut
 abbrev pub IsRefusedAgain : {S : Type 0} → Ghosts S → Bool → Held S → Held S → DeskFault → Type 0
-IsRefusedAgain {S} g is_ours conn new fault = (old : ShelfView S) → IsClosed g is_ours old conn → IsTrue is_ours → IsTrue (state g new).is_open → (fault ≡ Memory) ⊎ (fault ≡ Store)
+IsRefusedAgain {S} g is_ours conn new fault = (old : ShelfView S) → IsHandedBack g is_ours old conn → IsTrue is_ours → IsTrue (state g new).is_open → (fault ≡ Memory) ⊎ (fault ≡ Store)

@@ -45,8 +45,8 @@ pub record Holds {S : Type 0} (g : Ghosts S) (conn : Held S) (is_ours : Bool) (n
   pub ready : IsTrue is_ours → IsTrue (state g conn).is_open → IsReady (state g conn).now × IsDesk numbers (state g conn).now.trees
 
 -- a shelf was closed, which leaves its connection
-abbrev pub IsClosed : {S : Type 0} → Ghosts S → Bool → ShelfView S → Held S → Type 0
-IsClosed g is_ours shelf conn = (conn ≡ shelf.conn) × Holds g shelf.conn is_ours shelf.numbers
+abbrev pub IsHandedBack : {S : Type 0} → Ghosts S → Bool → ShelfView S → Held S → Type 0
+IsHandedBack g is_ours shelf conn = (conn ≡ shelf.conn) × Holds g shelf.conn is_ours shelf.numbers
 
 -- the tables in use, where no fault has shut the connection
 abbrev pub tables_of : {S : Type 0} → Ghosts S → Held S → Option Tables

@@ -4,7 +4,7 @@ ghost use Rattle.std.specs.Bool.{Decides};
 ghost use Rattle.sqlite.specs.Held.{state};
 ghost use Rattle.sqlite.specs.State.{HasCleanDisk};
 ghost use Rattle.review_sql.specs.Shelf.{AreAllRead, Stays};
-ghost use Rattle.review_sql.specs.Said.{LacksLeast, least_in, SaysLeast, ShowsDesk, ShowsEpochs, number_of_one, version_in, requests_in, IsSaid, IsThere, SaysVersion};
+ghost use Rattle.review_sql.specs.Said.{LacksLeast, least_shown, SaysLeast, ShowsDesk, ShowsEpochs, number_of_one, version_shown, requests_shown, IsSaid, IsThere, SaysVersion};
 ghost use Rattle.review_sql.specs.Opened.{AreAllApart, Peeks, IsLacking, IsSeen, IsRefused};
 ghost use Rattle.review_tables.specs.Versions.{schema_at, version_number};
 
@@ -32,8 +32,8 @@ fn number_of_one(rows: &[Row], at: usize) -> Option<u64>
 
 // What rows of the table `desk` say.
 fn said_by(rows: &[Row]) -> Said
-    ensures version { result.version ≡ version_in rows.now }
-    ensures requests { result.requests ≡ requests_in rows.now }
+    ensures version { result.version ≡ version_shown rows.now }
+    ensures requests { result.requests ≡ requests_shown rows.now }
 {
     Said {
         version: number_of_one(rows, 0),
@@ -99,8 +99,8 @@ pub fn version_of(said: Said) -> Result<TablesVersion, DeskFault>
 }
 
 // The least open epoch that rows of the table `epochs` say.
-fn least_in(rows: &[Row]) -> Option<Epoch>
-    ensures { result ≡ least_in rows.now }
+fn least_shown(rows: &[Row]) -> Option<Epoch>
+    ensures { result ≡ least_shown rows.now }
 {
     Epoch::from_number(number_of_one(rows, 0)?)
 }
@@ -120,7 +120,7 @@ fn least_said<S: Alter>(
         TablesVersion::First | TablesVersion::Second => Ok(Some(Epoch::first())),
         TablesVersion::Third => {
             let rows = epochs_rows(conn)?;
-            Ok(least_in(&rows))
+            Ok(least_shown(&rows))
         }
     }
 }

@@ -18,7 +18,7 @@ pub struct Numbers {
 
 impl Numbers {
     ghost use Rattle.std.specs.Prelude.{◌≡◌, ◌+◌, ◌<◌, ◌^◌, IfSome};
-    ghost use Rattle.review_sql.specs.Numbers.{more};
+    ghost use Rattle.review_sql.specs.Numbers.{with_request};
 
     /// What a desk without requests says.
     pub fn first() -> Numbers
@@ -31,8 +31,8 @@ impl Numbers {
     }
 
     /// The same once one request more is stored, with this epoch as the least open one, if one is named; nothing where the last number is given.
-    pub fn more(&self, epoch: Option<Epoch>) -> Option<Numbers>
-        ensures more { IfSome result (λ numbers. numbers ≡ more self.now epoch) }
+    pub fn with_request(&self, epoch: Option<Epoch>) -> Option<Numbers>
+        ensures value { IfSome result (λ numbers. numbers ≡ with_request self.now epoch) }
         ensures room { IfSome result (λ numbers. self.now.requests + 1 < 2 ^ 64) }
     {
         let requests = self.requests.checked_add(1)?;

@@ -106,7 +106,7 @@ fn may_be_made<O: Origin>(is_blank: bool) -> bool
 }
 
 impl<S: Alter + Drop, O: Origin> SqlShelf<S, O> {
-    ghost use Rattle.review_sql.specs.Shelf.{IsAnyThere, IsClosed, IsUnmade};
+    ghost use Rattle.review_sql.specs.Shelf.{IsAnyThere, IsHandedBack, IsUnmade};
     ghost use Rattle.review_sql.specs.Said.{IsDeskThere};
     ghost use Rattle.review_sql.specs.Created.{IsCreated};
     ghost use Rattle.review_sql.specs.Opened.{IsOpened, IsRefused};
@@ -237,7 +237,7 @@ impl<S: Alter + Drop, O: Origin> SqlShelf<S, O> {
 
     /// The connection of the shelf.
     pub fn close(self) -> Connection<S>
-        ensures closed { IsClosed S.Store O.IS_OURS self result }
+        ensures closed { IsHandedBack S.Store O.IS_OURS self result }
         ensures mode { result.in_transaction ≡ false }
     {
         let SqlShelf {
@@ -321,7 +321,7 @@ impl<S: Alter, O: Origin> Shelf for SqlShelf<S, O> {
 
     fn commit(&mut self, alloc: Global, delta: &Delta, kept: &Kept) -> Result<(), ShelfFault> {
         let numbers = self.numbers;
-        let Some(more) = numbers.more(delta.least_epoch) else {
+        let Some(more) = numbers.with_request(delta.least_epoch) else {
             return Err(refuse(&mut self.faults));
         };
         let _live = self.conn.schema();

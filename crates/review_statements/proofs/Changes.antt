@@ -12,7 +12,7 @@ use Rattle.sqlite.specs.Listing.{understood}
 use Rattle.sqlite.specs.State.{State, Executes}
 use Rattle.sqlite.proofs.Callers.{command_of}
 use Rattle.review_statements.specs.Desk.{simple, desk_schema}
-use Rattle.review_statements.specs.Content.{Adds, Removes, RemovesWhere, SparesOthers, has_key, is_below, is_natural, is_text}
+use Rattle.review_statements.specs.Content.{Adds, Removes, RemovesWhere, SparesOthers, has_key, is_number_below, is_natural, is_text}
 use Rattle.review_statements.specs.Ran.{IsReady}
 use Rattle.review_statements.specs.Search.{At}
 use Rattle.review_statements.specs.Texts.{Alters, Deletes, DeletesBelow, Inserts, over_table, tests_below, tests_from, values_of, new_terms}
@@ -63,7 +63,7 @@ module _ (sql : List ℕ) (old new : State) (has : IsReady old.now) (count : ℕ
 
   -- the rows of a number below another are taken out
   pub deleted_below : (tree place number text least : ℕ) → DeletesBelow sql tree place number text → Executes sql (Int (pos least) ∷ []) old new (Ok count)
-      → IsReady new.now × RemovesWhere tree (λ r. is_below least (column r place) && (is_natural (column r number) && is_text (column r text))) old.now.trees new.now.trees
+      → IsReady new.now × RemovesWhere tree (λ r. is_number_below least (column r place) && (is_natural (column r number) && is_text (column r text))) old.now.trees new.now.trees
   deleted_below tree place number text least it h =
       let done = removes tree (Int (pos least) ∷ []) (tests_below place number text) it h _ (tested_below place number text least) in (done.0, record { rows = done.1; others = done.2 })
 

@@ -28,7 +28,7 @@ use Rattle.sqlite.specs.State.{State, Shown}
 use Rattle.sqlite.proofs.Callers.{reads_as}
 use Rattle.review_statements.specs.Desk.{desk_schema}
 use Rattle.sqlite_trees.specs.View.{is_int}
-use Rattle.review_statements.specs.Content.{has_key, is_below, is_integer, is_natural, is_text, is_value}
+use Rattle.review_statements.specs.Content.{has_key, is_number_below, is_integer, is_natural, is_text, is_value}
 use Rattle.review_statements.specs.Search.{At, FindsIds}
 use Rattle.review_statements.specs.Texts.{Asks, number_at, tests_below, tests_for, tests_from, values_of, rows_where}
 use Rattle.review_statements.proofs.Queries.{passes, shows, selects}
@@ -132,7 +132,7 @@ natural (Text t) b = and_false _
 natural (Blob c) b = and_false _
 
 -- the same, and below another
-below : (v : Value) (least : ℕ) (b : Bool) → (is_true (binary (Compare Lt Binary) v (Int (pos least))) && (is_natural v && b)) ≡ (is_below least v && b)
+below : (v : Value) (least : ℕ) (b : Bool) → (is_true (binary (Compare Lt Binary) v (Int (pos least))) && (is_natural v && b)) ≡ (is_number_below least v && b)
 below Null least b = and_false _
 below (Int (pos n)) least b = ap (λ a. a && b) (compares Lt (pos n) (pos least) ∙ less_by (nat_lt n least) (nat_lt least n))
 below (Int (negsuc n)) least b = and_false _
@@ -184,7 +184,7 @@ pub tested : (key : At) (row : Row) → passes (values_of key) (tests_from 0 key
 tested key row = passes_from (values_of key) row key 0 refl
 
 -- which rows pass the tests of a number below the one that is bound
-pub tested_below : (place number text least : ℕ) (row : Row) → passes (Int (pos least) ∷ []) (tests_below place number text) row ≡ (is_below least (column row place) && (is_natural (column row number) && is_text (column row text)))
+pub tested_below : (place number text least : ℕ) (row : Row) → passes (Int (pos least) ∷ []) (tests_below place number text) row ≡ (is_number_below least (column row place) && (is_natural (column row number) && is_text (column row text)))
 unfolding unary
 tested_below place number text least row =
     let v = column row place in

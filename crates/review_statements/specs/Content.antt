@@ -58,9 +58,9 @@ is_natural (Int (pos n)) = true
 is_natural v = false
 
 -- whether a value is such a number, and below this one
-abbrev pub is_below : ℕ → Value → Bool
-is_below least (Int (pos n)) = nat_lt n least
-is_below least v = false
+abbrev pub is_number_below : ℕ → Value → Bool
+is_number_below least (Int (pos n)) = nat_lt n least
+is_number_below least v = false
 
 -- whether a value is a text
 abbrev pub is_text : Value → Bool

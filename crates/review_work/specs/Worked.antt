@@ -16,7 +16,7 @@ use Rattle.review_serving.specs.declared.connections.ConnectionsFault.{Connectio
 use Rattle.review_showing.specs.declared.fault.ShowFault.{ShowFault}
 use Rattle.review_showing.specs.Shown.{Showed}
 use Rattle.review_showing.specs.Told.{branch_questions, change_page, change_questions, joined_page}
-use Rattle.review_sql.specs.Shelf.{ShelfView, Stays, shown, IsAnyThere, IsClosed, IsUnmade}
+use Rattle.review_sql.specs.Shelf.{ShelfView, Stays, shown, IsAnyThere, IsHandedBack, IsUnmade}
 use Rattle.review_sql.specs.Reopened.{ReopensLast}
 use Rattle.review_sql.specs.Said.{IsDeskThere}
 use Rattle.review_sql.specs.Opened.{IsOpened, IsRefused}
@@ -85,7 +85,7 @@ pub record OnShelf {S : Type 0} (g : Ghosts S) (is_ours : Bool) (Did : Bool → 
   pub there : IsTrue (state g opened.conn).is_open → IsDeskThere (state g old).now opened.numbers
   pub goes_on : ReopensLast g is_ours old opened
   pub did : Did is_ours (shown g is_ours) opened left
-  pub closed : IsClosed g is_ours left new
+  pub closed : IsHandedBack g is_ours left new
 
 -- the tables were refused as not ours, and stayed
 pub record IsNotOurs {S : Type 0} (g : Ghosts S) (old new : Held S) : Type 0 where
@@ -121,7 +121,7 @@ IsCauseOf g is_ours old new cause =
 -- A desk was made as `create` says, and closed, or refused with the tables as they were.
 abbrev pub Made : {S X : Type 0} → Ghosts S → Bool → Held S → Held S → Result X ProgramFault → Type 0
 Made {S} g is_ours old new made =
-    IfOk made (λ done. (shelf : ShelfView S) × IsCreated g is_ours old shelf × IsClosed g is_ours shelf new)
+    IfOk made (λ done. (shelf : ShelfView S) × IsCreated g is_ours old shelf × IsHandedBack g is_ours shelf new)
     × IfErr made (λ fault. IsUnmade (state g old) (state g new) × ((cause : DeskFault) × (fault ≡ desk_fault cause) × IsCauseOf g is_ours old new cause))
 
 -- A desk was to be made: one of ours exactly in a store with no table.
@@ -133,7 +133,7 @@ pub record WasMade {S X : Type 0} (g : Ghosts S) (old new : Held S) (made : Resu
 
 -- A desk was migrated, or was of the latest version, and closed; no fault ended it.
 abbrev pub Migrated : {S : Type 0} → Ghosts S → Bool → Held S → Held S → Type 0
-Migrated {S} g is_ours old new = (shelf : ShelfView S) × (IsUpgraded g is_ours old shelf ⊎ IsOpenedAsIs g is_ours old shelf) × IsClosed g is_ours shelf new
+Migrated {S} g is_ours old new = (shelf : ShelfView S) × (IsUpgraded g is_ours old shelf ⊎ IsOpenedAsIs g is_ours old shelf) × IsHandedBack g is_ours shelf new
 
 -- No desk was migrated, for no other reason than that the tables aren't ours.
 pub record IsUnmigrated {S X : Type 0} (g : Ghosts S) (is_ours : Bool) (ended : Result X ProgramFault) (old new : Held S) : Type 0 where

@@ -4,7 +4,7 @@
 //! than that a desk was there, and how refused calls are counted.
 ghost use Rattle.std.specs.Prelude.{◌≡◌, ◌⊎◌, ◌||◌, false, not, Err};
 ghost use Rattle.sqlite.specs.Held.{Held};
-ghost use Rattle.review_sql.specs.Shelf.{IsClosed, ShelfView, shown};
+ghost use Rattle.review_sql.specs.Shelf.{IsHandedBack, ShelfView, shown};
 ghost use Rattle.review_serving.specs.Served.{Peers};
 ghost use Rattle.review_work.specs.Faults.{lines_outcome, serve_outcome, shown_outcome};
 ghost use Rattle.review_work.specs.Worked.{Does, EndsServed, HasDone, IsMigratedOrNot, IsRefusedDesk, Made, OnShelf, WasMade, WasMigrated, Worked, known};
@@ -150,7 +150,7 @@ fn work_on_shelf<
     ensures mode { result.0.in_transaction ≡ false }
     ensures done { (left : ShelfView S)
         × Does task.now (known R.remaining W.contents C.coming C.told N.is_warned ends.old) (known R.remaining W.contents C.coming C.told N.is_warned ends.new) result.1 O.IS_OURS (shown S.Store O.IS_OURS) shelf left
-        × IsClosed S.Store O.IS_OURS left result.0 }
+        × IsHandedBack S.Store O.IS_OURS left result.0 }
 {
     warn_of::<O, N>(&mut ends.notices);
     let mut shelf = shelf;

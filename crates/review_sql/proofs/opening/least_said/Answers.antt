@@ -11,7 +11,7 @@ returns-in_ok-rows-in-Third-clause-is g c is_open =
     let last = c.epochs_rows.new.conn in
     let shown = c.in_ok-rows-in-Third.ensures.shown (clean_if_open (g.S.Store.view last.store) (g.met.S.Store.shut_if_dirty last.store) is_open) in
     let same : ShowsEpochs db c.deref.result.now = search (rules, shown, c.deref.ensures.value) in
-    subst (λ v. IfSome c.least_in.result (SaysLeast v db)) (sym c.in-Third.is) (says_if db c.deref.result.now same c.least_in.result c.least_in.ensures)
+    subst (λ v. IfSome c.least_shown.result (SaysLeast v db)) (sym c.in-Third.is) (says_if db c.deref.result.now same c.least_shown.result c.least_shown.ensures)
 
 pub returns-in_ok-rows-in-Third-clause-none : goal.returns-in_ok-rows-in-Third-clause-none
 returns-in_ok-rows-in-Third-clause-none g c is_open none =
@@ -19,4 +19,4 @@ returns-in_ok-rows-in-Third-clause-none g c is_open none =
     let last = c.epochs_rows.new.conn in
     let shown = c.in_ok-rows-in-Third.ensures.shown (clean_if_open (g.S.Store.view last.store) (g.met.S.Store.shut_if_dirty last.store) is_open) in
     let same : ShowsEpochs db c.deref.result.now = search (rules, shown, c.deref.ensures.value) in
-    subst (λ v. LacksLeast v db) (sym c.in-Third.is) (lacks_if db c.deref.result.now same c.least_in.result c.least_in.ensures none)
+    subst (λ v. LacksLeast v db) (sym c.in-Third.is) (lacks_if db c.deref.result.now same c.least_shown.result c.least_shown.ensures none)

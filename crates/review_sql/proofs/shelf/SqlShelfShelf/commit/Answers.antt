@@ -3,7 +3,7 @@ use Rattle.sqlite.specs.Held.{Held, state}
 use Rattle.sqlite.proofs.StateLemmas.{clean_if_open}
 use Rattle.review_rows.specs.Rows.{Tables, kept_row}
 use Rattle.review_rows.specs.Shelf.{Shows, IsCommitted, LeavesBy, cause_of}
-use Rattle.review_sql.specs.Numbers.{more}
+use Rattle.review_sql.specs.Numbers.{with_request}
 use Rattle.review_sql.specs.Shelf.{ShelfView, Holds, tables_of, stops_of}
 use Rattle.review_sql.proofs.Shown.{holds_committed, stops_committed, committed_shown, clean_still, stops_still, leaves}
 use Rattle.review_sql.proofs.Singles.{are_single}
@@ -13,7 +13,7 @@ pub invariant_of-self-in-Ok : goal.invariant_of-self-in-Ok
 invariant_of-self-in-Ok g c =
     let old = c.self.inside.conn in
     let last = c.transact.new.conn in
-    let more : more c.self.inside.numbers c.args.delta.now.least_epoch ≡ c.in-Some.more = search rules in
+    let more : with_request c.self.inside.numbers c.args.delta.now.least_epoch ≡ c.in-Some.more = search rules in
     let done : c.transact.result ≡ Ok (tt {0}) = search rules in
     subst (Holds g.S.Store last g.O.Origin.IS_OURS) more
     (holds_committed g.S.Store old last g.O.Origin.IS_OURS c.self.inside.numbers c.self.invariant c.args.delta.now c.args.kept.now c.transact.result c.transact.ensures.acts
