@@ -191,6 +191,11 @@ closed_persists h (e ∷ es) epoch t = at (is_closed h e.identity.epoch) (closed
     at true passed grew = passed
     at false passed grew = grew
 
+-- whatever entries come
+closed_through : (more h : List Entry) (epoch : ℕ) → is_closed h epoch ≡ true → is_closed (more ++ h) epoch ≡ true
+closed_through [] h epoch t = t
+closed_through (e ∷ more) h epoch t = closed_stays e (more ++ h) epoch (closed_through more h epoch t)
+
 -- each is in the history, or its epoch is closed
 abbrev AllIn : List Entry → List Entry → Type 0
 AllIn h [] = Unit {0}
@@ -227,10 +232,10 @@ keeps_history h0 es1 es2 =
     let none : hist h (first h es1) ≡ h = nothing_new h [] es1 (have_all h0 [] h0 es1 (since_start h0)) in
     first-append h es1 es2 ∙ ap (λ g. hist g (first g es2)) none ∙ sym (first-append h0 es1 es2)
 
--- the reply that a history has for a write, but where it was told that its epoch is closed
+-- the reply that a history has for a write, but where it was told that its epoch is closed, as it is then
 abbrev IsToldBy : List Entry → Delivery → Reply → Type 0
 IsToldBy h (Read caller query) reply = Unit {0}
-IsToldBy h (Write caller epoch id command) reply = (reply ≡ EpochClosed) ⊎ MatchOption (stored h (record { caller = caller; epoch = epoch; id = id })) ⊥ (λ e. IsToldOfStored e command reply)
+IsToldBy h (Write caller epoch id command) reply = ((reply ≡ EpochClosed) × (is_closed h epoch ≡ true)) ⊎ MatchOption (stored h (record { caller = caller; epoch = epoch; id = id })) ⊥ (λ e. IsToldOfStored e command reply)
 
 abbrev AreToldBy : List Entry → List Delivery → List Reply → Type 0
 AreToldBy h [] rs = Unit {0}
@@ -242,7 +247,10 @@ told_by g h more (Read caller query) r hist is a = tt
 told_by g h more (Write caller epoch id command) r hist is a = at (is_closed g epoch) refl
   where
     at : (c : Bool) → is_closed g epoch ≡ c → IsToldBy h (Write caller epoch id command) r
-    at true closed = inl (told_where g caller epoch id command r true (stored g (record { caller = caller; epoch = epoch; id = id })) closed refl a)
+    at true closed = inl (
+      told_where g caller epoch id command r true (stored g (record { caller = caller; epoch = epoch; id = id })) closed refl a,
+      ap (λ l. is_closed l epoch) is ∙ closed_through more _ epoch (closed_persists g (first g (taken (Write caller epoch id command ∷ []) (r ∷ []))) epoch closed),
+    )
     at false opened =
         let e = stands g h more caller epoch id command r hist is opened a in
         inr (subst (λ o. MatchOption o ⊥ (λ e. IsToldOfStored e command r)) (sym e.1) e.2)
@@ -256,17 +264,17 @@ all_told_by g h (d ∷ ds) (r ∷ rs) hist is a =
     let more = grown g1 (first g1 (taken ds rs)) in
     (told_by g h more.0 d r hist (later ∙ more.1) a.1, all_told_by g1 h ds rs hist later a.2)
 
-both_told : (h : List Entry) (d : Delivery) (r s : Reply) → IsToldBy h d r → IsToldBy h d s → AgreesWhereOpen d r s
+both_told : (h : List Entry) (d : Delivery) (r s : Reply) → IsToldBy h d r → IsToldBy h d s → AgreesWhereOpen h d r s
 both_told h (Read caller query) r s a b = tt
-both_told h (Write caller epoch id command) r s (inl closed) b = inr (inl closed)
-both_told h (Write caller epoch id command) r s (inr a) (inl closed) = inr (inr closed)
+both_told h (Write caller epoch id command) r s (inl closed) b = inr (closed.1, inl closed.0)
+both_told h (Write caller epoch id command) r s (inr a) (inl closed) = inr (closed.1, inr closed.0)
 both_told h (Write caller epoch id command) r s (inr a) (inr b) = inl (at (stored h (record { caller = caller; epoch = epoch; id = id })) a b)
   where
     at : (o : Option Entry) → MatchOption o ⊥ (λ e. IsToldOfStored e command r) → MatchOption o ⊥ (λ e. IsToldOfStored e command s) → r ≡ s
     at None a b = absurd a
     at (Some e) a b = one_repeat e command r s a b
 
-all_agree : (h : List Entry) (ds : List Delivery) (rs ss : List Reply) → AreToldBy h ds rs → AreToldBy h ds ss → AgreeWhereOpen ds rs ss
+all_agree : (h : List Entry) (ds : List Delivery) (rs ss : List Reply) → AreToldBy h ds rs → AreToldBy h ds ss → AgreeWhereOpen h ds rs ss
 all_agree h [] rs ss a b = tt
 all_agree h (d ∷ ds) [] ss a b = tt
 all_agree h (d ∷ ds) (r ∷ rs) [] a b = tt
