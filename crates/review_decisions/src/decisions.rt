@@ -23,7 +23,8 @@ use review_words::{AccountNo, Command, Epoch, NotTaken, Refusal, Reply};
 use std::alloc::Global;
 
 /// The reply to a command and what it changes, by this effective file of its project: the first check that fails refuses, in the order of
-/// the command's checks; a refusal changes nothing, and each key is named once. An error is want of memory; Pattern, where the engine refuses a
+/// the command's checks; a refusal changes nothing, and each key is named once. A least open epoch is named just where a CloseEpoch is accepted: the one that it names, which isn't beyond that of the request and is above the one that rows tell.
+/// An error is want of memory; Pattern, where the engine refuses a
 /// pattern in the file that is put or in one that it goes on from; or Damaged, where the rows are those of no history. Files that are read are
 /// remembered; no answer depends on which are.
 pub fn decide(

@@ -1,7 +1,6 @@
 -- What a delivery does to any tables whatever.
-use Rattle.std.proofs.Common.{arith, ◌≡◌, ℕ, ◌+◌, ◌≤◌, List, [], Option, Some, None, Result, Ok, Err, cond, refl, sym, ◌∙◌, subst, inl, inr, Bool, true, false, ap}
-use Rattle.std.specs.Prelude.{unwrap_or}
-use Rattle.std.proofs.lemmas.Bool.{ltb-true}
+use Rattle.std.proofs.Common.{◌≡◌, ℕ, ◌+◌, ◌≤◌, List, [], Option, Some, None, Result, Ok, Err, cond, refl, sym, ◌∙◌, subst, inl, inr, Bool, true, false, ap}
+use Rattle.std.specs.Prelude.{nat_lt, unwrap_or}
 use Rattle.review_words.specs.declared.command.Command.{Command}
 use Rattle.review_words.specs.declared.command.Command.TheVariants.{CreateAccount, PutGroup, PutProject, RecordBase, CreateChange, OnChange, Submit, CloseEpoch}
 use Rattle.review_words.specs.declared.command.Delivery.TheVariants.{Write}
@@ -24,8 +23,8 @@ use Rattle.review_rows.specs.View.{answer_row}
 use Rattle.review_rows.specs.Answer.{most_requests}
 use Rattle.review_words.specs.declared.reply.NotTaken.{NotTaken as Cause}
 use Rattle.review_words.specs.declared.reply.NotTaken.TheVariants.{Memory, Store, Damaged, Pattern, Full}
-use Rattle.review_deliveries.proofs.Histories.{same_from}
-use Rattle.review_deliveries.specs.Replies.{StoresOnce, IsFoundOrStored, StoresRequest, KeepsRows, KeepsUntaken, CountsReply, IsToldAgain, reply_of, HasStored, HasTexts, HasOtherContent}
+use Rattle.review_deliveries.proofs.Histories.{same_from, same_to}
+use Rattle.review_deliveries.specs.Replies.{StoresOnce, IsFoundOrStored, StoresRequest, next_row, KeepsRows, KeepsUntaken, CountsReply, IsToldAgain, reply_of, HasStored, HasTexts, HasOtherContent}
 
 kept : (reply : Reply) (delta : Delta) (t u : Tables) → HasNoEffect reply delta → ((k : Key) → u.row k ≡ after delta k (t.row k)) → ((c : Count) → u.count c ≡ count_after delta t.row c (t.count c)) → KeepsRows reply t u
 kept (Refused r) delta t u none rows counts = (λ k. rows k ∙ none.rows k (t.row k), λ c. counts c ∙ none.counts t.row c (t.count c))
@@ -43,44 +42,61 @@ own_stays i j b x y own = at b (is_same i j) own
     at true false up = refl
     at false c up = refl
 
--- an epoch that is closed stays so
-stays_closed : (command : Command) (reply : Reply) (o : Option ℕ) (file : Option File) (rows : Rows) (caller : ℕ) (t : Tables) →
+-- an accepted CloseEpoch names an epoch above the least open one
+rises : (command : Command) (reply : Reply) (o : Option ℕ) (file : Option File) (rows : Rows) (caller : ℕ) (t : Tables) →
     Agrees t rows → next file rows caller (OfCommand command) ≡ [] → o ≡ closing (if_done reply command) → is_above o (number_of (known rows LeastEpoch)) ≡ true →
-    t.count ClosedEpochs ≤ unwrap_or (closing (if_done reply command)) (t.count ClosedEpochs)
-stays_closed (CloseEpoch least) (Done a) o file rows caller t agree left closes above =
-    let more = ltb-true (number_of (known rows LeastEpoch)) least (ap (λ p. is_above p (number_of (known rows LeastEpoch))) (sym closes) ∙ above) in
-    let same = least_epoch_is t file rows caller least agree left in
-    omega (arith, more, same)
-stays_closed (CreateAccount name) (Done a) o file rows caller t agree left closes above = omega arith
-stays_closed (PutGroup group members) (Done a) o file rows caller t agree left closes above = omega arith
-stays_closed (PutProject project text) (Done a) o file rows caller t agree left closes above = omega arith
-stays_closed (RecordBase project branch new) (Done a) o file rows caller t agree left closes above = omega arith
-stays_closed (CreateChange new) (Done a) o file rows caller t agree left closes above = omega arith
-stays_closed (OnChange change on) (Done a) o file rows caller t agree left closes above = omega arith
-stays_closed (Submit change) (Done a) o file rows caller t agree left closes above = omega arith
-stays_closed command (Refused r) o file rows caller t agree left closes above = omega arith
-stays_closed command IdentityReused o file rows caller t agree left closes above = omega arith
-stays_closed command EpochClosed o file rows caller t agree left closes above = omega arith
-stays_closed command (NotTaken cause) o file rows caller t agree left closes above = omega arith
+    is_above (closing (if_done reply command)) (t.count ClosedEpochs) ≡ true
+rises (CloseEpoch least) (Done a) o file rows caller t agree left closes above =
+    ap (λ n. nat_lt n least) (sym (least_epoch_is t file rows caller least agree left)) ∙ (ap (λ p. is_above p (number_of (known rows LeastEpoch))) (sym closes) ∙ above)
+rises (CreateAccount name) (Done a) o file rows caller t agree left closes above = refl
+rises (PutGroup group members) (Done a) o file rows caller t agree left closes above = refl
+rises (PutProject project text) (Done a) o file rows caller t agree left closes above = refl
+rises (RecordBase project branch new) (Done a) o file rows caller t agree left closes above = refl
+rises (CreateChange new) (Done a) o file rows caller t agree left closes above = refl
+rises (OnChange change on) (Done a) o file rows caller t agree left closes above = refl
+rises (Submit change) (Done a) o file rows caller t agree left closes above = refl
+rises command (Refused r) o file rows caller t agree left closes above = refl
+rises command IdentityReused o file rows caller t agree left closes above = refl
+rises command EpochClosed o file rows caller t agree left closes above = refl
+rises command (NotTaken cause) o file rows caller t agree left closes above = refl
+
+-- the epoch of the request stays open
+still_open : (o : Option ℕ) (least epoch : ℕ) → is_below o epoch ≡ false → nat_lt epoch least ≡ false → nat_lt epoch (unwrap_or o least) ≡ false
+still_open None least epoch own opened = opened
+still_open (Some n) least epoch own opened = own
 
 -- a first arrival whose request was stored
 stored_request : (i : Identity) (command : Command) (reply : Reply) (delta : Delta) (file : Option File) (rows : Rows) (row : AnswerRow) (t u : Tables) →
     Answers t i None → Agrees t rows → next file rows i.caller (OfCommand command) ≡ [] → HasNoEffect reply delta → delta.least_epoch ≡ closing (if_done reply command) → is_below delta.least_epoch i.epoch ≡ false → is_above delta.least_epoch (number_of (known rows LeastEpoch)) ≡ true → IsCommitted t delta row u →
     ((n : ℕ) → number_of (known rows Requests) ≡ n → row ≡ answer_row (record { identity = i; version = latest; command = command; reply = reply }) (n + 1)) → StoresRequest i command reply t u
-stored_request i command reply delta file rows row t u none agree left quiet closes own above c is =
-    let same : row ≡ answer_row (record { identity = i; version = latest; command = command; reply = reply }) (t.requests + 1) = is t.requests (requests_are t file rows i.caller command agree left) in
-    let least : u.count ClosedEpochs ≡ unwrap_or (closing (if_done reply command)) (t.count ClosedEpochs) = c.count_is ClosedEpochs ∙ ap (λ o. unwrap_or o (t.count ClosedEpochs)) closes in
-    record {
-      new = none;
-      answer_is = λ j. c.answer_is j ∙ (λ k. cond (is_below (closes k) j.epoch) None (cond (is_same (same k).identity j) (Some (Answered (same k))) (t.answer j)))
-          ∙ own_stays i j (is_below (closing (if_done reply command)) j.epoch) (Some (Answered (answer_row (record { identity = i; version = latest; command = command; reply = reply }) (t.requests + 1)))) (t.answer j)
-          (λ here. ap (λ n. is_below (closing (if_done reply command)) n) (λ k. (sym (same_from i j here) k).epoch) ∙ (ap (λ o. is_below o i.epoch) (sym closes) ∙ own));
-      version = c.version;
-      requests = c.requests;
-      rows = kept reply delta t u quiet c.row_is c.count_is;
-      least = least;
-      stays_closed = subst (λ n. t.count ClosedEpochs ≤ n) (sym least) (stays_closed command reply delta.least_epoch file rows i.caller t agree left closes above);
-    }
+stored_request i command reply delta file rows row t u none agree left quiet closes own above c is = record {
+  was_new = none;
+  stands = (ap (nat_lt i.epoch) least ∙ still_open closed (t.count ClosedEpochs) i.epoch own_open none.0, answer_is i ∙ ap (λ b. cond b (Some (Answered (next_row i command reply t.requests))) (cond (is_below closed i.epoch) None (t.answer i))) (same_to i i refl));
+  requests = c.requests;
+  others = λ j other. answer_is j ∙ ap (λ b. cond b (Some (Answered (next_row i command reply t.requests))) (cond (is_below closed j.epoch) None (t.answer j))) other;
+  least = least;
+  rises = rises command reply delta.least_epoch file rows i.caller t agree left closes above;
+  rows = kept reply delta t u quiet c.row_is c.count_is;
+  version = c.version;
+}
+  where
+    closed : Option ℕ
+    closed = closing (if_done reply command)
+
+    own_open : is_below closed i.epoch ≡ false
+    own_open = ap (λ o. is_below o i.epoch) (sym closes) ∙ own
+
+    same : row ≡ next_row i command reply t.requests
+    same = is t.requests (requests_are t file rows i.caller command agree left)
+
+    least : u.count ClosedEpochs ≡ unwrap_or closed (t.count ClosedEpochs)
+    least = c.count_is ClosedEpochs ∙ ap (λ o. unwrap_or o (t.count ClosedEpochs)) closes
+
+    answer_is : (j : Identity) → u.answer j ≡ cond (is_same i j) (Some (Answered (next_row i command reply t.requests))) (cond (is_below closed j.epoch) None (t.answer j))
+    answer_is j =
+        c.answer_is j ∙ (λ k. cond (is_below (closes k) j.epoch) None (cond (is_same (same k).identity j) (Some (Answered (same k))) (t.answer j)))
+        ∙ own_stays i j (is_below closed j.epoch) (Some (Answered (next_row i command reply t.requests))) (t.answer j)
+        (λ here. ap (λ n. is_below closed n) (λ k. (sym (same_from i j here) k).epoch) ∙ own_open)
 
 pub stored_shown : (i : Identity) (command : Command) (reply : Reply) (delta : Delta) (file : Option File) (rows : Rows) (row : AnswerRow) (old mid new : Option Tables) →
     mid ≡ old → Shows old (λ t. Answers t i None) → Shows old (λ t. Agrees t rows) → next file rows i.caller (OfCommand command) ≡ [] → HasNoEffect reply delta → delta.least_epoch ≡ closing (if_done reply command) → is_below delta.least_epoch i.epoch ≡ false → is_above delta.least_epoch (number_of (known rows LeastEpoch)) ≡ true → Shows mid (λ t. Shows new (IsCommitted t delta row)) →

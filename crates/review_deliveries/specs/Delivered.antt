@@ -18,7 +18,7 @@ pub record IsDelivered (d : Delivery) (reply : Reply) (old new : Shown) : Type 0
   pub unchanged : new.is_honest → KeepsUntaken d reply old.tables new.tables
   pub once : new.is_honest → StoresOnce d reply old.tables new.tables
   pub counted : CountsReply reply old.faults new.faults
-  -- a stop leaves tables from which the history goes on; after an answer, tables that have the request
+  -- a stop leaves tables from which the history goes on; after Done and Refused, those of a history that has the request
   pub stopped : new.is_honest → (h : List Entry) → IsHistory h → Views h old.tables → StopGoesOnFrom h old →
       StopGoesOnFrom (history_after h (d ∷ []) (reply ∷ [])) new × StopHasEntry d reply new
 

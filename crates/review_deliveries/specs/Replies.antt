@@ -1,4 +1,4 @@
--- Deliveries that each act once: which are first arrivals, what history they leave, and which replies are right.
+-- Deliveries that each act at most once: which are first arrivals, what history they leave, and which replies are right.
 use Rattle.std.specs.Prelude.{ℕ, ◌<◌, ◌≤◌, ◌≡◌, List, [], ◌∷◌, ◌++◌, Option, Some, None, Bool, ◌||◌, is_some, length, take, slice_index_or, Result, Ok, Err, ◌+◌, if◌then◌else◌, ◌⊎◌, true, false, nat_lt, unwrap_or}
 use Rattle.review_words.specs.declared.command.Command.{Command}
 use Rattle.review_words.specs.declared.command.Delivery.{Delivery}
@@ -11,13 +11,14 @@ use Rattle.review_words.specs.History.{Entry, Identity, IsFirst, entry_of, store
 use Rattle.review_words.specs.Texts.{content_text, reply_text, IsStored}
 use Rattle.review_rows.specs.Answer.{IsHistory, IsAnswer, most_requests}
 use Rattle.review_rows.specs.Questions.{IsQueryAnswer}
-use Rattle.review_rows.specs.Rows.{Key, Count, ClosedEpochs, Tables, AnswerRow, Answered, is_below, closing}
+use Rattle.review_rows.specs.Rows.{Key, Count, ClosedEpochs, Tables, AnswerRow, Answered, is_above, is_below, closing}
 use Rattle.review_rows.specs.View.{IsView, answer_row}
 use Rattle.review_rows.specs.Changes.{Reading, Reads}
 use Rattle.review_rows.specs.Decisions.{HasPatternIn, ReadsPattern, IsDoneOrRefused, asking_project}
 use Rattle.review_rows.specs.Shelf.{greatest_count, Shown, Shows, Views, LeavesBy, StopLeavesOwnTables, Answers, IsClosedIn}
 
--- these entries with that of a write in front, where it was taken
+-- These entries with that of a write in front, where it was taken. Taken is here what isn't told NotTaken; of these, a clash and a write whose epoch is closed store nothing, and
+-- `history_after` passes them over.
 abbrev pub with_write : Reply → Entry → List Entry → List Entry
 with_write (NotTaken cause) e es = es
 with_write (Done a) e es = e ∷ es
@@ -169,7 +170,7 @@ IsToldAgain row content (Err Memory) = Unit {0}
 IsToldAgain row content (Err Damaged) = (reply : Reply) → IsStored reply → reply_text reply ≡ row.reply → ⊥
 IsToldAgain row content (Err _) = ⊥
 
--- the identity is stored, with a request of which this is true
+-- the epoch of the identity is open, and it is stored with a request of which this is true
 abbrev pub HasStored : Identity → Option Tables → (AnswerRow → Type 0) → Type 0
 HasStored i tables IsSo = Shows tables (λ t. (row : AnswerRow) × Answers t i (Some (Answered row)) × IsSo row)
 
@@ -181,7 +182,7 @@ HasTexts command reply row = (row.content ≡ content_text command) × (row.repl
 abbrev pub HasOtherContent : Command → AnswerRow → Type 0
 HasOtherContent command row = row.content ≡ content_text command → ⊥
 
--- On any tables whatever: a delivery is not taken for a full history only where its identity is new and the last number is given.
+-- On any tables whatever: a delivery is not taken for a full history only where its epoch is open, its identity new and the last number given.
 abbrev pub IsFullWhereSaid : Identity → Cause → Option Tables → Type 0
 IsFullWhereSaid i Full tables = Shows tables (λ t. Answers t i None × (most_requests ≤ t.requests))
 IsFullWhereSaid i _ tables = Unit {0}
@@ -205,17 +206,25 @@ abbrev pub KeepsRows : Reply → Tables → Tables → Type 0
 KeepsRows (Refused r) t u = SameRows t u
 KeepsRows _ t u = Unit {0}
 
--- The request is stored beside the others under the next number. An accepted CloseEpoch makes the epoch that it names the least open one, and gives up the answers of lower epochs;
--- nothing else does either, and no epoch opens again. A refusal does nothing else.
+-- the row of a request that is answered so, under the number after these many
+abbrev pub next_row : Identity → Command → Reply → ℕ → AnswerRow
+next_row i command reply requests = answer_row (record { identity = i; version = latest; command = command; reply = reply }) (requests + 1)
+
+-- A request that was stored.
 pub record StoresRequest (i : Identity) (command : Command) (reply : Reply) (t u : Tables) : Type 0 where
-  pub new : Answers t i None
-  pub answer_is : (j : Identity) → u.answer j ≡ (if is_same i j then Some (Answered (answer_row (record { identity = i; version = latest; command = command; reply = reply }) (t.requests + 1)))
-      else (if is_below (closing (if_done reply command)) j.epoch then None else t.answer j))
-  pub version : u.version ≡ t.version
+  -- its epoch was open and it was new
+  pub was_new : Answers t i None
+  -- its epoch is open, and it is stored with its reply under the next number
+  pub stands : Answers u i (Some (Answered (next_row i command reply t.requests)))
   pub requests : u.requests ≡ t.requests + 1
-  pub rows : KeepsRows reply t u
+  -- the other requests stay, but that an accepted CloseEpoch gives up those of lower epochs than it names
+  pub others : (j : Identity) → is_same i j ≡ false → u.answer j ≡ (if is_below (closing (if_done reply command)) j.epoch then None else t.answer j)
+  -- nothing but an accepted CloseEpoch changes the least open epoch, and it makes the one that it names so, which is above it: no epoch opens again
   pub least : u.count ClosedEpochs ≡ unwrap_or (closing (if_done reply command)) (t.count ClosedEpochs)
-  pub stays_closed : t.count ClosedEpochs ≤ u.count ClosedEpochs
+  pub rises : is_above (closing (if_done reply command)) (t.count ClosedEpochs) ≡ true
+  -- a refusal changes no row
+  pub rows : KeepsRows reply t u
+  pub version : u.version ≡ t.version
 
 -- the identity was stored with this command and this reply, and nothing is changed; or the request is stored
 abbrev pub IsFoundOrStored : Identity → Command → Reply → Option Tables → Option Tables → Type 0

@@ -34,7 +34,7 @@ const MOST_REQUESTS: u64 = 9_007_199_254_740_991;
 /// From the tables of a history its reply is the right one: that its epoch is closed, what is stored for a repeat, that the identity is used for
 /// another command under it, the answer of the command for a first arrival, or that it wasn't taken, for a lawful cause.
 /// The tables are then those of the history after it, and a stop leaves what it could leave before, or the whole effect with
-/// the answer; after an answer it leaves only tables that have the request.
+/// the answer; after Done or Refused it leaves only tables of a history that has the request.
 ///
 /// Pattern is lawful only for a first arrival that puts a project file with a pattern which the engine refuses, or where a first arrival is
 /// judged or a question answered by the effective file of a project that has a pattern in its own file or in an ancestor's: the project that it

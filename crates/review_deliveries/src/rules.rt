@@ -48,7 +48,7 @@ pub trait Rules {
         ensures read { IfOk result (λ r. HasFile (texts_for rows.now (topic_of matter.entry)) r) }
         ensures cause { IfErr result (IsUnread (texts_for rows.now (topic_of matter.entry))) };
 
-    /// The reply to a command and what it changes, where this file was read and a number is left for the request.
+    /// The reply to a command and what it changes, where this file was read and a number is left for the request. A least open epoch is named just where a CloseEpoch is accepted: the one that it names, which isn't beyond that of the request and is above the one that rows tell.
     fn decide(
         &mut self,
         alloc: Global,

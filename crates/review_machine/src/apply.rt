@@ -16,8 +16,8 @@ use std::io::{Read, Write};
 /// of its answer; a reader that fails, or that hasn't ended after 1,000,000,000 reads; a writer that fails or takes no byte,
 /// which is told also where another fault came before. A delivery that was taken and not answered stands.
 ///
-/// The deliveries of the first lines, of all where no fault came, were a run: from the tables of any history each acted
-/// once, and on any tables whatever each was a step of a run. The bytes that were written are the answers to these lines, in
+/// The deliveries of the first lines, of all where no fault came, were a run: from the tables of any history each request of an open epoch
+/// acted once, and on any tables whatever each was a step of a run. The bytes that were written are the answers to these lines, in
 /// order, each delivery's with its reply: all of them where no fault came or the input failed, all but at most the last where there was no memory, and some
 /// first part of them where the writer failed. This is said of readers and writers whose bytes are known; of standard input and
 /// output `std` knows none.

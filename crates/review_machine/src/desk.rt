@@ -13,7 +13,7 @@ use std::alloc::Global;
 /// From the tables of a history its reply is the right one: that its epoch is closed, what is stored for a repeat, that the identity is used for
 /// another command under it, the answer of the command for a first arrival, or that it wasn't taken, for a lawful cause.
 /// The tables are then those of the history after it, and a stop leaves what it could leave before, or the whole effect with
-/// the answer; after an answer it leaves only tables that have the request.
+/// the answer; after Done or Refused it leaves only tables of a history that has the request.
 ///
 /// Pattern is lawful only for a first arrival that puts a project file with a pattern which the engine refuses, or that is judged by a
 /// project's file with a pattern: the file of the project that the command names, or of the change that it names.

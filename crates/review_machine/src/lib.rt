@@ -1,4 +1,4 @@
-//! The desk: deliveries that each act once, decided by its rules.
+//! The desk: deliveries that each act at most once, decided by its rules.
 //!
 //! [`apply_lines`] is the call that the program makes of its input: deliveries by the line, over any reader, writer and shelf. Whatever deliveries
 //! come, repeated, lost or reordered, and whichever of them a fault leaves out, its contract says that tables and replies are those of the run in

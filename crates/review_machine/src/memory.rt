@@ -8,7 +8,7 @@ use std::alloc::Global;
 use std::io::{Read, Write};
 
 /// Does as [`apply_lines`] on an empty desk in memory, which is gone at the end. Such a desk has no store that could fail or shut, so no premise on a
-/// store is left: the deliveries of the first lines, of all where no fault came, acted once each, on the desk of no request. As there, it is said of readers
+/// store is left: the deliveries of the first lines, of all where no fault came, were a run, in which each request of an open epoch acted once, on the desk of no request. As there, it is said of readers
 /// and writers whose bytes are known.
 ///
 /// Errors as those of [`apply_lines`], and want of memory for the desk.

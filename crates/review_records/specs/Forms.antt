@@ -178,7 +178,7 @@ answers = record {
 abbrev pub answer_form : Form RequestKey Answered
 answer_form = with_rowid (λ i a. Int (pos i.caller) ∷ Int (pos i.epoch) ∷ Text i.id ∷ Int (pos a.request) ∷ Text a.content ∷ Text a.reply ∷ []) (λ i. is_account_number i.caller && is_epoch i.epoch) (λ a. is_utf8 a.content && is_utf8 a.reply)
 
--- whether a row is the stored request of an identity with a lower epoch
+-- whether a row is the stored request of an identity whose epoch is lower than this one
 abbrev pub is_of_lower : ℕ → Row → Bool
 is_of_lower least r = is_number_below least (column r 2) && (is_natural (column r 1) && is_text (column r 3))
 

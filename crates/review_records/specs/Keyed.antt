@@ -1,4 +1,4 @@
--- Which stored rows have a key of their table: those whose columns of the key read as values of its kinds.
+-- Which stored rows have a key of their table: those whose columns of the key have values of its kinds, so that a look-up by some key may meet them.
 use Rattle.std.specs.Prelude.{ℕ, ◌&&◌, Bool, true, false, Option, Some, None, is_some, nat_lt, if◌then◌else◌}
 use Rattle.sqlite_value.specs.declared.value.Value.{Value}
 use Rattle.sqlite_value.specs.Order.{Row, column}
@@ -31,7 +31,7 @@ project_keyed r = is_text (column r 1)
 abbrev pub base_keyed : Row → Bool
 base_keyed r = is_text (column r 1) && (is_text (column r 2) && is_number is_small (column r 3))
 
--- a stored request of any identity
+-- A stored request has one where it is of some identity that a history may hold, in which nothing is asked of the forms of callers, epochs and ids.
 abbrev pub answer_keyed : Row → Bool
 answer_keyed r = is_natural (column r 1) && (is_natural (column r 2) && is_text (column r 3))
 

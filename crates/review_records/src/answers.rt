@@ -147,7 +147,7 @@ pub fn put<S: Alter>(tx: &mut Transaction<'_, S>, alloc: Global, kept: &Kept) ->
     set::<Answers, S>(tx, alloc, &key, &row)
 }
 
-/// Takes away the stored requests of all identities with an epoch below one. A row that is of no identity, as one with a negative epoch, stays.
+/// Takes away the stored requests of all identities whose epoch is lower than this one. A row that is of no identity, as one with a negative caller, stays.
 pub fn remove_below<S: Alter>(tx: &mut Transaction<'_, S>, epoch: Epoch) -> Result<usize, Error>
     ensures same_reference { tx.new.conn.ghost_name ≡ tx.old.conn.ghost_name }
     ensures ran { Inside (RemovesWhere answers.tree (is_of_lower epoch)) (state S.Store tx.old.conn.now) (state S.Store tx.new.conn.now) result }

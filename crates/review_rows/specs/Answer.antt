@@ -259,8 +259,8 @@ IsAnswerIn h asking command reply =
     MatchBool (nat_lt asking.version 2 && puts_parent command) (IsAnswerWithoutParents h asking.caller command reply) (IsAnswer h asking.caller asking.epoch command reply)
 
 -- A history: each identity stands once, and its epoch was open before it; each reply is an answer after what stood before by the rules of its version;
--- there are at most so many requests, and versions never fall. Nothing is asked of the forms of names and numbers in it, so where a history is assumed,
--- more lists are spoken of than the desk can make.
+-- there are at most so many requests, and versions never fall. Nothing is asked of the forms of names and numbers in it, nor that entries of version 1 are of epoch 0, so where a
+-- history is assumed, more lists are spoken of than the desk can make.
 abbrev pub IsHistory : List Entry → Type 0
 IsHistory [] = Unit {0}
 IsHistory (e ∷ h) =

@@ -143,12 +143,12 @@ count_after delta row Projects n = count_put (λ p. true) delta.file (λ p. row 
 count_after delta row (BasesOf project) n = count_put (λ k. bytes_eq k.project project) delta.base (λ k. row (BaseKey k.project k.branch k.place)) n
 count_after delta row ClosedEpochs n = unwrap_or delta.least_epoch n
 
--- whether an epoch is below the one that is named, if one is
+-- whether an epoch is named, and this one is below it
 abbrev pub is_below : Option ℕ → ℕ → Bool
 is_below None epoch = false
 is_below (Some least) epoch = nat_lt epoch least
 
--- whether the epoch that is named, if one is, is above another
+-- whether the epoch that is named is above this one, or none is named
 abbrev pub is_above : Option ℕ → ℕ → Bool
 is_above None epoch = true
 is_above (Some least) epoch = nat_lt epoch least

@@ -80,7 +80,7 @@ fn serve<C: Connections, S: Shelf, D: Rules>(
 /// Serves so many connections, one after the other, each as [`serve_request`] does; it goes on after one that wasn't served to its end.
 ///
 /// Whatever the peers send, repeated, cut short or reordered: what is done to the shelf is a run of the deliveries that the accepted connections' bytes
-/// call for, at most one of each and in their order, so from the tables of any history each acts once. Each peer is sent the response to what it asked
+/// call for, at most one of each and in their order, so from the tables of any history each request of an open epoch acts once. Each peer is sent the response to what it asked
 /// for, a first part of it after a fault of its writer, or nothing where it sent nothing, where reading failed or took too many reads, or where there
 /// was no memory; and then its connection is closed. What a peer sends and was sent is known of connections that tell it, and not of sockets.
 ///

@@ -31,8 +31,9 @@ use Rattle.review_sql.specs.Reopened.{ReopensLast}
 use Rattle.review_sql.specs.Said.{IsNone, IsThere, SaysOther}
 use Rattle.review_sql.specs.Shelf.{ShelfView, Stays, shown}
 
--- The tables of a history as an earlier version keeps them: but for the version, they have just what the history says. Tables of version 1, which tell of no
--- parents, can be so for a history whose entries are all of version 1, since no project has a parent there (`first_version_has_no_parents`).
+-- The tables of a history as an earlier version keeps them: but for the version, they have just what the history says. They tell of no other epoch than 0, and that none is closed,
+-- so they can be so only for a history in which each request is of epoch 0. Tables of version 1, which tell of no parents, can be so for a history whose entries are all of
+-- version 1, since no project has a parent there (`first_version_has_no_parents`).
 abbrev pub IsViewIn : EarlierVersion → List Entry → Tables → Type 0
 IsViewIn version h t = (t.version ≡ version_number (version_of version)) × IsView h (record t { version = tables_version })
 

@@ -1,4 +1,4 @@
--- What the table `desk` says, whatever the form of the tables.
+-- What the tables `desk` and `epochs` say, whatever the form of the tables.
 use Rattle.std.specs.Prelude.{ℕ, ◌≡◌, ◌≢◌, ◌⊎◌, List, [], ◌∷◌, Option, Some, None, Ok}
 use Rattle.std.specs.List.{AllByRecursion}
 use Rattle.sqlite_value.specs.Order.{Row, column}

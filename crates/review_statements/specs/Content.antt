@@ -52,12 +52,12 @@ pub record Removes (tree : ℕ) (key : List (ℕ × Value)) (old new : Trees) : 
   pub rows : new tree ≡ filter (λ r. not (has_key key r)) (old tree)
   pub others : SparesOthers tree old new
 
--- whether a value is a number that isn't negative
+-- whether a value is an integer that isn't negative
 abbrev pub is_natural : Value → Bool
 is_natural (Int (pos n)) = true
 is_natural v = false
 
--- whether a value is such a number, and below this one
+-- whether a value is such an integer, and below this one
 abbrev pub is_number_below : ℕ → Value → Bool
 is_number_below least (Int (pos n)) = nat_lt n least
 is_number_below least v = false

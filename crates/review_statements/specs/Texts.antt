@@ -114,7 +114,7 @@ not_negative place = op2 (Compare Ge Binary) (col 1 place) (lit (Int (pos 0)))
 abbrev pub has_text : ℕ → Term
 has_text place = op2 (Compare Eq Binary) (op1 TypeOf (col 1 place)) (lit (Text (codes "text")))
 
--- a row has a number in one column that isn't negative and is below the one that is bound, a number in another that isn't negative, and a text in a third
+-- a row has an integer in one column that isn't negative and is below the one that is bound, an integer in another that isn't negative, and a text in a third
 abbrev pub tests_below : ℕ → ℕ → ℕ → List Term
 tests_below below number text =
     op2 (Compare Lt Binary) (col 1 below) (number_at below 0) ∷ not_negative below ∷ has_integer below ∷ not_negative number ∷ has_integer number ∷ has_text text ∷ []

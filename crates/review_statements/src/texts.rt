@@ -191,7 +191,7 @@ pub const INSERT_ANSWER: &str =
 pub const DELETE_ANSWER: &str =
     "DELETE FROM answers_3 WHERE caller = ?1 AND typeof(caller) = 'integer' AND epoch = ?2 AND typeof(epoch) = 'integer' AND id = ?3";
 
-/// The stored requests of the epochs below one. A row that is of no identity, as one with a negative epoch, is of no epoch either.
+/// The stored requests of the epochs lower than the one that is bound, without the rows that are of no identity, as one with a negative caller.
 pub const DELETE_ANSWERS_BELOW: &str =
     "DELETE FROM answers_3 WHERE epoch < ?1 AND epoch >= 0 AND typeof(epoch) = 'integer' AND caller >= 0 AND typeof(caller) = 'integer' AND typeof(id) = 'text'";
 
