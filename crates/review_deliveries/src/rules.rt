@@ -8,7 +8,7 @@ use std::alloc::{AllocError, Global};
 /// What a desk is told of commands and questions, from the rows that decide them and the project file by which they are judged. It may
 /// keep what it worked out before, of which no answer may depend.
 pub trait Rules {
-    ghost use Rattle.std.specs.Prelude.{◌≡◌, false, ◌<◌, List, length, IfOk, IfErr, option_copied};
+    ghost use Rattle.std.specs.Prelude.{◌≡◌, true, false, ◌<◌, List, length, IfOk, IfErr, option_copied};
     ghost use Rattle.review_words.specs.Texts.{IsStored};
     ghost use Rattle.review_words.specs.History.{Entry, if_done};
     ghost use Rattle.review_rows.specs.Answer.{most_requests};
