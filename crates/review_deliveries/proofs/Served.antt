@@ -458,8 +458,8 @@ shown_counts caller query file rows (Err Full) before after answered cause same 
 pub shown_keeps : (caller : ℕ) (query : Query) (r : Result Reply Cause) (old new : Option Tables) → IfOk r IsDoneOrRefused → new ≡ old → KeepsUntaken (Read caller query) (reply_of r) old new
 shown_keeps caller query (Ok (Done a)) old new answered same = same
 shown_keeps caller query (Ok (Refused x)) old new answered same = same
-shown_keeps caller query (Ok IdentityReused) old new answered same = same
-shown_keeps caller query (Ok EpochClosed) old new answered same = same
+shown_keeps caller query (Ok IdentityReused) old new answered same = absurd answered
+shown_keeps caller query (Ok EpochClosed) old new answered same = absurd answered
 shown_keeps caller query (Ok (NotTaken c)) old new answered same = absurd answered
 shown_keeps caller query (Err Store) old new answered same = inl same
 shown_keeps caller query (Err Memory) old new answered same = same

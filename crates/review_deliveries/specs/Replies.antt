@@ -188,13 +188,15 @@ IsFullWhereSaid i Full tables = Shows tables (λ t. Answers t i None × (most_re
 IsFullWhereSaid i _ tables = Unit {0}
 
 -- On any tables whatever: what is not taken leaves them, though a store fault may shut the store; so does a clash, where the identity is stored with another command, a write whose epoch
--- is closed in them, and each question.
+-- is closed in them, and each question, which is told neither of the two.
 abbrev pub KeepsUntaken : Delivery → Reply → Option Tables → Option Tables → Type 0
 KeepsUntaken (Write caller epoch id command) IdentityReused old new = HasStored (record { caller = caller; epoch = epoch; id = id }) old (HasOtherContent command) × (new ≡ old)
 KeepsUntaken (Write caller epoch id command) (NotTaken cause) old new = IsFullWhereSaid (record { caller = caller; epoch = epoch; id = id }) cause old × LeavesBy cause old new
 KeepsUntaken (Write caller epoch id command) EpochClosed old new = Shows old (λ t. IsClosedIn t epoch) × (new ≡ old)
 KeepsUntaken (Write caller epoch id command) _ old new = Unit {0}
 KeepsUntaken (Read caller query) (NotTaken cause) old new = LeavesBy cause old new
+KeepsUntaken (Read caller query) IdentityReused old new = ⊥
+KeepsUntaken (Read caller query) EpochClosed old new = ⊥
 KeepsUntaken (Read caller query) _ old new = new ≡ old
 
 -- no row and no count is changed

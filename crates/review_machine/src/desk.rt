@@ -22,7 +22,8 @@ use std::alloc::Global;
 /// the identity stored with this command and this reply, and left them, or stored the request beside the others, of which an
 /// accepted CloseEpoch gives up those of lower epochs; a refusal changes no row. An identity is used only where it is stored with
 /// another command, an epoch closed only where the tables say so, a history full only where the identity is new, its epoch open
-/// and the last number given. A question changes nothing. A store fault is answered only where the shelf counted one.
+/// and the last number given. A question changes nothing, and is told neither that an identity is used nor that an epoch is closed.
+/// A store fault is answered only where the shelf counted one.
 ///
 /// Premises: the clauses on tables hold where the store returned what was written to it, and once a fault has shut it nothing is
 /// said of tables; the clause on counts holds always.
