@@ -1,53 +1,54 @@
 -- What is told of an identity.
-use Rattle.std.proofs.Common.{◌≡◌, ◌∙◌, ◌<◌, ℕ, Option, Some, None, true, false, Result, Ok, Err, IfOk, IfErr, IsTrue, refl, sym, ap, subst, arith}
+use Rattle.std.proofs.Common.{◌≡◌, ◌∙◌, Option, Some, None, Result, Ok, Err, IfOk, IfErr, IsTrue, sym, ap, subst}
 use Rattle.std.specs.Prelude.{nat_lt}
-use Rattle.std.proofs.lemmas.Bool.Decides.{nat_tests}
-use Rattle.sqlite_trees.specs.Tree.{Trees}
 use Rattle.sqlite_trees.specs.declared.store.Store.{Ghosts}
 use Rattle.sqlite.specs.Held.{Held, state}
 use Rattle.review_words.specs.History.{Identity}
+use Rattle.review_rows.specs.declared.rows.Kept.{Kept}
 use Rattle.review_rows.specs.declared.rows.Recalled.{Recalled}
 use Rattle.review_rows.specs.declared.shelf.ShelfFault.{ShelfFault}
 use Rattle.review_rows.specs.declared.shelf.ShelfFault.TheVariants.{Damaged}
-use Rattle.review_rows.specs.Rows.{ClosedEpochs, OddAnswer, Stored, Tables}
-use Rattle.review_rows.specs.Shelf.{Answers, BlamesTables, IsClosedIn, IsDamaged, IsRecalled, KeepsTables, LeavesBy, Shows, Blames, cause_of}
-use Rattle.review_statements.specs.Search.{row_at}
-use Rattle.review_records.specs.declared.rows.Answered.{Answered as Rest}
-use Rattle.review_records.specs.Forms.{answers, request_key}
+use Rattle.review_rows.specs.Rows.{AnswerRow, Answered, Tables, kept_row}
+use Rattle.review_rows.specs.Shelf.{Answers, BlamesTables, IsDamaged, IsRecalled, KeepsTables, LeavesBy, Shows, Blames, cause_of}
+use Rattle.review_records.specs.Forms.{request_key}
 use Rattle.review_lookups.specs.Tables.{least_in, stored_as, tables_at}
+use Rattle.review_sql.specs.LookedUp.{IsLookedUp, IsLookedUpIn}
 use Rattle.review_sql.specs.Numbers.{IsDesk}
+use Rattle.review_sql.specs.declared.serving.LookedUp.{LookedUp}
+use Rattle.review_sql.specs.declared.serving.LookedUp.TheVariants.{Closed, Open}
 use Rattle.review_sql.specs.declared.seen.Numbers.{Numbers}
 use Rattle.review_sql.specs.Shelf.{tables_of}
 use Rattle.review_sql.proofs.Shown.{odd_is_damage, shown_now}
 
-pub closed_told : (t : Tables) (epoch least : ℕ) → t.count ClosedEpochs ≡ least → epoch < least → IsClosedIn t epoch
-closed_told t epoch least is below = ap (nat_lt epoch) is ∙ grind (arith, nat_tests, below)
-
-pub open_told : (t : Tables) (i : Identity) (least : ℕ) (o : Option Stored) → t.count ClosedEpochs ≡ least → (i.epoch < least → ⊥) → t.answer i ≡ o → Answers t i o
-open_told t i least o is opened has = (ap (nat_lt i.epoch) is ∙ at (nat_lt i.epoch least) refl, has)
-  where
-    at : (b : _) → nat_lt i.epoch least ≡ b → b ≡ false
-    at false e = refl
-    at true e = absurd (opened (grind (arith, nat_tests, e)))
+-- a stored request with its identity is what is told of it
+pub kept_told : (t : Tables) (i : Identity) (row : AnswerRow) (kept : Kept) → Answers t i (Some (Answered row)) → kept_row kept ≡ row → Answers t i (Some (Answered (kept_row kept)))
+kept_told t i row kept there is = (there.0, there.1 ∙ ap (λ r. Some (Answered r)) (sym is))
 
 -- what was told leaves the tables, and blames them only where what the key has is odd
-pub keeps_recalled : (r : Result Recalled ShelfFault) (found : Option (Option Rest)) (old new : Option Tables) → IfErr r (λ e. (e ≡ Damaged) × (found ≡ Some None)) → new ≡ old → KeepsTables r old new
-keeps_recalled (Ok x) found old new err same = same
-keeps_recalled (Err e) found old new err same = subst (λ f. LeavesBy (cause_of f) old new) (sym err.0) same
+pub keeps_recalled : (P : Type 0) (r : Result Recalled ShelfFault) (old new : Option Tables) → IfErr r (λ e. (e ≡ Damaged) × P) → new ≡ old → KeepsTables r old new
+keeps_recalled P (Ok x) old new err same = same
+keeps_recalled P (Err e) old new err same = subst (λ f. LeavesBy (cause_of f) old new) (sym err.0) same
 
-module _ {S : Type 0} (g : Ghosts S) (conn : Held S) (numbers : Numbers) (i : Identity) (is_open : IsTrue (state g conn).is_open) (desk : IsDesk numbers (state g conn).now.trees) (r : Result Recalled ShelfFault) (found : Option (Option Rest)) (is : found ≡ row_at answers (state g conn).now.trees (request_key i)) where
-  pub shows_recalled : ((t : Tables) → t.count ClosedEpochs ≡ numbers.least → t.answer i ≡ stored_as i found → IfOk r (IsRecalled t i)) → IfOk r (λ x. Shows (tables_of g conn) (λ t. IsRecalled t i x))
-  shows_recalled told = by r (told (tables_at (state g conn).now.trees) (ap least_in desk.least_is) (ap (stored_as i) (sym is)))
-    where
-      by : (q : Result Recalled ShelfFault) → IfOk q (IsRecalled (tables_at (state g conn).now.trees) i) → IfOk q (λ x. Shows (tables_of g conn) (λ t. IsRecalled t i x))
-      by (Ok x) so = shown_now g conn conn (λ t. IsRecalled t i x) is_open so
-      by (Err e) so = tt
+module _ {S : Type 0} (g : Ghosts S) (conn : Held S) (numbers : Numbers) (i : Identity) (is_open : IsTrue (state g conn).is_open) (desk : IsDesk numbers (state g conn).now.trees) (r : Result Recalled ShelfFault) where
+  -- what was seen of the key is so of the tables
+  seen : (looked : LookedUp) → IsLookedUp (request_key i) numbers.least (state g conn).now.trees looked → IsLookedUpIn (tables_at (state g conn).now.trees) i looked
+  seen Closed below = ap (nat_lt i.epoch) (ap least_in desk.least_is) ∙ below
+  seen (Open found) it = (ap (nat_lt i.epoch) (ap least_in desk.least_is) ∙ it.0, ap (stored_as i) (sym it.1))
 
-  pub blames_recalled : IfErr r (λ e. (e ≡ Damaged) × (found ≡ Some None)) → BlamesTables r (tables_of g conn)
-  blames_recalled err = by r err
-    where
-      by : (q : Result Recalled ShelfFault) → IfErr q (λ e. (e ≡ Damaged) × (found ≡ Some None)) → BlamesTables q (tables_of g conn)
-      by (Ok x) h = tt
-      by (Err e) h =
-          subst (λ f. Blames f (tables_of g conn)) (sym h.0)
-          (shown_now g conn conn IsDamaged is_open (odd_is_damage (tables_at (state g conn).now.trees) i (ap (stored_as i) (sym is ∙ h.1))))
+  module _ (looked : LookedUp) (is : IsLookedUp (request_key i) numbers.least (state g conn).now.trees looked) where
+    pub shows_recalled : ((t : Tables) → IsLookedUpIn t i looked → IfOk r (IsRecalled t i)) → IfOk r (λ x. Shows (tables_of g conn) (λ t. IsRecalled t i x))
+    shows_recalled told = by r (told (tables_at (state g conn).now.trees) (seen looked is))
+      where
+        by : (q : Result Recalled ShelfFault) → IfOk q (IsRecalled (tables_at (state g conn).now.trees) i) → IfOk q (λ x. Shows (tables_of g conn) (λ t. IsRecalled t i x))
+        by (Ok x) so = shown_now g conn conn (λ t. IsRecalled t i x) is_open so
+        by (Err e) so = tt
+
+    pub blames_recalled : IfErr r (λ e. (e ≡ Damaged) × (looked ≡ Open (Some None))) → BlamesTables r (tables_of g conn)
+    blames_recalled err = by r err
+      where
+        odd : looked ≡ Open (Some None) → IsDamaged (tables_at (state g conn).now.trees)
+        odd at = let it = seen (Open (Some None)) (subst (IsLookedUp (request_key i) numbers.least (state g conn).now.trees) at is) in odd_is_damage (tables_at (state g conn).now.trees) i it.1
+
+        by : (q : Result Recalled ShelfFault) → IfErr q (λ e. (e ≡ Damaged) × (looked ≡ Open (Some None))) → BlamesTables q (tables_of g conn)
+        by (Ok x) h = tt
+        by (Err e) h = subst (λ f. Blames f (tables_of g conn)) (sym h.0) (shown_now g conn conn IsDamaged is_open (odd h.1))

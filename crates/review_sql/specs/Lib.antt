@@ -5,6 +5,7 @@ pub mod First
 pub mod Shelf
 pub mod Created
 pub mod Numbers
+pub mod LookedUp
 pub mod Said
 pub mod Opened
 pub mod Reopened

@@ -1,7 +1,7 @@
 -- Which rows a commit names by their keys, table by table.
-use Rattle.std.specs.Prelude.{ℕ, pos, ◌≡◌, Bool, true, false, List, filter, IfSome}
+use Rattle.std.specs.Prelude.{ℕ, ◌≡◌, Bool, true, false, List, filter, IfSome}
 use Rattle.std.specs.List.{AllByRecursion}
-use Rattle.sqlite_value.specs.Order.{Row as Raw, column}
+use Rattle.sqlite_value.specs.Order.{Row as Raw}
 use Rattle.sqlite_trees.specs.Tree.{Trees}
 use Rattle.review_table.specs.declared.table.Change.{Change}
 use Rattle.review_rows.specs.declared.rows.ChangeEdit.{ChangeEdit}

@@ -5,8 +5,8 @@ ghost use Rattle.sqlite.specs.Held.{state};
 ghost use Rattle.sqlite.specs.State.{HasCleanDisk};
 ghost use Rattle.review_rows.specs.Rows.{ClosedEpochs, Tables, kept_row};
 ghost use Rattle.review_rows.specs.Shelf.{CountsFaults, IsCounted, IsRecalled, greatest_count};
-ghost use Rattle.review_lookups.specs.Tables.{stored_as};
 ghost use Rattle.review_statements.specs.Desk.{schema_0};
+ghost use Rattle.review_sql.specs.LookedUp.{IsLookedUpIn};
 ghost use Rattle.review_sql.specs.Shelf.{Stays, answer_of};
 
 use crate::creating::make_desk;
@@ -14,7 +14,7 @@ use crate::faults::DeskFault;
 use crate::migrating::bring;
 use crate::opening::see;
 use crate::seen::Numbers;
-use crate::serving::find_stored;
+use crate::serving::{LookedUp, find_stored};
 use crate::there::{is_any_there, seen};
 use crate::writing::transact;
 use review_lookups::loading::{Loaded, load};
@@ -305,8 +305,8 @@ impl<S: Alter, O: Origin> Shelf for SqlShelf<S, O> {
             id: id.copy(alloc)?,
         };
         let _settled = self.conn.is_autocommit();
-        match find_stored(&mut self.conn, alloc, &key) {
-            Ok(found) => recalled(key, found, self.numbers.least),
+        match find_stored(&mut self.conn, alloc, &key, self.numbers.least) {
+            Ok(looked) => recalled(key, looked),
             Err(error) => Err(told(&mut self.conn, &mut self.faults, error)),
         }
     }
@@ -342,24 +342,18 @@ impl<S: Alter, O: Origin> Shelf for SqlShelf<S, O> {
     ghost fits = { λ k. count_fits k.faults };
 }
 
-// What is told of an identity, where this is what its key has and this epoch is the least open one.
-#[tactic(auto, using(crate::proofs::Recalled::closed_told, crate::proofs::Recalled::open_told))]
-fn recalled(
-    key: RequestKey,
-    found: Option<Option<Answered>>,
-    least: Epoch,
-) -> Result<Recalled, ShelfFault>
-    ensures told { (t : Tables) → t.count ClosedEpochs ≡ least → t.answer (record { caller = key.caller; epoch = key.epoch; id = key.id }) ≡ stored_as (record { caller = key.caller; epoch = key.epoch; id = key.id }) found → IfOk result (IsRecalled t (record { caller = key.caller; epoch = key.epoch; id = key.id })) }
-    ensures damaged { IfErr result (λ e. (e ≡ ShelfFault.Damaged) × (found ≡ Some None)) }
+// What is told of an identity of which this was seen.
+#[tactic(auto, using(crate::proofs::Recalled::kept_told))]
+fn recalled(key: RequestKey, looked: LookedUp) -> Result<Recalled, ShelfFault>
+    ensures told { (t : Tables) → IsLookedUpIn t (record { caller = key.caller; epoch = key.epoch; id = key.id }) looked → IfOk result (IsRecalled t (record { caller = key.caller; epoch = key.epoch; id = key.id })) }
+    ensures damaged { IfErr result (λ e. (e ≡ ShelfFault.Damaged) × (looked ≡ LookedUp.Open (Some None))) }
     ensures counted { (n : ℕ) → CountsFaults result n n }
 {
-    if key.epoch.get() < least.get() {
-        return Ok(Recalled::Closed);
-    }
-    match found {
-        Some(Some(row)) => Ok(Recalled::Kept(kept_of(key, row))),
-        Some(None) => Err(ShelfFault::Damaged),
-        None => Ok(Recalled::Fresh),
+    match looked {
+        LookedUp::Closed => Ok(Recalled::Closed),
+        LookedUp::Open(Some(Some(row))) => Ok(Recalled::Kept(kept_of(key, row))),
+        LookedUp::Open(Some(None)) => Err(ShelfFault::Damaged),
+        LookedUp::Open(None) => Ok(Recalled::Fresh),
     }
 }
 

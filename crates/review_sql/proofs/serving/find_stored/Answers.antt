@@ -1,37 +1,34 @@
-use Rattle.std.proofs.Common.{rules, ◌≡◌, ◌∙◌, sym, ap, not, subst, IsTrue, Err, Option}
+use Rattle.std.proofs.Common.{rules, ◌≡◌, ◌∙◌, sym, ap, not, subst, IsTrue, Err}
 use Rattle.sqlite.specs.Held.{Held, state}
 use Rattle.sqlite.proofs.StateLemmas.{clean_if_open}
-use Rattle.sqlite_trees.specs.Tree.{Trees}
 use Rattle.review_statements.specs.Ran.{Serves}
-use Rattle.review_statements.specs.Search.{row_at}
 use Rattle.review_tables.proofs.Sequences.{look_failed, look_ended}
-use Rattle.review_records.specs.declared.rows.Answered.{Answered}
-use Rattle.review_records.specs.Forms.{answers}
+use Rattle.review_sql.specs.LookedUp.{IsLookedUp}
 use Rattle.review_sql.proofs.serving.find_stored.Goals as goal
 
-pub returns-in_err-found-clause-serves : goal.returns-in_err-found-clause-serves
-returns-in_err-found-clause-serves g c =
-    let F : Trees → Option (Option Answered) → Type 0 = λ db found. found ≡ row_at answers db c.args.key.now in
+pub returns-in_err-looked-clause-serves : goal.returns-in_err-looked-clause-serves
+returns-in_err-looked-clause-serves g c =
+    let F = IsLookedUp c.args.key.now c.args.least in
     let last = c.drop-tx.new.self.0 in
     let same : last ≡ c.conn-1.given.0 = search rules in
     let s0 = state g.S.Store c.args.conn.now in
-    let s2 = state g.S.Store c.find.new.tx.conn.now in
+    let s2 = state g.S.Store c.look_up.new.tx.conn.now in
     let auto : IsTrue c.is_autocommit-settled.result = c.is_autocommit-settled.ensures.value ∙ ap not c.requires.mode in
-    let inside = rw c.transaction-tx.ensures.begun at c.in_err-found.ensures.looks in
-    let is : c.from_residual.result ≡ Err c.in_err-found.field-0.0 = search rules in
+    let inside = rw c.transaction-tx.ensures.begun at c.in_err-looked.ensures.looks in
+    let is : c.from_residual.result ≡ Err c.in_err-looked.field-0.0 = search rules in
     subst (λ (h : Held _). Serves F s0 (state g.S.Store h) c.from_residual.result) same
     (subst (Serves F s0 (state g.S.Store last)) (sym is) (look_failed F s0 s2 (state g.S.Store last) (λ was. c.is_autocommit-settled.ensures.settled auto was) (λ is_open. clean_if_open (g.S.Store.view last.store) (g.met.S.Store.shut_if_dirty last.store) is_open) F _ _ inside c.drop-tx.ensures.undone c.drop-tx.ensures.survives))
 
 pub returns-in_err-commit-clause-serves : goal.returns-in_err-commit-clause-serves
 returns-in_err-commit-clause-serves g c =
-    let F : Trees → Option (Option Answered) → Type 0 = λ db found. found ≡ row_at answers db c.args.key.now in
+    let F = IsLookedUp c.args.key.now c.args.least in
     let last = c.commit.new.self.0 in
     let same : last ≡ c.conn-2-1.given.0 = search rules in
     let s0 = state g.S.Store c.args.conn.now in
-    let s2 = state g.S.Store c.find.new.tx.conn.now in
+    let s2 = state g.S.Store c.look_up.new.tx.conn.now in
     let auto : IsTrue c.is_autocommit-settled.result = c.is_autocommit-settled.ensures.value ∙ ap not c.requires.mode in
-    let inside = rw c.transaction-tx.ensures.begun at c.in_ok-found.ensures.looks in
+    let inside = rw c.transaction-tx.ensures.begun at c.in_ok-looked.ensures.looks in
     let is : c.from_residual-in_err-commit.result ≡ Err c.in_err-commit.field-0.0 = search rules in
     subst (λ (h : Held _). Serves F s0 (state g.S.Store h) c.from_residual-in_err-commit.result) same
-    (look_ended F s0 s2 (state g.S.Store last) (λ was. c.is_autocommit-settled.ensures.settled auto was) (λ is_open. clean_if_open (g.S.Store.view last.store) (g.met.S.Store.shut_if_dirty last.store) is_open) c.in_ok-found.found
+    (look_ended F s0 s2 (state g.S.Store last) (λ was. c.is_autocommit-settled.ensures.settled auto was) (λ is_open. clean_if_open (g.S.Store.view last.store) (g.met.S.Store.shut_if_dirty last.store) is_open) c.in_ok-looked.looked
     (Err c.in_err-commit.field-0.0) inside c.in_err-commit.ensures.ok c.in_err-commit.ensures.err c.in_err-commit.ensures.survives _ (_, is))

@@ -25,7 +25,7 @@ returns-in-Ok-clause-found g c honest =
     let id_is : c.in_ok-copy.field-0 ≡ c.args.id.now = search rules in
     subst (λ id. IfOk c.recalled.result (λ x. Shows (tables_of g.S.Store c.args.self.now.conn) (λ t. IsRecalled t (record { caller = c.args.caller; epoch = c.args.epoch; id = id }) x))) id_is
     (subst (λ (h : Held _). IfOk c.recalled.result (λ x. Shows (tables_of g.S.Store h) (λ t. IsRecalled t i x))) same
-    (shows_recalled g.S.Store old c.self.inside.numbers i it.0 (c.self.invariant.ready honest.1 it.0).1 c.recalled.result c.in-Ok.found it.3 c.recalled.ensures.told))
+    (shows_recalled g.S.Store old c.self.inside.numbers i it.0 (c.self.invariant.ready honest.1 it.0).1 c.recalled.result c.in-Ok.looked it.3 c.recalled.ensures.told))
 
 pub returns-in-Ok-clause-tables : goal.returns-in-Ok-clause-tables
 returns-in-Ok-clause-tables g c honest =
@@ -34,7 +34,7 @@ returns-in-Ok-clause-tables g c honest =
     let same : old ≡ c.args.self.now.conn = ap (λ (k : ShelfView _). k.conn) c.self.view_is in
     let it = c.in-Ok.ensures.serves.found honest.0 (desk_if_open g.S.Store old last g.O.Origin.IS_OURS c.self.inside.numbers c.self.invariant honest.1) in
     subst (λ (h : Held _). KeepsTables c.recalled.result (tables_of g.S.Store h) (tables_of g.S.Store last)) same
-    (keeps_recalled c.recalled.result c.in-Ok.found _ _ c.recalled.ensures.damaged (same_shown g.S.Store old last it.0 it.1 it.2))
+    (keeps_recalled _ c.recalled.result _ _ c.recalled.ensures.damaged (same_shown g.S.Store old last it.0 it.1 it.2))
 
 pub returns-in-Ok-clause-damaged : goal.returns-in-Ok-clause-damaged
 returns-in-Ok-clause-damaged g c honest =
@@ -44,7 +44,7 @@ returns-in-Ok-clause-damaged g c honest =
     let same : old ≡ c.args.self.now.conn = ap (λ (k : ShelfView _). k.conn) c.self.view_is in
     let it = c.in-Ok.ensures.serves.found honest.0 (desk_if_open g.S.Store old last g.O.Origin.IS_OURS c.self.inside.numbers c.self.invariant honest.1) in
     subst (λ (h : Held _). BlamesTables c.recalled.result (tables_of g.S.Store h)) same
-    (blames_recalled g.S.Store old c.self.inside.numbers i it.0 (c.self.invariant.ready honest.1 it.0).1 c.recalled.result c.in-Ok.found it.3 c.recalled.ensures.damaged)
+    (blames_recalled g.S.Store old c.self.inside.numbers i it.0 (c.self.invariant.ready honest.1 it.0).1 c.recalled.result c.in-Ok.looked it.3 c.recalled.ensures.damaged)
 
 pub returns-in-Ok-clause-stops : goal.returns-in-Ok-clause-stops
 returns-in-Ok-clause-stops g c honest =
