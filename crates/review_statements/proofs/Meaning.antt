@@ -1,9 +1,9 @@
 -- What the parts of texts mean: the tests of a WHERE, the values of an INSERT, and whole queries.
 use Rattle.std.proofs.Common.{arith, inl, inr, codes, ◌≡◌, ◌∙◌, ◌&&◌, ◌++◌, ◌^◌, ◌-◌, ℕ, zero, suc, ℤ, get_or, List, [], ◌∷◌, Bool, cond, Some, true, false, refl, sym, ap, map, filter, drop, nat_le, subst, subst₂}
 use Rattle.std.specs.List.{list_all}
-use Rattle.std.specs.Prelude.{int_lt, pos, negsuc, nat_lt}
+use Rattle.std.specs.Prelude.{int_lt, pos, negsuc, nat_lt, not}
 use Rattle.std.specs.declared.cmp.Ordering.TheVariants.{Less, Equal, Greater}
-use Rattle.std.specs.Ordering.{is_eq, nat_cmp}
+use Rattle.std.specs.Ordering.{is_eq, is_lt, nat_cmp}
 use Rattle.std.specs.Cmp.Lexicographic.{slice_cmp}
 use Rattle.std.specs.List.Sorted.{IsPermutation}
 use Rattle.std.proofs.lemmas.Bool.{cases_Bool, ltb-true}
@@ -16,12 +16,11 @@ use Rattle.sqlite_value.specs.Order.{Row, column, value_cmp}
 use Rattle.sqlite_value.proofs.OrderLemmas.{value_cmp-Int, value_cmp-Null, value_cmp-Text}
 use Rattle.sqlite_trees.specs.Tree.{Trees, rowid}
 use Rattle.sqlite_sql.specs.Term.{col, eval, holds}
-use Rattle.sqlite_sql.specs.Ops.{unary, binary, is_true, is_null, from_truth, test}
+use Rattle.sqlite_sql.specs.Ops.{unary, binary, is_true, is_null, from_truth}
 use Rattle.sqlite_sql.specs.Program.{overlay}
 use Rattle.sqlite_sql.specs.declared.ops.BinaryOp.TheVariants.{Compare}
-use Rattle.sqlite_sql.specs.declared.ops.CompareOp.{CompareOp}
-use Rattle.sqlite_sql.specs.declared.ops.CompareOp.TheVariants.{Eq, Ge, Lt}
-use Rattle.sqlite_sql.specs.declared.ops.UnaryOp.TheVariants.{ToNumeric, TypeOf}
+use Rattle.sqlite_sql.specs.declared.ops.CompareOp.TheVariants.{Eq, Lt}
+use Rattle.sqlite_sql.specs.declared.ops.UnaryOp.TheVariants.{Not, ToNumeric, TypeOf}
 use Rattle.sqlite_rules.specs.Cast.{cast}
 use Rattle.sqlite_keyed.proofs.ListLemmas.{filter_same, map-map}
 use Rattle.sqlite.specs.State.{State, Shown}
@@ -102,29 +101,31 @@ exact_integer (Real x) n = and_false _
 exact_integer (Text t) n = and_false _
 exact_integer (Blob b) n = and_false _
 
-compares : (op : CompareOp) (m n : ℤ) → is_true (binary (Compare op Binary) (Int m) (Int n)) ≡ test op (cond (int_lt m n) Less (cond (int_lt n m) Greater Equal))
+is_less : (m n : ℤ) → is_true (binary (Compare Lt Binary) (Int m) (Int n)) ≡ is_lt (cond (int_lt m n) Less (cond (int_lt n m) Greater Equal))
 unfolding binary
-compares op m n = told_true _ ∙ ap (test op) (value_cmp-Int m n)
+is_less m n = told_true _ ∙ ap is_lt (value_cmp-Int m n)
 
-less_by : (a b : Bool) → test Lt (cond a Less (cond b Greater Equal)) ≡ a
+less_by : (a b : Bool) → is_lt (cond a Less (cond b Greater Equal)) ≡ a
 less_by true b = refl
 less_by false true = refl
 less_by false false = refl
 
+negated : (b : Bool) → is_true (unary Not (from_truth (Some b))) ≡ not b
+unfolding unary
+negated true = refl
+negated false = refl
+
 -- whether an integer is not below zero
-from_zero : (m : ℤ) → is_true (binary (Compare Ge Binary) (Int m) (Int (pos 0))) ≡ is_natural (Int m)
-from_zero (pos n) = compares Ge (pos n) (pos 0) ∙ at_least (nat_lt n 0) (nat_lt 0 n) (never n)
+from_zero : (m : ℤ) → is_true (unary Not (binary (Compare Lt Binary) (Int m) (Int (pos 0)))) ≡ is_natural (Int m)
+unfolding binary
+from_zero (pos n) = negated _ ∙ ap not (ap is_lt (value_cmp-Int (pos n) (pos 0)) ∙ (less_by (nat_lt n 0) (nat_lt 0 n) ∙ never n))
   where
     never : (n : ℕ) → nat_lt n 0 ≡ false
     never n = elim (cases_Bool (nat_lt n 0)) [ inl is ↦ absurd (omega (arith, ltb-true n 0 is)) | inr other ↦ other ]
-
-    at_least : (a b : Bool) → a ≡ false → test Ge (cond a Less (cond b Greater Equal)) ≡ true
-    at_least a true is = rw is refl
-    at_least a false is = rw is refl
-from_zero (negsuc n) = compares Ge (negsuc n) (pos 0)
+from_zero (negsuc n) = negated _ ∙ ap not (ap is_lt (value_cmp-Int (negsuc n) (pos 0)))
 
 -- a number that isn't negative, whatever else is asked
-natural : (v : Value) (b : Bool) → (is_true (binary (Compare Ge Binary) v (Int (pos 0))) && (is_int v && b)) ≡ (is_natural v && b)
+natural : (v : Value) (b : Bool) → (is_true (unary Not (binary (Compare Lt Binary) v (Int (pos 0)))) && (is_int v && b)) ≡ (is_natural v && b)
 natural Null b = and_false _
 natural (Int m) b = ap (λ a. a && b) (from_zero m)
 natural (Real x) b = and_false _
@@ -134,7 +135,7 @@ natural (Blob c) b = and_false _
 -- the same, and below another
 below : (v : Value) (least : ℕ) (b : Bool) → (is_true (binary (Compare Lt Binary) v (Int (pos least))) && (is_natural v && b)) ≡ (is_number_below least v && b)
 below Null least b = and_false _
-below (Int (pos n)) least b = ap (λ a. a && b) (compares Lt (pos n) (pos least) ∙ less_by (nat_lt n least) (nat_lt least n))
+below (Int (pos n)) least b = ap (λ a. a && b) (is_less (pos n) (pos least) ∙ less_by (nat_lt n least) (nat_lt least n))
 below (Int (negsuc n)) least b = and_false _
 below (Real x) least b = and_false _
 below (Text t) least b = and_false _
@@ -189,8 +190,8 @@ unfolding unary
 tested_below place number text least row =
     let v = column row place in
     let w = column row number in
-    (λ i. is_true (binary (Compare Lt Binary) v (as_number (Int (pos least) ∷ []) row place 0 (pos least) refl i)) && (is_true (binary (Compare Ge Binary) v (Int (pos 0))) && (typed v i
-    && (is_true (binary (Compare Ge Binary) w (Int (pos 0))) && (typed w i && (typed_text (column row text) i && true))))))
+    (λ i. is_true (binary (Compare Lt Binary) v (as_number (Int (pos least) ∷ []) row place 0 (pos least) refl i)) && (is_true (unary Not (binary (Compare Lt Binary) v (Int (pos 0)))) && (typed v i
+    && (is_true (unary Not (binary (Compare Lt Binary) w (Int (pos 0)))) && (typed w i && (typed_text (column row text) i && true))))))
     ∙ ((λ i. is_true (binary (Compare Lt Binary) v (Int (pos least))) && natural v (natural w (and_true (is_text (column row text)) i) i) i) ∙ below v least (is_natural w && is_text (column row text)))
 
 -- ---- queries

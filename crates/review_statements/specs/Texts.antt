@@ -9,8 +9,8 @@ use Rattle.sqlite_trees.specs.Tree.{Trees}
 use Rattle.sqlite_sql.specs.Term.{Term, lit, col, op1, op2}
 use Rattle.sqlite_sql.specs.Query.{Query, inner, end}
 use Rattle.sqlite_sql.specs.declared.ops.BinaryOp.TheVariants.{Compare}
-use Rattle.sqlite_sql.specs.declared.ops.CompareOp.TheVariants.{Eq, Ge, Lt}
-use Rattle.sqlite_sql.specs.declared.ops.UnaryOp.TheVariants.{ToNumeric, TypeOf}
+use Rattle.sqlite_sql.specs.declared.ops.CompareOp.TheVariants.{Eq, Lt}
+use Rattle.sqlite_sql.specs.declared.ops.UnaryOp.TheVariants.{Not, ToNumeric, TypeOf}
 use Rattle.sqlite_schema.specs.declared.schema.Column.{Column}
 use Rattle.sqlite_schema.specs.declared.schema.Table.{Table}
 use Rattle.sqlite_schema.specs.declared.command.Command.{Command}
@@ -108,7 +108,7 @@ Deletes sql tree key = Alters sql tree (λ at table. Delete at (record { lets = 
 
 -- a column has no negative number
 abbrev pub not_negative : ℕ → Term
-not_negative place = op2 (Compare Ge Binary) (col 1 place) (lit (Int (pos 0)))
+not_negative place = op1 Not (op2 (Compare Lt Binary) (col 1 place) (lit (Int (pos 0))))
 
 -- a column has a text
 abbrev pub has_text : ℕ → Term
