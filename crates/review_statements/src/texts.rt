@@ -191,8 +191,8 @@ pub const INSERT_ANSWER: &str =
 pub const DELETE_ANSWER: &str =
     "DELETE FROM answers_3 WHERE caller = ?1 AND typeof(caller) = 'integer' AND epoch = ?2 AND typeof(epoch) = 'integer' AND id = ?3";
 
-/// The stored requests of the epochs lower than the one that is bound, without the rows that are of no identity, as one with a negative caller. `NOT caller < 0` is none by
-/// which the index is searched, as `caller >= 0` would be: to go over the rows in the order of the index takes longer, and leaves a file that is slower to read.
+/// The stored requests of the epochs lower than the one that is bound, without the rows that are of no identity, as one with a negative caller. `NOT caller < 0` is
+/// to give no bound by which the index is searched, as `caller >= 0` does.
 pub const DELETE_ANSWERS_BELOW: &str =
     "DELETE FROM answers_3 WHERE epoch < ?1 AND NOT epoch < 0 AND typeof(epoch) = 'integer' AND NOT caller < 0 AND typeof(caller) = 'integer' AND typeof(id) = 'text'";
 
