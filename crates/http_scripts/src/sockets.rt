@@ -1,9 +1,9 @@
 //! Requests over sockets of this machine, with both ends in this process.
 
-use crate::fault::Fault;
 use crate::serving::request_bytes;
 use review_counted::Counted;
 use review_machine::{MemoryShelf, serve_one};
+use script_faults::Fault;
 use std::alloc::Global;
 use std::io;
 use std::io::{Read, Write};
