@@ -195,7 +195,7 @@ fn shown(text: &Option<String>) -> Option<&str>
 #[derive(Drop)]
 pub(crate) struct RequirementParts {
     pub(crate) name: LabelName,
-    pub(crate) description: Option<String>,
+    pub description: Option<String>,
     pub(crate) applicable_if: Option<Expr>,
     pub(crate) submittable_if: Expr,
     pub(crate) override_if: Option<Expr>,
@@ -311,12 +311,12 @@ impl Requirement {
 
 /// What a project file has, labels and requirements by name.
 #[derive(Drop)]
-pub(crate) struct Content {
-    pub(crate) parent: Option<ProjectName>,
-    pub(crate) description: Option<String>,
-    pub(crate) access: Access,
-    pub(crate) labels: Vec<Label>,
-    pub(crate) requirements: Vec<Requirement>,
+pub struct Content {
+    pub parent: Option<ProjectName>,
+    pub description: Option<String>,
+    pub access: Access,
+    pub labels: Vec<Label>,
+    pub requirements: Vec<Requirement>,
 }
 
 impl Model for Content {
@@ -364,7 +364,7 @@ impl Model for ProjectFile {
 
 impl ProjectFile {
     /// The file of a content that is sound. An error where there was no memory for it.
-    pub(crate) fn new(alloc: Global, content: Content) -> Result<ProjectFile, AllocError>
+    pub fn new(alloc: Global, content: Content) -> Result<ProjectFile, AllocError>
         requires { IsSoundFile content }
         ensures { IfOk result (λ f. f ≡ content) }
     {
@@ -399,7 +399,7 @@ impl ProjectFile {
     }
 
     /// A copy of the description. An error where there was no memory for it.
-    pub(crate) fn copied_description(&self, alloc: Global) -> Result<Option<String>, AllocError>
+    pub fn copied_description(&self, alloc: Global) -> Result<Option<String>, AllocError>
         ensures { IfOk result (λ d. option_map string_bytes d ≡ self.now.description) }
     {
         match self.description() {
@@ -433,7 +433,7 @@ impl ProjectFile {
     }
 
     /// The groups that have rights.
-    pub(crate) fn access(&self) -> &Access
+    pub fn access(&self) -> &Access
         ensures { result.now ≡ self.now.access }
     {
         &self.content().access

@@ -118,10 +118,7 @@ fn document_in(alloc: Global, text: &str) -> Result<Option<Value>, AllocError>
 }
 
 /// The parent that a text names, whose file isn't read for it; none where the text is too long to be read, or no document.
-pub(crate) fn named_parent(
-    alloc: Global,
-    text: &FileText,
-) -> Result<Option<ProjectName>, AllocError>
+pub fn named_parent(alloc: Global, text: &FileText) -> Result<Option<ProjectName>, AllocError>
     ensures { IfOk result (λ parent. parent ≡ named_parent text.now) }
 {
     let text = text.as_str();

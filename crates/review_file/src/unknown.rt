@@ -57,7 +57,7 @@ fn requires_other(
 
 /// Whether one of these requirements names another label than these. An error where there was no
 /// memory to find out.
-pub(crate) fn some_requires_other(
+pub fn some_requires_other(
     alloc: Global,
     labels: &[Label],
     requirements: &[Requirement],

@@ -38,7 +38,7 @@ use Rattle.review_rows.specs.declared.rows.Rows.{Rows}
 use Rattle.review_rows.specs.declared.rows.StoredFile.{StoredFile}
 use Rattle.review_rows.proofs.Asked.{line_asked}
 use Rattle.review_rows.proofs.Lined.{line_told, own_told, texts_told, there_is}
-use Rattle.review_file.specs.Texts.{LineView}
+use Rattle.review_effective.specs.Texts.{LineView}
 use Rattle.review_inheritance.proofs.Alike.{covers_seen, inherits_above}
 use Rattle.review_inheritance.proofs.Trees.{inherit_trees}
 use Rattle.review_ancestors.proofs.Accepted.{parent_named}

@@ -6,7 +6,7 @@ use Rattle.review_project.specs.Inherited.{IsEffective}
 use Rattle.review_project.specs.Patterns.{HasPattern}
 use Rattle.review_project.specs.declared.fault.ReadFault.{ReadFault}
 use Rattle.review_project.specs.declared.fault.ReadFault.TheVariants as read
-use Rattle.review_file.specs.Texts.{IsLineFault}
+use Rattle.review_effective.specs.Texts.{IsLineFault}
 use Rattle.review_rows.specs.declared.rows.Rows.{Rows}
 use Rattle.review_rows.specs.declared.rows.StoredFile.{StoredFile}
 use Rattle.review_rows.specs.Decisions.{IsUnread, SomePattern}

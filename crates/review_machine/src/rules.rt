@@ -2,7 +2,8 @@
 use review_chain::Walked;
 use review_decisions::{decide, show};
 use review_deliveries::Rules;
-use review_file::{FileMemo, ProjectFile};
+use review_effective::FileMemo;
+use review_file::ProjectFile;
 use review_file_decisions::read_file_for;
 use review_needs::next_need;
 use review_rows::{Delta, Matter, Need, Rows};

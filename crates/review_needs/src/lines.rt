@@ -6,7 +6,7 @@ ghost use Rattle.review_rows.specs.Steps.{line_steps, next_of, own_in, known_par
 
 use crate::changes::file_want;
 use crate::judging::project_of;
-use review_file::{FileMemo, MOST_DEPTH};
+use review_effective::{FileMemo, MOST_DEPTH};
 use review_rows::{Matter, Rows, StoredFile, Want};
 use review_words::{Command, FileText, ProjectName};
 use std::alloc::{AllocError, Global};

@@ -1,7 +1,6 @@
 -- The desk that tables in memory hold.
-use Rattle.std.specs.Prelude.{Bool, nat_lt, flat_map, ◌++◌, if◌then◌else◌, ℕ, ◌≡◌, ◌≤◌, ◌+◌, ◌⊎◌, List, [], ◌∷◌, Option, Some, None, IfSome, option_map, string_bytes}
-use Rattle.std.specs.List.{All, Contains, list_any}
-use Rattle.std.specs.BTreeMap.{is_at}
+use Rattle.std.specs.Prelude.{ℕ, ◌≡◌, ◌≤◌, ◌+◌, ◌⊎◌, List, [], ◌∷◌, Option, Some, None, IfSome, option_map, string_bytes}
+use Rattle.std.specs.List.{All, Contains}
 use Rattle.std.specs.declared.cmp.Ordering.{Ordering}
 use Rattle.std.specs.Ordering.{nat_cmp, ordering_then}
 use Rattle.std.specs.Cmp.Lexicographic.{slice_cmp}
@@ -20,22 +19,15 @@ use Rattle.review_change_rows.specs.declared.tables.ChangeTables.{ChangeTables}
 use Rattle.review_kept_changes.specs.Kept.{KeptView, HasRoomFor, IsFull, part_at}
 use Rattle.review_kept_branches.specs.Branches.{BranchesView, IsPut, base_at, total_in}
 use Rattle.review_shelves.specs.declared.keys.NameKey.{NameKey}
-use Rattle.review_shelves.specs.declared.keys.AnswerKey.{AnswerKey}
-use Rattle.review_shelves.specs.declared.keys.StoredAnswer.{StoredAnswer}
+use Rattle.review_kept_answers.specs.declared.keys.AnswerKey.{AnswerKey}
+use Rattle.review_kept_answers.specs.declared.keys.StoredAnswer.{StoredAnswer}
+use Rattle.review_kept_answers.specs.Answers.{answer_cmp, key_of}
 use Rattle.review_shelves.specs.declared.changes.Changes.{Changes}
 use Rattle.review_shelves.specs.declared.tables.MemoryTables.{MemoryTables}
 
 -- by name, then by number
 abbrev pub name_cmp : NameKey → NameKey → Ordering
 name_cmp a b = ordering_then (slice_cmp nat_cmp a.name b.name) (nat_cmp a.account b.account)
-
--- by epoch, then by caller, then by id
-abbrev pub answer_cmp : AnswerKey → AnswerKey → Ordering
-answer_cmp a b = ordering_then (nat_cmp a.epoch b.epoch) (ordering_then (nat_cmp a.caller b.caller) (slice_cmp nat_cmp a.id b.id))
-
--- the key of an identity
-abbrev pub key_of : Identity → AnswerKey
-key_of i = record { epoch = i.epoch; caller = i.caller; id = i.id }
 
 -- the rows of the tables, without the index
 pub record Desk : Type 0 where
@@ -120,23 +112,6 @@ with_answers t answers least = record {
 -- a delta but for the epoch that it names
 abbrev pub beside_epoch : Delta → Delta
 beside_epoch delta = record delta { least_epoch = None }
-
--- whether a key is among these
-abbrev pub is_among : List AnswerKey → AnswerKey → Bool
-is_among keys q = list_any (λ k. is_at (answer_cmp k) q) keys
-
--- a key, where its epoch is below the least
-abbrev pub if_lower : ℕ → AnswerKey → List AnswerKey
-if_lower least k = if nat_lt k.epoch least then k ∷ [] else []
-
--- the keys of rows whose epochs are below the least
-abbrev pub lower : ℕ → List (AnswerKey × StoredAnswer) → List AnswerKey
-lower least rows = flat_map (λ e. if_lower least e.0) rows
-
--- the keys of what is given up where an epoch is named: of rows, and of the request that is stored
-abbrev pub lower_of : Option ℕ → List (AnswerKey × StoredAnswer) → AnswerKey → List AnswerKey
-lower_of None rows kept = []
-lower_of (Some least) rows kept = lower least rows ++ if_lower least kept
 
 -- the same tables but for those of changes
 abbrev pub with_changes : MemoryTables → KeptView → MemoryTables

@@ -5,7 +5,8 @@ ghost use Rattle.review_table.specs.Rows.{rows_of};
 ghost use Rattle.review_kept_changes.specs.Kept.{ArePrepared};
 ghost use Rattle.review_shelves.specs.Desk.{IsNumber, IsHeld, IsGiven, AreChangesOf, PutsAnswer, file_changes};
 
-use crate::keys::{AnswerKey, NameKey, StoredAnswer};
+use crate::keys::NameKey;
+use review_kept_answers::{AnswerKey, StoredAnswer};
 use review_kept_changes::{KeptChanges, Prepared};
 use review_rows::{Delta, Kept, MemberKey, Put, StoredFile};
 use review_table::{Change, Key, Table};

@@ -1,8 +1,8 @@
 //! The tables of a desk in memory, and what changes in them.
-ghost use Rattle.std.specs.Prelude.{◌≡◌, Some, IfOk, OnOk, OnErr, ◌<◌, ◌^◌, ◌-◌, IsTrue, ◌↔◌, [], true, ◌++◌, None, unwrap_or, map, if◌then◌else◌};
+ghost use Rattle.std.specs.Prelude.{◌≡◌, Some, IfOk, OnOk, OnErr, ◌<◌, ◌^◌, ◌-◌, IsTrue, ◌↔◌, [], true, None, unwrap_or, if◌then◌else◌};
 ghost use Rattle.std.specs.List.{All};
-ghost use Rattle.std.specs.Map.Iter.{deref_pair};
-ghost use Rattle.review_shelves.specs.declared.keys.AnswerKey.{AnswerKey};
+ghost use Rattle.review_kept_answers.specs.declared.keys.AnswerKey.{AnswerKey};
+ghost use Rattle.review_kept_answers.specs.Answers.{answer_cmp, is_among, key_of};
 ghost use Rattle.std.specs.Ordering.{nat_cmp};
 ghost use Rattle.std.specs.Cmp.Lexicographic.{slice_cmp};
 ghost use Rattle.review_table.specs.Rows.{row_in, rows_of, is_named, HasEmptyOnly, HasNoEmptyPlace};
@@ -11,12 +11,13 @@ ghost use Rattle.review_rows.specs.declared.rows.Kept.{Kept};
 ghost use Rattle.review_shelves.specs.declared.changes.Changes.{Changes};
 ghost use Rattle.review_rows.specs.Shelf.{IsRecalled, IsCommitted};
 ghost use Rattle.review_rows.specs.View.{IsView};
-ghost use Rattle.review_shelves.specs.Desk.{tables_of, desk_of, row_of, name_cmp, file_changes, IsIndexed, IsBounded, IsSound, AddsNames, AreChangesOf, AreIndexed, KeepsNames, HasNoSpareRoom, HasRoom, HasRoomOnlyFor, AreApplied, IsWithBase, answer_cmp, beside_epoch, if_lower, is_among, key_of, lower, lower_of, with_answers, with_branches, with_changes};
+ghost use Rattle.review_shelves.specs.Desk.{tables_of, desk_of, row_of, name_cmp, file_changes, IsIndexed, IsBounded, IsSound, AddsNames, AreChangesOf, AreIndexed, KeepsNames, HasNoSpareRoom, HasRoom, HasRoomOnlyFor, AreApplied, IsWithBase, beside_epoch, with_answers, with_branches, with_changes};
 ghost use Rattle.review_shelves.specs.First.{HasAccount, HasName, HasMember};
 ghost use Rattle.review_kept_changes.specs.Kept.{IsFull, IsFullBut, IsReady};
 
 use crate::changes::{Changes, names_given, names_held};
-use crate::keys::{AnswerKey, NameKey, StoredAnswer};
+use crate::keys::NameKey;
+use review_kept_answers::{AnswerKey, StoredAnswer, key_of, lower_keys, remove_keys};
 use review_kept_branches::Branches;
 use review_kept_changes::{KeptChanges, Prepared};
 use review_rows::{Delta, Kept, MemberKey, PlaceKey, Put, Recalled, StoredFile};
@@ -107,29 +108,10 @@ impl MemoryTables {
         ensures done { OnOk result (IsCommitted (tables_of (desk_of self.old)) delta.now (kept_row kept.now) (tables_of (desk_of self.new))) }
         ensures same { OnErr result (tables_of (desk_of self.new) ≡ tables_of (desk_of self.old)) }
     {
-        let lower = self.lower_keys(alloc, delta.least_epoch, kept)?;
+        let lower = lower_keys(alloc, &self.answers, delta.least_epoch, kept)?;
         self.commit_beside(alloc, delta, kept)?;
         self.give_up(delta.least_epoch, &lower);
         Ok(())
-    }
-
-    /// The keys of what is given up where an epoch is named.
-    fn lower_keys(
-        &self,
-        alloc: Global,
-        epoch: Option<Epoch>,
-        kept: &Kept,
-    ) -> Result<Vec<AnswerKey>, AllocError>
-        ensures { IfOk result (λ keys. keys.items ≡ lower_of epoch (rows_of self.now.answers) (key_of (kept_row kept.now).identity)) }
-    {
-        let mut keys = Vec::new(alloc);
-        if let Some(least) = epoch {
-            let rows = self.answers.rows(alloc)?;
-            push_lower(alloc, &mut keys, &rows, least.get())?;
-            let own = key_of(alloc, kept)?;
-            add_lower(alloc, &mut keys, &own, least.get())?;
-        }
-        Ok(keys)
     }
 
     /// Drops what is stored under these keys, and makes an epoch the least open one, if one is named.
@@ -420,56 +402,5 @@ fn release_file(
 {
     if let Some(put) = file {
         files.release_one(&put.key);
-    }
-}
-
-// The key of a request that is to be stored.
-fn key_of(alloc: Global, kept: &Kept) -> Result<AnswerKey, AllocError>
-    ensures { IfOk result (λ key. key ≡ key_of (kept_row kept.now).identity) }
-{
-    Ok(AnswerKey {
-        epoch: kept.epoch,
-        caller: kept.caller,
-        id: kept.id.copy(alloc)?,
-    })
-}
-
-// Adds a key, where its epoch is below the least.
-fn add_lower(
-    alloc: Global,
-    keys: &mut Vec<AnswerKey>,
-    key: &AnswerKey,
-    least: u32,
-) -> Result<(), AllocError>
-    ensures { OnOk result (keys.new.items ≡ keys.old.items ++ if_lower least key.now) }
-{
-    if key.epoch.get() < least {
-        keys.push(key.copy(alloc)?)?;
-    }
-    Ok(())
-}
-
-// Adds the keys of rows whose epochs are below the least.
-fn push_lower(
-    alloc: Global,
-    keys: &mut Vec<AnswerKey>,
-    rows: &[(&AnswerKey, &StoredAnswer)],
-    least: u32,
-) -> Result<(), AllocError>
-    ensures { OnOk result (keys.new.items ≡ keys.old.items ++ lower least (map deref_pair rows.now)) }
-{
-    for row in rows {
-        add_lower(alloc, keys, row.0, least)?;
-    }
-    Ok(())
-}
-
-// Drops the rows of keys, with their places.
-fn remove_keys(answers: &mut Table<AnswerKey, StoredAnswer>, keys: &[AnswerKey])
-    ensures rows { (q : AnswerKey) → row_in answer_cmp (rows_of answers.new) q ≡ (if is_among keys.now q then None else row_in answer_cmp (rows_of answers.old) q) }
-    ensures filled { HasNoEmptyPlace answer_cmp answers.old → HasNoEmptyPlace answer_cmp answers.new }
-{
-    for key in keys {
-        answers.remove(key);
     }
 }

@@ -1,6 +1,6 @@
 use Rattle.std.proofs.Common.{◌∙◌, [], ap, length, subst, sym}
 use Rattle.std.specs.Option.{option_copied, option_map, option_map_or}
-use Rattle.review_file.specs.Texts.{LineView}
+use Rattle.review_effective.specs.Texts.{LineView}
 use Rattle.review_rows.specs.Steps.{HasFile, texts_in}
 use Rattle.review_file_decisions.proofs.Filed.{below_by, refused_nothing}
 use Rattle.review_file_decisions.proofs.projects.put_below.Goals as goal

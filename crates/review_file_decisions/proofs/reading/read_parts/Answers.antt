@@ -1,5 +1,5 @@
 use Rattle.std.proofs.Common.{map, subst, sym, take, drop, length, ◌-◌}
-use Rattle.review_file.proofs.Effective.{rest_texts}
+use Rattle.review_effective.proofs.Effective.{rest_texts}
 use Rattle.review_rows.specs.Decisions.{IsUnread}
 use Rattle.review_file_decisions.specs.Files.{unread_cause}
 use Rattle.review_file_decisions.proofs.Texts.{unread_is}

@@ -1,0 +1,7 @@
+use Rattle.std.proofs.Common.{◌≡◌, drop}
+use Rattle.std.specs.Prelude.{find}
+use Rattle.std.specs.Str.{bytes_eq}
+use Rattle.review_effective.proofs.inheriting.find_named.Given as goal
+
+abbrev pub invariant-loop-requirement : goal.invariant-loop-requirement
+invariant-loop-requirement l = find (λ a. bytes_eq a.name l.name) (drop l.requirement-index l.requirements) ≡ find (λ a. bytes_eq a.name l.name) l.requirements
