@@ -5,15 +5,15 @@ ghost use Rattle.serde_json.specs.Data.{no_members, object};
 ghost use Rattle.serde_json.specs.View.{view, items_view, members_view};
 ghost use Rattle.serde_json.specs.Written.{compact_text};
 ghost use Rattle.review_json.specs.Values.{texts_data, numbers_data};
-ghost use Rattle.review_json.specs.Answer.{are_threads, tells_threads, cause_name, answer_data, bad_file_data, refusal_data, reply_data};
+ghost use Rattle.review_json.specs.Answer.{are_threads, tells_threads, cause_name, answer_data, bad_file_data, refusal_data, reply_data, unsatisfied_data};
 
 use crate::shown::{
     call_values, change_value, joined_values, put_number, put_text, requirement_values,
 };
 use crate::threads::threads_text;
 use review_words::{
-    Answer, Bases, ChangeNo, CommentNo, CommitName, FileFault, JoinedChange, NotTaken, PatchNo,
-    Refusal, Reply, ShownCall, ShownRequirement,
+    Answer, Bases, ChangeNo, CommentNo, CommitName, FileFault, JoinedChange, LabelName, NotTaken,
+    PatchNo, Refusal, Reply, ShownCall, ShownRequirement,
 };
 use serde_json::{Map, Value, json};
 use std::alloc::{AllocError, Global};
@@ -177,6 +177,21 @@ fn bad_file_value(alloc: Global, fault: FileFault) -> Result<Value, AllocError>
     Ok(Value::Object(members))
 }
 
+fn unsatisfied_value(
+    alloc: Global,
+    change: ChangeNo,
+    requirement: &LabelName,
+) -> Result<Value, AllocError>
+    ensures { IfOk result (λ v. view v ≡ unsatisfied_data change requirement.now) }
+{
+    json!(in alloc; {
+        "change": change.get(),
+        "number": 23u32,
+        "refused": "REQUIREMENT_UNSATISFIED",
+        "requirement": requirement.as_str(),
+    })
+}
+
 fn refusal_value(alloc: Global, refusal: &Refusal) -> Result<Value, AllocError>
     ensures { IfOk result (λ v. view v ≡ refusal_data refusal.now) }
 {
@@ -185,12 +200,7 @@ fn refusal_value(alloc: Global, refusal: &Refusal) -> Result<Value, AllocError>
         Refusal::RequirementUnsatisfied {
             change,
             requirement,
-        } => json!(in alloc; {
-            "change": change.get(),
-            "number": refusal.number(),
-            "refused": refusal.name(),
-            "requirement": requirement.as_str(),
-        }),
+        } => unsatisfied_value(alloc, *change, requirement),
         _ => json!(in alloc; {"number": refusal.number(), "refused": refusal.name()}),
     }
 }
