@@ -12,21 +12,20 @@ ghost use Rattle.review_tables.specs.Fronts.{AreParts};
 ghost use Rattle.review_statements.specs.Greatest.{HasGreatest, HasOne};
 ghost use Rattle.review_statements.specs.Ran.{Looks};
 ghost use Rattle.review_statements.specs.Search.{row_at, rows_at};
-ghost use Rattle.review_rows.specs.Known.{IsBaseOrNot};
-ghost use Rattle.review_lookups.specs.Loads.{HasLearnt, IfTold, Sees, IsOrdered};
-ghost use Rattle.review_lookups.specs.Tables.{tables_at};
+ghost use Rattle.review_database.specs.Loads.{HasLearnt, IfTold, Sees, IsOrdered};
+ghost use Rattle.review_database.specs.Tables.{tables_at};
 
-use crate::learning::{
-    last, learn_base, learn_bases, learn_file, learn_last_place, learn_project,
-    learn_room_for_bases, learnt, whole,
+use review_database::Sight;
+use review_database::learning::{
+    last, learn_bases, learn_file, learn_last_place, learn_project, learn_room_for_bases, learnt,
+    whole,
 };
-use crate::loading::Sight;
-use review_records::bases::{self, BaseCommits, Bases, BranchBases, LastPlace};
+use review_records::bases::{self, BranchBases, LastPlace};
 use review_records::desk::Desk;
 use review_records::epochs::Epochs;
 use review_records::projects::{self, ProjectNames, Projects};
 use review_records::rows::{DeskRow, PlaceNo};
-use review_rows::{Base, BranchKey, PlaceKey, Rows, StoredFile};
+use review_rows::{BranchKey, Rows, StoredFile};
 use review_table::{Key, Table};
 use review_tables::fronts::find_parts;
 use review_tables::greatest::find_greatest;
@@ -35,7 +34,7 @@ use review_words::{Bases as DeskBases, CommitName, Epoch, ProjectName};
 use sqlite::{Alter, Error, Transaction};
 use std::alloc::{AllocError, Global};
 
-#[tactic(auto, using(crate::proofs::Telling::has_learnt))]
+#[tactic(auto, using(review_database::proofs::Telling::has_learnt))]
 fn tell_requests(found: Option<Option<DeskRow>>, rows: &mut Rows) -> Sight
     ensures told { (db : Trees) → found ≡ row_at desk db tt → Sees (want.Requests) rows.old rows.new db result }
     ensures learnt { result ≡ Sight.Learnt → HasLearnt (want.Requests) rows.old rows.new }
@@ -63,7 +62,7 @@ pub fn find_requests<S: Alter>(
     Ok(tell_requests(found, rows))
 }
 
-#[tactic(auto, using(crate::proofs::Telling::has_learnt))]
+#[tactic(auto, using(review_database::proofs::Telling::has_learnt))]
 fn tell_least_epoch(found: Option<Option<Epoch>>, rows: &mut Rows) -> Sight
     ensures told { (db : Trees) → found ≡ row_at epochs db tt → Sees (want.LeastEpoch) rows.old rows.new db result }
     ensures learnt { result ≡ Sight.Learnt → HasLearnt (want.LeastEpoch) rows.old rows.new }
@@ -91,7 +90,7 @@ pub fn find_least_epoch<S: Alter>(
     Ok(tell_least_epoch(found, rows))
 }
 
-#[tactic(auto, using(crate::proofs::Telling::has_learnt))]
+#[tactic(auto, using(review_database::proofs::Telling::has_learnt))]
 fn tell_file(
     alloc: Global,
     project: &ProjectName,
@@ -122,7 +121,7 @@ pub fn find_file<S: Alter>(
     Ok(tell_file(alloc, project, found, rows))
 }
 
-#[tactic(auto, using(crate::proofs::Telling::has_learnt))]
+#[tactic(auto, using(review_database::proofs::Telling::has_learnt))]
 fn tell_project(
     alloc: Global,
     project: &ProjectName,
@@ -150,7 +149,7 @@ pub fn find_project<S: Alter>(
     Ok(tell_project(alloc, project, found, rows))
 }
 
-#[tactic(auto, using(crate::proofs::Telling::has_learnt))]
+#[tactic(auto, using(review_database::proofs::Telling::has_learnt))]
 fn tell_room_for_projects(found: bool, rows: &mut Rows) -> Sight
     ensures told { (db : Trees) → nat_lt (length (db projects.tree)) 1000 ≡ found → Sees (want.Room counted.Projects) rows.old rows.new db result }
     ensures learnt { result ≡ Sight.Learnt → HasLearnt (want.Room counted.Projects) rows.old rows.new }
@@ -172,7 +171,7 @@ pub fn find_room_for_projects<S: Alter>(
     Ok(tell_room_for_projects(found, rows))
 }
 
-#[tactic(auto, using(crate::proofs::Telling::has_learnt))]
+#[tactic(auto, using(review_database::proofs::Telling::has_learnt))]
 fn tell_room_for_bases(alloc: Global, project: &ProjectName, found: bool, rows: &mut Rows) -> Sight
     ensures told { (db : Trees) → nat_lt (length (rows_at ((1, Text project.now) ∷ []) (db bases.tree))) 100000 ≡ found → Sees (want.Room (counted.BasesOf project.now)) rows.old rows.new db result }
     ensures learnt { result ≡ Sight.Learnt → HasLearnt (want.Room (counted.BasesOf project.now)) rows.old rows.new }
@@ -195,7 +194,7 @@ pub fn find_room_for_bases<S: Alter>(
     Ok(tell_room_for_bases(alloc, project, found, rows))
 }
 
-#[tactic(auto, using(crate::proofs::Telling::has_learnt))]
+#[tactic(auto, using(review_database::proofs::Telling::has_learnt))]
 fn tell_last_place(
     alloc: Global,
     branch: &BranchKey,
@@ -226,7 +225,7 @@ pub fn find_last_place<S: Alter>(
     Ok(tell_last_place(alloc, branch, found, rows))
 }
 
-#[tactic(auto, using(crate::proofs::Telling::has_learnt))]
+#[tactic(auto, using(review_database::proofs::Telling::has_learnt))]
 fn tell_bases(
     alloc: Global,
     branch: &BranchKey,
@@ -277,89 +276,4 @@ fn in_order(
         bases.push(commit)?;
     }
     Ok(Some(DeskBases::from_vec(bases)))
-}
-
-// Whether a commit stands at a place.
-fn stands(found: &Option<Option<CommitName>>, commit: &CommitName) -> bool
-    ensures is { result ≡ true → found.now ≡ Some (Some commit.now) }
-    ensures other { result ≡ false → found.now ≡ Some (Some commit.now) → ⊥ }
-{
-    match found {
-        Some(Some(other)) => other.as_str() == commit.as_str(),
-        _ => false,
-    }
-}
-
-fn stands_at(base: &Base, place: u64, found: Option<Option<CommitName>>) -> Option<bool>
-    ensures { (db : Trees) → HasOne base_commits base.now db (Some (Some place)) → found ≡ row_at bases db (record { project = base.now.project; branch = base.now.branch; place = place }) → IfTold db (IsBaseOrNot (tables_at db).row base.now) result }
-{
-    let _place = place;
-    if stands(&found, &base.commit) {
-        return Some(true);
-    }
-    None
-}
-
-fn stands_nowhere(base: &Base) -> Option<bool>
-    ensures { (db : Trees) → HasOne base_commits base.now db None → IfTold db (IsBaseOrNot (tables_at db).row base.now) result }
-{
-    let _base = base;
-    Some(false)
-}
-
-fn place_key(alloc: Global, base: &Base, place: u64) -> Result<PlaceKey, AllocError>
-    ensures { IfOk result (λ k. k ≡ record { project = base.now.project; branch = base.now.branch; place = place }) }
-{
-    Ok(PlaceKey {
-        project: base.project.copy(alloc)?,
-        branch: base.branch.copy(alloc)?,
-        place,
-    })
-}
-
-/// Whether a commit is a base of a branch; none where the tables are those of no history. The commit is looked up first, and then the place that it has.
-pub fn is_base<S: Alter>(
-    tx: &mut Transaction<'_, S>,
-    alloc: Global,
-    base: &Base,
-) -> Result<Option<bool>, Error>
-    ensures same_reference { tx.new.conn.ghost_name ≡ tx.old.conn.ghost_name }
-    ensures looks { Looks (λ db is. IfTold db (IsBaseOrNot (tables_at db).row base.now) is) (state S.Store tx.old.conn.now) (state S.Store tx.new.conn.now) result }
-{
-    let found = find_any::<BaseCommits, S>(tx, alloc, base)?;
-    match found {
-        Some(Some(place)) => {
-            let key = place_key(alloc, base, place)?;
-            let stored = find::<Bases, S>(tx, alloc, &key)?;
-            Ok(stands_at(base, place, stored))
-        }
-        Some(None) => Ok(None),
-        None => Ok(stands_nowhere(base)),
-    }
-}
-
-#[tactic(auto, using(crate::proofs::Telling::has_learnt))]
-fn tell_base(alloc: Global, base: &Base, is: Option<bool>, rows: &mut Rows) -> Sight
-    ensures told { (db : Trees) → IfTold db (IsBaseOrNot (tables_at db).row base.now) is → Sees (want.Base base.now) rows.old rows.new db result }
-    ensures learnt { result ≡ Sight.Learnt → HasLearnt (want.Base base.now) rows.old rows.new }
-{
-    match is {
-        Some(is) => learnt(learn_base(alloc, base, is, rows)),
-        None => Sight::Damaged,
-    }
-}
-
-/// Whether a commit is a base of a branch.
-pub fn find_base<S: Alter>(
-    tx: &mut Transaction<'_, S>,
-    alloc: Global,
-    base: &Base,
-    rows: &mut Rows,
-) -> Result<Sight, Error>
-    ensures same_reference { tx.new.conn.ghost_name ≡ tx.old.conn.ghost_name }
-    ensures looks { Looks (Sees (want.Base base.now) rows.old rows.new) (state S.Store tx.old.conn.now) (state S.Store tx.new.conn.now) result }
-    ensures learnt { IfOk result (λ s. s ≡ Sight.Learnt → HasLearnt (want.Base base.now) rows.old rows.new) }
-{
-    let is = is_base(tx, alloc, base)?;
-    Ok(tell_base(alloc, base, is, rows))
 }

@@ -1,13 +1,5 @@
-//! What look-ups find in the tables of a desk in SQLite.
-//!
-//! A database is read as the tables of a desk (`specs/Tables`), and each look-up of a need says what it found of them.
+//! What look-ups find of accounts, groups, projects and branches in the tables of a desk in SQLite.
 #![tactic(auto)]
 
-mod branches;
-mod joins;
-mod learning;
-pub mod loading;
-mod people;
-mod places;
-mod reviews;
-mod senders;
+pub mod branches;
+pub mod people;

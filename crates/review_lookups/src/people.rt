@@ -10,10 +10,10 @@ ghost use Rattle.review_tables.specs.Fronts.{AreParts};
 ghost use Rattle.review_statements.specs.Greatest.{HasGreatest, HasOne};
 ghost use Rattle.review_statements.specs.Ran.{Looks};
 ghost use Rattle.review_statements.specs.Search.{row_at};
-ghost use Rattle.review_lookups.specs.Loads.{HasLearnt, Sees};
+ghost use Rattle.review_database.specs.Loads.{HasLearnt, Sees};
 
-use crate::learning::{last, learn_group, learn_holder, learn_member, learnt, whole};
-use crate::loading::Sight;
+use review_database::Sight;
+use review_database::learning::{last, learn_group, learn_holder, learn_member, learnt, whole};
 use review_records::accounts::{AccountNames, Accounts, LastAccount};
 use review_records::members::{GroupMembers, Members};
 use review_rows::{MemberKey, Rows};
@@ -25,7 +25,7 @@ use review_words::{AccountName, AccountNo, GroupName};
 use sqlite::{Alter, Error, Transaction};
 use std::alloc::{AllocError, Global};
 
-#[tactic(auto, using(crate::proofs::Telling::has_learnt))]
+#[tactic(auto, using(review_database::proofs::Telling::has_learnt))]
 fn tell_account(number: AccountNo, found: Option<Option<AccountName>>, rows: &mut Rows) -> Sight
     ensures told { (db : Trees) → found ≡ row_at accounts db number → Sees (want.Account number) rows.old rows.new db result }
     ensures learnt { result ≡ Sight.Learnt → HasLearnt (want.Account number) rows.old rows.new }
@@ -51,7 +51,7 @@ pub fn find_account<S: Alter>(
     Ok(tell_account(number, found, rows))
 }
 
-#[tactic(auto, using(crate::proofs::Telling::has_learnt))]
+#[tactic(auto, using(review_database::proofs::Telling::has_learnt))]
 fn tell_last_account(found: Option<Option<u64>>, rows: &mut Rows) -> Sight
     ensures told { (db : Trees) → HasGreatest account_numbers 0 tt db found → Sees (want.LastAccount) rows.old rows.new db result }
     ensures learnt { result ≡ Sight.Learnt → HasLearnt (want.LastAccount) rows.old rows.new }
@@ -79,7 +79,7 @@ pub fn find_last_account<S: Alter>(
     Ok(tell_last_account(found, rows))
 }
 
-#[tactic(auto, using(crate::proofs::Telling::has_learnt))]
+#[tactic(auto, using(review_database::proofs::Telling::has_learnt))]
 fn tell_member(
     alloc: Global,
     member: &MemberKey,
@@ -110,7 +110,7 @@ pub fn find_member<S: Alter>(
     Ok(tell_member(alloc, member, found, rows))
 }
 
-#[tactic(auto, using(crate::proofs::Telling::has_learnt))]
+#[tactic(auto, using(review_database::proofs::Telling::has_learnt))]
 fn tell_group(
     alloc: Global,
     group: &GroupName,
@@ -152,7 +152,7 @@ fn is_named(named: &Option<Option<AccountName>>, name: &AccountName) -> bool
     }
 }
 
-#[tactic(auto, using(crate::proofs::Telling::has_learnt))]
+#[tactic(auto, using(review_database::proofs::Telling::has_learnt))]
 fn tell_holder(
     alloc: Global,
     name: &AccountName,
@@ -169,7 +169,7 @@ fn tell_holder(
     learnt(learn_holder(alloc, name, Some(number), rows))
 }
 
-#[tactic(auto, using(crate::proofs::Telling::has_learnt))]
+#[tactic(auto, using(review_database::proofs::Telling::has_learnt))]
 fn tell_no_holder(alloc: Global, name: &AccountName, rows: &mut Rows) -> Sight
     ensures told { (db : Trees) → HasOne account_names name.now db None → Sees (want.AccountNamed name.now) rows.old rows.new db result }
     ensures learnt { result ≡ Sight.Learnt → HasLearnt (want.AccountNamed name.now) rows.old rows.new }

@@ -6,8 +6,8 @@ use Rattle.sqlite.specs.Effect.{Database}
 use Rattle.sqlite.specs.State.{State}
 use Rattle.sqlite.specs.Held.{Held, state}
 use Rattle.review_statements.specs.Ran.{IsReady}
-use Rattle.review_sql.specs.Numbers.{IsDesk}
-use Rattle.review_sql.specs.declared.seen.Numbers.{Numbers}
+use Rattle.review_transactions.specs.Numbers.{IsDesk}
+use Rattle.review_transactions.specs.declared.numbers.Numbers.{Numbers}
 use Rattle.review_sql.specs.declared.faults.DeskFault.{DeskFault}
 use Rattle.review_sql.specs.declared.faults.DeskFault.TheVariants.{NotADesk, WrongVersion, Store, NotEmpty, NotOurs, Memory}
 use Rattle.review_sql.specs.Migrated.{IsNotMigrated, IsUnfit}

@@ -1,7 +1,4 @@
-pub mod Edits
-pub mod Rest
-pub mod Commit
-pub mod Begin
+pub mod Finding
 pub mod Staying
 pub mod Made
 pub mod Asking
@@ -11,7 +8,6 @@ pub mod Singles
 pub mod Shown
 pub mod Again
 pub mod Loaded
-pub mod Unkeyed
 pub mod Upgraded
 pub mod Raised
 pub mod NoParents

@@ -8,10 +8,10 @@ use Rattle.sqlite.specs.Held.{Held, state}
 use Rattle.review_rows.specs.Known.{Agrees, AreAsked}
 use Rattle.review_rows.specs.Shelf.{BlamesTables, IsDamaged, KeepsTables, Shows}
 use Rattle.review_rows.specs.declared.rows.Want.{Want}
-use Rattle.review_lookups.specs.declared.loading.Loaded.{Loaded}
-use Rattle.review_lookups.specs.declared.loading.Loaded.TheVariants as loaded
-use Rattle.review_lookups.specs.Loads.{AreLoaded, WereAsked}
-use Rattle.review_sql.specs.declared.seen.Numbers.{Numbers}
+use Rattle.review_database.specs.declared.sights.Loaded.{Loaded}
+use Rattle.review_database.specs.declared.sights.Loaded.TheVariants as loaded
+use Rattle.review_database.specs.Loads.{AreLoaded, WereAsked}
+use Rattle.review_transactions.specs.declared.numbers.Numbers.{Numbers}
 use Rattle.review_sql.specs.Shelf.{Holds, answer_of, tables_of}
 use Rattle.review_sql.proofs.Shown.{desk_if_open, same_shown, shown_now}
 

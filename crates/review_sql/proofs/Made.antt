@@ -9,8 +9,8 @@ use Rattle.sqlite.proofs.StateLemmas.{survives_then}
 use Rattle.review_statements.specs.Desk.{schema_0}
 use Rattle.review_tables.specs.Made.{IsBlank}
 use Rattle.review_statements.specs.Ran.{Transacts}
-use Rattle.review_sql.specs.Numbers.{IsDesk}
-use Rattle.review_sql.specs.First.{MakesDesk}
+use Rattle.review_transactions.specs.Numbers.{IsDesk}
+use Rattle.review_transactions.specs.First.{MakesDesk}
 use Rattle.review_sql.specs.Shelf.{Holds, IsAnyThere, IsUnmade, Stays}
 use Rattle.review_sql.specs.Created.{IsCreated}
 use Rattle.review_statements.specs.Ran.{IsReady}
@@ -20,7 +20,7 @@ use Rattle.review_sql.specs.declared.faults.DeskFault.{DeskFault}
 use Rattle.review_sql.specs.declared.faults.DeskFault.TheVariants.{NotADesk, WrongVersion, Store, NotEmpty, NotOurs, Memory}
 use Rattle.review_sql.proofs.Saying.{never_shown}
 use Rattle.sqlite_trees.specs.Tree.{Trees}
-use Rattle.review_lookups.specs.Tables.{tables_at}
+use Rattle.review_database.specs.Tables.{tables_at}
 
 module _ {S : Type 0} (g : Ghosts S) (c0 c1 c2 : Held S) (is_ours : Bool) (decided : IsTrue is_ours → c1.schema ≡ schema_0) (x : Unit {0}) (acts : Transacts MakesDesk (state g c1) (state g c2) (Ok x)) where
   blank : c1.schema ≡ schema_0 → IsBlank schema_0 (state g c1).now

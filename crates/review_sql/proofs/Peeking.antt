@@ -12,7 +12,7 @@ use Rattle.review_statements.specs.Ran.{Looks}
 use Rattle.review_tables.proofs.Sequences.{begun, taken_back, survives_from}
 use Rattle.review_statements.specs.Content.{AreApart}
 use Rattle.review_statements.specs.Desk.{desk_schema}
-use Rattle.review_sql.specs.declared.seen.Numbers.{Numbers}
+use Rattle.review_transactions.specs.declared.numbers.Numbers.{Numbers}
 use Rattle.review_sql.specs.declared.seen.Said.{Said}
 use Rattle.review_sql.specs.declared.seen.Seen.{Seen}
 use Rattle.review_sql.specs.declared.faults.DeskFault.{DeskFault}

@@ -25,13 +25,13 @@ use Rattle.review_tables.specs.declared.versions.EarlierVersion.{EarlierVersion}
 use Rattle.review_tables.specs.declared.versions.EarlierVersion.TheVariants as earlier
 use Rattle.review_tables.specs.declared.versions.TablesVersion.{TablesVersion}
 use Rattle.review_tables.specs.declared.versions.TablesVersion.TheVariants.{Third}
-use Rattle.review_sql.specs.declared.seen.Numbers.{Numbers}
+use Rattle.review_transactions.specs.declared.numbers.Numbers.{Numbers}
 use Rattle.review_sql.specs.declared.faults.DeskFault.{DeskFault}
 use Rattle.review_sql.specs.declared.faults.DeskFault.TheVariants.{NotADesk, WrongVersion, NotEmpty, NotOurs}
 use Rattle.review_sql.specs.declared.seen.Seen.{Seen}
-use Rattle.review_sql.specs.Changes.{SetsDesk, SetsLeast}
-use Rattle.review_lookups.specs.EarlierTables.{tables_in}
-use Rattle.review_lookups.specs.Tables.{tables_at}
+use Rattle.review_transactions.specs.Changes.{SetsDesk, SetsLeast}
+use Rattle.review_database.specs.EarlierTables.{tables_in}
+use Rattle.review_database.specs.Tables.{tables_at}
 use Rattle.review_sql.specs.Migrated.{IsBrought, IsNotMigrated, IsOpenedAsIs, IsRaised, IsUnfit, IsUpgraded, IsViewIn, LeavesUpgraded, Upgrades, if_whole}
 use Rattle.review_sql.specs.Opened.{AreAllApart, AreApartIn, IsLacking, IsSeen}
 use Rattle.review_sql.specs.Said.{IsThere}

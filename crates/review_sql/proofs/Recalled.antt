@@ -11,12 +11,12 @@ use Rattle.review_rows.specs.declared.shelf.ShelfFault.TheVariants.{Damaged}
 use Rattle.review_rows.specs.Rows.{AnswerRow, Answered, Tables, kept_row}
 use Rattle.review_rows.specs.Shelf.{Answers, BlamesTables, IsDamaged, IsRecalled, KeepsTables, LeavesBy, Shows, Blames, cause_of}
 use Rattle.review_records.specs.Forms.{request_key}
-use Rattle.review_lookups.specs.Tables.{least_in, stored_as, tables_at}
+use Rattle.review_database.specs.Tables.{least_in, stored_as, tables_at}
 use Rattle.review_sql.specs.LookedUp.{IsLookedUp, IsLookedUpIn}
-use Rattle.review_sql.specs.Numbers.{IsDesk}
+use Rattle.review_transactions.specs.Numbers.{IsDesk}
 use Rattle.review_sql.specs.declared.serving.LookedUp.{LookedUp}
 use Rattle.review_sql.specs.declared.serving.LookedUp.TheVariants.{Closed, Open}
-use Rattle.review_sql.specs.declared.seen.Numbers.{Numbers}
+use Rattle.review_transactions.specs.declared.numbers.Numbers.{Numbers}
 use Rattle.review_sql.specs.Shelf.{tables_of}
 use Rattle.review_sql.proofs.Shown.{odd_is_damage, shown_now}
 

@@ -36,9 +36,9 @@ use Rattle.review_tables.specs.Versions.{schema_at, version_number, version_of}
 use Rattle.review_tables.specs.declared.versions.EarlierVersion.{EarlierVersion}
 use Rattle.review_tables.specs.declared.versions.TablesVersion.{TablesVersion}
 use Rattle.review_tables.specs.declared.versions.TablesVersion.TheVariants.{First, Second, Third}
-use Rattle.review_lookups.specs.EarlierTables.{IsEarlierDesk}
-use Rattle.review_sql.specs.Numbers.{IsDesk}
-use Rattle.review_sql.specs.declared.seen.Numbers.{Numbers}
+use Rattle.review_database.specs.EarlierTables.{IsEarlierDesk}
+use Rattle.review_transactions.specs.Numbers.{IsDesk}
+use Rattle.review_transactions.specs.declared.numbers.Numbers.{Numbers}
 use Rattle.review_sql.specs.Said.{number_of_one, version_shown, requests_shown, ShowsDesk, ShowsEpochs, ShowsRows, IsDeskThere, IsThere, IsNoDesk, IsNone, IsOtherVersion, LacksDesk, least_shown, SaysLeast}
 use Rattle.review_sql.specs.Shelf.{AreAllRead, IsUnderstood}
 

@@ -17,10 +17,10 @@ use Rattle.review_rows.specs.declared.shelf.ShelfFault.{ShelfFault}
 use Rattle.review_rows.specs.declared.shelf.ShelfFault.TheVariants.{Memory, Store, Damaged}
 use Rattle.review_rows.specs.Shelf.{Blames, LeavesBy, StaysOrShuts, Shows, IsCommitted, IsDamaged, cause_of}
 use Rattle.review_statements.specs.Ran.{IsReady, IsDeskIfOpen, Serves, Transacts}
-use Rattle.review_lookups.specs.Tables.{tables_at}
-use Rattle.review_sql.specs.Numbers.{IsDesk, with_request}
-use Rattle.review_sql.specs.declared.seen.Numbers.{Numbers}
-use Rattle.review_sql.specs.Commits.{AreSingle, Commits}
+use Rattle.review_database.specs.Tables.{tables_at}
+use Rattle.review_transactions.specs.Numbers.{IsDesk, with_request}
+use Rattle.review_transactions.specs.declared.numbers.Numbers.{Numbers}
+use Rattle.review_transactions.specs.Commits.{AreSingle, Commits}
 use Rattle.review_sql.specs.Shelf.{Holds, Stays, tables_of, stops_of}
 
 -- a stored request that is odd is one of no history

@@ -19,7 +19,7 @@ use Rattle.review_statements.specs.Search.{rows_at}
 use Rattle.review_tables.proofs.Single.{equal_values, differ_ids, one_passes}
 use Rattle.review_rows.specs.declared.rows.PlaceKey.{PlaceKey}
 use Rattle.review_records.specs.Forms.{projects, bases}
-use Rattle.review_sql.specs.Commits.{AreSingle}
+use Rattle.review_transactions.specs.Commits.{AreSingle}
 
 -- a value that is a whole number equals it
 equal_whole : (v : Value) (n : ℤ) → is_value v (Int n) ≡ true → is_eq (value_cmp v (Int n)) ≡ true

@@ -29,14 +29,14 @@ use Rattle.review_records.specs.Keyed.{answer_keyed, earlier_answer_keyed, proje
 use Rattle.review_records.specs.Forms.{accounts, members, projects, bases, answers, earlier_answers, epochs, request_key, earlier_key, first_epoch}
 use Rattle.review_records.specs.declared.rows.Answered.{Answered as Rest}
 use Rattle.review_records.proofs.ReadAlike.{answer_moved, answers_keyed, file_moved, projects_counted, projects_keyed, answers_of_others}
-use Rattle.review_lookups.specs.EarlierTables.{IsEarlierDesk, keyed_tables_in, projects_in, tables_in}
-use Rattle.review_lookups.specs.Tables.{answer_in, count_in, has_unkeyed, keyed_tables, number_of, row_in, stored_as, tables_at, told, least_in, version_in}
-use Rattle.review_sql.specs.Numbers.{IsDesk}
-use Rattle.review_sql.specs.declared.seen.Numbers.{Numbers}
-use Rattle.review_sql.specs.Changes.{SetsDesk, SetsLeast}
+use Rattle.review_database.specs.EarlierTables.{IsEarlierDesk, keyed_tables_in, projects_in, tables_in}
+use Rattle.review_database.specs.Tables.{answer_in, count_in, has_unkeyed, keyed_tables, number_of, row_in, stored_as, tables_at, told, least_in, version_in}
+use Rattle.review_transactions.specs.Numbers.{IsDesk}
+use Rattle.review_transactions.specs.declared.numbers.Numbers.{Numbers}
+use Rattle.review_transactions.specs.Changes.{SetsDesk, SetsLeast}
 use Rattle.review_sql.specs.Migrated.{KeepsRows, Upgrades}
 use Rattle.review_sql.specs.Opened.{AreAllApart}
-use Rattle.review_sql.proofs.Edits.{part_same}
+use Rattle.review_transactions.proofs.Edits.{part_same}
 use Rattle.review_sql.proofs.Shown.{not_kept_odd}
 
 -- what tells no odd row reads as what is told

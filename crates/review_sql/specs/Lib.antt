@@ -1,10 +1,5 @@
-pub mod Commits
-pub mod Changes
-pub mod Named
-pub mod First
 pub mod Shelf
 pub mod Created
-pub mod Numbers
 pub mod LookedUp
 pub mod Said
 pub mod Opened

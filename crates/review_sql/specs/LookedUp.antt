@@ -7,7 +7,7 @@ use Rattle.review_rows.specs.Shelf.{Answers, IsClosedIn}
 use Rattle.review_statements.specs.Search.{row_at}
 use Rattle.review_records.specs.declared.rows.RequestKey.{RequestKey}
 use Rattle.review_records.specs.Forms.{answers}
-use Rattle.review_lookups.specs.Tables.{stored_as}
+use Rattle.review_database.specs.Tables.{stored_as}
 use Rattle.review_sql.specs.declared.serving.LookedUp.{LookedUp}
 use Rattle.review_sql.specs.declared.serving.LookedUp.TheVariants.{Closed, Open}
 

@@ -20,10 +20,10 @@ use Rattle.review_tables.specs.declared.versions.EarlierVersion.{EarlierVersion}
 use Rattle.review_tables.specs.declared.versions.TablesVersion.{TablesVersion}
 use Rattle.review_tables.specs.declared.versions.TablesVersion.TheVariants.{First, Second, Third}
 use Rattle.review_records.specs.Forms.{first_epoch}
-use Rattle.review_lookups.specs.EarlierTables.{tables_in, IsEarlierDesk}
-use Rattle.review_lookups.specs.Tables.{tables_at}
-use Rattle.review_sql.specs.Numbers.{IsDesk}
-use Rattle.review_sql.specs.declared.seen.Numbers.{Numbers}
+use Rattle.review_database.specs.EarlierTables.{tables_in, IsEarlierDesk}
+use Rattle.review_database.specs.Tables.{tables_at}
+use Rattle.review_transactions.specs.Numbers.{IsDesk}
+use Rattle.review_transactions.specs.declared.numbers.Numbers.{Numbers}
 use Rattle.review_sql.specs.declared.faults.DeskFault.{DeskFault}
 use Rattle.review_sql.specs.declared.faults.DeskFault.TheVariants.{NotADesk, WrongVersion, NotEmpty, NotOurs}
 use Rattle.review_sql.specs.Opened.{AreApartIn, IsOpened, IsSeen}

@@ -12,7 +12,7 @@ use Rattle.review_tables.specs.declared.versions.TablesVersion.{TablesVersion}
 use Rattle.review_tables.specs.declared.versions.TablesVersion.TheVariants.{First, Second, Third}
 use Rattle.review_words.specs.Epochs.{is_epoch}
 use Rattle.review_records.specs.Forms.{first_epoch, where_is}
-use Rattle.review_sql.specs.declared.seen.Numbers.{Numbers}
+use Rattle.review_transactions.specs.declared.numbers.Numbers.{Numbers}
 use Rattle.review_sql.specs.declared.seen.Said.{Said}
 use Rattle.review_sql.specs.Shelf.{AreAllRead, IsUnderstood}
 

@@ -18,15 +18,15 @@ use Rattle.review_rows.specs.Shelf.{Shown}
 use Rattle.review_rows.specs.declared.rows.Rows.{Rows}
 use Rattle.review_rows.specs.declared.shelf.ShelfFault.{ShelfFault}
 use Rattle.review_rows.specs.declared.shelf.ShelfFault.TheVariants.{Memory, Damaged}
-use Rattle.review_lookups.specs.declared.loading.Loaded.{Loaded}
-use Rattle.review_lookups.specs.declared.loading.Loaded.TheVariants as loaded
+use Rattle.review_database.specs.declared.sights.Loaded.{Loaded}
+use Rattle.review_database.specs.declared.sights.Loaded.TheVariants as loaded
 use Rattle.review_statements.specs.Ran.{IsReady}
 use Rattle.review_tables.specs.declared.versions.TablesVersion.{TablesVersion}
 use Rattle.review_tables.specs.declared.versions.TablesVersion.TheVariants.{First, Second, Third}
-use Rattle.review_sql.specs.First.{MakesDesk}
-use Rattle.review_lookups.specs.Tables.{tables_at}
-use Rattle.review_sql.specs.Numbers.{IsDesk}
-use Rattle.review_sql.specs.declared.seen.Numbers.{Numbers}
+use Rattle.review_transactions.specs.First.{MakesDesk}
+use Rattle.review_database.specs.Tables.{tables_at}
+use Rattle.review_transactions.specs.Numbers.{IsDesk}
+use Rattle.review_transactions.specs.declared.numbers.Numbers.{Numbers}
 
 -- the connection, what the desk says of itself, and how many calls were refused
 pub record ShelfView (S : Type 0) : Type 0 where

@@ -4,8 +4,8 @@
 //! Over tables of others, as one with an index beside them, no more is promised than that a desk was there when it was opened.
 #![tactic(auto)]
 
-mod creating;
 pub mod faults;
+mod loading;
 mod migrating;
 mod opening;
 mod seen;
@@ -13,4 +13,3 @@ mod serving;
 pub mod shelf;
 mod there;
 pub mod versions;
-mod writing;

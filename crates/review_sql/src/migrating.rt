@@ -4,7 +4,7 @@ ghost use Rattle.sqlite.specs.Held.{state};
 ghost use Rattle.review_statements.specs.Content.{Then};
 ghost use Rattle.review_statements.specs.Ran.{Inside, Within, Opens, Transacts};
 ghost use Rattle.review_tables.specs.Versions.{schema_at, version_of};
-ghost use Rattle.review_sql.specs.Changes.{SetsDesk, SetsLeast};
+ghost use Rattle.review_transactions.specs.Changes.{SetsDesk, SetsLeast};
 ghost use Rattle.review_sql.specs.Migrated.{IsBrought, IsHindered, IsKept, IsNotMigrated, IsRaised, IsUnfit, Upgrades, if_whole};
 ghost use Rattle.review_sql.specs.Opened.{AreApartIn};
 ghost use Rattle.review_sql.specs.Said.{SaysVersion};
@@ -12,7 +12,7 @@ ghost use Rattle.review_sql.specs.Shelf.{Stays};
 
 use crate::faults::DeskFault;
 use crate::opening::{ask, see_desk, see_tables, version_of};
-use crate::seen::{Numbers, Said};
+use crate::seen::Said;
 use review_records::desk::Desk;
 use review_records::epochs::Epochs;
 use review_records::rows::DeskRow;
@@ -20,6 +20,7 @@ use review_tables::changes::set;
 use review_tables::migrating::migrate_tables;
 use review_tables::rowids::are_all_apart;
 use review_tables::versions::{EarlierVersion, TablesVersion};
+use review_transactions::Numbers;
 use sqlite::{Alter, Connection, Error, Transaction};
 use std::alloc::Global;
 

@@ -9,13 +9,14 @@ ghost use Rattle.review_sql.specs.Opened.{AreAllApart, Peeks, IsLacking, IsSeen,
 ghost use Rattle.review_tables.specs.Versions.{schema_at, version_number};
 
 use crate::faults::DeskFault;
-use crate::seen::{Numbers, Said, Seen};
+use crate::seen::{Said, Seen};
 use crate::there::{are_all_there, is_understood};
 use review_statements::texts;
 use review_tables::columns::number_at;
 use review_tables::creating::is_desk;
 use review_tables::rowids::are_all_apart;
 use review_tables::versions::TablesVersion;
+use review_transactions::Numbers;
 use review_words::Epoch;
 use sqlite::{Alter, Connection, Error, Row};
 use std::alloc::Global;

@@ -4,10 +4,10 @@ use Rattle.review_rows.specs.Known.{Number}
 use Rattle.review_records.specs.Forms.{where_is}
 use Rattle.review_records.specs.Keyed.{is_small}
 use Rattle.review_records.specs.Laws.{passed}
-use Rattle.review_lookups.specs.Loads.{last_of}
-use Rattle.review_lookups.specs.Tables.{tables_at}
-use Rattle.review_lookups.proofs.Odd.{last_place_damaged}
-use Rattle.review_lookups.proofs.Telling.{tells_as, last_place}
+use Rattle.review_database.specs.Loads.{last_of}
+use Rattle.review_database.specs.Tables.{tables_at}
+use Rattle.review_database.proofs.Odd.{last_place_damaged}
+use Rattle.review_database.proofs.Telling.{tells_as, last_place}
 use Rattle.review_lookups.proofs.branches.tell_last_place.Goals as goal
 
 pub returns-in-Some-clause-told : goal.returns-in-Some-clause-told

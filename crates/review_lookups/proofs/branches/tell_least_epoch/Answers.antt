@@ -1,5 +1,5 @@
 use Rattle.std.proofs.Common.{◌≡◌, ◌∙◌, Some, None, inl, inr, sym, rules}
-use Rattle.review_lookups.proofs.Odd.{epochs_damaged}
+use Rattle.review_database.proofs.Odd.{epochs_damaged}
 use Rattle.review_lookups.proofs.branches.tell_least_epoch.Goals as goal
 
 pub returns-in-Some-None-clause-told : goal.returns-in-Some-None-clause-told

@@ -5,7 +5,7 @@ use Rattle.review_statements.specs.Greatest.{HasOne}
 use Rattle.review_statements.specs.Search.{row_at}
 use Rattle.review_tables.proofs.Found.{look_both, look_on}
 use Rattle.review_records.specs.Forms.{accounts, account_names}
-use Rattle.review_lookups.proofs.Odd.{name_damaged}
+use Rattle.review_database.proofs.Odd.{name_damaged}
 use Rattle.review_lookups.proofs.people.find_holder.Goals as goal
 
 pub returns-in_ok-named-in-Some-Some-clause-looks : goal.returns-in_ok-named-in-Some-Some-clause-looks

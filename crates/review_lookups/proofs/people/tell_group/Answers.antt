@@ -5,9 +5,9 @@ use Rattle.review_table.specs.Rows.{rows_of}
 use Rattle.review_rows.specs.Known.{Members}
 use Rattle.review_tables.specs.Fronts.{AreParts}
 use Rattle.review_records.specs.Forms.{group_members, member_parts}
-use Rattle.review_lookups.specs.Tables.{tables_at}
-use Rattle.review_lookups.proofs.Odd.{members_damaged}
-use Rattle.review_lookups.proofs.Telling.{tells_as, group_told}
+use Rattle.review_database.specs.Tables.{tables_at}
+use Rattle.review_database.proofs.Odd.{members_damaged}
+use Rattle.review_database.proofs.Telling.{tells_as, group_told}
 use Rattle.review_lookups.proofs.people.tell_group.Goals as goal
 
 pub returns-in-Some-clause-told : goal.returns-in-Some-clause-told

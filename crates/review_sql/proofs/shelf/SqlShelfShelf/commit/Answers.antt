@@ -3,7 +3,7 @@ use Rattle.sqlite.specs.Held.{Held, state}
 use Rattle.sqlite.proofs.StateLemmas.{clean_if_open}
 use Rattle.review_rows.specs.Rows.{Tables, kept_row}
 use Rattle.review_rows.specs.Shelf.{Shows, IsCommitted, LeavesBy, cause_of}
-use Rattle.review_sql.specs.Numbers.{with_request}
+use Rattle.review_transactions.specs.Numbers.{with_request}
 use Rattle.review_sql.specs.Shelf.{ShelfView, Holds, tables_of, stops_of}
 use Rattle.review_sql.proofs.Shown.{holds_committed, stops_committed, committed_shown, clean_still, stops_still, leaves}
 use Rattle.review_sql.proofs.Singles.{are_single}

@@ -1,0 +1,25 @@
+use Rattle.std.proofs.Common.{Option, ℕ, Ok}
+use Rattle.sqlite.specs.Held.{state}
+use Rattle.sqlite_trees.specs.Tree.{Trees}
+use Rattle.review_rows.specs.declared.rows.Want.TheVariants as want
+use Rattle.review_statements.specs.Greatest.{HasGreatest}
+use Rattle.review_change_records.specs.Forms.{change_numbers}
+use Rattle.review_tables.proofs.Found.{look_both, look_on}
+use Rattle.review_database.specs.declared.sights.Sight.{Sight}
+use Rattle.review_database.specs.Loads.{Sees}
+use Rattle.review_change_lookups.proofs.reviews.find_last_change.Goals as goal
+
+pub returns-in_default-clause-looks : goal.returns-in_default-clause-looks
+returns-in_default-clause-looks g c =
+    let F : Trees → Option (Option ℕ) → Type 0 = λ db found. HasGreatest change_numbers 0 tt db found in
+    look_on F _ (state g.S.Store c.args.tx.now.conn.now) (state g.S.Store c.find_greatest.new.tx.conn.now) c.in_ok-found.found (Ok c.tell_last_change.result) c.in_ok-found.ensures.looks (λ db h. c.tell_last_change.ensures.told db h)
+
+pub returns-in-Learnt-clause-looks : goal.returns-in-Learnt-clause-looks
+returns-in-Learnt-clause-looks g c =
+    let F : Trees → Option (Option ℕ) → Type 0 = λ db found. HasGreatest change_numbers 0 tt db found in
+    let G : Trees → Sight → Type 0 = λ db s. Sees (want.Change c.in-Some.next) c.new-stayed.result c.find_change.new.rows db s in
+    let s0 = state g.S.Store c.args.tx.now.conn.now in
+    let s1 = state g.S.Store c.find_greatest.new.tx.conn.now in
+    let s2 = state g.S.Store c.find_change.new.tx.conn.now in
+    let both = look_both F G s0 s1 s2 c.in_ok-found.found (Ok c.in_ok-looked.looked) c.in_ok-found.ensures.looks c.in_ok-looked.ensures.looks in
+    look_on (λ db s. F db c.in_ok-found.found × G db s) _ s0 s2 c.in_ok-looked.looked (Ok c.tell_last_change-in-Learnt.result) both (λ db h. c.tell_last_change-in-Learnt.ensures.told db h.0)

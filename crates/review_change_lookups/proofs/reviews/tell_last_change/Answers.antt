@@ -1,0 +1,20 @@
+use Rattle.std.proofs.Common.{refl, rules, Some, None, ◌≡◌}
+use Rattle.review_records.specs.Forms.{where_is}
+use Rattle.review_records.specs.Laws.{passed}
+use Rattle.review_records.specs.Keyed.{is_small}
+use Rattle.review_rows.specs.Known.{Number}
+use Rattle.review_database.specs.Loads.{last_of}
+use Rattle.review_database.proofs.Odd.{last_change_damaged}
+use Rattle.review_change_lookups.proofs.Reviewing.{last_change}
+use Rattle.review_change_lookups.proofs.reviews.tell_last_change.Goals as goal
+
+pub returns-in-Some-clause-told : goal.returns-in-Some-clause-told
+returns-in-Some-clause-told c = λ db great.
+    let number = c.in-Some.number in
+    let is : where_is is_small (last_of c.args.found) ≡ Some number = search rules in
+    (Number number, (number, refl, last_change db c.args.found number great (passed is_small _ number is)), c.learn_last_change.ensures)
+
+pub returns-in-None-clause-told : goal.returns-in-None-clause-told
+returns-in-None-clause-told c = λ db great.
+    let none : where_is is_small (last_of c.args.found) ≡ None = search rules in
+    last_change_damaged db c.args.found great none

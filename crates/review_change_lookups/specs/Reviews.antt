@@ -1,0 +1,62 @@
+-- What is found of a change in its tables.
+use Rattle.std.specs.Prelude.{ℕ, ℤ, ◌≡◌, ◌⊎◌, List, Option, Some, None, IsSome, option_map}
+use Rattle.std.specs.declared.cmp.Ordering.{Ordering}
+use Rattle.std.specs.Ordering.{nat_cmp}
+use Rattle.sqlite_trees.specs.Tree.{Trees}
+use Rattle.review_table.specs.Rows.{row_in, rows_of}
+use Rattle.review_words.specs.declared.changes.Role.{Role}
+use Rattle.review_changes.specs.declared.rows.Called.{Called}
+use Rattle.review_changes.specs.declared.rows.CommentRow.{CommentRow}
+use Rattle.review_changes.specs.declared.rows.PatchRow.{PatchRow}
+use Rattle.review_changes.specs.declared.rows.VoteKey.{VoteKey}
+use Rattle.review_changes.specs.Parts.{Part}
+use Rattle.review_changes.specs.Seen.{vote_cmp}
+use Rattle.review_change_rows.specs.declared.tables.ChangeTables.{ChangeTables}
+use Rattle.review_change_rows.specs.Tables as tables
+use Rattle.review_rows.specs.Rows.{APart}
+use Rattle.review_rows.specs.Shelf.{IsDamaged}
+use Rattle.review_tables.specs.Fronts.{AreParts}
+use Rattle.review_statements.specs.Search.{row_at}
+use Rattle.review_change_records.specs.Forms.{headers, patches, votes, roles, comments, calls, change_patches, change_votes, change_roles, change_comments, change_calls}
+use Rattle.review_database.specs.declared.sights.Sight.{Sight}
+use Rattle.review_database.specs.declared.sights.Sight.TheVariants.{Learnt, NoMemory, Damaged}
+use Rattle.review_change_lookups.specs.declared.reviews.FoundRows.{FoundRows}
+use Rattle.review_change_lookups.specs.declared.reviews.FoundSets.{FoundSets}
+use Rattle.review_change_lookups.specs.declared.reviews.FoundTalk.{FoundTalk}
+use Rattle.review_database.specs.Tables.{part_in, tables_at}
+
+-- what was sent of a change, and the votes on it, as its tables have them
+pub record AreFoundSets (n : ℕ) (db : Trees) (f : FoundSets) : Type 0 where
+  pub header : f.header ≡ row_at headers db n
+  pub patches : AreParts nat_cmp change_patches patches n db (option_map rows_of f.patches)
+  pub votes : AreParts vote_cmp change_votes votes n db (option_map rows_of f.votes)
+
+-- the roles, the comments and the attention set of a change, as its tables have them
+pub record AreFoundTalk (n : ℕ) (db : Trees) (f : FoundTalk) : Type 0 where
+  pub roles : AreParts nat_cmp change_roles roles n db (option_map rows_of f.roles)
+  pub comments : AreParts nat_cmp change_comments comments n db (option_map rows_of f.comments)
+  pub attention : AreParts nat_cmp change_calls calls n db (option_map rows_of f.attention)
+
+-- the rows are those of a change, table by table
+pub record AreFoundRows (n : ℕ) (db : Trees) (f : FoundRows) : Type 0 where
+  pub sets : AreFoundSets n db f.sets
+  pub talk : AreFoundTalk n db f.talk
+
+-- the rows of a change are those of its tables, where it has some
+abbrev pub HaveTables : ℕ → Trees → Option ChangeTables → Type 0
+HaveTables n db None = (part : Part) → part_in db n part ≡ None
+HaveTables n db (Some t) = (part : Part) → part_in db n part ≡ option_map APart (tables.part_in t part)
+
+-- why the tables of a change are not told
+abbrev pub IsWhyNone : ℕ → Trees → Sight → Type 0
+IsWhyNone n db Learnt = ⊥
+IsWhyNone n db NoMemory = Unit {0}
+IsWhyNone n db Damaged = IsDamaged (tables_at db)
+
+-- some key has a row
+abbrev pub HasRow : {K X : Type 0} → (K → K → Ordering) → List (K × X) → Type 0
+HasRow {K = K} cmp entries = (k : K) × IsSome (row_in cmp entries k)
+
+-- a change has a patch set, a vote, a role, a comment, or an account in its attention set
+abbrev pub HaveSome : List (ℕ × PatchRow) → List (VoteKey × ℤ) → List (ℕ × Role) → List (ℕ × CommentRow) → List (ℕ × Called) → Type 0
+HaveSome patches votes roles comments attention = HasRow nat_cmp patches ⊎ (HasRow vote_cmp votes ⊎ (HasRow nat_cmp roles ⊎ (HasRow nat_cmp comments ⊎ HasRow nat_cmp attention)))

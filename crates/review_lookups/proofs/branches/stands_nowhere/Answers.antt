@@ -1,5 +1,0 @@
-use Rattle.review_lookups.proofs.Telling.{unbased}
-use Rattle.review_lookups.proofs.branches.stands_nowhere.Goals as goal
-
-pub returns : goal.returns
-returns c = λ db none. unbased db c.args.base.now none

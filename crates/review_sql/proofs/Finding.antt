@@ -1,0 +1,25 @@
+-- Look-ups one after the other.
+use Rattle.std.proofs.Common.{◌≡◌, ℕ, ◌+◌, ◌<◌, List, take, get_or, length, Ok}
+use Rattle.sqlite_trees.specs.Tree.{Trees}
+use Rattle.sqlite.specs.State.{State}
+use Rattle.review_rows.specs.declared.rows.Rows.{Rows}
+use Rattle.review_rows.specs.declared.rows.Want.{Want}
+use Rattle.review_rows.specs.Known.{AreAsked, Agrees}
+use Rattle.review_rows.proofs.Looked.{asked_more, looked_agrees}
+use Rattle.review_statements.specs.Ran.{Looks}
+use Rattle.review_tables.proofs.Found.{look_on, look_both}
+use Rattle.review_database.specs.declared.sights.Sight.TheVariants as sight
+use Rattle.review_database.specs.Loads.{HasLearnt, Sees}
+use Rattle.review_database.specs.Tables.{tables_at}
+
+-- what rows know is so
+abbrev pub Have : Rows → Trees → Unit {0} → Type 0
+Have rows db u = Agrees (tables_at db) rows
+
+-- one more look-up was asked
+pub learnt_asked : (wants : List Want) (i : ℕ) (w : Want) (old new : Rows) → i < length wants → w ≡ get_or wants i w → AreAsked (take i wants) old → HasLearnt w old new → AreAsked (take (i + 1) wants) new
+learnt_asked wants i w old new below is asked learnt = asked_more wants i w learnt.0 old new below is asked learnt.1
+
+module _ (w : Want) (old new : Rows) (a b c : State) (have : Looks (Have old) a b (Ok (tt {0}))) where
+  pub have_more : Looks (Sees w old new) b c (Ok sight.Learnt) → Looks (Have new) a c (Ok (tt {0}))
+  have_more sees = look_on _ (Have new) a c sight.Learnt (Ok (tt {0})) (look_both (Have old) (Sees w old new) a b c (tt {0}) (Ok sight.Learnt) have sees) (λ db h. looked_agrees (tables_at db) w old new h.1 h.0)

@@ -1,0 +1,5 @@
+pub mod Edits
+pub mod Rest
+pub mod Commit
+pub mod Begin
+pub mod Unkeyed
