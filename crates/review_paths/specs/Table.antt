@@ -1,5 +1,5 @@
 -- The table of paths, as the router's definition has it.
-use Rattle.std.specs.Prelude.{ℕ, List, [], ◌∷◌, Option, option_map, codes, Result, Ok, Err}
+use Rattle.std.specs.Prelude.{ℕ, List, [], ◌∷◌, ◌++◌, Option, option_map, codes, Result, Ok, Err}
 use Rattle.matchit.specs.Rows.{RowsOf}
 use Rattle.matchit.specs.Router.{RouteOf, route_from}
 use Rattle.matchit.specs.Route.{Scan, parse_route}
@@ -22,30 +22,49 @@ add_read (Err e) place rows = rows
 unfoldable pub with_path : List ℕ → Place → Rows → Rows
 with_path text place rows = add_read (parse_route text) place rows
 
--- the paths that there are, each with its place; a name or a number is left open between braces
-abbrev pub paths : List (List ℕ × Place)
-paths =
+-- the paths of accounts, groups, projects, branches and new changes; a name or a number is left open between braces
+abbrev pub desk_paths : List (List ℕ × Place)
+desk_paths =
     (codes "/accounts", Accounts)
     ∷ (codes "/groups/{group}", Group)
     ∷ (codes "/projects/{project}", Project)
     ∷ (codes "/projects/{project}/branches/{branch}", Branch)
     ∷ (codes "/changes/", Changes)
-    ∷ (codes "/changes/{change}", Change)
+    ∷ []
+
+-- the paths of a change, of what is asked of it, and of its new patch sets
+abbrev pub change_paths : List (List ℕ × Place)
+change_paths =
+    (codes "/changes/{change}", Change)
     ∷ (codes "/changes/{change}/requirements", Requirements)
     ∷ (codes "/changes/{change}/threads", Threads)
     ∷ (codes "/changes/{change}/attention", Attention)
     ∷ (codes "/changes/{change}/revisions", Revisions)
-    ∷ (codes "/changes/{change}/revisions/{patch_set}/review", Review)
+    ∷ []
+
+-- the paths of its reviews, its reviewers and its work in progress
+abbrev pub reviewing_paths : List (List ℕ × Place)
+reviewing_paths =
+    (codes "/changes/{change}/revisions/{patch_set}/review", Review)
     ∷ (codes "/changes/{change}/reviewers", Reviewers)
     ∷ (codes "/changes/{change}/reviewers/{account}/delete", ReviewerDelete)
     ∷ (codes "/changes/{change}/wip", Wip)
     ∷ (codes "/changes/{change}/ready", Ready)
-    ∷ (codes "/changes/{change}/abandon", Abandon)
+    ∷ []
+
+-- the paths that end it, or take who is called off it, and the one that closes epochs
+abbrev pub ending_paths : List (List ℕ × Place)
+ending_paths =
+    (codes "/changes/{change}/abandon", Abandon)
     ∷ (codes "/changes/{change}/restore", Restore)
     ∷ (codes "/changes/{change}/submit", Submit)
     ∷ (codes "/changes/{change}/attention/{account}/delete", AttentionDelete)
     ∷ (codes "/epochs/close", EpochsClose)
     ∷ []
+
+-- the paths that there are, each with its place
+abbrev pub paths : List (List ℕ × Place)
+paths = desk_paths ++ (change_paths ++ (reviewing_paths ++ ending_paths))
 
 -- the paths with more, one after the other
 abbrev pub with_paths : List (List ℕ × Place) → Rows → Rows

@@ -1,6 +1,6 @@
 //! The table of paths.
 ghost use Rattle.std.specs.Prelude.{◌≡◌, IfOk, OnOk};
-ghost use Rattle.review_paths.specs.Table.{table, place_of, with_path};
+ghost use Rattle.review_paths.specs.Table.{change_paths, desk_paths, ending_paths, place_of, reviewing_paths, table, with_path, with_paths};
 
 use matchit::{InsertError, Router};
 use std::alloc::{AllocError, Global};
@@ -37,52 +37,84 @@ fn insert_path(router: &mut Router<Place>, text: &str, place: Place) -> Result<(
     router.insert(text, place)
 }
 
+/// Adds the paths of accounts, groups, projects, branches and new changes.
+fn insert_desk_paths(router: &mut Router<Place>) -> Result<(), InsertError>
+    ensures { OnOk result (router.new ≡ with_paths desk_paths router.old) }
+{
+    insert_path(router, "/accounts", Place::Accounts)?;
+    insert_path(router, "/groups/{group}", Place::Group)?;
+    insert_path(router, "/projects/{project}", Place::Project)?;
+    insert_path(
+        router,
+        "/projects/{project}/branches/{branch}",
+        Place::Branch,
+    )?;
+    insert_path(router, "/changes/", Place::Changes)?;
+    Ok(())
+}
+
+/// Adds those of a change, of what is asked of it, and of its new patch sets.
+fn insert_change_paths(router: &mut Router<Place>) -> Result<(), InsertError>
+    ensures { OnOk result (router.new ≡ with_paths change_paths router.old) }
+{
+    insert_path(router, "/changes/{change}", Place::Change)?;
+    insert_path(
+        router,
+        "/changes/{change}/requirements",
+        Place::Requirements,
+    )?;
+    insert_path(router, "/changes/{change}/threads", Place::Threads)?;
+    insert_path(router, "/changes/{change}/attention", Place::Attention)?;
+    insert_path(router, "/changes/{change}/revisions", Place::Revisions)?;
+    Ok(())
+}
+
+/// Adds those of its reviews, its reviewers and its work in progress.
+fn insert_reviewing_paths(router: &mut Router<Place>) -> Result<(), InsertError>
+    ensures { OnOk result (router.new ≡ with_paths reviewing_paths router.old) }
+{
+    insert_path(
+        router,
+        "/changes/{change}/revisions/{patch_set}/review",
+        Place::Review,
+    )?;
+    insert_path(router, "/changes/{change}/reviewers", Place::Reviewers)?;
+    insert_path(
+        router,
+        "/changes/{change}/reviewers/{account}/delete",
+        Place::ReviewerDelete,
+    )?;
+    insert_path(router, "/changes/{change}/wip", Place::Wip)?;
+    insert_path(router, "/changes/{change}/ready", Place::Ready)?;
+    Ok(())
+}
+
+/// Adds those that end it, or take who is called off it, and the one that closes epochs.
+fn insert_ending_paths(router: &mut Router<Place>) -> Result<(), InsertError>
+    ensures { OnOk result (router.new ≡ with_paths ending_paths router.old) }
+{
+    insert_path(router, "/changes/{change}/abandon", Place::Abandon)?;
+    insert_path(router, "/changes/{change}/restore", Place::Restore)?;
+    insert_path(router, "/changes/{change}/submit", Place::Submit)?;
+    insert_path(
+        router,
+        "/changes/{change}/attention/{account}/delete",
+        Place::AttentionDelete,
+    )?;
+    insert_path(router, "/epochs/close", Place::EpochsClose)?;
+    Ok(())
+}
+
 /// The router of the table.
 #[tactic(auto, unfolding(crate::specs::Table::table))]
 fn router(alloc: Global) -> Result<Router<Place>, InsertError>
     ensures { IfOk result (λ r. r ≡ table) }
 {
     let mut router = Router::new(alloc);
-    insert_path(&mut router, "/accounts", Place::Accounts)?;
-    insert_path(&mut router, "/groups/{group}", Place::Group)?;
-    insert_path(&mut router, "/projects/{project}", Place::Project)?;
-    insert_path(
-        &mut router,
-        "/projects/{project}/branches/{branch}",
-        Place::Branch,
-    )?;
-    insert_path(&mut router, "/changes/", Place::Changes)?;
-    insert_path(&mut router, "/changes/{change}", Place::Change)?;
-    insert_path(
-        &mut router,
-        "/changes/{change}/requirements",
-        Place::Requirements,
-    )?;
-    insert_path(&mut router, "/changes/{change}/threads", Place::Threads)?;
-    insert_path(&mut router, "/changes/{change}/attention", Place::Attention)?;
-    insert_path(&mut router, "/changes/{change}/revisions", Place::Revisions)?;
-    insert_path(
-        &mut router,
-        "/changes/{change}/revisions/{patch_set}/review",
-        Place::Review,
-    )?;
-    insert_path(&mut router, "/changes/{change}/reviewers", Place::Reviewers)?;
-    insert_path(
-        &mut router,
-        "/changes/{change}/reviewers/{account}/delete",
-        Place::ReviewerDelete,
-    )?;
-    insert_path(&mut router, "/changes/{change}/wip", Place::Wip)?;
-    insert_path(&mut router, "/changes/{change}/ready", Place::Ready)?;
-    insert_path(&mut router, "/changes/{change}/abandon", Place::Abandon)?;
-    insert_path(&mut router, "/changes/{change}/restore", Place::Restore)?;
-    insert_path(&mut router, "/changes/{change}/submit", Place::Submit)?;
-    insert_path(
-        &mut router,
-        "/changes/{change}/attention/{account}/delete",
-        Place::AttentionDelete,
-    )?;
-    insert_path(&mut router, "/epochs/close", Place::EpochsClose)?;
+    insert_desk_paths(&mut router)?;
+    insert_change_paths(&mut router)?;
+    insert_reviewing_paths(&mut router)?;
+    insert_ending_paths(&mut router)?;
     Ok(router)
 }
 
