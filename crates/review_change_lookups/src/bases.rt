@@ -1,5 +1,5 @@
 //! Whether a commit is a base of a branch.
-ghost use Rattle.std.specs.Prelude.{◌≡◌, true, false, Some, None, ⊥, IfOk};
+ghost use Rattle.std.specs.Prelude.{◌≡◌, true, false, Some, None, IfOk};
 ghost use Rattle.sqlite.specs.Held.{state};
 ghost use Rattle.sqlite_trees.specs.Tree.{Trees};
 ghost use Rattle.review_rows.specs.declared.rows.Want.TheVariants as want;

@@ -15,10 +15,10 @@ use std::rc::Rc;
 /// The groups that have a right.
 #[derive(Debug, Drop)]
 pub struct Access {
-    pub(crate) create: Vec<GroupName>,
-    pub(crate) upload: Vec<GroupName>,
-    pub(crate) submit: Vec<GroupName>,
-    pub(crate) abandon: Vec<GroupName>,
+    pub create: Vec<GroupName>,
+    pub upload: Vec<GroupName>,
+    pub submit: Vec<GroupName>,
+    pub abandon: Vec<GroupName>,
 }
 
 impl Model for Access {

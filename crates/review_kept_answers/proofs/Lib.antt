@@ -1,2 +1,2 @@
 pub mod Orders
-pub mod Lower
+pub mod Dropped

@@ -3,7 +3,7 @@ use Rattle.std.specs.BTreeMap.{is_at}
 use Rattle.std.proofs.lemmas.List.{take_all}
 use Rattle.review_table.specs.Rows.{row_in, rows_of}
 use Rattle.review_kept_answers.specs.Answers.{answer_cmp, is_among}
-use Rattle.review_kept_answers.proofs.Lower.{among_more, drop_more}
+use Rattle.review_kept_answers.proofs.Dropped.{among_more, drop_more}
 use Rattle.review_kept_answers.proofs.lower.remove_keys.Goals as goal
 
 pub loop-key-preserved : goal.loop-key-preserved
