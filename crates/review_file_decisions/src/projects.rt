@@ -21,9 +21,8 @@ ghost use Rattle.review_file_decisions.specs.Files.{file_refused, has_unknown, h
 
 use crate::reading::read_line;
 use review_account_decisions::{is_admin, nothing, refused};
-use review_file::{
-    FileMemo, InheritFault, MOST_DEPTH, ProjectFile, ReadFault, ReadLine, ReadText, covers,
-};
+use review_effective::{FileMemo, InheritFault, MOST_DEPTH, ReadLine, ReadText};
+use review_file::{ProjectFile, ReadFault, covers};
 use review_inheritance::one_effective_file;
 use review_rows::{Delta, Put, Rows, StoredFile};
 use review_words::{AccountNo, Answer, FileFault, FileText, NotTaken, ProjectName, Refusal, Reply};
