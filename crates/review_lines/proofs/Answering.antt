@@ -7,6 +7,9 @@ use Rattle.review_words.specs.declared.reply.Reply.{Reply}
 use Rattle.review_rows.specs.Shelf.{Shown}
 use Rattle.review_deliveries.specs.Delivered.{WasRun}
 use Rattle.review_deliveries.proofs.Ran.{ran_none, ran-append}
+use Rattle.std.specs.declared.alloc.AllocError.{AllocError}
+use Rattle.std.specs.Prelude.{Result, Ok, Err, IfOk, OnOk}
+use Rattle.review_lines.specs.declared.fault.Outcome.{Outcome}
 use Rattle.review_lines.specs.declared.apply.Asked.{Asked}
 use Rattle.review_lines.specs.declared.apply.Asked.TheVariants.{Nothing, Unreadable, Asks}
 use Rattle.review_lines.specs.Lines.{HasNoEnd, GaveLine}
@@ -160,3 +163,8 @@ did_nothing a b s Q same none q =
 pub did_one : (a : Asked) (d : Delivery) (r : Reply) (s t : Shown) (Q : List Reply → Type 0) → Asks d ≡ a
     → WasRun (d ∷ []) (r ∷ []) s t → Q (r ∷ []) → Did a s t Q
 did_one a d r s t Q same ran q = subst (λ (x : Asked). Did x s t Q) same (r ∷ [], refl, ran, q)
+
+-- an answer that was told, and what is known of it
+pub if_told : (r : Result Outcome AllocError) (A B : Type 0) (T U : Outcome → Type 0) → OnOk r A → IfOk r T → (A → B) → ((o : Outcome) → T o → U o) → IfOk r (λ o. B × U o)
+if_told (Ok o) A B T U a t f g = (f a, g o t)
+if_told (Err e) A B T U a t f g = tt

@@ -74,8 +74,8 @@ fn add_reply(alloc: Global, output: &mut Output, reply: &Reply) -> Result<(), Al
     output.add(line.as_str())
 }
 
-fn outcome_of(reply: Reply) -> Outcome
-    ensures { is_complete result ≡ is_taken reply }
+fn outcome_of(reply: &Reply) -> Outcome
+    ensures { is_complete result ≡ is_taken reply.now }
 {
     match reply {
         Reply::NotTaken(_) => Outcome::Incomplete,
@@ -85,9 +85,45 @@ fn outcome_of(reply: Reply) -> Outcome
     }
 }
 
+/// Adds a reply as a line and tells whether its delivery was taken, or adds nothing where there is no memory.
+fn tell(alloc: Global, output: &mut Output, reply: &Reply) -> Result<Outcome, AllocError>
+    ensures added { OnOk result (output.new.waiting.items ≡ output.old.waiting.items ++ reply_line reply.now) }
+    ensures taken { IfOk result (λ outcome. is_complete outcome ≡ is_taken reply.now) }
+    ensures kept { OnErr result (output.new.waiting.items ≡ output.old.waiting.items) }
+{
+    add_reply(alloc, output, reply)?;
+    Ok(outcome_of(reply))
+}
+
 /// Does what a line asks for, and adds the answer to the output, or nothing where there is no memory.
 #[tactic(auto, unfolding(crate::specs::Answers::bad_line))]
 fn answer<S: Shelf, D: Rules>(
+    alloc: Global,
+    shelf: &mut S,
+    rules: &mut D,
+    output: &mut Output,
+    asked: &Asked,
+) -> Result<Outcome, AllocError>
+    ensures answered { (replies : List Reply) × (length replies ≡ length (with_asked asked.now []))
+        × WasRun (with_asked asked.now []) replies (S.state shelf.old) (S.state shelf.new)
+        × IfOk result (λ outcome. (output.new.waiting.items ≡ output.old.waiting.items ++ answered asked.now replies (answers [])) × (is_complete outcome ≡ is_done asked.now replies (all_done []))) }
+    ensures kept { OnErr result (output.new.waiting.items ≡ output.old.waiting.items) }
+{
+    match asked {
+        Asked::Nothing => Ok(Outcome::Complete),
+        Asked::Unreadable => {
+            output.add("{\"fault\":\"BAD_LINE\"}\n")?;
+            Ok(Outcome::Incomplete)
+        }
+        Asked::Asks(delivery) => {
+            let reply = deliver(alloc, shelf, rules, delivery);
+            tell(alloc, output, &reply)
+        }
+    }
+}
+
+/// The same, where what was asked goes out of use.
+fn answer_last<S: Shelf, D: Rules>(
     alloc: Global,
     shelf: &mut S,
     rules: &mut D,
@@ -99,18 +135,7 @@ fn answer<S: Shelf, D: Rules>(
         × IfOk result (λ outcome. (output.new.waiting.items ≡ output.old.waiting.items ++ answered asked replies (answers [])) × (is_complete outcome ≡ is_done asked replies (all_done []))) }
     ensures kept { OnErr result (output.new.waiting.items ≡ output.old.waiting.items) }
 {
-    match asked {
-        Asked::Nothing => Ok(Outcome::Complete),
-        Asked::Unreadable => {
-            output.add("{\"fault\":\"BAD_LINE\"}\n")?;
-            Ok(Outcome::Incomplete)
-        }
-        Asked::Asks(delivery) => {
-            let reply = deliver(alloc, shelf, rules, &delivery);
-            add_reply(alloc, output, &reply)?;
-            Ok(outcome_of(reply))
-        }
-    }
+    answer(alloc, shelf, rules, output, &asked)
 }
 
 /// What the next line asks for, or none where the input has ended.
@@ -148,7 +173,7 @@ fn answer_lines<R: Read + Drop, W: Write, S: Shelf, D: Rules>(
         let Some(asked) = next_asked(alloc, &mut lines)? else {
             return Ok(outcome);
         };
-        outcome = outcome.and(answer(alloc, shelf, rules, output, asked)?);
+        outcome = outcome.and(answer_last(alloc, shelf, rules, output, asked)?);
     }
     Err(Fault::Input)
 }
