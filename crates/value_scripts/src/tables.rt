@@ -45,17 +45,23 @@ fn push_row(
     told.push_str(row.as_str())
 }
 
-/// The first table with 20 at account 2 and nothing at account 3.
-fn changed_table(alloc: Global) -> Result<Table<AccountNo, u8>, AllocError> {
-    let put = Change {
+/// 20 at account 2, and nothing at account 3.
+fn changes(alloc: Global) -> Result<Vec<Change<AccountNo, u8>>, AllocError> {
+    let mut changes = Vec::new(alloc);
+    changes.push(Change {
         key: account(2),
-        row: Some(20),
-    };
-    let taken = Change {
+        row: Some(20u8),
+    })?;
+    changes.push(Change {
         key: account(3),
         row: None,
-    };
-    let changes = vec![in alloc; put, taken]?;
+    })?;
+    Ok(changes)
+}
+
+/// The first table with these changes.
+fn changed_table(alloc: Global) -> Result<Table<AccountNo, u8>, AllocError> {
+    let changes = changes(alloc)?;
     let mut table = first_table(alloc)?;
     table.reserve_all(alloc, &changes)?;
     table.apply(changes);
