@@ -179,17 +179,28 @@ fn call_shutting(alloc: Global, commit: u64) -> Result<String, Fault> {
     Ok(format!(in alloc; "{calls}; below it bob {bob}")?)
 }
 
+/// Closes epoch 0 in a request of another one: what the commit answers.
+fn close<S: Shelf>(alloc: Global, shelf: &mut S, epoch: Epoch) -> Result<&'static str, Fault> {
+    let kept = request(alloc, epoch, "close")?;
+    let delta = closing(alloc);
+    Ok(commit_word(alloc, shelf, &delta, &kept))
+}
+
 /// Stores ann in epoch 0 and closes this epoch in a request of epoch 1; then what is known of both, and of a new one of epoch 1.
+fn call_closing<S: Shelf>(alloc: Global, shelf: &mut S) -> Result<String, Fault> {
+    let epoch = Epoch::from_number(1).unwrap_or(Epoch::first());
+    commit(alloc, shelf, "ann")?;
+    close(alloc, shelf, epoch)?;
+    let before = recall(alloc, shelf, "ann")?;
+    let own = recall_in(alloc, shelf, epoch, "close")?;
+    let after = recall_in(alloc, shelf, epoch, "ann")?;
+    Ok(format!(in alloc; "{before}, {own}, {after}")?)
+}
+
+/// The same in memory.
 fn close_in_memory(alloc: Global) -> Result<String, Fault> {
     let mut shelf = MemoryShelf::new(alloc)?;
-    commit(alloc, &mut shelf, "ann")?;
-    let epoch = Epoch::from_number(1).unwrap_or(Epoch::first());
-    let kept = request(alloc, epoch, "close")?;
-    commit_word(alloc, &mut shelf, &closing(alloc), &kept);
-    let before = recall(alloc, &mut shelf, "ann")?;
-    let own = recall_in(alloc, &mut shelf, epoch, "close")?;
-    let after = recall_in(alloc, &mut shelf, epoch, "ann")?;
-    Ok(format!(in alloc; "{before}, {own}, {after}")?)
+    call_closing(alloc, &mut shelf)
 }
 
 /// What a shelf answers. Form where no shelf is asked.
