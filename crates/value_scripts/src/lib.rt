@@ -26,18 +26,28 @@ mod tokens;
 use script_faults::Fault;
 use std::alloc::Global;
 
-/// What a line is answered. Form where it is none of these.
-pub fn answer(alloc: Global, line: &str) -> Result<String, Fault> {
-    let (word, text) = line.split_once(" ").unwrap_or((line, ""));
-    if let Some(answer) = tables::table(alloc, word, text)? {
-        return Ok(answer);
-    }
-    if let Some(answer) = tokens::spelling(alloc, word, text)? {
-        return Ok(answer);
-    }
+/// What is asked of a component, of lines, or of a shelf.
+fn other(alloc: Global, word: &str, text: &str) -> Result<String, Fault> {
     match word {
         "component" => terms::component(alloc, text),
         "lines" => streams::lines(alloc),
         _ => shelves::shelf(alloc, word, text),
+    }
+}
+
+/// The same, or of tokens and words.
+fn told(alloc: Global, word: &str, text: &str) -> Result<String, Fault> {
+    match tokens::spelling(alloc, word, text)? {
+        Some(answer) => Ok(answer),
+        None => other(alloc, word, text),
+    }
+}
+
+/// What a line is answered. Form where it is none of these.
+pub fn answer(alloc: Global, line: &str) -> Result<String, Fault> {
+    let (word, text) = line.split_once(" ").unwrap_or((line, ""));
+    match tables::table(alloc, word, text)? {
+        Some(answer) => Ok(answer),
+        None => told(alloc, word, text),
     }
 }
