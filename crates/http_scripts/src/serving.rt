@@ -1,5 +1,6 @@
 //! A request, served twice.
 
+use crate::fault::Fault;
 use crate::peers::{Failing, Pieces, Written};
 use review_counted::Counted;
 use review_http::{ServeFault, Served};
@@ -7,7 +8,6 @@ use review_machine::{FaultyShelf, MemoryShelf, serve_one};
 use review_names::{AccountNo, RequestId};
 use review_rows::{Recalled, Shelf};
 use review_words::Epoch;
-use script_faults::Fault;
 use std::alloc::{AllocError, Global};
 
 /// How a request is to be served.

@@ -1,9 +1,9 @@
 //! Requests over sockets of this machine, with both ends in this process.
 
+use crate::fault::Fault;
 use crate::serving::request_bytes;
 use review_counted::Counted;
 use review_machine::{MemoryShelf, serve_one};
-use script_faults::Fault;
 use std::alloc::Global;
 use std::io;
 use std::io::{Read, Write};
@@ -65,17 +65,12 @@ fn told(rt: &HostRuntime, shelf: &mut MemoryShelf, bytes: &[u8]) -> Result<Strin
     on_one_line(rt.alloc(), response.as_slice())
 }
 
-/// Whether a request gets the same bytes twice on a shelf, and which.
-fn twice(rt: &HostRuntime, shelf: &mut MemoryShelf, bytes: &[u8]) -> Result<String, Fault> {
-    let first = told(rt, shelf, bytes)?;
-    let second = told(rt, shelf, bytes)?;
-    let word = if first == second { "twice" } else { "once" };
-    Ok(format!(in rt.alloc(); "{word} {first}")?)
-}
-
-/// The same on an empty desk in memory.
+/// Whether a request gets the same bytes twice on an empty desk in memory, and which.
 pub fn both_received(rt: &HostRuntime, text: &str) -> Result<String, Fault> {
     let bytes = request_bytes(rt.alloc(), text)?;
     let mut shelf = MemoryShelf::new(rt.alloc())?;
-    twice(rt, &mut shelf, bytes.as_slice())
+    let first = told(rt, &mut shelf, bytes.as_slice())?;
+    let second = told(rt, &mut shelf, bytes.as_slice())?;
+    let word = if first == second { "twice" } else { "once" };
+    Ok(format!(in rt.alloc(); "{word} {first}")?)
 }

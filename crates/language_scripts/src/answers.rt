@@ -1,8 +1,8 @@
 //! What a script is answered.
 
-use review_expr::{EvalFault, Expr, Facts, ParseFault, compile, eval, labels_of};
+use crate::fault::Fault;
+use review_expr::{Expr, Facts, ParseFault, compile, eval, labels_of};
 use review_printing::print;
-use script_faults::Fault;
 use std::alloc::{AllocError, Global};
 
 /// The text that an expression is printed as, or its length.
@@ -64,15 +64,11 @@ pub fn yes_or_no(alloc: Global, is_so: bool) -> Result<String, Fault> {
     Ok(String::from_str(alloc, if is_so { "yes" } else { "no" })?)
 }
 
-fn of_evaluation(_fault: EvalFault) -> Fault {
-    Fault::Memory
-}
-
 /// Whether an expression holds, by its tree and by its flat list.
 pub fn holds(alloc: Global, expr: &Expr, facts: &Facts) -> Result<bool, Fault> {
-    let held = eval(alloc, expr, facts).map_err(of_evaluation)?;
+    let held = eval(alloc, expr, facts)?;
     let terms = compile(alloc, expr)?;
-    if terms.eval(alloc, facts).map_err(of_evaluation)? != held {
+    if terms.eval(alloc, facts)? != held {
         return Err(Fault::Unlike);
     }
     Ok(held)

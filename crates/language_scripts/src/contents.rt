@@ -1,9 +1,9 @@
 //! What a file has.
 
+use crate::fault::Fault;
 use review_expr::Expr;
 use review_file::{Grant, Label, LabelValue, ProjectFile, Requirement};
 use review_printing::print;
-use script_faults::Fault;
 use std::alloc::{AllocError, Global};
 
 fn push_values(alloc: Global, text: &mut String, values: &[LabelValue]) -> Result<(), AllocError> {

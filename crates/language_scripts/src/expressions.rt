@@ -31,9 +31,9 @@
 
 use crate::answers::{judgement, reading};
 use crate::facts::{first_change, first_vote, tell};
+use crate::fault::Fault;
 use crate::texts::whole_text;
 use review_expr::{Facts, parse_copy, parse_requirement};
-use script_faults::Fault;
 use std::alloc::Global;
 
 /// What the lines of a script have said so far.

@@ -1,10 +1,10 @@
 //! What lines say of a change and of a vote.
 
+use crate::fault::Fault;
 use review_expr::Facts;
 use review_judging::{ChangeFacts, ValueRange, VoteFacts};
 use review_terms::ChangeKind;
 use review_words::{AccountNo, BranchName, GroupName, Groups, LabelName, Members, Path, Paths};
-use script_faults::Fault;
 use std::alloc::Global;
 use std::collections::BTreeMap;
 

@@ -1,7 +1,7 @@
 //! What texts are: files, or why they are none.
 
+use crate::fault::Fault;
 use review_file::{FileFault, ReadFault, read_file};
-use script_faults::Fault;
 use std::alloc::Global;
 
 fn named(alloc: Global, name: &str) -> Result<String, Fault> {

@@ -23,13 +23,13 @@
 use crate::answers::yes_or_no;
 use crate::contents::contents_of;
 use crate::facts::group;
+use crate::fault::Fault;
 use crate::file_readings::{fronts, reading};
 use crate::satisfied::is_satisfied;
 use crate::texts::push_lines;
 use review_file::{ProjectFile, Right, covers, read_file};
 use review_ranges::{may, range_of};
 use review_words::{AccountNo, Groups, LabelName};
-use script_faults::Fault;
 use std::alloc::Global;
 use std::collections::BTreeMap;
 use std::mem;

@@ -1,11 +1,11 @@
 //! Whether a change meets the requirement of a file.
 
 use crate::answers::holds;
+use crate::fault::Fault;
 use review_expr::Facts;
 use review_file::{Label, ProjectFile};
 use review_judging::{ChangeFacts, ValueRange};
 use review_words::{AccountNo, BranchName, Groups, LabelName, Paths};
-use script_faults::Fault;
 use std::alloc::Global;
 use std::collections::BTreeMap;
 

@@ -1,6 +1,6 @@
 //! Texts, and lines of a file, that a line of a script writes in short.
 
-use script_faults::Fault;
+use crate::fault::Fault;
 use std::alloc::{AllocError, Global};
 
 /// A text with a character in place of each escape.

@@ -1,8 +1,8 @@
 //! What is asked of a change in a few words.
 
+use crate::fault::Fault;
 use crate::texts::cut;
 use review_words::{AccountNo, ChangeCommand, Reason, Role};
-use script_faults::Fault;
 use std::alloc::Global;
 
 fn role(text: &str) -> Result<Role, Fault> {

@@ -1,12 +1,12 @@
 //! Routes, and what the bytes of a body make of them.
 
+use crate::fault::Fault;
 use crate::texts::{on_a_line, with_byte};
 use review_bodies::text_at;
 use review_json::routes::route_named;
 use review_routes::{BadBody, Route, command_of, is_question, name_of_bytes, needs_body, value_of};
 use review_texts::content_text;
 use review_words::{Command, RequestId};
-use script_faults::Fault;
 use std::alloc::Global;
 
 /// What bytes spell, or none where they spell nothing.

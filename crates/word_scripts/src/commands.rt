@@ -1,6 +1,7 @@
 //! The content texts of commands on changes.
 
 use crate::asked::asked;
+use crate::fault::{Fault, named};
 use crate::lists::{Part, list};
 use crate::sets::labels;
 use crate::texts::{answered, cut, cut_thrice, cut_twice, on_a_line, truth, whole_number};
@@ -10,7 +11,6 @@ use review_words::{
     Epoch, Message, NewChange, NewComment, NewPatch, PatchNo, Paths, Place, ProjectName, Review,
     Subject,
 };
-use script_faults::{Fault, named};
 use std::alloc::Global;
 
 /// The parts of a new change's text.

@@ -1,7 +1,7 @@
 //! Lists in a text, with a mark between their parts.
 
+use crate::fault::Fault;
 use review_words::{AccountNo, Form, Name};
-use script_faults::Fault;
 use std::alloc::Global;
 
 /// What one part of a list is read as.

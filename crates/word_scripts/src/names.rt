@@ -1,12 +1,12 @@
 //! Names and numbers of fixed forms.
 
+use crate::fault::{Fault, named};
 use crate::texts::on_a_line;
 use review_words::{
     AccountName, AccountNo, BadName, BranchName, ChangeKind, ChangeNo, CommentNo, CommitName,
     Epoch, FileText, Form, GroupName, LabelName, Message, Name, PatchNo, Path, Place, ProjectName,
     Reason, RequestId, Subject, admin_name, administrators, patch_set_level,
 };
-use script_faults::{Fault, named};
 use std::alloc::Global;
 use std::cmp::Ordering;
 

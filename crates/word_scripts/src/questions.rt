@@ -1,5 +1,6 @@
 //! Answers to questions about a change.
 
+use crate::fault::Fault;
 use crate::lists::{Part, list};
 use crate::texts::{answered, cut, cut_thrice, cut_twice, small_number, truth, whole_number};
 use review_words::{
@@ -7,7 +8,6 @@ use review_words::{
     PatchNo, Place, ProjectName, Reason, ShownCall, ShownChange, ShownComment, ShownRequirement,
     ShownVote, State, Status, Subject, Thread,
 };
-use script_faults::Fault;
 use std::alloc::Global;
 
 fn number(text: &str) -> Result<u64, Fault> {

@@ -1,12 +1,12 @@
 //! Replies, their stored texts and their JSON.
 
+use crate::fault::Fault;
 use crate::lists::{Part, list};
 use crate::questions;
 use crate::texts::cut;
 use review_json::answer_text;
 use review_texts::{BadReply, read_reply, reply_text};
 use review_words::{Answer, Bases, ChangeNo, CommitName, JoinedChange, Listed, NotTaken, Reply};
-use script_faults::Fault;
 use std::alloc::Global;
 
 /// The status of a refusal, and what a reply is stored as.

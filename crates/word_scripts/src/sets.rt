@@ -1,9 +1,9 @@
 //! Sets of accounts and of paths.
 
+use crate::fault::{Fault, named};
 use crate::lists::{Part, list};
 use crate::texts::{cut, small_number};
 use review_words::{AccountNo, Given, LabelName, Labels, Members, Paths};
-use script_faults::{Fault, named};
 use std::alloc::{AllocError, Global};
 
 fn members_text(alloc: Global, members: &Members) -> Result<String, AllocError> {

@@ -1,7 +1,7 @@
 //! Texts that a line writes in short, their parts, and texts that are shown on a line.
 
+use crate::fault::Fault;
 use review_words::CommentNo;
-use script_faults::Fault;
 use std::alloc::{AllocError, Global};
 
 /// What stands before the next separator, and the rest.

@@ -1,8 +1,7 @@
-//! What ends a transcript of scripts early.
-#![tactic(auto)]
+//! What ends a transcript early.
 
-use review_names::BadName;
-use std::alloc::{AllocError, AllocFailed};
+use review_words::BadName;
+use std::alloc::AllocError;
 use std::fmt::{Display, Formatter};
 use std::{fmt, io};
 
@@ -15,12 +14,8 @@ pub enum Fault {
     Input,
     /// The output failed.
     Output,
-    /// A line is of none of the forms, or has a name or a number that is none where one has to be.
+    /// A line is of none of the forms.
     Form,
-    /// A question needs a project file, and the text is none.
-    NoFile,
-    /// The flat list of an expression holds where its tree doesn't, or the other way round.
-    Unlike,
 }
 
 impl Fault {
@@ -39,27 +34,12 @@ impl From<AllocError> for Fault {
     }
 }
 
-impl<T: Drop> From<AllocFailed<T>> for Fault {
-    fn from(_error: AllocFailed<T>) -> Fault {
-        Fault::Memory
-    }
-}
-
 impl From<BadName> for Fault {
     fn from(fault: BadName) -> Fault {
         match fault {
             BadName::Form => Fault::Form,
             BadName::Memory => Fault::Memory,
         }
-    }
-}
-
-/// What was read, or none where it was of no form.
-pub fn named<T>(read: Result<T, BadName>) -> Result<Option<T>, Fault> {
-    match read {
-        Ok(value) => Ok(Some(value)),
-        Err(BadName::Form) => Ok(None),
-        Err(BadName::Memory) => Err(Fault::Memory),
     }
 }
 
@@ -70,8 +50,6 @@ impl Display for Fault {
             Fault::Input => "input fault",
             Fault::Output => "output fault",
             Fault::Form => "a line of no form",
-            Fault::NoFile => "a question about a text that is no project file",
-            Fault::Unlike => "a flat list that holds otherwise than its tree",
         })
     }
 }

@@ -4,17 +4,17 @@ use review_grammar::Node;
 use review_judging::{ChangeFacts, eval};
 use review_names::{AccountNo, BranchName, Groups, Path, Paths};
 use review_terms::RequirementTerm;
-use script_faults::Fault;
 use std::alloc::Global;
 use std::collections::BTreeMap;
+use std::test::Fail;
 
-fn paths(alloc: Global, path: &str) -> Result<Paths, Fault> {
+fn paths(alloc: Global, path: &str) -> Result<Paths, Fail> {
     let path = Path::read(alloc, path)?;
     let paths = vec![in alloc; path]?;
     Ok(Paths::from_vec(alloc, paths)?)
 }
 
-fn change(alloc: Global, path: &str) -> Result<ChangeFacts, Fault> {
+fn change(alloc: Global, path: &str) -> Result<ChangeFacts, Fail> {
     let branch = BranchName::read(alloc, "main")?;
     let paths = paths(alloc, path)?;
     Ok(ChangeFacts {
@@ -29,12 +29,17 @@ fn change(alloc: Global, path: &str) -> Result<ChangeFacts, Fault> {
     })
 }
 
-/// Whether a change with one path has a component, written `NAME|PATH`.
-pub fn component(alloc: Global, text: &str) -> Result<String, Fault> {
-    let (name, path) = text.split_once("|").ok_or(Fault::Form)?;
+/// Whether a change with one path has a component.
+fn has_component(alloc: Global, path: &str, name: &str) -> Result<bool, Fail> {
     let change = change(alloc, path)?;
     let name = Path::read(alloc, name)?;
     let node = Node::Term(Box::new(alloc, RequirementTerm::File(name))?);
-    let has = eval(alloc, &node, &change)?;
-    Ok(String::from_str(alloc, if has { "yes" } else { "no" })?)
+    Ok(eval(alloc, &node, &change)?)
+}
+
+#[test]
+fn a_component_has_no_slash(rt: HostRuntime) -> Result<(), Fail> {
+    assert!(rt; has_component(rt.alloc(), "docs/a b.md", "docs")?);
+    assert!(rt; !has_component(rt.alloc(), "docs/a b.md", "docs/a b.md")?);
+    Ok(())
 }

@@ -1,5 +1,8 @@
-//! Scripts on the words of the desk: names and numbers, lines that ask, bodies, replies. A line asks
+//! Scripts on the words of the desk: names and numbers, lines that ask, bodies, replies. A transcript that a person reads from top to bottom.
 //!
+//! Standard input has lines, standard output the same lines, each with its answer beneath it, behind `=> `. A line is
+//!
+//! - `### TEXT`, a heading, `== TEXT`, the name of what follows, `# TEXT`, a remark, or nothing;
 //! - a name or a number: `account-name TEXT`, `request-id TEXT`, `group TEXT`, `project TEXT`, `branch TEXT`, `commit TEXT`, `label TEXT`,
 //!   `path TEXT`, `place TEXT`, `subject TEXT`, `reason TEXT`, `message TEXT`, `account-number TEXT`, `change-number TEXT`,
 //!   `patch-number TEXT`, `comment-number TEXT`. The answer is the text of a copy of what was read, or `no form`; `kind TEXT` likewise;
@@ -36,6 +39,7 @@
 mod asked;
 mod bodies;
 mod commands;
+mod fault;
 mod lines;
 mod lists;
 mod names;
@@ -44,8 +48,10 @@ mod replies;
 mod sets;
 mod texts;
 
-use script_faults::Fault;
+use fault::Fault;
 use std::alloc::Global;
+use std::io::{BufRead, BufReader};
+use std::process::ExitCode;
 use texts::whole_text;
 
 /// What a name, a number or a set is, if a word asks that.
@@ -93,9 +99,38 @@ fn answer_to(alloc: Global, word: &str, text: &str) -> Result<String, Fault> {
     }
 }
 
-/// What a line is answered. Form where it asks nothing that stands above.
-pub fn answer(alloc: Global, line: &str) -> Result<String, Fault> {
+/// What a line is answered.
+fn answer(alloc: Global, line: &str) -> Result<String, Fault> {
     let (word, rest) = line.split_once(" ").unwrap_or((line, ""));
     let text = whole_text(alloc, rest)?;
     answer_to(alloc, word, text.as_str())
+}
+
+/// Prints a line, and its answer.
+fn step(rt: &HostRuntime, line: &str) -> Result<(), Fault> {
+    println!(rt; "{line}").map_err(Fault::of_output)?;
+    if line.is_empty() || line.starts_with("#") || line.starts_with("== ") {
+        return Ok(());
+    }
+    let answer = answer(rt.alloc(), line)?;
+    println!(rt; "=> {answer}").map_err(Fault::of_output)
+}
+
+fn transcribe(rt: &HostRuntime) -> Result<(), Fault> {
+    let reader = BufReader::new(rt.alloc(), rt.reader()).map_err(Fault::of_input)?;
+    for line in reader.lines(rt.alloc()) {
+        let line = line.map_err(Fault::of_input)?;
+        step(rt, line.as_str())?;
+    }
+    Ok(())
+}
+
+fn main(rt: HostRuntime) -> ExitCode {
+    match transcribe(&rt) {
+        Ok(()) => ExitCode::SUCCESS,
+        Err(fault) => {
+            let _ = eprintln!(rt; "word_scripts: {fault}");
+            ExitCode::FAILURE
+        }
+    }
 }

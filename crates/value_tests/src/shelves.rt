@@ -5,19 +5,19 @@ use review_rows::{Delta, Kept, Need, Recalled, Shelf, ShelfFault, Want};
 use review_shelves::{FaultyShelf, MemoryShelf, ShuttingShelf};
 use review_table::Change;
 use review_words::{AccountName, AccountNo, Epoch, Name, RequestId};
-use script_faults::Fault;
 use std::alloc::Global;
+use std::test::Fail;
 
-fn account_name(alloc: Global, text: &str) -> Result<AccountName, Fault> {
+fn account_name(alloc: Global, text: &str) -> Result<AccountName, Fail> {
     Ok(Name::read(alloc, text)?)
 }
 
-fn request_id(alloc: Global, text: &str) -> Result<RequestId, Fault> {
+fn request_id(alloc: Global, text: &str) -> Result<RequestId, Fail> {
     Ok(Name::read(alloc, text)?)
 }
 
 /// Account 2 gets a name.
-fn second_account(alloc: Global, name: &str) -> Result<Delta, Fault> {
+fn second_account(alloc: Global, name: &str) -> Result<Delta, Fail> {
     let name = account_name(alloc, name)?;
     let change = Change {
         key: AccountNo::from_number(2).unwrap_or(AccountNo::last()),
@@ -47,7 +47,7 @@ fn closing(alloc: Global) -> Delta {
 }
 
 /// A request of account 1, of an epoch.
-fn request(alloc: Global, epoch: Epoch, id: &str) -> Result<Kept, Fault> {
+fn request(alloc: Global, epoch: Epoch, id: &str) -> Result<Kept, Fail> {
     let id = request_id(alloc, id)?;
     Ok(Kept {
         caller: AccountNo::first(),
@@ -77,7 +77,7 @@ fn commit_word<S: Shelf>(alloc: Global, shelf: &mut S, delta: &Delta, kept: &Kep
 }
 
 /// Gives account 2 a name: what the commit answers.
-fn commit<S: Shelf>(alloc: Global, shelf: &mut S, name: &str) -> Result<&'static str, Fault> {
+fn commit<S: Shelf>(alloc: Global, shelf: &mut S, name: &str) -> Result<&'static str, Fail> {
     let kept = request(alloc, Epoch::first(), name)?;
     let delta = second_account(alloc, name)?;
     Ok(commit_word(alloc, shelf, &delta, &kept))
@@ -93,7 +93,7 @@ fn holder_word(holder: Option<AccountNo>) -> &'static str {
 }
 
 /// What is needed to know the account of a name.
-fn need_of(alloc: Global, name: &AccountName) -> Result<Need, Fault> {
+fn need_of(alloc: Global, name: &AccountName) -> Result<Need, Fail> {
     let name = name.copy(alloc)?;
     let wants = vec![in alloc; Want::AccountNamed(name)]?;
     Ok(Need { wants })
@@ -113,7 +113,7 @@ fn loaded_word<S: Shelf>(
 }
 
 /// The account of a name, or what else the look-up answers.
-fn account_of<S: Shelf>(alloc: Global, shelf: &mut S, name: &str) -> Result<&'static str, Fault> {
+fn account_of<S: Shelf>(alloc: Global, shelf: &mut S, name: &str) -> Result<&'static str, Fail> {
     let name = account_name(alloc, name)?;
     let need = need_of(alloc, &name)?;
     Ok(loaded_word(alloc, shelf, &need, &name))
@@ -125,7 +125,7 @@ fn recall_in<S: Shelf>(
     shelf: &mut S,
     epoch: Epoch,
     id: &str,
-) -> Result<&'static str, Fault> {
+) -> Result<&'static str, Fail> {
     let id = request_id(alloc, id)?;
     match shelf.recall(alloc, AccountNo::first(), epoch, &id) {
         Ok(Recalled::Kept(_)) => Ok("recalled"),
@@ -136,81 +136,139 @@ fn recall_in<S: Shelf>(
 }
 
 /// Whether a request of account 1 that names no epoch is recalled.
-fn recall<S: Shelf>(alloc: Global, shelf: &mut S, id: &str) -> Result<&'static str, Fault> {
+fn recall<S: Shelf>(alloc: Global, shelf: &mut S, id: &str) -> Result<&'static str, Fail> {
     recall_in(alloc, shelf, Epoch::first(), id)
 }
 
-/// Commits ann, then bob, asks whose the names are, and recalls the first request: what the five calls answer, and how many faults were counted.
-fn call<S: Shelf>(alloc: Global, shelf: &mut S) -> Result<String, Fault> {
+/// What five calls answer, and how many faults were counted.
+#[derive(Clone, Copy, Drop)]
+struct Calls {
+    first: &'static str,
+    second: &'static str,
+    ann: &'static str,
+    bob: &'static str,
+    request: &'static str,
+    faults: u64,
+}
+
+/// Commits ann, then bob, asks whose the names are, and recalls the first request.
+fn call<S: Shelf>(alloc: Global, shelf: &mut S) -> Result<Calls, Fail> {
     let first = commit(alloc, shelf, "ann")?;
     let second = commit(alloc, shelf, "bob")?;
     let ann = account_of(alloc, shelf, "ann")?;
     let bob = account_of(alloc, shelf, "bob")?;
     let request = recall(alloc, shelf, "ann")?;
-    let faults = shelf.faults();
-    Ok(format!(in alloc;
-        "{first}, {second}; ann {ann}, bob {bob}, the first request {request}; faults {faults}"
-    )?)
+    Ok(Calls {
+        first,
+        second,
+        ann,
+        bob,
+        request,
+        faults: shelf.faults(),
+    })
 }
 
-/// The five calls on a shelf none of whose calls fails.
-fn call_memory(alloc: Global) -> Result<String, Fault> {
+/// What the five calls answer on a shelf none of whose calls fails.
+fn call_memory(alloc: Global) -> Result<Calls, Fail> {
     let mut shelf = MemoryShelf::new(alloc)?;
     call(alloc, &mut shelf)
 }
 
-/// The five calls on a shelf one of whose calls fails.
-fn call_faulty(alloc: Global, failing: u64) -> Result<String, Fault> {
+/// What the five calls answer on a shelf one of whose calls fails.
+fn call_faulty(alloc: Global, failing: u64) -> Result<Calls, Fail> {
     let mut shelf = FaultyShelf::new(MemoryShelf::new(alloc)?, failing);
     call(alloc, &mut shelf)
 }
 
+#[test]
+fn a_shelf_in_memory(rt: HostRuntime) -> Result<(), Fail> {
+    let calls = call_memory(rt.alloc())?;
+    assert!(rt; calls.first == "done");
+    assert!(rt; calls.second == "done");
+    assert!(rt; calls.ann == "nobody");
+    assert!(rt; calls.bob == "account 2");
+    assert!(rt; calls.request == "recalled");
+    assert!(rt; calls.faults == 0);
+    Ok(())
+}
+
+#[test]
+fn a_commit_that_fails_does_nothing(rt: HostRuntime) -> Result<(), Fail> {
+    let calls = call_faulty(rt.alloc(), 2)?;
+    assert!(rt; calls.first == "done");
+    assert!(rt; calls.second == "store");
+    assert!(rt; calls.ann == "account 2");
+    assert!(rt; calls.bob == "nobody");
+    assert!(rt; calls.request == "recalled");
+    assert!(rt; calls.faults == 1);
+    Ok(())
+}
+
+#[test]
+fn a_look_up_that_fails_tells_nothing(rt: HostRuntime) -> Result<(), Fail> {
+    let calls = call_faulty(rt.alloc(), 3)?;
+    assert!(rt; calls.second == "done");
+    assert!(rt; calls.ann == "store");
+    assert!(rt; calls.bob == "account 2");
+    assert!(rt; calls.request == "recalled");
+    assert!(rt; calls.faults == 1);
+    Ok(())
+}
+
 /// The account of bob on the shelf below one that shut.
-fn bob_below(alloc: Global, shelf: ShuttingShelf<MemoryShelf>) -> Result<&'static str, Fault> {
+fn bob_below(alloc: Global, shelf: ShuttingShelf<MemoryShelf>) -> Result<&'static str, Fail> {
     let mut below = shelf.into_inner();
     account_of(alloc, &mut below, "bob")
 }
 
-/// The five calls on a shelf that shuts in a commit, which is made below it.
-fn call_shutting(alloc: Global, commit: u64) -> Result<String, Fault> {
-    let mut shelf = ShuttingShelf::new(MemoryShelf::new(alloc)?, commit);
+/// What the five calls answer on a shelf that shuts in the second commit, and whose bob is below it.
+fn call_shutting(alloc: Global) -> Result<(Calls, &'static str), Fail> {
+    let mut shelf = ShuttingShelf::new(MemoryShelf::new(alloc)?, 2);
     let calls = call(alloc, &mut shelf)?;
     let bob = bob_below(alloc, shelf)?;
-    Ok(format!(in alloc; "{calls}; below it bob {bob}")?)
+    Ok((calls, bob))
 }
 
-/// Closes epoch 0 in a request of another one: what the commit answers.
-fn close<S: Shelf>(alloc: Global, shelf: &mut S, epoch: Epoch) -> Result<&'static str, Fault> {
-    let kept = request(alloc, epoch, "close")?;
-    let delta = closing(alloc);
-    Ok(commit_word(alloc, shelf, &delta, &kept))
+/// The second commit is made below, and shuts the shelf.
+#[test]
+fn a_shelf_that_shuts_fails_for_good(rt: HostRuntime) -> Result<(), Fail> {
+    let (calls, bob) = call_shutting(rt.alloc())?;
+    assert!(rt; calls.first == "done");
+    assert!(rt; calls.second == "store");
+    assert!(rt; calls.ann == "store");
+    assert!(rt; calls.bob == "store");
+    assert!(rt; calls.request == "store");
+    assert!(rt; calls.faults == 4);
+    assert!(rt; bob == "account 2");
+    Ok(())
+}
+
+/// What is known of three requests after epoch 0 was closed.
+#[derive(Drop)]
+struct Closed {
+    before: &'static str,
+    own: &'static str,
+    after: &'static str,
 }
 
 /// Stores ann in epoch 0 and closes this epoch in a request of epoch 1; then what is known of both, and of a new one of epoch 1.
-fn call_closing<S: Shelf>(alloc: Global, shelf: &mut S) -> Result<String, Fault> {
-    let epoch = Epoch::from_number(1).unwrap_or(Epoch::first());
-    commit(alloc, shelf, "ann")?;
-    close(alloc, shelf, epoch)?;
-    let before = recall(alloc, shelf, "ann")?;
-    let own = recall_in(alloc, shelf, epoch, "close")?;
-    let after = recall_in(alloc, shelf, epoch, "ann")?;
-    Ok(format!(in alloc; "{before}, {own}, {after}")?)
-}
-
-/// The same in memory.
-fn close_in_memory(alloc: Global) -> Result<String, Fault> {
+fn close_in_memory(alloc: Global) -> Result<Closed, Fail> {
     let mut shelf = MemoryShelf::new(alloc)?;
-    call_closing(alloc, &mut shelf)
+    commit(alloc, &mut shelf, "ann")?;
+    let epoch = Epoch::from_number(1).unwrap_or(Epoch::first());
+    let kept = request(alloc, epoch, "close")?;
+    commit_word(alloc, &mut shelf, &closing(alloc), &kept);
+    let before = recall(alloc, &mut shelf, "ann")?;
+    let own = recall_in(alloc, &mut shelf, epoch, "close")?;
+    let after = recall_in(alloc, &mut shelf, epoch, "ann")?;
+    Ok(Closed { before, own, after })
 }
 
-/// What a shelf answers. Form where no shelf is asked.
-pub fn shelf(alloc: Global, asked: &str, text: &str) -> Result<String, Fault> {
-    let call = text.parse::<u64>().unwrap_or(0);
-    match asked {
-        "shelf" => call_memory(alloc),
-        "failing" => call_faulty(alloc, call),
-        "shutting" => call_shutting(alloc, call),
-        "closing" => close_in_memory(alloc),
-        _ => Err(Fault::Form),
-    }
+#[test]
+fn a_closed_epoch_is_told_and_its_answers_are_given_up(rt: HostRuntime) -> Result<(), Fail> {
+    let closed = close_in_memory(rt.alloc())?;
+    assert!(rt; closed.before == "closed");
+    assert!(rt; closed.own == "recalled");
+    assert!(rt; closed.after == "unknown");
+    Ok(())
 }
