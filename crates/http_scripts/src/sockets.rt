@@ -65,12 +65,17 @@ fn told(rt: &HostRuntime, shelf: &mut MemoryShelf, bytes: &[u8]) -> Result<Strin
     on_one_line(rt.alloc(), response.as_slice())
 }
 
-/// Whether a request gets the same bytes twice on an empty desk in memory, and which.
+/// Whether a request gets the same bytes twice on a shelf, and which.
+fn twice(rt: &HostRuntime, shelf: &mut MemoryShelf, bytes: &[u8]) -> Result<String, Fault> {
+    let first = told(rt, shelf, bytes)?;
+    let second = told(rt, shelf, bytes)?;
+    let word = if first == second { "twice" } else { "once" };
+    Ok(format!(in rt.alloc(); "{word} {first}")?)
+}
+
+/// The same on an empty desk in memory.
 pub fn both_received(rt: &HostRuntime, text: &str) -> Result<String, Fault> {
     let bytes = request_bytes(rt.alloc(), text)?;
     let mut shelf = MemoryShelf::new(rt.alloc())?;
-    let first = told(rt, &mut shelf, bytes.as_slice())?;
-    let second = told(rt, &mut shelf, bytes.as_slice())?;
-    let word = if first == second { "twice" } else { "once" };
-    Ok(format!(in rt.alloc(); "{word} {first}")?)
+    twice(rt, &mut shelf, bytes.as_slice())
 }

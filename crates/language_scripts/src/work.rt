@@ -28,27 +28,46 @@ fn paths(alloc: Global, count: u64) -> Option<Paths> {
     Paths::from_vec(alloc, paths).ok()
 }
 
-/// A change with 20 votes on Code-Review, and so many paths.
-fn change(alloc: Global, count: u64) -> Option<Facts> {
+/// 20 votes on Code-Review.
+fn votes_on_label(alloc: Global) -> Option<BTreeMap<LabelName, BTreeMap<AccountNo, i8>>> {
+    let label = LabelName::read(alloc, "Code-Review").ok()?;
+    let given = votes(alloc)?;
     let mut labels = BTreeMap::new(alloc);
-    labels
-        .insert(LabelName::read(alloc, "Code-Review").ok()?, votes(alloc)?)
-        .ok()?;
-    let mut ranges = BTreeMap::new(alloc);
+    labels.insert(label, given).ok()?;
+    Some(labels)
+}
+
+/// The values of Code-Review.
+fn ranges(alloc: Global) -> Option<BTreeMap<LabelName, ValueRange>> {
+    let label = LabelName::read(alloc, "Code-Review").ok()?;
     let range = ValueRange {
         least: -2,
         greatest: 2,
     };
-    ranges
-        .insert(LabelName::read(alloc, "Code-Review").ok()?, range)
-        .ok()?;
+    let mut ranges = BTreeMap::new(alloc);
+    ranges.insert(label, range).ok()?;
+    Some(ranges)
+}
+
+/// So many paths, and the branch main.
+fn paths_and_branch(alloc: Global, count: u64) -> Option<(Paths, BranchName)> {
+    let branch = BranchName::read(alloc, "main").ok()?;
+    let paths = paths(alloc, count)?;
+    Some((paths, branch))
+}
+
+/// A change with 20 votes on Code-Review, and so many paths.
+fn change(alloc: Global, count: u64) -> Option<Facts> {
+    let (paths, branch) = paths_and_branch(alloc, count)?;
+    let ranges = ranges(alloc)?;
+    let votes = votes_on_label(alloc)?;
     Some(Facts::Change(ChangeFacts {
-        votes: labels,
+        votes,
         ranges,
-        paths: paths(alloc, count)?,
+        paths,
         owner: AccountNo::first(),
         uploader: AccountNo::first(),
-        branch: BranchName::read(alloc, "main").ok()?,
+        branch,
         unresolved: false,
         groups: Groups(BTreeMap::new(alloc)),
     }))

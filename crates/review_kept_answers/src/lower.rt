@@ -12,7 +12,8 @@ use review_table::{Key, Table};
 use review_words::Epoch;
 use std::alloc::{AllocError, Global};
 
-/// The keys of what is given up where an epoch is named: those of lower epochs, of what is stored and of a request that is to be.
+/// The keys of what is given up where an epoch is named: those of lower epochs, of what is stored and of a request that is to be. An error where there was
+/// no memory for them.
 pub fn lower_keys(
     alloc: Global,
     answers: &Table<AnswerKey, StoredAnswer>,
@@ -31,7 +32,7 @@ pub fn lower_keys(
     Ok(keys)
 }
 
-/// The key of a request that is to be stored.
+/// The key of a request that is to be stored. An error where there was no memory for it.
 pub fn key_of(alloc: Global, kept: &Kept) -> Result<AnswerKey, AllocError>
     ensures { IfOk result (λ key. key ≡ key_of (kept_row kept.now).identity) }
 {

@@ -123,7 +123,7 @@ fn answer<S: Shelf, D: Rules>(
 }
 
 /// The same, where what was asked goes out of use.
-fn answer_last<S: Shelf, D: Rules>(
+fn answer_owned<S: Shelf, D: Rules>(
     alloc: Global,
     shelf: &mut S,
     rules: &mut D,
@@ -173,7 +173,7 @@ fn answer_lines<R: Read + Drop, W: Write, S: Shelf, D: Rules>(
         let Some(asked) = next_asked(alloc, &mut lines)? else {
             return Ok(outcome);
         };
-        outcome = outcome.and(answer_last(alloc, shelf, rules, output, asked)?);
+        outcome = outcome.and(answer_owned(alloc, shelf, rules, output, asked)?);
     }
     Err(Fault::Input)
 }

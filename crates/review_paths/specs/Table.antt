@@ -53,8 +53,8 @@ reviewing_paths =
     ∷ []
 
 -- the paths that end it, or take who is called off it, and the one that closes epochs
-abbrev pub ending_paths : List (List ℕ × Place)
-ending_paths =
+abbrev pub state_paths : List (List ℕ × Place)
+state_paths =
     (codes "/changes/{change}/abandon", Abandon)
     ∷ (codes "/changes/{change}/restore", Restore)
     ∷ (codes "/changes/{change}/submit", Submit)
@@ -64,7 +64,7 @@ ending_paths =
 
 -- the paths that there are, each with its place
 abbrev pub paths : List (List ℕ × Place)
-paths = desk_paths ++ (change_paths ++ (reviewing_paths ++ ending_paths))
+paths = desk_paths ++ (change_paths ++ (reviewing_paths ++ state_paths))
 
 -- the paths with more, one after the other
 abbrev pub with_paths : List (List ℕ × Place) → Rows → Rows

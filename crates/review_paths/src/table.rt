@@ -1,6 +1,6 @@
 //! The table of paths.
 ghost use Rattle.std.specs.Prelude.{◌≡◌, IfOk, OnOk};
-ghost use Rattle.review_paths.specs.Table.{change_paths, desk_paths, ending_paths, place_of, reviewing_paths, table, with_path, with_paths};
+ghost use Rattle.review_paths.specs.Table.{change_paths, desk_paths, state_paths, place_of, reviewing_paths, table, with_path, with_paths};
 
 use matchit::{InsertError, Router};
 use std::alloc::{AllocError, Global};
@@ -89,9 +89,9 @@ fn insert_reviewing_paths(router: &mut Router<Place>) -> Result<(), InsertError>
     Ok(())
 }
 
-/// Adds those that end it, or take who is called off it, and the one that closes epochs.
-fn insert_ending_paths(router: &mut Router<Place>) -> Result<(), InsertError>
-    ensures { OnOk result (router.new ≡ with_paths ending_paths router.old) }
+/// Adds those that change its state or take an account out of its attention set, and the one that closes epochs.
+fn insert_state_paths(router: &mut Router<Place>) -> Result<(), InsertError>
+    ensures { OnOk result (router.new ≡ with_paths state_paths router.old) }
 {
     insert_path(router, "/changes/{change}/abandon", Place::Abandon)?;
     insert_path(router, "/changes/{change}/restore", Place::Restore)?;
@@ -114,7 +114,7 @@ fn router(alloc: Global) -> Result<Router<Place>, InsertError>
     insert_desk_paths(&mut router)?;
     insert_change_paths(&mut router)?;
     insert_reviewing_paths(&mut router)?;
-    insert_ending_paths(&mut router)?;
+    insert_state_paths(&mut router)?;
     Ok(router)
 }
 

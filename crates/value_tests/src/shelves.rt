@@ -224,9 +224,9 @@ fn bob_below(alloc: Global, shelf: ShuttingShelf<MemoryShelf>) -> Result<&'stati
 /// What the five calls answer on a shelf that shuts in the second commit, and whose bob is below it.
 fn call_shutting(alloc: Global) -> Result<(Calls, &'static str), Fail> {
     let mut shelf = ShuttingShelf::new(MemoryShelf::new(alloc)?, 2);
-    let calls = call(alloc, &mut shelf)?;
-    let bob = bob_below(alloc, shelf)?;
-    Ok((calls, bob))
+    let calls = call(alloc, &mut shelf);
+    let bob = bob_below(alloc, shelf);
+    Ok((calls?, bob?))
 }
 
 /// The second commit is made below, and shuts the shelf.
@@ -251,17 +251,31 @@ struct Closed {
     after: &'static str,
 }
 
-/// Stores ann in epoch 0 and closes this epoch in a request of epoch 1; then what is known of both, and of a new one of epoch 1.
+/// The second epoch.
+fn next_epoch() -> Epoch {
+    Epoch::from_number(1).unwrap_or(Epoch::first())
+}
+
+/// Closes epoch 0 in a request of epoch 1.
+fn close<S: Shelf>(alloc: Global, shelf: &mut S) -> Result<&'static str, Fail> {
+    let kept = request(alloc, next_epoch(), "close")?;
+    Ok(commit_word(alloc, shelf, &closing(alloc), &kept))
+}
+
+/// Stores ann in epoch 0 and closes this epoch; then what is known of both requests, and of a new one of epoch 1.
+fn call_closing<S: Shelf>(alloc: Global, shelf: &mut S) -> Result<Closed, Fail> {
+    commit(alloc, shelf, "ann")?;
+    close(alloc, shelf)?;
+    let before = recall(alloc, shelf, "ann")?;
+    let own = recall_in(alloc, shelf, next_epoch(), "close")?;
+    let after = recall_in(alloc, shelf, next_epoch(), "ann")?;
+    Ok(Closed { before, own, after })
+}
+
+/// The same on a new shelf.
 fn close_in_memory(alloc: Global) -> Result<Closed, Fail> {
     let mut shelf = MemoryShelf::new(alloc)?;
-    commit(alloc, &mut shelf, "ann")?;
-    let epoch = Epoch::from_number(1).unwrap_or(Epoch::first());
-    let kept = request(alloc, epoch, "close")?;
-    commit_word(alloc, &mut shelf, &closing(alloc), &kept);
-    let before = recall(alloc, &mut shelf, "ann")?;
-    let own = recall_in(alloc, &mut shelf, epoch, "close")?;
-    let after = recall_in(alloc, &mut shelf, epoch, "ann")?;
-    Ok(Closed { before, own, after })
+    call_closing(alloc, &mut shelf)
 }
 
 #[test]

@@ -29,20 +29,31 @@ fn row(table: &Table<AccountNo, u8>, number: u64) -> Option<u8> {
     table.get(&account(number)).copied()
 }
 
-/// The first table with 20 at account 2 and nothing at account 3.
-fn changed_table(alloc: Global) -> Result<Table<AccountNo, u8>, AllocError> {
-    let put = Change {
+/// 20 at account 2 and nothing at account 3.
+fn changes(alloc: Global) -> Result<Vec<Change<AccountNo, u8>>, AllocError> {
+    let mut changes = Vec::new(alloc);
+    changes.push(Change {
         key: account(2),
-        row: Some(20),
-    };
-    let taken = Change {
+        row: Some(20u8),
+    })?;
+    changes.push(Change {
         key: account(3),
         row: None,
-    };
-    let changes = vec![in alloc; put, taken]?;
-    let mut table = first_table(alloc)?;
+    })?;
+    Ok(changes)
+}
+
+fn make_changes(alloc: Global, table: &mut Table<AccountNo, u8>) -> Result<(), AllocError> {
+    let changes = changes(alloc)?;
     table.reserve_all(alloc, &changes)?;
     table.apply(changes);
+    Ok(())
+}
+
+/// The first table with these changes.
+fn changed_table(alloc: Global) -> Result<Table<AccountNo, u8>, AllocError> {
+    let mut table = first_table(alloc)?;
+    make_changes(alloc, &mut table)?;
     Ok(table)
 }
 

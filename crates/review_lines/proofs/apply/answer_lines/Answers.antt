@@ -54,14 +54,14 @@ returns-in_default g c =
     let end : IsNextAsked left rest None = subst (λ (o : Option Asked). IsNextAsked left rest o) c.in_default.is c.in_ok-asked.ensures in
     (was.0, was.1, gave_first _ _ _ was.2.read, was.2.count, was.2.ran, now.sent, now.written, (gave_all _ _ _ was.2.read end.0, now.whole, sym was.2.done), tt)
 
-pub returns-in_err-answer_last : goal.returns-in_err-answer_last
-returns-in_err-answer_last g c =
+pub returns-in_err-answer_owned : goal.returns-in_err-answer_owned
+returns-in_err-answer_owned g c =
     let was = c.loop.invariant.so_far in
     let now = kept _ _ _ _ _ _ _ _ _ _ _ _ _ was.2 c.in_ok-send_unless.ensures.sent.1 c.in_ok-send_unless.ensures.sent.2 in
     let left = prepend_known c.loop.lines.piece (g.R.Read.remaining c.loop.lines.reader) in
     let rest = prepend_known c.next_asked.new.lines.piece (g.R.Read.remaining c.next_asked.new.lines.reader) in
     let next : IsNextAsked left rest (Some c.in-Some.asked) = subst (λ (o : Option Asked). IsNextAsked left rest o) c.in-Some.is c.in_ok-asked.ensures in
-    let did = c.answer_last.ensures.answered in (
+    let did = c.answer_owned.ensures.answered in (
       was.0 ++ next.0 ∷ [],
       was.1 ++ did.0,
       gave_first _ _ _ (gave_more _ _ _ _ _ was.2.read next.2 next.3),
@@ -70,8 +70,8 @@ returns-in_err-answer_last g c =
       now.sent,
       now.written,
       search rules,
-      if_err _ _ _ c.from_residual-in_err-answer_last.ensures.1
-          (λ f is. memory_left f was.0 next.0 was.1 did.0 _ is was.2.count (ap (λ l. now.sent ++ l) c.in_err-answer_last.ensures.kept ∙ now.whole)),
+      if_err _ _ _ c.from_residual-in_err-answer_owned.ensures.1
+          (λ f is. memory_left f was.0 next.0 was.1 did.0 _ is was.2.count (ap (λ l. now.sent ++ l) c.in_err-answer_owned.ensures.kept ∙ now.whole)),
     )
 
 pub loop-preserved : goal.loop-preserved
@@ -81,7 +81,7 @@ loop-preserved g c =
     let left = prepend_known c.loop.lines.piece (g.R.Read.remaining c.loop.lines.reader) in
     let rest = prepend_known c.next_asked.new.lines.piece (g.R.Read.remaining c.next_asked.new.lines.reader) in
     let next : IsNextAsked left rest (Some c.in-Some.asked) = subst (λ (o : Option Asked). IsNextAsked left rest o) c.in-Some.is c.in_ok-asked.ensures in
-    let did = c.in_ok-answer_last.ensures.answered in
+    let did = c.in_ok-answer_owned.ensures.answered in
     record {
       so_far = (
         was.0 ++ next.0 ∷ [],

@@ -6,7 +6,7 @@ pub returns : goal.returns
 unfolding table
 returns c =
     rw (
-      c.in_ok-insert_ending_paths.ensures,
+      c.in_ok-insert_state_paths.ensures,
       c.in_ok-insert_reviewing_paths.ensures,
       c.in_ok-insert_change_paths.ensures,
       c.in_ok-insert_desk_paths.ensures,

@@ -1,5 +1,5 @@
 use Rattle.std.proofs.Common.{refl}
-use Rattle.review_paths.proofs.table.insert_ending_paths.Goals as goal
+use Rattle.review_paths.proofs.table.insert_state_paths.Goals as goal
 
 pub returns : goal.returns
 returns c =
