@@ -244,6 +244,29 @@ fn next_change(found: Option<Option<u64>>) -> Option<ChangeNo> {
     ChangeNo::from_number(u64::from(number) + 1)
 }
 
+// The greatest number of a change, with rows for what stayed of the change after it.
+fn find_last_beside<S: Alter>(
+    tx: &mut Transaction<'_, S>,
+    alloc: Global,
+    rows: &mut Rows,
+    stayed: &mut Rows,
+) -> Result<Sight, Error>
+    ensures same_reference { tx.new.conn.ghost_name ≡ tx.old.conn.ghost_name }
+    ensures looks { Looks (Sees want.LastChange rows.old rows.new) (state S.Store tx.old.conn.now) (state S.Store tx.new.conn.now) result }
+    ensures learnt { IfOk result (λ s. s ≡ Sight.Learnt → HasLearnt want.LastChange rows.old rows.new) }
+{
+    let found = find_greatest::<LastChange, S>(tx, alloc, &())?;
+    let Some(next) = next_change(found) else {
+        return Ok(tell_last_change(found, rows));
+    };
+    let looked = find_change(tx, alloc, next, stayed)?;
+    match looked {
+        Sight::Learnt => Ok(tell_last_change(found, rows)),
+        Sight::NoMemory => Ok(Sight::NoMemory),
+        Sight::Damaged => Ok(Sight::Damaged),
+    }
+}
+
 /// The greatest number of a change. Rows that stayed of a change after it, whose header is gone, are damage: else the next change would get them.
 pub fn find_last_change<S: Alter>(
     tx: &mut Transaction<'_, S>,
@@ -254,15 +277,6 @@ pub fn find_last_change<S: Alter>(
     ensures looks { Looks (Sees want.LastChange rows.old rows.new) (state S.Store tx.old.conn.now) (state S.Store tx.new.conn.now) result }
     ensures learnt { IfOk result (λ s. s ≡ Sight.Learnt → HasLearnt want.LastChange rows.old rows.new) }
 {
-    let found = find_greatest::<LastChange, S>(tx, alloc, &())?;
-    let Some(next) = next_change(found) else {
-        return Ok(tell_last_change(found, rows));
-    };
     let mut stayed = Rows::new(alloc);
-    let looked = find_change(tx, alloc, next, &mut stayed)?;
-    match looked {
-        Sight::Learnt => Ok(tell_last_change(found, rows)),
-        Sight::NoMemory => Ok(Sight::NoMemory),
-        Sight::Damaged => Ok(Sight::Damaged),
-    }
+    find_last_beside(tx, alloc, rows, &mut stayed)
 }

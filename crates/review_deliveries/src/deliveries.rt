@@ -112,12 +112,7 @@ fn write<S: Shelf, R: Rules>(
     let content = content_text(alloc, command)?;
     match shelf.recall(alloc, caller, epoch, id)? {
         Recalled::Kept(kept) => repeated(alloc, &kept, content.as_str()),
-        Recalled::Fresh => {
-            let mut rows = Rows::new(alloc);
-            first_arrival(
-                alloc, shelf, rules, &mut rows, caller, epoch, id, command, content,
-            )
-        }
+        Recalled::Fresh => first_arrival(alloc, shelf, rules, caller, epoch, id, command, content),
         Recalled::Closed => Ok(Reply::EpochClosed),
     }
 }
@@ -155,8 +150,36 @@ fn repeated(alloc: Global, kept: &Kept, content: &str) -> Result<Reply, NotTaken
     }
 }
 
-// Decides a request whose identity is new, by rows that know nothing yet, and stores it with its answer in the same commit.
+// Decides a request whose identity is new and stores it with its answer in the same commit.
 fn first_arrival<S: Shelf, R: Rules>(
+    alloc: Global,
+    shelf: &mut S,
+    rules: &mut R,
+    caller: AccountNo,
+    epoch: Epoch,
+    id: &RequestId,
+    command: &Command,
+    content: String,
+) -> Result<Reply, NotTaken>
+    requires content { string_bytes content ≡ content_text command.now }
+    ensures honest { (S.state shelf.new).is_honest → (S.state shelf.old).is_honest }
+    ensures served { (S.state shelf.new).is_honest → (h : List Entry) → IsHistory h → Views h (S.state shelf.old).tables →
+        IsFirst h (record { caller = caller; epoch = epoch; id = id.now }) →
+        IsServed h (Write caller epoch id.now command.now) (reply_of result) (S.state shelf.old) (S.state shelf.new) }
+    ensures unchanged { (S.state shelf.new).is_honest → Shows (S.state shelf.old).tables (λ t. Answers t (record { caller = caller; epoch = epoch; id = id.now }) None) →
+        KeepsUntaken (Write caller epoch id.now command.now) (reply_of result) (S.state shelf.old).tables (S.state shelf.new).tables }
+    ensures once { (S.state shelf.new).is_honest → Shows (S.state shelf.old).tables (λ t. Answers t (record { caller = caller; epoch = epoch; id = id.now }) None) →
+        StoresOnce (Write caller epoch id.now command.now) (reply_of result) (S.state shelf.old).tables (S.state shelf.new).tables }
+    ensures counted { CountsReply (reply_of result) (S.state shelf.old).faults (S.state shelf.new).faults }
+{
+    let mut rows = Rows::new(alloc);
+    first_arrival_with(
+        alloc, shelf, rules, &mut rows, caller, epoch, id, command, content,
+    )
+}
+
+// The same, with the rows by which it is decided, which know nothing yet.
+fn first_arrival_with<S: Shelf, R: Rules>(
     alloc: Global,
     shelf: &mut S,
     rules: &mut R,

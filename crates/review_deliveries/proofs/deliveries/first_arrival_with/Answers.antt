@@ -19,7 +19,7 @@ use Rattle.review_deliveries.proofs.Served.{first_served, not_taken_served, faul
 use Rattle.review_words.specs.History.{Identity, entry_of}
 use Rattle.review_deliveries.proofs.Effects.{stores_once, stored_shown, decided_keeps, fault_keeps, fault_counts, stored_counts}
 use Rattle.review_deliveries.proofs.Asking.{left_before}
-use Rattle.review_deliveries.proofs.deliveries.first_arrival.Goals as goal
+use Rattle.review_deliveries.proofs.deliveries.first_arrival_with.Goals as goal
 
 pub returns-clause-served : goal.returns-clause-served
 returns-clause-served g c = λ honest h hist v fresh.

@@ -7,7 +7,7 @@ use Rattle.review_change_records.specs.Forms.{change_numbers}
 use Rattle.review_tables.proofs.Found.{look_both, look_on}
 use Rattle.review_database.specs.declared.sights.Sight.{Sight}
 use Rattle.review_database.specs.Loads.{Sees}
-use Rattle.review_change_lookups.proofs.reviews.find_last_change.Goals as goal
+use Rattle.review_change_lookups.proofs.reviews.find_last_beside.Goals as goal
 
 pub returns-in_default-clause-looks : goal.returns-in_default-clause-looks
 returns-in_default-clause-looks g c =
@@ -17,7 +17,7 @@ returns-in_default-clause-looks g c =
 pub returns-in-Learnt-clause-looks : goal.returns-in-Learnt-clause-looks
 returns-in-Learnt-clause-looks g c =
     let F : Trees → Option (Option ℕ) → Type 0 = λ db found. HasGreatest change_numbers 0 tt db found in
-    let G : Trees → Sight → Type 0 = λ db s. Sees (want.Change c.in-Some.next) c.new-stayed.result c.find_change.new.rows db s in
+    let G : Trees → Sight → Type 0 = λ db s. Sees (want.Change c.in-Some.next) c.args.stayed.now c.find_change.new.rows db s in
     let s0 = state g.S.Store c.args.tx.now.conn.now in
     let s1 = state g.S.Store c.find_greatest.new.tx.conn.now in
     let s2 = state g.S.Store c.find_change.new.tx.conn.now in
