@@ -40,7 +40,7 @@ use Rattle.review_rows.specs.Changes.{Reading, Reads, change, effective_of, file
 use Rattle.review_rows.specs.Files.{IsRead}
 use Rattle.review_rows.specs.Lines.{line_of, most_depth, with_above}
 use Rattle.review_rows.proofs.Readings.{IsDoneBy, done_of}
-use Rattle.review_vote_laws.proofs.Standing.{votes_stand}
+use Rattle.review_ancestors.proofs.Standing.{votes_stand}
 use Rattle.review_deliveries.proofs.Named.{AreReadRight}
 use Rattle.review_deliveries.proofs.OneFile.{spelled_once}
 use Rattle.review_deliveries.proofs.Voted.{have_voters}

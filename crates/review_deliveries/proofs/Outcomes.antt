@@ -17,7 +17,7 @@ use Rattle.review_project.specs.Inherited.{inherit, inherits_unknown_label}
 use Rattle.review_project.specs.Reading.{IsBadValue}
 use Rattle.review_project.specs.Trees.{ExprTree, file_trees}
 use Rattle.review_project.specs.View.{FileView}
-use Rattle.review_project_laws.proofs.Together.{never_both, one_refusal}
+use Rattle.review_inheritance.proofs.Together.{never_both, one_refusal}
 use Rattle.review_inheritance.proofs.Alike.{covers_alike, inherit_alike, inherits_alike}
 use Rattle.review_changes.specs.Change.{Change, carried, copying, current, is_lost}
 use Rattle.review_words.specs.declared.command.ChangeCommand.TheVariants as change_asked

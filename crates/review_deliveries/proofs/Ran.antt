@@ -7,7 +7,7 @@ use Rattle.review_rows.specs.Answer.{IsHistory}
 use Rattle.review_rows.specs.Rows.{Tables}
 use Rattle.review_rows.specs.Shelf.{Shown, Views}
 use Rattle.review_branch_laws.proofs.Sound.{sound_branches}
-use Rattle.review_vote_laws.proofs.Sound.{sound_projects}
+use Rattle.review_ancestors.proofs.Sound.{sound_projects}
 use Rattle.review_deliveries.specs.Delivered.{IsDelivered, WasRun}
 use Rattle.review_deliveries.specs.Replies.{AreSteps, CountsReplies, IsRun, history_after}
 use Rattle.review_deliveries.proofs.Going.{run_none, run_one, run-append}

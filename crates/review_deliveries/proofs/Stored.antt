@@ -26,7 +26,7 @@ use Rattle.review_judging.specs.declared.facts.ChangeFacts.{ChangeFacts}
 use Rattle.review_expr.specs.declared.expr.Expr.{Expr}
 use Rattle.review_expr.specs.declared.expr.Facts.TheVariants as facts
 use Rattle.review_project.specs.View.{RequirementView}
-use Rattle.review_project_laws.proofs.Placed.{placed}
+use Rattle.review_inheritance.proofs.Placed.{placed}
 use Rattle.review_chain.specs.declared.links.Link.{Link}
 use Rattle.review_chain.specs.declared.walks.ChainFault.{ChainFault}
 use Rattle.review_chain.specs.declared.walks.ChainFault.TheVariants.{Outdated, Abandoned, Wip, TooLong, Broken, Unknown, Memory as FaultMemory}

@@ -6,7 +6,7 @@ use Rattle.review_words.specs.History.{Entry}
 use Rattle.review_rows.specs.Answer.{IsHistory}
 use Rattle.review_rows.specs.Shelf.{Shown, Views}
 use Rattle.review_branch_laws.specs.Sound.{AreSoundBranches}
-use Rattle.review_vote_laws.specs.Sound.{AreSoundProjects}
+use Rattle.review_ancestors.specs.Sound.{AreSoundProjects}
 use Rattle.review_deliveries.specs.Replies.{IsServed, IsRun, AreSteps, KeepsUntaken, StoresOnce, CountsReply, CountsReplies, StopGoesOnFrom, StopHasEntry, history_after}
 
 -- One delivery got this reply. What is said of tables is said where the store returned what was written to it.

@@ -1,7 +1,7 @@
 //! Connections on loopback, each with a time of its own.
 ghost use Rattle.std.specs.Io.{ReadsAtMost};
 
-use review_serving::{Connections, ConnectionsFault};
+use review_http::{Connections, ConnectionsFault};
 use std::io;
 use std::io::{Error, ErrorKind, Read, Write};
 use std::net::{Shutdown, TcpListener, TcpStream};

@@ -11,7 +11,7 @@ use Rattle.review_project.specs.Reading.{IsRead, IsReadFault}
 use Rattle.review_project.specs.View.{FileView}
 use Rattle.review_project.specs.declared.fault.ReadFault.{ReadFault}
 use Rattle.review_project.specs.declared.fault.ReadFault.TheVariants as read
-use Rattle.review_project_laws.proofs.Together.{never_both}
+use Rattle.review_inheritance.proofs.Together.{never_both}
 use Rattle.review_effective.specs.Texts.{IsLineFault}
 
 -- an effective file of texts is one of the same texts

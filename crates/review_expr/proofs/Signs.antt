@@ -5,11 +5,11 @@ use Rattle.std.proofs.lemmas.Bool.Decides.{nat_tests}
 use Rattle.std.proofs.lemmas.List.{map-append}
 use Rattle.std.proofs.lemmas.Str.{encode_ascii}
 use lib.Utf8.{encode}
-use Rattle.review_grammar.specs.Words.{Reading, Bad, Flaw, NoTerm, NoValue, Zero, IsWordFault}
-use Rattle.review_grammar.specs.declared.word.WordFault.{WordFault}
-use Rattle.review_grammar.specs.declared.word.WordFault.TheVariants as fault
-use Rattle.review_grammar.specs.declared.token.Token.{Token}
-use Rattle.review_grammar.specs.Views.{tok, toks}
+use Rattle.review_terms.specs.Words.{Reading, Bad, Flaw, NoTerm, NoValue, Zero, IsWordFault}
+use Rattle.review_terms.specs.declared.word.WordFault.{WordFault}
+use Rattle.review_terms.specs.declared.word.WordFault.TheVariants as fault
+use Rattle.review_terms.specs.declared.token.Token.{Token}
+use Rattle.review_terms.specs.Views.{tok, toks}
 use Rattle.review_expr.specs.Tokens.{meaning, alone, behind_minus, lone_minus, after_minus, unsigned, word_tokens}
 
 unequal : (c d : ℕ) → c ≢ d → (c == d) ≡ false

@@ -1,14 +1,14 @@
 -- From the pieces of a text and their tokens to what the text is.
 use Rattle.std.proofs.Common.{◌≡◌, ℕ, ◌≤◌, List, length, Some, IsTrue, refl, sym, ap, ◌∙◌, subst, arith, inr}
 use Rattle.std.proofs.lemmas.List.{length-map}
-use Rattle.review_grammar.specs.Grammar.{Tok}
-use Rattle.review_grammar.specs.Lexemes.{IsCut, balanced}
-use Rattle.review_grammar.specs.Scanned.{lexeme, lexemes}
-use Rattle.review_grammar.specs.Views.{IsShapeFault}
-use Rattle.review_grammar.specs.Words.{Reading}
-use Rattle.review_grammar.specs.declared.lexemes.Piece.{Piece}
-use Rattle.review_grammar.specs.declared.parser.ShapeFault.{ShapeFault}
-use Rattle.review_grammar.specs.declared.parser.ShapeFault.TheVariants as shape
+use Rattle.review_terms.specs.Grammar.{Tok}
+use Rattle.review_terms.specs.Lexemes.{IsCut, balanced}
+use Rattle.review_terms.specs.Scanned.{lexeme, lexemes}
+use Rattle.review_terms.specs.Views.{IsShapeFault}
+use Rattle.review_terms.specs.Words.{Reading}
+use Rattle.review_terms.specs.declared.lexemes.Piece.{Piece}
+use Rattle.review_terms.specs.declared.parser.ShapeFault.{ShapeFault}
+use Rattle.review_terms.specs.declared.parser.ShapeFault.TheVariants as shape
 use Rattle.review_expr.specs.Tokens.{tokens}
 use Rattle.review_expr.specs.Expressions.{IsLaidOut, HasTokens}
 use Rattle.review_expr.specs.Faults.{IsParseFault, shape_fault}

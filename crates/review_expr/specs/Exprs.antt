@@ -1,6 +1,6 @@
 -- Expressions by their kinds.
 use Rattle.std.specs.Prelude.{ℕ, Bool, false, List, []}
-use Rattle.review_grammar.specs.Views.{view}
+use Rattle.review_terms.specs.Views.{view}
 use Rattle.review_judging.specs.Holds.{holds, requirement_holds, copy_holds}
 use Rattle.review_judging.specs.Labels.{labels}
 use Rattle.review_judging.specs.Postfix.{AreStepsOf}

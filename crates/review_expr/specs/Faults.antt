@@ -1,14 +1,14 @@
 -- Why a text is no expression.
 use Rattle.std.specs.Prelude.{◌≡◌, ◌⊎◌, ℕ, ◌<◌, ◌≤◌, List, ◌∷◌, ◌++◌, length, IsSome, IsTrue, false}
-use Rattle.review_grammar.specs.Grammar.{Tok, Fault, HasFault, BadTerm, TooDeep, Mixed}
-use Rattle.review_grammar.specs.Lexemes.{Lexeme, Word, IsCut, all_blank, balanced}
-use Rattle.review_grammar.specs.Words.{Reading, Bad, Flaw, NoTerm, NoValue, Zero}
-use Rattle.review_grammar.specs.declared.word.WordFault.{WordFault}
-use Rattle.review_grammar.specs.declared.word.WordFault.TheVariants as word
-use Rattle.review_grammar.specs.declared.lexemes.CutFault.{CutFault}
-use Rattle.review_grammar.specs.declared.lexemes.CutFault.TheVariants as cut
-use Rattle.review_grammar.specs.declared.parser.ShapeFault.{ShapeFault}
-use Rattle.review_grammar.specs.declared.parser.ShapeFault.TheVariants as shape
+use Rattle.review_terms.specs.Grammar.{Tok, Fault, HasFault, BadTerm, TooDeep, Mixed}
+use Rattle.review_terms.specs.Lexemes.{Lexeme, Word, IsCut, all_blank, balanced}
+use Rattle.review_terms.specs.Words.{Reading, Bad, Flaw, NoTerm, NoValue, Zero}
+use Rattle.review_terms.specs.declared.word.WordFault.{WordFault}
+use Rattle.review_terms.specs.declared.word.WordFault.TheVariants as word
+use Rattle.review_terms.specs.declared.lexemes.CutFault.{CutFault}
+use Rattle.review_terms.specs.declared.lexemes.CutFault.TheVariants as cut
+use Rattle.review_terms.specs.declared.parser.ShapeFault.{ShapeFault}
+use Rattle.review_terms.specs.declared.parser.ShapeFault.TheVariants as shape
 use Rattle.review_expr.specs.Tokens.{lexeme_tokens, tokens_before, unsigned}
 use Rattle.review_expr.specs.Expressions.{IsLaidOut, HasTokens}
 use Rattle.review_words.specs.declared.faults.ExprCode.{ExprCode}

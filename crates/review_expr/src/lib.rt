@@ -10,12 +10,16 @@
 //! definition says (`eval`). One place is free: a pattern that nests deeper than the engine reads
 //! may be read or refused. An expression is compiled to a flat list of its terms and operators (`compile`), which holds where
 //! the expression does (`Terms::eval`) and is run without recursion. `review_printing` writes expressions.
+//! ---
+//! Laws of the definitions of expressions, as contracts of calls that do nothing: a text has at most one tree and one fault, and never
+//! both, but for a pattern that nests deeper than the engine reads; a fault's place lies in the text.
 #![tactic(auto)]
 
 pub mod compiled;
 pub mod expr;
 pub mod expression;
 pub mod fault;
+pub mod laws;
 mod reader;
 pub mod spelled;
 mod terms;
@@ -25,5 +29,6 @@ pub use compiled::{TermList, Terms, compile};
 pub use expr::{EvalFault, Expr, Facts, eval, labels_of, parse_copy, parse_requirement};
 pub use expression::Expression;
 pub use fault::ParseFault;
+pub use laws::{never_both, one_expression, one_fault, place_within};
 pub use review_words::{ExprCode, ExprFault};
 pub use spelled::Spelled;

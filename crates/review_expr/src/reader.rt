@@ -1,6 +1,6 @@
 //! From a text to the tree.
 ghost use Rattle.std.specs.Prelude.{◌≡◌, IfOk, IfErr};
-ghost use Rattle.review_grammar.specs.Views.{view};
+ghost use Rattle.review_terms.specs.Views.{view};
 ghost use Rattle.review_expr.specs.Expressions.{HasExpr};
 ghost use Rattle.review_expr.specs.Faults.{IsParseFault, cut_fault, shape_fault};
 
@@ -8,7 +8,7 @@ use crate::expression::Expression;
 use crate::fault::ParseFault;
 use crate::spelled::Spelled;
 use crate::words::tokens_of;
-use review_grammar::{CutFault, Node, ShapeFault, cut};
+use review_terms::{CutFault, Node, ShapeFault, cut};
 use review_words::ExprCode;
 use std::alloc::Global;
 
@@ -47,7 +47,7 @@ pub(crate) fn read_tree<T: Spelled>(alloc: Global, text: &str) -> Result<Node<T>
         Ok(tokens) => tokens,
         Err(fault) => return Err(fault),
     };
-    match review_grammar::parse(alloc, tokens) {
+    match review_terms::parse(alloc, tokens) {
         Ok(node) => Ok(node),
         Err(fault) => Err(shape_fault(fault)),
     }

@@ -1,9 +1,8 @@
 //! How the words of requirements and of copy conditions are read.
 
 use crate::spelled::Spelled;
-use review_grammar::WordFault;
 use review_spelling::{read_copy, read_requirement};
-use review_terms::{CopyTerm, RequirementTerm};
+use review_terms::{CopyTerm, RequirementTerm, WordFault};
 use std::alloc::Global;
 
 impl Spelled for RequirementTerm {

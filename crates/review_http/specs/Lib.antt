@@ -1,1 +1,4 @@
 pub mod Served
+pub mod Peers
+pub mod Statuses
+pub mod Responses

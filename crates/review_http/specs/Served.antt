@@ -8,8 +8,8 @@ use Rattle.review_deliveries.specs.Delivered.{IsDelivered}
 use Rattle.review_counted.specs.Bytes.{Gave, IsFirstPart}
 use Rattle.review_paths.specs.declared.fault.HttpFault.{HttpFault}
 use Rattle.review_requests.specs.Wire.{CallsFor, IsNotWhole}
-use Rattle.review_responses.specs.Statuses.{status_of}
-use Rattle.review_responses.specs.Responses.{response}
+use Rattle.review_http.specs.Statuses.{status_of}
+use Rattle.review_http.specs.Responses.{response}
 use Rattle.review_http.specs.declared.serve.Served.{Served}
 use Rattle.review_http.specs.declared.serve.Served.TheVariants.{Answered, Empty}
 use Rattle.review_http.specs.declared.serve.ServeFault.{ServeFault}

@@ -5,11 +5,12 @@ ghost use Rattle.review_counted.specs.Counts.{greatest, one_more};
 ghost use Rattle.review_counted.specs.Shown.{inner_of, reads_of, faults_of};
 ghost use Rattle.review_http.specs.Served.{IsWritten, WasServed};
 
+use crate::response::response_of;
+use crate::status::status_of;
 use review_counted::{Counted, write_and_flush};
 use review_deliveries::{Rules, deliver};
 use review_paths::{HttpFault, Routes};
 use review_requests::{RequestFault, read_request};
-use review_responses::{response_of, status_of};
 use review_rows::Shelf;
 use review_words::Reply;
 use std::alloc::Global;

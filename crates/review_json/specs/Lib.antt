@@ -3,3 +3,4 @@ pub mod Line
 pub mod Values
 pub mod Shown
 pub mod Answer
+pub mod Laws

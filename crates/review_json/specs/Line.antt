@@ -7,7 +7,7 @@ use Rattle.review_names.specs.Numerals.{◌>>=◌}
 use Rattle.review_words.specs.declared.command.Command.{Command}
 use Rattle.review_words.specs.declared.command.Delivery.{Delivery}
 use Rattle.review_words.specs.declared.command.Delivery.TheVariants.{Write, Read}
-use Rattle.review_bodies.specs.Parts.{or_absent, text_at, name_at, account_at, epoch_or_first}
+use Rattle.review_routes.specs.Parts.{or_absent, text_at, name_at, account_at, epoch_or_first}
 use Rattle.review_routes.specs.declared.route.Route.{Route}
 use Rattle.review_routes.specs.Texts.{value_spelled, if_object}
 use Rattle.review_routes.specs.Commands.{command_in}

@@ -7,8 +7,8 @@ use Rattle.review_names.specs.Forms.{is_slashed_name}
 use Rattle.review_names.specs.Numerals.{◌>>=◌}
 use Rattle.review_words.specs.declared.command.ChangeQuery.{ChangeQuery}
 use Rattle.review_words.specs.declared.command.ChangeQuery.TheVariants.{Change, Requirements, Threads, Attention}
-use Rattle.review_bodies.specs.Parts.{name_at, account_at, change_at}
-use Rattle.review_bodies.specs.Reviews.{patch_in}
+use Rattle.review_routes.specs.Parts.{name_at, account_at, change_at}
+use Rattle.review_routes.specs.Reviews.{patch_in}
 use Rattle.review_routes.specs.declared.route.ChangeRoute.{ChangeRoute}
 use Rattle.review_routes.specs.declared.route.ChangeRoute.TheVariants.{Upload, Review, AddReviewer, RemoveReviewer, SetWip, SetReady, Abandon, Restore, AddAttention, RemoveAttention}
 use Rattle.review_routes.specs.declared.route.Route.{Route}

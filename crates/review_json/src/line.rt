@@ -1,11 +1,13 @@
 //! The delivery that a line spells.
 ghost use Rattle.serde_json.specs.View.{view};
-ghost use Rattle.review_bodies.specs.Parts.{Gives};
+ghost use Rattle.review_routes.specs.Parts.{Gives};
 ghost use Rattle.review_json.specs.Line.{command_in_line, write_in, read_in, delivery_in, delivery_spelled};
 
 use crate::routes::route_named;
-use review_bodies::{BadBody, account_at, epoch_or_first, name_at, text_at};
-use review_routes::{Route, command_in, is_question, query_of, value_of};
+use review_routes::{
+    BadBody, Route, account_at, command_in, epoch_or_first, is_question, name_at, query_of,
+    text_at, value_of,
+};
 use review_words::{AccountNo, Command, Delivery};
 use serde_json::{Map, Value};
 use std::alloc::Global;

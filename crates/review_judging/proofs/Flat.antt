@@ -4,9 +4,9 @@ use Rattle.std.proofs.lemmas.List.{append-nil, length-append, length-map, map-ap
 use Rattle.std.proofs.Math.ListN.{drop_of_length-le}
 use Rattle.std.proofs.Math.Seq.{drop-append_seam, take-append_seam}
 use Rattle.std.specs.List.{list_all, list_any}
-use Rattle.review_grammar.specs.declared.tree.Node.{Node}
-use Rattle.review_grammar.specs.Grammar.{Tree, Term, Neg, All, Any, Trees, End, With, trees}
-use Rattle.review_grammar.specs.Views.{view}
+use Rattle.review_terms.specs.declared.tree.Node.{Node}
+use Rattle.review_terms.specs.Grammar.{Tree, Term, Neg, All, Any, Trees, End, With, trees}
+use Rattle.review_terms.specs.Views.{view}
 use Rattle.review_judging.specs.declared.compiled.Step.{Step}
 use Rattle.review_judging.specs.Holds.{holds, all_hold, any_holds}
 use Rattle.review_judging.specs.Postfix.{Entry, NotEntry, AndEntry, OrEntry, entry, how_many, postfix, postfixes}

@@ -5,7 +5,7 @@ use Rattle.std.specs.Cmp.Lexicographic.{slice_cmp}
 use Rattle.std.specs.List.{list_any}
 use Rattle.std.specs.Ordering.{nat_cmp, int_eq}
 use Rattle.std.specs.Str.{bytes_eq}
-use Rattle.review_grammar.specs.Grammar.{Tree, Term, Neg, All, Any, Trees, End, With}
+use Rattle.review_terms.specs.Grammar.{Tree, Term, Neg, All, Any, Trees, End, With}
 use Rattle.review_names.specs.Forms.{components}
 use Rattle.review_names.specs.Groups.{has_account}
 use Rattle.review_terms.specs.Patterns.{matches_whole}

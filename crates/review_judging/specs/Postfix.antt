@@ -1,6 +1,6 @@
 -- The flat list of an expression.
 use Rattle.std.specs.Prelude.{◌≡◌, ℕ, ◌+◌, List, [], ◌∷◌, ◌++◌, map}
-use Rattle.review_grammar.specs.Grammar.{Tree, Term, Neg, All, Any, Trees, End, With}
+use Rattle.review_terms.specs.Grammar.{Tree, Term, Neg, All, Any, Trees, End, With}
 use Rattle.review_judging.specs.declared.compiled.Step.{Step}
 use Rattle.review_judging.specs.declared.compiled.Step.TheVariants as step
 

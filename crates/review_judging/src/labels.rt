@@ -1,13 +1,12 @@
 //! The labels that an expression names.
 ghost use Rattle.std.specs.Prelude.{◌≡◌, ◌++◌, IfOk, OnOk, map};
 ghost use Rattle.review_names.specs.Forms.{text_set};
-ghost use Rattle.review_grammar.specs.Grammar.{trees};
-ghost use Rattle.review_grammar.specs.Views.{view};
+ghost use Rattle.review_terms.specs.Grammar.{trees};
+ghost use Rattle.review_terms.specs.Views.{view};
 ghost use Rattle.review_judging.specs.Labels.{all_labels, label_in, labels};
 
-use review_grammar::Node;
 use review_names::LabelName;
-use review_terms::RequirementTerm;
+use review_terms::{Node, RequirementTerm};
 use std::alloc::{AllocError, Global};
 use std::collections::BTreeSet;
 

@@ -7,7 +7,7 @@ use Rattle.review_rows.specs.View.{IsView}
 use Rattle.review_words.specs.declared.command.Delivery.{Delivery}
 use Rattle.review_words.specs.declared.reply.Reply.{Reply}
 use Rattle.review_branch_laws.specs.Sound.{AreSoundBranches}
-use Rattle.review_vote_laws.specs.Sound.{AreSoundProjects}
+use Rattle.review_ancestors.specs.Sound.{AreSoundProjects}
 use Rattle.review_deliveries.specs.Replies.{IsRun, history_after}
 use Rattle.review_lines.specs.Answers.{WereAnswered}
 use Rattle.review_lines.specs.declared.fault.Fault.{Fault}

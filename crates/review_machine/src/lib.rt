@@ -7,23 +7,29 @@
 //! deliveries and no lines. All are those of `review_deliveries`, with the rules of a desk: [`DeskRules`] asks the tables by `review_needs`, reads the
 //! file of the project by which a command is judged by `review_file_decisions`, and decides by `review_decisions`; it remembers the files that it read,
 //! and no answer depends on which.
+//! ---
+//! The answer to any command or question, from the rows that decide it.
+//!
+//! [`decide`] gives a command's reply and what it changes, [`show`] the answer to a question. Nothing here knows where rows come from, or that a request may come twice.
 #![tactic(auto)]
 
 pub mod apply;
+pub mod decisions;
 pub mod desk;
 pub mod memory;
 pub mod rules;
 pub mod serve;
 
 pub use apply::apply_lines;
+pub use decisions::decide;
 pub use desk::{deliver, run};
 pub use memory::apply_in_memory;
-pub use review_decisions::{decide, show};
 pub use review_deliveries::{
     Stopped, gather, one_answer, restart_completes, runs_compose, runs_go_on,
 };
 pub use review_lines::{Fault, Outcome};
 pub use review_needs::next_need;
+pub use review_questions::show;
 pub use review_rows::{Delta, Kept, Matter, Need, Rows, Shelf, ShelfFault};
 pub use review_shelves::{FaultyShelf, MemoryShelf, ShuttingShelf};
 pub use rules::DeskRules;

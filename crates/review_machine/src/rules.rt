@@ -1,11 +1,12 @@
 //! The decisions as rules.
+use crate::decisions::decide;
 use review_chain::Walked;
-use review_decisions::{decide, show};
 use review_deliveries::Rules;
 use review_effective::FileMemo;
 use review_file::ProjectFile;
 use review_file_decisions::read_file_for;
 use review_needs::next_need;
+use review_questions::show;
 use review_rows::{Delta, Matter, Need, Rows};
 use review_words::{AccountNo, Command, Epoch, NotTaken, Query, Reply};
 use std::alloc::{AllocError, Global};

@@ -5,7 +5,7 @@ use Rattle.std.specs.Str.{bytes_eq}
 use Rattle.percent_encoding.specs.Percent.{percent_decode}
 use Rattle.review_names.specs.Forms.{components, most_changes, most_patches}
 use Rattle.review_names.specs.Numerals.{account_of, number_of}
-use Rattle.review_bodies.specs.Parts.{within}
+use Rattle.review_routes.specs.Parts.{within}
 use Rattle.review_routes.specs.Texts.{name_of_bytes}
 
 -- what stands behind so many slashes of a path, up to the next slash or the end of the path; nothing where the path has fewer slashes

@@ -1,13 +1,12 @@
 //! The segments of a path, and the names and numbers that they are once decoded.
 ghost use Rattle.std.specs.Prelude.{◌≡◌, IfOk};
 ghost use Rattle.percent_encoding.specs.Percent.{percent_decode};
-ghost use Rattle.review_bodies.specs.Parts.{Gives};
+ghost use Rattle.review_routes.specs.Parts.{Gives};
 ghost use Rattle.review_paths.specs.Segments.{segment, name_in, account_in, change_shown, change_in, patch_numbered, patch_shown, patch_in};
 
 use percent_encoding::percent_decode;
-use review_bodies::BadBody;
 use review_names::{read_account, read_number};
-use review_routes::name_of_bytes;
+use review_routes::{BadBody, name_of_bytes};
 use review_words::{AccountNo, ChangeNo, Form, Name, PatchNo};
 use std::alloc::{AllocError, Global};
 

@@ -5,13 +5,13 @@ use Rattle.std.specs.Prelude.{if◌then◌else◌}
 use Rattle.std.specs.Str.{bytes_eq}
 use Rattle.std.proofs.lemmas.List.{append-nil}
 use Rattle.std.proofs.lemmas.Option.{same_Some}
-use Rattle.review_grammar.specs.Grammar.{Tok, Unary, Members, Leaf, Group, Not, One, Next, Tree, Term, Neg, All, Any, Trees, End, With, tree, all_depth, spelled, all_spelled, between}
-use Rattle.review_grammar.specs.Grammar.{Word as Token}
-use Rattle.review_grammar.specs.Lexemes.{Lexeme, IsCut}
-use Rattle.review_grammar.specs.Words.{Reading, Good}
+use Rattle.review_terms.specs.Grammar.{Tok, Unary, Members, Leaf, Group, Not, One, Next, Tree, Term, Neg, All, Any, Trees, End, With, tree, all_depth, spelled, all_spelled, between}
+use Rattle.review_terms.specs.Grammar.{Word as Token}
+use Rattle.review_terms.specs.Lexemes.{Lexeme, IsCut}
+use Rattle.review_terms.specs.Words.{Reading, Good}
 use Rattle.std.specs.Char.{is_ascii_lowercase}
 use Rattle.std.proofs.lemmas.Bool.Decides.{nat_tests}
-use Rattle.review_writing.specs.Printed.{IsOneWord}
+use Rattle.review_printing.specs.Written.{IsOneWord}
 use Rattle.review_expr.specs.Tokens.{operator_by, operator_or, alone, word_tokens, tokens}
 use Rattle.review_expr.specs.Expressions.{HasExpr, IsExpression}
 use Rattle.review_printing.specs.Printed.{printed}

@@ -1,6 +1,6 @@
 -- A tree that tokens have is printed no deeper than they are, and its lists have two members or more.
 use Rattle.std.proofs.Common.{◌≡◌, ℕ, ◌+◌, ◌≤◌, max, Bool, true, false, ◌&&◌, List, [], ◌∷◌, refl, arith}
-use Rattle.review_grammar.specs.Grammar.{Join, And, Or, Unary, Members, Leaf, Group, Not, One, Next, Tree, Term, Neg, All, Any, trees, many, listed, has_or, tree_of, trees_of, tree, depth, all_depth}
+use Rattle.review_terms.specs.Grammar.{Join, And, Or, Unary, Members, Leaf, Group, Not, One, Next, Tree, Term, Neg, All, Any, trees, many, listed, has_or, tree_of, trees_of, tree, depth, all_depth}
 use Rattle.review_printing.proofs.Levels.{member, joined, level, is_full, are_full}
 
 -- the greatest depth of these as members

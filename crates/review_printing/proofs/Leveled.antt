@@ -1,6 +1,6 @@
 -- A tree's members have the tree, and no level of them is mixed.
 use Rattle.std.proofs.Common.{◌≡◌, Bool, true, false, ◌&&◌, ◌||◌, ◌∷◌, refl, ap, ap₂, ◌∙◌}
-use Rattle.review_grammar.specs.Grammar.{Join, And, Or, Members, One, Next, Tree, Term, Neg, All, Any, Trees, End, With, trees, many, listed, has_or, has_and, tree_of, trees_of, tree, mixed, any_mixed, is_mixed}
+use Rattle.review_terms.specs.Grammar.{Join, And, Or, Members, One, Next, Tree, Term, Neg, All, Any, Trees, End, With, trees, many, listed, has_or, has_and, tree_of, trees_of, tree, mixed, any_mixed, is_mixed}
 use Rattle.review_printing.proofs.Levels.{member, joined, level, is_full, are_full, is_some_tree}
 
 and_left : (a b : Bool) → a && b ≡ true → a ≡ true

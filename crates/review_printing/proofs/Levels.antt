@@ -1,6 +1,6 @@
 -- A tree as members of the grammar: lists that are members stand in parentheses. An empty list has no members, and stands here for a term.
 use Rattle.std.specs.Prelude.{Bool, true, false, ◌&&◌}
-use Rattle.review_grammar.specs.Grammar.{Join, And, Or, Unary, Members, Leaf, Group, Not, One, Next, Tree, Term, Neg, All, Any, Trees, End, With}
+use Rattle.review_terms.specs.Grammar.{Join, And, Or, Unary, Members, Leaf, Group, Not, One, Next, Tree, Term, Neg, All, Any, Trees, End, With}
 
 abbrev pub join_to : {A : Type 0} → Join → Unary A → Trees A → Members A → Members A
 join_to j u End ms = One u

@@ -1,6 +1,6 @@
 -- How an expression is written, where a term's word is known.
 use Rattle.std.specs.Prelude.{ℕ, zero, suc, List, [], ◌++◌, codes}
-use Rattle.review_grammar.specs.Grammar.{Tree, Term, Neg, All, Any, Trees, End, With}
+use Rattle.review_terms.specs.Grammar.{Tree, Term, Neg, All, Any, Trees, End, With}
 
 -- a tree as a member: a list stands in parentheses
 abbrev mutual

@@ -1,12 +1,12 @@
 //! From the tree to a text.
 ghost use Rattle.std.specs.Prelude.{◌≡◌, ◌++◌, IfOk, OnOk, map, string_bytes};
-ghost use Rattle.review_grammar.specs.Grammar.{trees};
-ghost use Rattle.review_grammar.specs.Views.{view};
+ghost use Rattle.review_terms.specs.Grammar.{trees};
+ghost use Rattle.review_terms.specs.Views.{view};
 ghost use Rattle.review_printing.specs.Printed.{joined_text, member_text, printed};
 
 use crate::written::Written;
 use review_expr::Expression;
-use review_grammar::Node;
+use review_terms::Node;
 use std::alloc::{AllocError, Global};
 
 /// Writes a tree as a member of another.

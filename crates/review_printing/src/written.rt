@@ -20,8 +20,8 @@ pub trait Written: Spelled {
 /// written as, and that one is a word of a text.
 pub trait Respelled: Written {
     ghost use Rattle.std.specs.Prelude.{◌≡◌, ℕ, List};
-    ghost use Rattle.review_grammar.specs.Words.{Good};
-    ghost use Rattle.review_writing.specs.Printed.{IsOneWord};
+    ghost use Rattle.review_terms.specs.Words.{Good};
+    ghost use Rattle.review_printing.specs.Written.{IsOneWord};
 
     ghost reads_again: { (w : List ℕ) (t : Self) → Self.reading w ≡ Good t → Self.reading (Self.spelling t) ≡ Good t };
 

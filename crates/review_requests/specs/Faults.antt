@@ -1,7 +1,7 @@
 -- Answers where memory may run out.
 use Rattle.std.specs.Prelude.{◌≡◌, Result, Ok, Err, Option, Some, None}
-use Rattle.review_bodies.specs.declared.fault.BadBody.{BadBody}
-use Rattle.review_bodies.specs.declared.fault.BadBody.TheVariants as bad
+use Rattle.review_routes.specs.declared.fault.BadBody.{BadBody}
+use Rattle.review_routes.specs.declared.fault.BadBody.TheVariants as bad
 use Rattle.review_paths.specs.declared.fault.HttpFault.{HttpFault}
 use Rattle.review_requests.specs.declared.fault.Refused.{Refused}
 use Rattle.review_requests.specs.declared.fault.Refused.TheVariants.{Http, Memory}

@@ -5,7 +5,7 @@ use Rattle.httparse.specs.Grammar.{RequestHead}
 use Rattle.httparse.specs.Spans.{name_and_value}
 use Rattle.review_names.specs.Names.{is_word}
 use Rattle.review_names.specs.Numerals.{account_of, number_of}
-use Rattle.review_bodies.specs.Parts.{epoch_from}
+use Rattle.review_routes.specs.Parts.{epoch_from}
 use Rattle.review_routes.specs.Texts.{name_of_bytes}
 use Rattle.review_routes.specs.Questions.{is_question, needs_body}
 use Rattle.review_routes.specs.declared.route.Route.{Route}

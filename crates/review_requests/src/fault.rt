@@ -2,8 +2,8 @@
 ghost use Rattle.std.specs.Prelude.{◌≡◌};
 ghost use Rattle.review_requests.specs.Faults.{unless_memory};
 
-use review_bodies::BadBody;
 use review_paths::HttpFault;
+use review_routes::BadBody;
 
 /// Why no delivery came of a request.
 #[derive(Clone, Copy, Debug, PartialEq, Eq)]

@@ -1,7 +1,7 @@
 //! A look at the bytes so far.
 ghost use Rattle.std.specs.Prelude.{◌≡◌, ◌<◌, ◌≤◌, length, drop, take, Ok, option_map, Some, None, Err, IfOk};
 ghost use Rattle.httparse.specs.Grammar.{HasNoRequest, MayBecomeRequest};
-ghost use Rattle.review_bodies.specs.Parts.{Gives};
+ghost use Rattle.review_routes.specs.Parts.{Gives};
 ghost use Rattle.review_requests.specs.Faults.{Answers};
 ghost use Rattle.review_requests.specs.Wire.{delivered, delivery_of, front};
 ghost use Rattle.review_requests.specs.Judged.{HeadIs, Finishes, Judges, WaitsFor, request_fault};
@@ -11,9 +11,8 @@ use crate::fault::{Refused, RequestFault, unless_memory};
 use crate::head::asked_by;
 use httparse::spans::{EMPTY_HEADER_SPAN, parse_request};
 use httparse::{Error, Status};
-use review_bodies::BadBody;
 use review_paths::{HttpFault, Routes};
-use review_routes::{command_of, query_of};
+use review_routes::{BadBody, command_of, query_of};
 use review_words::Delivery;
 use std::alloc::Global;
 

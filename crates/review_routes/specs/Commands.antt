@@ -8,10 +8,10 @@ use Rattle.review_words.specs.declared.command.ChangeCommand.{ChangeCommand}
 use Rattle.review_words.specs.declared.command.ChangeCommand.TheVariants as change_command
 use Rattle.review_words.specs.declared.command.Command.{Command}
 use Rattle.review_words.specs.declared.command.Command.TheVariants as command
-use Rattle.review_bodies.specs.Parts.{text_at, name_at, members_at, epoch_at}
-use Rattle.review_bodies.specs.Changes.{new_change, new_patch}
-use Rattle.review_bodies.specs.Reviews.{has_refused, said}
-use Rattle.review_bodies.specs.Roles.{account_named_at, role_in}
+use Rattle.review_routes.specs.Parts.{text_at, name_at, members_at, epoch_at}
+use Rattle.review_routes.specs.Changes.{new_change, new_patch}
+use Rattle.review_routes.specs.Reviews.{has_refused, said}
+use Rattle.review_routes.specs.Roles.{account_named_at, role_in}
 use Rattle.review_routes.specs.declared.route.ChangeRoute.{ChangeRoute}
 use Rattle.review_routes.specs.declared.route.ChangeRoute.TheVariants.{Upload, Review, AddReviewer, RemoveReviewer, SetWip, SetReady, Abandon, Restore, AddAttention, RemoveAttention}
 use Rattle.review_routes.specs.declared.route.Route.{Route}

@@ -1,3 +1,10 @@
 pub mod Texts
 pub mod Commands
 pub mod Questions
+pub mod Faults
+pub mod Parts
+pub mod Roles
+pub mod Changes
+pub mod Votes
+pub mod Comments
+pub mod Reviews

@@ -4,7 +4,7 @@ use Rattle.std.specs.Str.{is_utf8}
 use Rattle.serde_json.specs.Data.{Data, object, no_members}
 use Rattle.serde_json.specs.Read.{read}
 use Rattle.serde_json.specs.Find.{as_object}
-use Rattle.review_bodies.specs.Parts.{formed}
+use Rattle.review_routes.specs.Parts.{formed}
 
 -- the bytes, where they are a text in UTF-8
 abbrev pub text_of : List ℕ → Option (List ℕ)

@@ -1,11 +1,15 @@
 //! What is asked of a change that is there, one function for each whose body has members.
 ghost use Rattle.serde_json.specs.View.{view};
-ghost use Rattle.review_bodies.specs.Parts.{Gives};
+ghost use Rattle.review_routes.specs.Parts.{Gives};
 ghost use Rattle.review_routes.specs.declared.route.ChangeRoute.TheVariants.{Upload, Review, AddReviewer, AddAttention, RemoveAttention};
 ghost use Rattle.review_routes.specs.Commands.{change_command_in};
 
+use crate::changes::new_patch;
+use crate::fault::BadBody;
+use crate::parts::name_at;
+use crate::reviews::{has_refused, said};
+use crate::roles::{account_named_at, role_in};
 use crate::route::ChangeRoute;
-use review_bodies::{BadBody, account_named_at, has_refused, name_at, new_patch, role_in, said};
 use review_words::{AccountNo, ChangeCommand, PatchNo};
 use serde_json::Value;
 use std::alloc::Global;

@@ -1,13 +1,15 @@
 //! The commands that bodies complete routes to, one function for each whose body has members.
 ghost use Rattle.serde_json.specs.View.{view};
-ghost use Rattle.review_bodies.specs.Parts.{Gives};
+ghost use Rattle.review_routes.specs.Parts.{Gives};
 ghost use Rattle.review_routes.specs.declared.route.Route.TheVariants.{CreateAccount, PutGroup, PutProject, RecordBase, CreateChange, OnChange, CloseEpoch};
 ghost use Rattle.review_routes.specs.Commands.{command_in, command_of};
 
 use crate::asked::change_command_in;
+use crate::changes::new_change;
+use crate::fault::BadBody;
+use crate::parts::{epoch_at, file_at, members_at, name_at};
 use crate::route::{ChangeRoute, Route};
 use crate::texts::body_of;
-use review_bodies::{BadBody, epoch_at, file_at, members_at, name_at, new_change};
 use review_words::{BranchName, ChangeNo, Command, GroupName, ProjectName};
 use serde_json::Value;
 use std::alloc::Global;

@@ -3,16 +3,35 @@
 //! A [`Route`] has one case for each delivery, with what its address says. A line's members are one way to write it, and the
 //! path of an HTTP request another. [`command_of`] gives the command that a body completes a route to, and refuses the body
 //! exactly where it completes it to none; [`query_of`] gives the question that a route is.
+//! ---
+//! What the members of JSON objects spell: names, numbers and lists, and the bodies of commands on changes.
+//!
+//! Each function gives what its member or body spells, and refuses it exactly where it spells nothing of the kind, by the JSON
+//! reader's definition of what a text spells. Members that nothing asks for are ignored. `null` isn't absent, and a whole number
+//! is one that is written so: `2.0` and `1e0` are none.
 #![tactic(auto)]
 
 pub mod asked;
+pub mod changes;
 pub mod commands;
+pub mod comments;
+pub mod fault;
+pub mod parts;
 pub mod questions;
+pub mod reviews;
+pub mod roles;
 pub mod route;
 pub mod texts;
+pub mod votes;
 
+pub use changes::{new_change, new_patch};
 pub use commands::{command_in, command_of};
+pub use fault::BadBody;
+pub use parts::{
+    account_at, change_at, epoch_at, epoch_or_first, file_at, members_at, name_at, text_at,
+};
 pub use questions::{is_question, needs_body, query_of};
-pub use review_bodies::BadBody;
+pub use reviews::{has_refused, patch_in, said};
+pub use roles::{account_named_at, role_in};
 pub use route::{ChangeRoute, Route};
 pub use texts::{name_of_bytes, value_of};

@@ -1,10 +1,10 @@
 //! What bytes spell: names, JSON values and bodies.
 ghost use Rattle.std.specs.Prelude.{◌≡◌, Some, None, Err, IfOk, option_map};
 ghost use Rattle.serde_json.specs.View.{view};
-ghost use Rattle.review_bodies.specs.Parts.{Gives};
+ghost use Rattle.review_routes.specs.Parts.{Gives};
 ghost use Rattle.review_routes.specs.Texts.{text_of, name_of_bytes, value_spelled, body_spelled};
 
-use review_bodies::BadBody;
+use crate::fault::BadBody;
 use review_words::{Form, Name};
 use serde_json::{Map, Value};
 use std::alloc::Global;

@@ -26,8 +26,8 @@ use Rattle.review_rows.specs.Rows.{Key, AccountKey, MemberKey, FileKey, BaseKey,
 use Rattle.review_rows.specs.Shelf.{IsCommitted}
 use Rattle.review_changes.specs.Parts.{PartRow}
 use Rattle.review_rows.specs.Rows.{edited}
-use Rattle.review_kept_changes.specs.Kept.{ArePrepared, KeptView, part_at}
-use Rattle.review_kept_changes.proofs.Made.{made_by}
+use Rattle.review_kept_rows.specs.Kept.{ArePrepared, KeptView, part_at}
+use Rattle.review_kept_rows.proofs.Made.{made_by}
 use Rattle.review_shelves.specs.declared.changes.Changes.{Changes}
 use Rattle.review_kept_answers.specs.declared.keys.AnswerKey.{AnswerKey}
 use Rattle.review_shelves.specs.declared.keys.NameKey.{NameKey}
@@ -35,7 +35,7 @@ use Rattle.review_kept_answers.specs.declared.keys.StoredAnswer.{StoredAnswer}
 use Rattle.review_shelves.specs.declared.tables.MemoryTables.{MemoryTables}
 use Rattle.review_shelves.specs.Desk.{beside_epoch, Desk, desk_of, tables_of, row_of, count_of, stored_row, file_changes, name_cmp, IsNumber, AreInUse, IsIndexed, IsNumbered, IsBounded, IsSound, IsGiven, IsHeld, AreIndexed, KeepsNames, AreChangesOf, AreApplied, IsWithBase, HasRoom, HasRoomOnlyFor, with_branches, with_changes}
 use Rattle.review_kept_answers.specs.Answers.{key_of, answer_cmp}
-use Rattle.review_kept_branches.specs.Branches.{BranchesView, total_in}
+use Rattle.review_kept_rows.specs.Bases.{BranchesView, total_in}
 use Rattle.review_shelves.proofs.Orders.{exact_member}
 use Rattle.review_kept_answers.proofs.Orders.{exact_answer, at_answer}
 

@@ -16,8 +16,8 @@ use Rattle.review_rows.specs.declared.rows.Kept.{Kept}
 use Rattle.review_rows.specs.Rows.{Key, AccountKey, MemberKey, FileKey, BaseKey, PartKey, OddKey, Row, AccountRow, FileRow, BaseRow, APart, Count, Projects, BasesOf, ClosedEpochs, AnswerRow, Stored, Answered, Tables, member_cmp, member_row, kept_row}
 use Rattle.review_rows.specs.View.{tables_version}
 use Rattle.review_change_rows.specs.declared.tables.ChangeTables.{ChangeTables}
-use Rattle.review_kept_changes.specs.Kept.{KeptView, HasRoomFor, IsFull, part_at}
-use Rattle.review_kept_branches.specs.Branches.{BranchesView, IsPut, base_at, total_in}
+use Rattle.review_kept_rows.specs.Kept.{KeptView, HasRoomFor, IsFull, part_at}
+use Rattle.review_kept_rows.specs.Bases.{BranchesView, IsPut, base_at, total_in}
 use Rattle.review_shelves.specs.declared.keys.NameKey.{NameKey}
 use Rattle.review_kept_answers.specs.declared.keys.AnswerKey.{AnswerKey}
 use Rattle.review_kept_answers.specs.declared.keys.StoredAnswer.{StoredAnswer}

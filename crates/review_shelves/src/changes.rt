@@ -2,12 +2,12 @@
 ghost use Rattle.std.specs.Prelude.{◌≡◌, IfOk, OnOk};
 ghost use Rattle.std.specs.List.{All};
 ghost use Rattle.review_table.specs.Rows.{rows_of};
-ghost use Rattle.review_kept_changes.specs.Kept.{ArePrepared};
+ghost use Rattle.review_kept_rows.specs.Kept.{ArePrepared};
 ghost use Rattle.review_shelves.specs.Desk.{IsNumber, IsHeld, IsGiven, AreChangesOf, PutsAnswer, file_changes};
 
 use crate::keys::NameKey;
 use review_kept_answers::{AnswerKey, StoredAnswer};
-use review_kept_changes::{KeptChanges, Prepared};
+use review_kept_rows::{KeptChanges, Prepared};
 use review_rows::{Delta, Kept, MemberKey, Put, StoredFile};
 use review_table::{Change, Key, Table};
 use review_words::{AccountName, AccountNo, ProjectName};

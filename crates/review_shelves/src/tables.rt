@@ -13,13 +13,12 @@ ghost use Rattle.review_rows.specs.Shelf.{IsRecalled, IsCommitted};
 ghost use Rattle.review_rows.specs.View.{IsView};
 ghost use Rattle.review_shelves.specs.Desk.{tables_of, desk_of, row_of, name_cmp, file_changes, IsIndexed, IsBounded, IsSound, AddsNames, AreChangesOf, AreIndexed, KeepsNames, HasNoSpareRoom, HasRoom, HasRoomOnlyFor, AreApplied, IsWithBase, beside_epoch, with_answers, with_branches, with_changes};
 ghost use Rattle.review_shelves.specs.First.{HasAccount, HasName, HasMember};
-ghost use Rattle.review_kept_changes.specs.Kept.{IsFull, IsFullBut, IsReady};
+ghost use Rattle.review_kept_rows.specs.Kept.{IsFull, IsFullBut, IsReady};
 
 use crate::changes::{Changes, names_given, names_held};
 use crate::keys::NameKey;
 use review_kept_answers::{AnswerKey, StoredAnswer, key_of, lower_keys, remove_keys};
-use review_kept_branches::Branches;
-use review_kept_changes::{KeptChanges, Prepared};
+use review_kept_rows::{Branches, KeptChanges, Prepared};
 use review_rows::{Delta, Kept, MemberKey, PlaceKey, Put, Recalled, StoredFile};
 use review_table::{Key, Table};
 use review_words::{

@@ -19,7 +19,7 @@ use Rattle.review_words.specs.declared.shown.ShownChange.{ShownChange}
 use Rattle.review_words.specs.declared.shown.ShownRequirement.{ShownRequirement}
 use Rattle.review_showing.specs.declared.fault.ShowFault.{ShowFault}
 use Rattle.review_showing.specs.declared.fault.ShowFault.TheVariants.{Memory, Store, Damaged, Pattern, NoChange, NoProject, NoBranch}
-use Rattle.review_pages.specs.Pages.{change_text, joined_text}
+use Rattle.review_showing.specs.Pages.{change_text, joined_text}
 
 -- a question about a change, asked by account 1
 abbrev pub about : ℕ → ChangeQuery → Delivery

@@ -4,8 +4,8 @@ ghost use Rattle.review_showing.specs.Told.{about, calls_told, change_page, chan
 ghost use Rattle.review_showing.specs.Shown.{IsPage, WereAsked};
 
 use crate::fault::ShowFault;
+use crate::pages::{change_text, joined_text};
 use review_deliveries::{Rules, run};
-use review_pages::{change_text, joined_text};
 use review_rows::Shelf;
 use review_words::{
     AccountNo, Answer, ChangeNo, ChangeQuery, Delivery, JoinedChange, Query, Reply, ShownCall,

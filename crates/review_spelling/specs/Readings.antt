@@ -1,8 +1,8 @@
 -- Readings of words, one after the other.
 use Rattle.std.specs.Prelude.{◌≡◌, Option, Some, None, Bool, if◌then◌else◌}
-use Rattle.review_grammar.specs.Words.{NoTerm, NoValue, Zero, Reading, Good, Bad}
-use Rattle.review_grammar.specs.declared.word.WordFault.{WordFault}
-use Rattle.review_grammar.specs.declared.word.WordFault.TheVariants as fault
+use Rattle.review_terms.specs.Words.{NoTerm, NoValue, Zero, Reading, Good, Bad}
+use Rattle.review_terms.specs.declared.word.WordFault.{WordFault}
+use Rattle.review_terms.specs.declared.word.WordFault.TheVariants as fault
 
 -- a reading, and a second one of what the first gave; a flaw of the first is that of the whole
 infixl 10 ◌>>=◌

@@ -3,7 +3,7 @@ use Rattle.std.specs.Prelude.{ℕ, List, ◌&&◌, Bool, true, false, if◌then�
 use Rattle.std.specs.Str.{bytes_eq}
 use Rattle.review_names.specs.Forms.{is_slashed_name, is_path}
 use Rattle.review_names.specs.Names.{is_word}
-use Rattle.review_grammar.specs.Words.{Reading, Good, Bad}
+use Rattle.review_terms.specs.Words.{Reading, Good, Bad}
 use Rattle.review_terms.specs.Patterns.{is_pattern, IsDeepPattern, IsEnginePattern}
 use Rattle.review_terms.specs.declared.terms.Comparison.TheVariants as comparison
 use Rattle.review_terms.specs.declared.terms.RequirementTerm.{RequirementTerm}

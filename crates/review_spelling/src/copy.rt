@@ -1,6 +1,6 @@
 //! Words of copy conditions.
 ghost use Rattle.std.specs.Prelude.{◌≡◌, IfOk, IfErr};
-ghost use Rattle.review_grammar.specs.Words.{Good, IsWordFault};
+ghost use Rattle.review_terms.specs.Words.{Good, IsWordFault};
 ghost use Rattle.review_spelling.specs.declared.keys.CopyKey.TheVariants as of_copy;
 ghost use Rattle.review_spelling.specs.Words.{copy_reading, copy_value};
 
@@ -8,9 +8,8 @@ use crate::cuts::key_and_value;
 use crate::keys::CopyKey;
 use crate::names::read_name;
 use crate::values::{is_met_by_zero, read_vote};
-use review_grammar::WordFault;
 use review_names::names::OfGroup;
-use review_terms::{ChangeKind, Comparison, CopyTerm};
+use review_terms::{ChangeKind, Comparison, CopyTerm, WordFault};
 use std::alloc::Global;
 
 #[tactic(auto, unfolding(crate::specs::Words::copy_value))]

@@ -9,11 +9,10 @@ ghost use Rattle.review_spelling.specs.Readings.{IsUnread};
 use crate::cuts::{behind, cut_at};
 use crate::names::read_name;
 use crate::values::{read_comparison, read_digits};
-use review_grammar::WordFault;
 use review_names::names::OfGroup;
 use review_names::places::OfLabel;
 use review_names::{AccountNo, Form};
-use review_terms::{Count, LabelTerm, Voters};
+use review_terms::{Count, LabelTerm, Voters, WordFault};
 use std::alloc::Global;
 
 /// The most bytes of a label's name.

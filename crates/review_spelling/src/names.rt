@@ -1,13 +1,12 @@
 //! Names that stand in words.
 ghost use Rattle.std.specs.Prelude.{◌≡◌, IfOk, IfErr, Some};
 ghost use Rattle.review_terms.specs.Patterns.{is_pattern, IsDeepPattern, IsEnginePattern};
-ghost use Rattle.review_grammar.specs.Words.{IsWordFault};
+ghost use Rattle.review_terms.specs.Words.{IsWordFault};
 ghost use Rattle.review_spelling.specs.Readings.{in_value, IsUnread};
 ghost use Rattle.review_spelling.specs.Words.{formed};
 
-use review_grammar::WordFault;
 use review_names::{BadName, Form, Name};
-use review_terms::{Pattern, PatternFault};
+use review_terms::{Pattern, PatternFault, WordFault};
 use std::alloc::Global;
 
 /// A name of a form.

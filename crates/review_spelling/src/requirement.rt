@@ -1,6 +1,6 @@
 //! Words of submit requirements.
 ghost use Rattle.std.specs.Prelude.{◌≡◌, IfOk, IfErr, IsSomeAnd};
-ghost use Rattle.review_grammar.specs.Words.{Good, IsWordFault};
+ghost use Rattle.review_terms.specs.Words.{Good, IsWordFault};
 ghost use Rattle.review_terms.specs.Patterns.{IsDeepPattern, IsEnginePattern};
 ghost use Rattle.review_spelling.specs.declared.keys.RequirementKey.TheVariants as of_requirement;
 ghost use Rattle.review_spelling.specs.Words.{is_component, pattern_of, requirement_reading, requirement_value, truth_in, IsDeep, IsPattern};
@@ -10,10 +10,9 @@ use crate::keys::RequirementKey;
 use crate::labels::read_label;
 use crate::names::{read_name, read_pattern};
 use crate::values::is_met_by_zero;
-use review_grammar::WordFault;
 use review_names::names::OfGroup;
 use review_names::places::{OfBranch, OfPath};
-use review_terms::RequirementTerm;
+use review_terms::{RequirementTerm, WordFault};
 use std::alloc::Global;
 
 #[tactic(auto, unfolding(crate::specs::Words::truth_in))]

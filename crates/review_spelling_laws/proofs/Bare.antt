@@ -18,9 +18,9 @@ use Rattle.review_spelling.specs.Cuts.{behind}
 use Rattle.review_spelling.specs.Values.{by_front, digits_in, negative, number_in, vote_in, equal_to, comparison_in}
 use Rattle.review_spelling.specs.Labels.{accounts_in, count_in, user_in, group_in, voters_in}
 use Rattle.review_spelling.proofs.Cutting.{behind_front}
-use Rattle.review_writing.proofs.Lacking.{bare, bare_both}
-use Rattle.review_writing.proofs.Printing.{bare_numeral, map_gives, none_gives}
-use Rattle.review_writing.proofs.Parts.{bare_word}
+use Rattle.review_printing.proofs.Lacking.{bare, bare_both}
+use Rattle.review_printing.proofs.WordsPrinted.{bare_numeral, map_gives, none_gives}
+use Rattle.review_printing.proofs.Parts.{bare_word}
 
 -- what a reading and a second one of what it gave tell
 pub bind_gives : {A B : Type 0} (P : B → Type 0) (o : Option A) (f : A → Option B) → ((a : A) → o ≡ Some a → (b : B) → f a ≡ Some b → P b) → (b : B) → o >>= f ≡ Some b → P b

@@ -10,8 +10,8 @@ use Rattle.review_terms.specs.declared.terms.LabelTerm.{LabelTerm}
 use Rattle.review_spelling.specs.Cuts.{cut_at, with_first}
 use Rattle.review_spelling.specs.Values.{comparison_in}
 use Rattle.review_spelling.specs.Labels.{longest_label, count_in, voters_in, one_part, two_parts, parts_by, parts_in, comparison_part, behind_comma, label_in}
-use Rattle.review_writing.proofs.Lacking.{bare_comma, cut_lacking, whole_lacking}
-use Rattle.review_writing.proofs.Parts.{tail, cut_tail}
+use Rattle.review_printing.proofs.Lacking.{bare_comma, cut_lacking, whole_lacking}
+use Rattle.review_printing.proofs.Parts.{tail, cut_tail}
 use Rattle.review_spelling_laws.specs.LabelValues.{AreParts, IsLabelValue, LabelValuesAreSo}
 use Rattle.review_spelling_laws.proofs.Bare.{bind_gives, comparison_bare, count_bare, voters_bare, no_count}
 use Rattle.review_spelling_laws.proofs.LongestNames.{longest_found, longest_is}

@@ -6,7 +6,7 @@ use Rattle.std.proofs.lemmas.Bool.Decides.{nat_tests}
 use Rattle.std.proofs.lemmas.List.Folds.{list_all-append}
 use Rattle.std.proofs.lemmas.Slice.Eq.{bytes_eq-Decides}
 use Rattle.review_names.specs.Numerals as Steps
-use Rattle.review_grammar.specs.Words.{Reading, Good}
+use Rattle.review_terms.specs.Words.{Reading, Good}
 use Rattle.review_terms.specs.Patterns.{is_pattern}
 use Rattle.review_names.specs.Names.{is_word}
 use Rattle.review_names.specs.Forms.{is_slashed_name, is_path}
@@ -20,7 +20,7 @@ use Rattle.review_spelling.specs.Labels.{label_in}
 use Rattle.review_spelling.specs.Words.{formed, is_component, keyed, pattern_or, requirement_key, requirement_value, requirement_reading, truth_in}
 use Rattle.review_spelling.specs.declared.keys.RequirementKey.{RequirementKey}
 use Rattle.review_spelling.specs.declared.keys.RequirementKey.TheVariants as key
-use Rattle.review_writing.proofs.Lacking.{lacks, cut_lacking, whole_lacking, value_lacks, keep, keep_both}
+use Rattle.review_printing.proofs.Lacking.{lacks, cut_lacking, whole_lacking, value_lacks, keep, keep_both}
 use Rattle.review_spelling_laws.specs.LabelWords.{StandsFor, IsLabelWord, LabelWordsAreSo}
 use Rattle.review_spelling_laws.proofs.LabelValues.{IsCut, cut_is, label_values}
 

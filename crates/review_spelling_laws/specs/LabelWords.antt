@@ -1,6 +1,6 @@
 -- A whole `label:` word, in other words than those by which it is read.
 use Rattle.std.specs.Prelude.{ℕ, ◌≡◌, ◌≢◌, ◌⊎◌, ◌↔◌, ◌++◌, List, codes, false}
-use Rattle.review_grammar.specs.Words.{Good}
+use Rattle.review_terms.specs.Words.{Good}
 use Rattle.review_terms.specs.declared.terms.LabelTerm.{LabelTerm}
 use Rattle.review_terms.specs.declared.terms.RequirementTerm.TheVariants as requirement
 use Rattle.review_spelling.specs.Values.{is_met_by_zero}

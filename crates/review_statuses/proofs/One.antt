@@ -8,7 +8,7 @@ use Rattle.std.specs.Option.{option_map_or}
 use Rattle.std.proofs.lemmas.Cmp.{nat_cmp_total}
 use Rattle.std.proofs.lemmas.Map.Lookups.{btree_map_from_get, exact_unsigned}
 use Rattle.review_names.specs.Groups.{has_account}
-use Rattle.review_grammar.specs.Views.{view}
+use Rattle.review_terms.specs.Views.{view}
 use Rattle.review_table.specs.Rows.{row_in}
 use Rattle.review_terms.specs.declared.terms.LabelTerm.{LabelTerm}
 use Rattle.review_terms.specs.declared.terms.RequirementTerm.{RequirementTerm}

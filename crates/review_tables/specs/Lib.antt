@@ -5,3 +5,10 @@ pub mod Plain
 pub mod Rowids
 pub mod Columns
 pub mod Versions
+pub mod Desk
+pub mod Content
+pub mod Ran
+pub mod Search
+pub mod Greatest
+pub mod Texts
+pub mod Moved

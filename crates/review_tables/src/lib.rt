@@ -1,4 +1,6 @@
 //! How a table of a desk in SQLite is asked and changed, whatever its rows are, and how its tables are made and known again.
+//! ---
+//! The statements of a desk in SQLite: their texts, and what each of them means for its tables.
 #![tactic(auto)]
 
 pub mod bound;
@@ -13,4 +15,5 @@ pub mod reads;
 pub mod rowids;
 mod schemas;
 pub mod table;
+pub mod texts;
 pub mod versions;

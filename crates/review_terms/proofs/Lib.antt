@@ -1,3 +1,9 @@
 pub mod Alike
 pub mod Lists
 pub mod Refused
+pub mod Exact
+pub mod Moves
+pub mod Grammatical
+pub mod Steps
+pub mod Verdicts
+pub mod Nodes

@@ -4,8 +4,8 @@ use Rattle.review_lines.specs.declared.fault.Fault.{Fault}
 use Rattle.review_lines.specs.declared.fault.Fault.TheVariants as line
 use Rattle.review_lines.specs.declared.fault.Outcome.{Outcome}
 use Rattle.review_lines.specs.declared.fault.Outcome.TheVariants.{Complete, Incomplete}
-use Rattle.review_serving.specs.declared.connections.ConnectionsFault.{ConnectionsFault}
-use Rattle.review_serving.specs.declared.connections.ConnectionsFault.TheVariants as connections
+use Rattle.review_http.specs.declared.connections.ConnectionsFault.{ConnectionsFault}
+use Rattle.review_http.specs.declared.connections.ConnectionsFault.TheVariants as connections
 use Rattle.review_showing.specs.declared.fault.ShowFault.{ShowFault}
 use Rattle.review_showing.specs.declared.fault.ShowFault.TheVariants as shown
 use Rattle.review_sql.specs.declared.faults.DeskFault.{DeskFault}

@@ -3,7 +3,7 @@ use Rattle.std.specs.Prelude.{◌≡◌, ◌≢◌, ◌⊎◌, ◌||◌, ℕ, Bo
 use Rattle.std.specs.Io.KnownBytes.{Appends}
 use Rattle.sqlite_trees.specs.declared.store.Store.{Ghosts}
 use Rattle.sqlite.specs.Held.{Held, state}
-use Rattle.review_statements.specs.Desk.{schema_0}
+use Rattle.review_tables.specs.Desk.{schema_0}
 use Rattle.review_words.specs.declared.command.Delivery.{Delivery}
 use Rattle.review_words.specs.declared.reply.Reply.{Reply}
 use Rattle.review_rows.specs.Shelf.{Shown}
@@ -11,8 +11,8 @@ use Rattle.review_deliveries.specs.Delivered.{WasRun}
 use Rattle.review_lines.specs.Answers.{WereAnswered}
 use Rattle.review_lines.specs.declared.fault.Fault.{Fault}
 use Rattle.review_lines.specs.declared.fault.Outcome.{Outcome}
-use Rattle.review_serving.specs.Served.{Peers, ServedAll}
-use Rattle.review_serving.specs.declared.connections.ConnectionsFault.{ConnectionsFault}
+use Rattle.review_http.specs.Peers.{Peers, ServedAll}
+use Rattle.review_http.specs.declared.connections.ConnectionsFault.{ConnectionsFault}
 use Rattle.review_showing.specs.declared.fault.ShowFault.{ShowFault}
 use Rattle.review_showing.specs.Shown.{Showed}
 use Rattle.review_showing.specs.Told.{branch_questions, change_page, change_questions, joined_page}

@@ -2,8 +2,8 @@
 ghost use Rattle.std.specs.Prelude.{◌≡◌};
 ghost use Rattle.review_work.specs.Faults.{fault_text};
 
+use review_http::ConnectionsFault;
 use review_lines::Fault;
-use review_serving::ConnectionsFault;
 use review_showing::ShowFault;
 use review_sql::faults::DeskFault;
 use sqlite::Error;

@@ -5,7 +5,7 @@
 ghost use Rattle.std.specs.Prelude.{◌≡◌, ◌⊎◌, ◌||◌, false, not, Err};
 ghost use Rattle.sqlite.specs.Held.{Held};
 ghost use Rattle.review_sql.specs.Shelf.{IsHandedBack, ShelfView, shown};
-ghost use Rattle.review_serving.specs.Served.{Peers};
+ghost use Rattle.review_http.specs.Peers.{Peers};
 ghost use Rattle.review_work.specs.Faults.{lines_outcome, serve_outcome, shown_outcome};
 ghost use Rattle.review_work.specs.Worked.{Does, EndsServed, HasDone, IsMigratedOrNot, IsRefusedDesk, Made, OnShelf, WasMade, WasMigrated, Worked, known};
 
@@ -13,10 +13,10 @@ use crate::fault::ProgramFault;
 use crate::notices::Notices;
 use crate::task::{Ends, Task};
 use review_deliveries::{Rules, restart_completes, runs_go_on};
+use review_http::{Connections, ConnectionsFault, serve_connections};
 use review_lines::{Fault, Outcome, apply_lines};
 use review_paths::Routes;
 use review_rows::Shelf;
-use review_serving::{Connections, ConnectionsFault, serve_connections};
 use review_showing::{ShowFault, joined_lines, show_lines};
 use review_sql::faults::DeskFault;
 use review_sql::shelf::{Origin, Others, Ours, SqlShelf, is_blank};

@@ -1,9 +1,8 @@
 //! A term that no word spells: `file:` with a path of several components.
 
-use review_grammar::Node;
 use review_judging::{ChangeFacts, eval};
 use review_names::{AccountNo, BranchName, Groups, Path, Paths};
-use review_terms::RequirementTerm;
+use review_terms::{Node, RequirementTerm};
 use std::alloc::Global;
 use std::collections::BTreeMap;
 use std::test::Fail;

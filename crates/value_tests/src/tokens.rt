@@ -1,7 +1,7 @@
 //! Tokens that no text has: a text with parentheses that don't match is refused before it has tokens, as is one without any, and a
 //! second minus makes its word a bad one.
 
-use review_grammar::{ShapeFault, Token, parse};
+use review_terms::{ShapeFault, Token, parse};
 use std::alloc::Global;
 use std::collections::VecDeque;
 use std::test::Fail;

@@ -2,9 +2,10 @@
 
 use crate::fault::Fault;
 use crate::texts::{on_a_line, with_byte};
-use review_bodies::text_at;
 use review_json::routes::route_named;
-use review_routes::{BadBody, Route, command_of, is_question, name_of_bytes, needs_body, value_of};
+use review_routes::{
+    BadBody, Route, command_of, is_question, name_of_bytes, needs_body, text_at, value_of,
+};
 use review_texts::content_text;
 use review_words::{Command, RequestId};
 use std::alloc::Global;

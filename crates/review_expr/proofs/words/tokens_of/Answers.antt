@@ -1,6 +1,6 @@
 use Rattle.std.proofs.Common.{◌+◌, ap, ap₂, sym, ◌∙◌, arith, refl}
-use Rattle.review_grammar.specs.Scanned.{lexemes}
-use Rattle.review_grammar.specs.Views.{toks}
+use Rattle.review_terms.specs.Scanned.{lexemes}
+use Rattle.review_terms.specs.Views.{toks}
 use Rattle.review_expr.specs.Tokens.{opens_at, word_tokens}
 use Rattle.review_expr.proofs.Signs.{toks_more}
 use Rattle.review_expr.proofs.Reached.{word_spans, word_refused, piece_more, to_the_end}

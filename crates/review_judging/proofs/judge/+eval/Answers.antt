@@ -1,4 +1,4 @@
-use Rattle.review_grammar.proofs.Nodes.{view-And, view-Or}
+use Rattle.review_terms.proofs.Nodes.{view-And, view-Or}
 use Rattle.review_judging.proofs.judge.+eval.Goals as goal
 
 pub eval-returns-in-And : goal.eval-returns-in-And

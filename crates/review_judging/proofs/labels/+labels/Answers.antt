@@ -1,4 +1,4 @@
-use Rattle.review_grammar.proofs.Nodes.{view-And, view-Or}
+use Rattle.review_terms.proofs.Nodes.{view-And, view-Or}
 use Rattle.review_judging.proofs.labels.+labels.Goals as goal
 
 pub push_labels-returns-in-And : goal.push_labels-returns-in-And

@@ -1,5 +1,5 @@
 use Rattle.std.proofs.Common.{◌++◌, ap, sym, ◌∙◌, arith, string_bytes}
-use Rattle.review_grammar.specs.Views.{view}
+use Rattle.review_terms.specs.Views.{view}
 use Rattle.review_printing.specs.Printed.{member_text}
 use Rattle.review_printing.proofs.Behind.{first_written, next_written}
 use Rattle.review_printing.proofs.printer.+print.Goals as goal

@@ -1,0 +1,14 @@
+use Rattle.std.proofs.Common.{◌≡◌, ◌+◌, ◌∙◌, ap, min, refl, subst}
+use Rattle.review_changes.specs.Change.{after_plain}
+use Rattle.review_changes.specs.Seen.{seen}
+use Rattle.review_change_decisions.specs.Facts.{MakesChange, next_request}
+use Rattle.review_change_decisions.proofs.requests.done.Goals as goal
+
+pub returns-clause-made : goal.returns-clause-made
+returns-clause-made c =
+    let a = c.args in
+    let request : c.saturating_add-request.result ≡ next_request a.rows.now = c.saturating_add-request.ensures ∙ ap (λ n. min (n + 1) 18446744073709551615) c.requests.ensures in
+    record {
+      made = subst (λ n. MakesChange a.change (seen a.found.now) (after_plain a.command.now a.caller n (seen a.found.now)) c.in_ok-delta.delta) request c.in_ok-delta.ensures.made;
+      reply_is = refl;
+    }

@@ -1,3 +1,0 @@
-pub mod Excluded
-pub mod OneFault
-pub mod Within

@@ -1,5 +1,0 @@
-use Rattle.review_expr_laws.proofs.Excluded.{one_tree}
-use Rattle.review_expr_laws.proofs.laws.one_expression.Goals as goal
-
-pub returns : goal.returns
-returns g c = one_tree g.T.Spelled.reading

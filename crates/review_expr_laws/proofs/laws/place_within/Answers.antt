@@ -1,5 +1,0 @@
-use Rattle.review_expr_laws.proofs.Within.{place_within}
-use Rattle.review_expr_laws.proofs.laws.place_within.Goals as goal
-
-pub returns : goal.returns
-returns g c = place_within g.T.Spelled.reading g.T.Spelled.is_deep

@@ -1,7 +1,0 @@
-pub mod Lexemes
-pub mod Scan
-pub mod Scanned
-pub mod Grammar
-pub mod Reading
-pub mod Views
-pub mod Words

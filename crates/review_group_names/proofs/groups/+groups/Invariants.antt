@@ -1,9 +1,0 @@
-use Rattle.std.proofs.Common.{◌≡◌, ◌++◌, map, drop}
-use Rattle.review_grammar.specs.Grammar.{trees}
-use Rattle.review_grammar.specs.Views.{view}
-use Rattle.review_group_names.specs.Named.{all_named}
-use Rattle.review_group_names.proofs.groups.+groups.Given as goal
-
-abbrev pub invariant-push_all-loop-member : goal.invariant-push_all-loop-member
-invariant-push_all-loop-member g l =
-    map (λ n. n.now) l.found.items ++ all_named g.T.NamesGroup.group (trees (map view (drop l.member-index l.members))) ≡ map (λ n. n.now) l.fn.found.items ++ all_named g.T.NamesGroup.group (trees (map view l.members))

@@ -1,0 +1,8 @@
+//! Laws of lines and bodies, as contracts of calls that do nothing.
+ghost use Rattle.review_json.specs.Laws.{CommentsOfBodiesGoByPlace, CommentsGoByPlace};
+
+/// Whatever the order in a body or a line, the comments of a review go by the bytes of their places.
+pub fn comments_go_by_place()
+    ensures bodies { CommentsOfBodiesGoByPlace }
+    ensures lines { CommentsGoByPlace }
+{}

@@ -1,4 +1,0 @@
-pub mod Based
-pub mod Listed
-pub mod Options
-pub mod Placed

@@ -1,3 +1,0 @@
-pub mod Nothing
-pub mod One
-pub mod Waiting
