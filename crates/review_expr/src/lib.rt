@@ -5,13 +5,13 @@
 //!
 //! What is proved: a text is answered by its tree where it has one, and by the first fault that
 //! applies, with its place, where it has none (`parse_requirement`, `parse_copy`); it has at most
-//! one tree and one fault, and never both (`review_expr_laws`); but want of
+//! one tree and one fault, and never both (the laws below); but want of
 //! memory, or an engine that refuses a pattern, may be answered in place of either; an expression holds exactly where the
 //! definition says (`eval`). One place is free: a pattern that nests deeper than the engine reads
 //! may be read or refused. An expression is compiled to a flat list of its terms and operators (`compile`), which holds where
 //! the expression does (`Terms::eval`) and is run without recursion. `review_printing` writes expressions.
-//! ---
-//! Laws of the definitions of expressions, as contracts of calls that do nothing: a text has at most one tree and one fault, and never
+//!
+//! Laws of the definitions stand as contracts of calls that do nothing: a text has at most one tree and one fault, and never
 //! both, but for a pattern that nests deeper than the engine reads; a fault's place lies in the text.
 #![tactic(auto)]
 

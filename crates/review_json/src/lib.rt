@@ -5,8 +5,8 @@
 //! `{"bases":[],"joined":[]}` or `[{"name":"Code-Review","status":"SATISFIED"}]`. `delivery_of_line` gives the delivery that
 //! a line spells, and refuses a line exactly where it spells none, by the JSON reader's own definition of what a text
 //! spells. `answer_text` gives the compact text of an answer, with the members in the order of their keys.
-//! ---
-//! Laws of lines and bodies, as contracts of calls that do nothing: the comments that they spell go by the bytes of their places.
+//!
+//! A law of lines and bodies stands as the contract of a call that does nothing: the comments that they spell go by the bytes of their places.
 #![tactic(auto)]
 
 pub mod answer;

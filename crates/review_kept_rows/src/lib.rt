@@ -1,6 +1,4 @@
-//! The rows of changes in memory.
-//! ---
-//! The bases of branches in memory: by their places, by commit, and how many each project has.
+//! The rows of changes in memory; and the bases of branches: by their places, by commit, and how many each project has.
 #![tactic(auto)]
 
 pub mod bases;

@@ -2,23 +2,22 @@
 //!
 //! What is printed is that expression again, where it is short enough: `print`, and as laws over texts and trees
 //! `requirement_print_tells`, `copy_print_tells`.
-//! ---
-//! How the terms of expressions are written: one word each, which is read as that term again.
+//! A term is one word, which is read as that term again (`requirement_word_tells`, `copy_word_tells`).
 #![tactic(auto)]
 
 pub mod laws;
 pub mod printer;
 pub mod printing;
+mod term_words;
 mod terms;
-pub mod words;
-mod words_of;
+pub mod word_laws;
 pub mod written;
 
 pub use laws::{copy_print_tells, print_tells, requirement_print_tells};
 pub use printing::print;
-pub use words::{
+pub use term_words::{push_copy, push_requirement};
+pub use word_laws::{
     copy_word_stands, copy_word_tells, minus_is_no_term, requirement_word_stands,
     requirement_word_tells,
 };
-pub use words_of::{push_copy, push_requirement};
 pub use written::{Respelled, Written};

@@ -1,6 +1,6 @@
 //! How the terms of requirements and of copy conditions are written.
 
-use crate::words_of::{push_copy, push_requirement};
+use crate::term_words::{push_copy, push_requirement};
 use crate::written::{Respelled, Written};
 use review_terms::{CopyTerm, RequirementTerm};
 use std::alloc::AllocError;

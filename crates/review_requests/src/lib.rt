@@ -3,8 +3,7 @@
 //! [`read_request`] reads one request. A head is one by `httparse`'s definition; a path is routed by `review_paths`, and a body read by
 //! `review_routes`. `X-Account` says who asks, and `Request-Id` is the id of a command. The word of the contracts is `CallsFor`: what bytes call for,
 //! where the reader ended after them or not.
-//! ---
-//! Laws of what the bytes of a request call for, as contracts of calls that do nothing.
+//! Laws of it stand as contracts of calls that do nothing.
 #![tactic(auto)]
 
 mod asked;

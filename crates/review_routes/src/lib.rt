@@ -3,10 +3,9 @@
 //! A [`Route`] has one case for each delivery, with what its address says. A line's members are one way to write it, and the
 //! path of an HTTP request another. [`command_of`] gives the command that a body completes a route to, and refuses the body
 //! exactly where it completes it to none; [`query_of`] gives the question that a route is.
-//! ---
-//! What the members of JSON objects spell: names, numbers and lists, and the bodies of commands on changes.
 //!
-//! Each function gives what its member or body spells, and refuses it exactly where it spells nothing of the kind, by the JSON
+//! What the members of JSON objects spell, names, numbers and lists, and the bodies of commands on changes, is read member by member:
+//! each function gives what its member or body spells, and refuses it exactly where it spells nothing of the kind, by the JSON
 //! reader's definition of what a text spells. Members that nothing asks for are ignored. `null` isn't absent, and a whole number
 //! is one that is written so: `2.0` and `1e0` are none.
 #![tactic(auto)]

@@ -1,6 +1,5 @@
 //! How a table of a desk in SQLite is asked and changed, whatever its rows are, and how its tables are made and known again.
-//! ---
-//! The statements of a desk in SQLite: their texts, and what each of them means for its tables.
+//! And the statements of a desk: their texts, and what each of them means for its tables.
 #![tactic(auto)]
 
 pub mod bound;

@@ -1,6 +1,5 @@
 //! The terms of submit requirements and copy conditions, and the patterns that some of them have.
-//! ---
-//! The grammar of expressions: the words and parentheses of a text, and the tree that they make.
+//! And the grammar of expressions: the words and parentheses of a text, and the tree that they make.
 #![tactic(auto)]
 
 pub mod lexemes;

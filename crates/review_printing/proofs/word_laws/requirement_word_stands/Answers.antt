@@ -1,5 +1,5 @@
 use Rattle.review_printing.proofs.RequirementWords.{requirement_stands}
-use Rattle.review_printing.proofs.words.requirement_word_stands.Goals as goal
+use Rattle.review_printing.proofs.word_laws.requirement_word_stands.Goals as goal
 
 pub returns : goal.returns
 returns c = requirement_stands
