@@ -12,3 +12,7 @@ pub mod CopyWords
 pub mod Parts
 pub mod LabelWords
 pub mod RequirementWords
+mod Bare
+mod LongestNames
+pub mod LabelValues
+pub mod WholeWords

@@ -1,3 +1,5 @@
 pub mod Printed
 pub mod Texts
 pub mod Written
+pub mod LabelValues
+pub mod LabelWords

@@ -12,9 +12,9 @@ use Rattle.review_spelling.specs.Values.{comparison_in}
 use Rattle.review_spelling.specs.Labels.{longest_label, count_in, voters_in, one_part, two_parts, parts_by, parts_in, comparison_part, behind_comma, label_in}
 use Rattle.review_printing.proofs.Lacking.{bare_comma, cut_lacking, whole_lacking}
 use Rattle.review_printing.proofs.Parts.{tail, cut_tail}
-use Rattle.review_spelling_laws.specs.LabelValues.{AreParts, IsLabelValue, LabelValuesAreSo}
-use Rattle.review_spelling_laws.proofs.Bare.{bind_gives, comparison_bare, count_bare, voters_bare, no_count}
-use Rattle.review_spelling_laws.proofs.LongestNames.{longest_found, longest_is}
+use Rattle.review_printing.specs.LabelValues.{AreParts, IsLabelValue, LabelValuesAreSo}
+use Rattle.review_printing.proofs.Bare.{bind_gives, comparison_bare, count_bare, voters_bare, no_count}
+use Rattle.review_printing.proofs.LongestNames.{longest_found, longest_is}
 
 -- one part, which has no comma
 one_read : (part : List ℕ) (who : Voters) (asked : Option Count) (c : Option Count) → cut_at 44 part ≡ None → count_in part ≡ c → one_part c part ≡ Some (who, asked) → parts_in (Some part) ≡ Some (who, asked)

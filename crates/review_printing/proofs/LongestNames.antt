@@ -7,7 +7,7 @@ use Rattle.std.proofs.lemmas.Bool.Decides.{nat_tests}
 use Rattle.review_names.specs.Forms.{is_label, goes_on}
 use Rattle.review_spelling.specs.Labels.{longest_label}
 use Rattle.review_spelling.proofs.Fronts.{both, taken_front}
-use Rattle.review_spelling_laws.specs.LabelValues.{IsLongestName}
+use Rattle.review_printing.specs.LabelValues.{IsLongestName}
 
 and_false : (b : Bool) → b && false ≡ false
 and_false true = refl

@@ -5,7 +5,7 @@ use Rattle.review_terms.specs.declared.terms.LabelTerm.{LabelTerm}
 use Rattle.review_terms.specs.declared.terms.RequirementTerm.TheVariants as requirement
 use Rattle.review_spelling.specs.Values.{is_met_by_zero}
 use Rattle.review_spelling.specs.Words.{requirement_reading}
-use Rattle.review_spelling_laws.specs.LabelValues.{IsLabelValue}
+use Rattle.review_printing.specs.LabelValues.{IsLabelValue}
 
 -- a text stands for a value: it is that value, or the value between two quotes
 abbrev pub StandsFor : List ℕ → List ℕ → Type 0

@@ -21,8 +21,8 @@ use Rattle.review_spelling.specs.Words.{formed, is_component, keyed, pattern_or,
 use Rattle.review_spelling.specs.declared.keys.RequirementKey.{RequirementKey}
 use Rattle.review_spelling.specs.declared.keys.RequirementKey.TheVariants as key
 use Rattle.review_printing.proofs.Lacking.{lacks, cut_lacking, whole_lacking, value_lacks, keep, keep_both}
-use Rattle.review_spelling_laws.specs.LabelWords.{StandsFor, IsLabelWord, LabelWordsAreSo}
-use Rattle.review_spelling_laws.proofs.LabelValues.{IsCut, cut_is, label_values}
+use Rattle.review_printing.specs.LabelWords.{StandsFor, IsLabelWord, LabelWordsAreSo}
+use Rattle.review_printing.proofs.LabelValues.{IsCut, cut_is, label_values}
 
 -- a value that lacks quotes, and one that no quote stands in
 quote_within : (before after : List ℕ) → lacks 34 (before ++ 34 ∷ after) ≡ false

@@ -1,4 +1,0 @@
-mod Bare
-mod LongestNames
-pub mod LabelValues
-pub mod WholeWords

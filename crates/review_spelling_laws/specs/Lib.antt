@@ -1,2 +1,0 @@
-pub mod LabelValues
-pub mod LabelWords
