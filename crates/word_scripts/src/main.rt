@@ -13,37 +13,25 @@
 //!   more than 20 the least and the greatest; or `too many`. `member N N,N,..`: whether an account is in a set;
 //! - `labels LABEL=VALUE,..`: the values that a review gives;
 //! - `file TEXT`: the text of a copy of a file;
-//! - `create-change PROJECT BRANCH COMMIT PARENT PATH,.. WIP SUBJECT`, `upload CHANGE COMMIT PARENT KIND PATH,..`,
-//!   `review CHANGE PATCH-SET LABEL=VALUE,..|MESSAGE|COMMENT|..`, where a comment is `PLACE LINE UNRESOLVED ANSWERED MESSAGE`: the content
-//!   text of the command. An empty list is `-`, and what isn't said of a comment is `absent`. Or `no form`, for comments without a message;
-//! - `add-reviewer CHANGE ACCOUNT ROLE`, where a role is `reviewer` or `cc`, `remove-reviewer CHANGE ACCOUNT`, `set-wip CHANGE`,
-//!   `set-ready CHANGE`, `abandon CHANGE`, `restore CHANGE`, `add-attention CHANGE ACCOUNT REASON`, `remove-attention CHANGE ACCOUNT REASON`:
-//!   the content text of the command; `close-epoch EPOCH` likewise;
 //! - `line LINE`: who asks for what by a line of JSON, in which epoch but for the first, under which id, and the content text of a command;
 //!   or `no delivery`. In `line-with-byte HEX LINE` each star of the line is the byte of two digits;
 //! - `route LINE`: whether the route of a line of JSON is a question, or a command whose body may be empty or not. `body LINE BODY`, where the
 //!   line has no space: the content text of the command to which the bytes of a body complete its route, or `no command`.
 //!   `request-id-with-byte HEX TEXT`: the id that these bytes are, or `no form`;
 //! - `reply TEXT`: the stored reply of a text: its JSON, the status of a refusal, and its text again; or `no stored reply`. Replies that
-//!   have no text are `branch-with COMMIT,.. CHANGE@COMMIT,..`, a branch's bases and what joined it, `not-taken CAUSE`,
-//!   `identity-reused`, `epoch-closed`, and the answers to questions about a change:
-//!   `change-with CHANGE PROJECT BRANCH OWNER|STATE WIP UPDATED|PATCH-SET COMMIT UPLOADER|REVIEWER,.. CC,.. LABEL=VALUE@ACCOUNT,..|SUBJECT`,
-//!   `requirements-with NAME=STATUS,..`, `attention-with ACCOUNT REQUEST REASON|..`, and `threads-with ROOT UNRESOLVED COMMENT;COMMENT;..|..`,
-//!   where a comment is `NUMBER PATCH-SET PLACE LINE AUTHOR UNRESOLVED ANSWERED MESSAGE`. An empty list is `-`.
+//!   have no text are `branch-with COMMIT,.. CHANGE@COMMIT,..`, a branch's bases and what joined it, where an empty list is `-`, `not-taken CAUSE`,
+//!   `identity-reused` and `epoch-closed`.
 //!
 //! In a line `{N:PART}` is PART N times, `{A..B}` the numbers from A to B with commas between, `{"A..B"}` the same with each in
 //! quotes, and `{U+HEX}` a character; any other brace is itself. In an answer `\n` is a line feed, and a text of more than 300 bytes
 //! is told by its length.
 #![tactic(auto)]
 
-mod asked;
 mod bodies;
-mod commands;
 mod fault;
 mod lines;
 mod lists;
 mod names;
-mod questions;
 mod replies;
 mod sets;
 mod texts;
@@ -71,18 +59,10 @@ fn addressed(alloc: Global, word: &str, text: &str) -> Result<String, Fault> {
 }
 
 /// What a line that asks, a route, a file or a reply is told as.
-fn line(alloc: Global, word: &str, text: &str) -> Result<String, Fault> {
+fn told(alloc: Global, word: &str, text: &str) -> Result<String, Fault> {
     match lines::line(alloc, word, text)? {
         Some(answer) => Ok(answer),
         None => addressed(alloc, word, text),
-    }
-}
-
-/// What a command, a line that asks, a route, a file or a reply is told as.
-fn told(alloc: Global, word: &str, text: &str) -> Result<String, Fault> {
-    match commands::command(alloc, word, text)? {
-        Some(answer) => Ok(answer),
-        None => line(alloc, word, text),
     }
 }
 

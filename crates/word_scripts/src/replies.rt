@@ -2,7 +2,6 @@
 
 use crate::fault::Fault;
 use crate::lists::{Part, list};
-use crate::questions;
 use crate::texts::cut;
 use review_json::answer_text;
 use review_texts::{BadReply, read_reply, reply_text};
@@ -87,14 +86,6 @@ fn not_taken(alloc: Global, text: &str) -> Result<String, Fault> {
     told(alloc, Reply::NotTaken(cause))
 }
 
-fn answer(alloc: Global, word: &str, text: &str) -> Result<Option<String>, Fault> {
-    let Some(answer) = questions::answer(alloc, word, text)? else {
-        return Ok(None);
-    };
-    let told = told(alloc, Reply::Done(answer))?;
-    Ok(Some(told))
-}
-
 /// What a reply is told as, if a word asks that.
 pub fn reply(alloc: Global, word: &str, text: &str) -> Result<Option<String>, Fault> {
     let reply = match word {
@@ -103,7 +94,7 @@ pub fn reply(alloc: Global, word: &str, text: &str) -> Result<Option<String>, Fa
         "not-taken" => not_taken(alloc, text),
         "identity-reused" => told(alloc, Reply::IdentityReused),
         "epoch-closed" => told(alloc, Reply::EpochClosed),
-        _ => return answer(alloc, word, text),
+        _ => return Ok(None),
     };
     Ok(Some(reply?))
 }

@@ -1,7 +1,6 @@
 //! Texts that a line writes in short, their parts, and texts that are shown on a line.
 
 use crate::fault::Fault;
-use review_words::CommentNo;
 use std::alloc::{AllocError, Global};
 
 /// What stands before the next separator, and the rest.
@@ -9,47 +8,9 @@ pub fn cut<'a>(text: &'a str, separator: &str) -> Result<(&'a str, &'a str), Fau
     text.split_once(separator).ok_or(Fault::Form)
 }
 
-/// What stands before each of the next two separators, and the rest.
-pub fn cut_twice<'a>(text: &'a str, separator: &str) -> Result<(&'a str, &'a str, &'a str), Fault> {
-    let (first, rest) = cut(text, separator)?;
-    let (second, rest) = cut(rest, separator)?;
-    Ok((first, second, rest))
-}
-
-/// What stands before each of the next three separators, and the rest.
-pub fn cut_thrice<'a>(
-    text: &'a str,
-    separator: &str,
-) -> Result<(&'a str, &'a str, &'a str, &'a str), Fault> {
-    let (first, rest) = cut(text, separator)?;
-    let (second, third, rest) = cut_twice(rest, separator)?;
-    Ok((first, second, third, rest))
-}
-
-pub fn truth(text: &str) -> Result<bool, Fault> {
-    match text {
-        "true" => Ok(true),
-        "false" => Ok(false),
-        _ => Err(Fault::Form),
-    }
-}
-
-/// A number of a line.
-pub fn whole_number(text: &str) -> Result<u32, Fault> {
-    text.parse::<u32>().map_err(|_| Fault::Form)
-}
-
 /// A value of a label.
 pub fn small_number(text: &str) -> Result<i8, Fault> {
     text.parse::<i8>().map_err(|_| Fault::Form)
-}
-
-/// The comment that is answered, or none where that is `absent`.
-pub fn answered(text: &str) -> Result<Option<CommentNo>, Fault> {
-    match text {
-        "absent" => Ok(None),
-        number => Ok(Some(CommentNo::read(number)?)),
-    }
 }
 
 /// The character of `U+HEX`.
