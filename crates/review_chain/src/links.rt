@@ -17,7 +17,7 @@ pub struct Link {
 }
 
 /// What a commit is to a branch.
-#[derive(Clone, Copy, Debug, PartialEq, Eq)]
+#[derive(Clone, Copy, PartialEq, Eq)]
 pub enum Standing {
     /// It is in the branch: a base of it, or the current commit of a merged change.
     InBranch,

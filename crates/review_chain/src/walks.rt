@@ -9,7 +9,7 @@ use review_words::{ChangeNo, CommitName, PatchNo, State};
 use std::alloc::{AllocError, AllocFailed, Global};
 
 /// Why a change has no chain.
-#[derive(Clone, Copy, Debug, PartialEq, Eq)]
+#[derive(Clone, Copy, PartialEq, Eq)]
 pub enum ChainFault {
     /// A link is the commit of an older patch set.
     Outdated,
@@ -50,7 +50,7 @@ impl<T: Drop> From<AllocFailed<T>> for ChainFault {
 }
 
 /// What has to be looked up.
-#[derive(Debug, PartialEq, Eq, Drop)]
+#[derive(PartialEq, Eq, Drop)]
 pub enum LookUp {
     /// The link of a change.
     Change(ChangeNo),
@@ -166,7 +166,7 @@ pub fn chain<L: Links>(
 }
 
 /// Where the look for the chain of a change has come to: a walk to it.
-#[derive(Clone, Copy, Debug, PartialEq, Eq)]
+#[derive(Clone, Copy, PartialEq, Eq)]
 pub struct Walked {
     /// The change whose chain is looked for.
     pub change: ChangeNo,

@@ -12,7 +12,7 @@ use review_words::{CommentNo, PatchNo};
 use std::alloc::{AllocError, Global};
 
 /// Why a change is not given.
-#[derive(Clone, Copy, Debug, PartialEq, Eq, Drop)]
+#[derive(Clone, Copy, PartialEq, Eq, Drop)]
 pub enum ChangeFault {
     Memory,
     /// The numbers of its patch sets or of its comments aren't 1, 2 and so on.

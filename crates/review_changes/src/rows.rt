@@ -39,7 +39,7 @@ pub struct PatchRow {
 }
 
 /// Which vote it is.
-#[derive(Debug, PartialEq, Eq, PartialOrd, Ord, Drop)]
+#[derive(PartialEq, Eq, PartialOrd, Ord, Drop)]
 pub struct VoteKey {
     pub patch: PatchNo,
     pub label: LabelName,

@@ -27,7 +27,7 @@ pub struct ChangeFile {
 }
 
 /// Why rows make no change.
-#[derive(Clone, Copy, Debug, PartialEq, Eq)]
+#[derive(Clone, Copy, PartialEq, Eq)]
 pub enum RowsFault {
     /// They don't fit together. They will not, however often it is tried.
     Broken,

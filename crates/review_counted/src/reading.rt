@@ -11,7 +11,7 @@ use std::io::Read;
 const PIECE_BYTES: usize = 4096;
 
 /// Why a read brought no bytes.
-#[derive(Clone, Copy, Debug, PartialEq, Eq)]
+#[derive(Clone, Copy, PartialEq, Eq)]
 pub enum Stop {
     /// The reader failed.
     Read,

@@ -3,7 +3,7 @@
 use review_rows::Rows;
 
 /// How a look-up ended.
-#[derive(Clone, Copy, Debug, PartialEq, Eq)]
+#[derive(Clone, Copy, PartialEq, Eq)]
 pub enum Sight {
     /// Rows learnt what it found.
     Learnt,

@@ -14,7 +14,7 @@ use std::alloc::{AllocError, AllocFailed, Global};
 use std::cmp::Ordering;
 
 /// Why a file can't go on from its parent's.
-#[derive(Clone, Copy, Debug, PartialEq, Eq)]
+#[derive(Clone, Copy, PartialEq, Eq)]
 pub enum InheritFault {
     /// A requirement of its own names a label that is neither its own nor its parent's. It makes no difference whether the requirement counts.
     UnknownLabel,

@@ -34,7 +34,7 @@ pub enum Facts {
 }
 
 /// Why an expression was not judged.
-#[derive(Clone, Copy, Debug, PartialEq, Eq)]
+#[derive(Clone, Copy, PartialEq, Eq)]
 pub enum EvalFault {
     /// There was no memory for it. It may be tried again.
     Memory,

@@ -5,7 +5,7 @@ use review_words::{ExprCode, ExprFault};
 use std::alloc::{AllocError, AllocFailed};
 
 /// Why a text was not read.
-#[derive(Clone, Copy, Debug, PartialEq, Eq)]
+#[derive(Clone, Copy, PartialEq, Eq)]
 pub enum ParseFault {
     /// The text is no expression.
     Text(ExprFault),

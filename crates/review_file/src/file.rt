@@ -13,7 +13,7 @@ use std::marker::Model;
 use std::rc::Rc;
 
 /// The groups that have a right.
-#[derive(Debug, Drop)]
+#[derive(Drop)]
 pub struct Access {
     pub create: Vec<GroupName>,
     pub upload: Vec<GroupName>,
@@ -30,7 +30,7 @@ impl Model for Access {
 }
 
 /// A value of a label, from -20 to 20, and what it means.
-#[derive(Debug, Drop)]
+#[derive(Drop)]
 pub struct LabelValue {
     pub(crate) value: i8,
     pub(crate) text: String,

@@ -47,7 +47,7 @@ pub trait Connections {
 }
 
 /// Why no more connections are served.
-#[derive(Clone, Copy, Debug, PartialEq, Eq)]
+#[derive(Clone, Copy, PartialEq, Eq)]
 pub enum ConnectionsFault {
     /// Listening or accepting failed.
     Network,

@@ -6,7 +6,7 @@ use review_names::{BranchName, ChangeNo, ProjectName};
 use std::alloc::AllocError;
 
 /// What the program is to do, on the desk in a file.
-#[derive(Debug, Drop)]
+#[derive(Drop)]
 pub enum Job<'a> {
     /// Makes an empty desk.
     Init {
@@ -40,7 +40,7 @@ pub enum Job<'a> {
 }
 
 /// Where the tables of a desk are.
-#[derive(Clone, Copy, Debug, PartialEq, Eq)]
+#[derive(Clone, Copy, PartialEq, Eq)]
 pub enum Place<'a> {
     /// In memory: a desk that is empty at first and gone at the end.
     Memory,
@@ -66,7 +66,7 @@ impl<'a> Job<'a> {
 }
 
 /// Why words give no job.
-#[derive(Clone, Copy, Debug, PartialEq, Eq)]
+#[derive(Clone, Copy, PartialEq, Eq)]
 pub enum WordsFault {
     /// They ask for no job, or for help.
     Usage,

@@ -5,7 +5,7 @@ use review_terms::ChangeKind;
 use std::collections::BTreeMap;
 
 /// The least and the greatest value of a label.
-#[derive(Clone, Copy, Debug, PartialEq, Eq)]
+#[derive(Clone, Copy, PartialEq, Eq)]
 pub struct ValueRange {
     /// The least value.
     pub least: i8,

@@ -6,7 +6,7 @@ use review_words::{AccountNo, Epoch, RequestId};
 use std::alloc::{AllocError, Global};
 
 /// The identity of a stored request, by its epoch first.
-#[derive(Debug, PartialEq, Eq, PartialOrd, Ord, Drop)]
+#[derive(PartialEq, Eq, PartialOrd, Ord, Drop)]
 pub struct AnswerKey {
     pub epoch: Epoch,
     pub caller: AccountNo,
@@ -25,7 +25,7 @@ impl Key for AnswerKey {
 }
 
 /// What is stored of a request beside its identity.
-#[derive(Debug, Drop)]
+#[derive(Drop)]
 pub struct StoredAnswer {
     pub request: u64,
     pub content: String,

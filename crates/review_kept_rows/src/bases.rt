@@ -25,7 +25,7 @@ pub struct Branches {
 }
 
 /// Why the bases of a branch are not given.
-#[derive(Clone, Copy, Debug, PartialEq, Eq, Drop)]
+#[derive(Clone, Copy, PartialEq, Eq, Drop)]
 pub enum BasesFault {
     /// There was no memory for them.
     Memory,

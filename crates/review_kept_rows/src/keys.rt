@@ -6,7 +6,7 @@ use review_words::{BranchName, CommitName, ProjectName};
 use std::alloc::{AllocError, Global};
 
 /// That a commit may stand at a place of a branch.
-#[derive(Debug, PartialEq, Eq, PartialOrd, Ord, Drop)]
+#[derive(PartialEq, Eq, PartialOrd, Ord, Drop)]
 pub struct CommitKey {
     pub project: ProjectName,
     pub branch: BranchName,

@@ -9,7 +9,7 @@ use review_words::ChangeNo;
 use std::alloc::{AllocError, Global};
 
 /// That a change may stand at a place of a branch.
-#[derive(Debug, PartialEq, Eq, PartialOrd, Ord, Drop)]
+#[derive(PartialEq, Eq, PartialOrd, Ord, Drop)]
 pub struct PlaceKey {
     pub branch: BranchKey,
     /// From 1.

@@ -18,7 +18,7 @@ use std::alloc::{AllocError, Global};
 use std::io::{Read, Write};
 
 /// What a line asks for.
-#[derive(Debug, Drop)]
+#[derive(Drop)]
 pub enum Asked {
     /// The line is blank.
     Nothing,

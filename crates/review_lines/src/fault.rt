@@ -8,7 +8,7 @@ use std::fmt;
 use std::fmt::{Display, Formatter};
 
 /// What ends a command early.
-#[derive(Clone, Copy, Debug, PartialEq, Eq)]
+#[derive(Clone, Copy, PartialEq, Eq)]
 pub enum Fault {
     /// There was no memory to read a line or to write its answer.
     Memory,
@@ -52,7 +52,7 @@ impl Display for Fault {
 }
 
 /// How a command ended that no fault cut short.
-#[derive(Clone, Copy, Debug, PartialEq, Eq)]
+#[derive(Clone, Copy, PartialEq, Eq)]
 pub enum Outcome {
     /// Each line was blank, or a delivery that was taken.
     Complete,

@@ -19,7 +19,7 @@ const MOST_READS: u32 = 1_000_000_000;
 const PIECE_BYTES: usize = 65_536;
 
 /// A line without its end.
-#[derive(Debug, Drop)]
+#[derive(Drop)]
 pub enum Line {
     Whole(Vec<u8>),
     /// It has more than 400,000 bytes, which were skipped.
@@ -140,7 +140,7 @@ impl Piece {
 }
 
 /// Why no line was read.
-#[derive(Clone, Copy, Debug, PartialEq, Eq)]
+#[derive(Clone, Copy, PartialEq, Eq)]
 pub enum LineFault {
     /// The reader failed.
     Input,

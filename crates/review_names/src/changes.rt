@@ -8,7 +8,7 @@ use crate::numbers::read_number;
 use std::marker::Model;
 
 /// The number of a change, from 1 to 1,000,000,000.
-#[derive(Clone, Copy, Debug, PartialEq, Eq, PartialOrd, Ord)]
+#[derive(Clone, Copy, PartialEq, Eq, PartialOrd, Ord)]
 pub struct ChangeNo {
     number: u32,
 }
@@ -64,7 +64,7 @@ impl ChangeNo {
 }
 
 /// The number of a patch set of a change, from 1 to 1,000.
-#[derive(Clone, Copy, Debug, PartialEq, Eq, PartialOrd, Ord)]
+#[derive(Clone, Copy, PartialEq, Eq, PartialOrd, Ord)]
 pub struct PatchNo {
     patch: u32,
 }
@@ -119,7 +119,7 @@ impl PatchNo {
 }
 
 /// The number of a comment on a change, from 1 to 10,000.
-#[derive(Clone, Copy, Debug, PartialEq, Eq, PartialOrd, Ord)]
+#[derive(Clone, Copy, PartialEq, Eq, PartialOrd, Ord)]
 pub struct CommentNo {
     comment: u32,
 }

@@ -22,7 +22,7 @@ pub trait Form {
 }
 
 /// A name of a form. Contracts see its bytes; its copies share one text.
-#[derive(Debug, Drop)]
+#[derive(Drop)]
 pub struct Name<F: Form> {
     text: RcStr,
     form: PhantomData<F>,

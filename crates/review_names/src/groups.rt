@@ -13,7 +13,7 @@ use std::collections::{BTreeMap, BTreeSet};
 use std::marker::Model;
 
 /// The groups that were put, each with its members. Contracts see them in the order of their names' bytes.
-#[derive(Debug, Drop)]
+#[derive(Drop)]
 pub struct Groups(pub BTreeMap<GroupName, Members>);
 
 impl Model for Groups {
@@ -41,7 +41,7 @@ impl Groups {
 }
 
 /// A set of paths, at most 500. Contracts see them in the order of their bytes, each once.
-#[derive(Debug, Drop)]
+#[derive(Drop)]
 pub struct Paths {
     paths: Vec<Path>,
 }

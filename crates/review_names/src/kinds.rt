@@ -3,7 +3,7 @@ ghost use Rattle.std.specs.Prelude.{◌≡◌};
 ghost use Rattle.review_names.specs.Kinds.{kind_name, kind_named};
 
 /// What a new patch set changed.
-#[derive(Clone, Copy, Debug, PartialEq, Eq)]
+#[derive(Clone, Copy, PartialEq, Eq)]
 pub enum ChangeKind {
     /// `NO_CHANGE`
     NoChange,

@@ -7,15 +7,15 @@ use crate::forms::{Form, Name};
 use crate::places::has_no_control;
 
 /// The form of a change's subject: 1 to 512 bytes of UTF-8 without the control characters of ASCII.
-#[derive(Debug, Drop)]
+#[derive(Drop)]
 pub struct OfSubject;
 
 /// The form of a reason, which is that of a subject.
-#[derive(Debug, Drop)]
+#[derive(Drop)]
 pub struct OfReason;
 
 /// The form of a message: 0 to 8,192 bytes of UTF-8 without U+0000.
-#[derive(Debug, Drop)]
+#[derive(Drop)]
 pub struct OfMessage;
 
 /// The subject of a change.

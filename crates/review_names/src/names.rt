@@ -17,7 +17,7 @@ use std::collections::BTreeSet;
 use std::marker::{Model, PhantomData};
 
 /// Why a name, a number or a set was not made.
-#[derive(Clone, Copy, Debug, PartialEq, Eq)]
+#[derive(Clone, Copy, PartialEq, Eq)]
 pub enum BadName {
     /// What was given isn't of the form. It will not be, however often it is tried.
     Form,
@@ -130,15 +130,15 @@ impl AccountNo {
 }
 
 /// The form of an account's name: 1 to 64 of `A-Z a-z 0-9 . _ -`.
-#[derive(Debug, Drop)]
+#[derive(Drop)]
 pub struct OfAccount;
 
 /// The form of a group's name, which is that of an account's.
-#[derive(Debug, Drop)]
+#[derive(Drop)]
 pub struct OfGroup;
 
 /// The form of a request's id, which is that of an account's name.
-#[derive(Debug, Drop)]
+#[derive(Drop)]
 pub struct OfRequest;
 
 /// The name of an account.
@@ -222,7 +222,7 @@ pub fn read_account(bytes: &[u8]) -> Option<AccountNo>
 }
 
 /// A set of accounts, at most 1,024. Contracts see its numbers in order, each once.
-#[derive(Debug, Drop)]
+#[derive(Drop)]
 pub struct Members {
     accounts: Vec<AccountNo>,
 }

@@ -10,37 +10,37 @@ use std::alloc::{AllocError, Global};
 
 /// The form of a label's name: 1 to 40 of `A-Z a-z 0-9 -`, a letter first, each hyphen followed
 /// by a letter.
-#[derive(Debug, Drop)]
+#[derive(Drop)]
 pub struct OfLabel;
 
 /// The form of a project's name: 1 to 128 bytes, components of `A-Z a-z 0-9 . _ -` joined by
 /// `/`, none of them `.` or `..`.
-#[derive(Debug, Drop)]
+#[derive(Drop)]
 pub struct OfProject;
 
 /// The form of a branch's name, which is that of a project's.
-#[derive(Debug, Drop)]
+#[derive(Drop)]
 pub struct OfBranch;
 
 /// The form of a commit's name: 40 of `0-9 a-f`.
-#[derive(Debug, Drop)]
+#[derive(Drop)]
 pub struct OfCommit;
 
 /// The form of a path: 1 to 512 bytes of UTF-8 without the control characters of ASCII,
 /// components joined by `/`, none of them empty.
-#[derive(Debug, Drop)]
+#[derive(Drop)]
 pub struct OfPath;
 
 /// The form of the place of a comment: a path, `/COMMIT_MSG` or `/PATCHSET_LEVEL`.
-#[derive(Debug, Drop)]
+#[derive(Drop)]
 pub struct OfPlace;
 
 /// A component of a project's or a branch's name.
-#[derive(Debug, Drop)]
+#[derive(Drop)]
 struct OfStep;
 
 /// A component of a path.
-#[derive(Debug, Drop)]
+#[derive(Drop)]
 struct OfFile;
 
 /// The name of a label or a requirement.

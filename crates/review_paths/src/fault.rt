@@ -4,7 +4,7 @@ use crate::methods::Methods;
 
 /// Why the bytes of a request call for no delivery. Of several causes the first counts, in this order; a head that is malformed as well as too
 /// large is told as either.
-#[derive(Clone, Copy, Debug, PartialEq, Eq)]
+#[derive(Clone, Copy, PartialEq, Eq)]
 pub enum HttpFault {
     /// The head is malformed, or the input ended within it; or, after LengthRequired, its `Content-Length` isn't one field of digits.
     BadHead,

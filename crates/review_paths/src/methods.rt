@@ -7,7 +7,7 @@ use review_routes::{ChangeRoute, Route};
 use review_words::{BranchName, ChangeNo, ChangeQuery, ProjectName};
 
 /// The methods that a resource takes.
-#[derive(Clone, Copy, Debug, PartialEq, Eq)]
+#[derive(Clone, Copy, PartialEq, Eq)]
 pub enum Methods {
     Get,
     GetAndPost,

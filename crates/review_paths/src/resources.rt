@@ -15,7 +15,7 @@ use review_words::{BranchName, ChangeNo, ChangeQuery, GroupName, ProjectName};
 use std::alloc::Global;
 
 /// What a path names.
-#[derive(Debug, Drop)]
+#[derive(Drop)]
 pub enum Resource {
     /// All accounts.
     Accounts,

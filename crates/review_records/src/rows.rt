@@ -47,7 +47,7 @@ impl Text {
 }
 
 /// The number of a place, from 1. Contracts see the number.
-#[derive(Clone, Copy, Debug, PartialEq, Eq, PartialOrd, Ord)]
+#[derive(Clone, Copy, PartialEq, Eq, PartialOrd, Ord)]
 pub struct PlaceNo {
     number: u64,
 }
@@ -108,7 +108,7 @@ pub struct Answered {
 }
 
 /// What the row of the desk says.
-#[derive(Clone, Copy, Debug, PartialEq, Eq)]
+#[derive(Clone, Copy, PartialEq, Eq)]
 pub struct DeskRow {
     pub version: u64,
     pub requests: u64,

@@ -4,7 +4,7 @@ use review_routes::Route;
 use review_words::{AccountNo, Epoch, RequestId};
 
 /// What a head asks for. Its body is still to come.
-#[derive(Debug, Drop)]
+#[derive(Drop)]
 pub struct Asked {
     pub caller: AccountNo,
     /// None of a question.

@@ -6,7 +6,7 @@ use review_paths::HttpFault;
 use review_routes::BadBody;
 
 /// Why no delivery came of a request.
-#[derive(Clone, Copy, Debug, PartialEq, Eq)]
+#[derive(Clone, Copy, PartialEq, Eq)]
 pub enum RequestFault {
     /// The input ended before its first byte.
     Empty,
@@ -21,7 +21,7 @@ pub enum RequestFault {
 }
 
 /// A fault of the request, or want of memory.
-#[derive(Clone, Copy, Debug, PartialEq, Eq)]
+#[derive(Clone, Copy, PartialEq, Eq)]
 pub enum Refused {
     Http(HttpFault),
     Memory,

@@ -17,7 +17,7 @@ use review_words::Delivery;
 use std::alloc::Global;
 
 /// What a look at the bytes so far tells.
-#[derive(Debug, Drop)]
+#[derive(Drop)]
 pub enum Look {
     /// They are a whole request, for this delivery.
     Whole(Delivery),
@@ -26,7 +26,7 @@ pub enum Look {
 }
 
 /// What stands at the front of the bytes.
-#[derive(Debug, Drop)]
+#[derive(Drop)]
 pub enum Head {
     /// A whole head of this length, and what it asks for.
     Asks(usize, Asked),

@@ -5,7 +5,7 @@ use review_words::BadName;
 use std::alloc::{AllocError, AllocFailed};
 
 /// Why a line or a body was not read.
-#[derive(Clone, Copy, Debug, PartialEq, Eq)]
+#[derive(Clone, Copy, PartialEq, Eq)]
 pub enum BadBody {
     /// It spells no delivery.
     Form,

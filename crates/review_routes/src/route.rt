@@ -4,7 +4,7 @@ use review_names::{AccountNo, BranchName, ChangeNo, GroupName, PatchNo, ProjectN
 use review_words::ChangeQuery;
 
 /// What a request asks for, with what its path or its line's members say of it; what its body says isn't among it.
-#[derive(Debug, Drop)]
+#[derive(Drop)]
 pub enum Route {
     CreateAccount,
     PutGroup {
@@ -37,7 +37,7 @@ pub enum Route {
 }
 
 /// What is asked of a change that is there, but for what the body says.
-#[derive(Clone, Copy, Debug, PartialEq, Eq)]
+#[derive(Clone, Copy, PartialEq, Eq)]
 pub enum ChangeRoute {
     Upload,
     /// No patch set stands for the current one.

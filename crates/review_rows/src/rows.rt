@@ -11,7 +11,7 @@ use review_words::{
 use std::alloc::{AllocError, Global};
 
 /// The key of a row that makes an account a member of a group.
-#[derive(Debug, PartialEq, Eq, PartialOrd, Ord, Drop)]
+#[derive(PartialEq, Eq, PartialOrd, Ord, Drop)]
 pub struct MemberKey {
     pub group: GroupName,
     pub account: AccountNo,
@@ -28,7 +28,7 @@ impl Key for MemberKey {
 }
 
 /// A branch of a project.
-#[derive(Debug, PartialEq, Eq, PartialOrd, Ord, Drop)]
+#[derive(PartialEq, Eq, PartialOrd, Ord, Drop)]
 pub struct BranchKey {
     pub project: ProjectName,
     pub branch: BranchName,
@@ -43,7 +43,7 @@ impl Key for BranchKey {
 }
 
 /// A commit in a branch.
-#[derive(Debug, PartialEq, Eq, PartialOrd, Ord, Drop)]
+#[derive(PartialEq, Eq, PartialOrd, Ord, Drop)]
 pub struct Base {
     pub project: ProjectName,
     pub branch: BranchName,
@@ -64,7 +64,7 @@ impl Key for Base {
 }
 
 /// The text of a project's file, with the parent that it names.
-#[derive(Debug, Drop)]
+#[derive(Drop)]
 pub struct StoredFile {
     pub text: FileText,
     pub parent: Option<ProjectName>,
@@ -85,7 +85,7 @@ impl StoredFile {
 }
 
 /// A place of a branch, which is counted from 1.
-#[derive(Debug, PartialEq, Eq, PartialOrd, Ord, Drop)]
+#[derive(PartialEq, Eq, PartialOrd, Ord, Drop)]
 pub struct PlaceKey {
     pub project: ProjectName,
     pub branch: BranchName,
@@ -124,7 +124,7 @@ pub struct ChangeEdit {
 }
 
 /// What is counted of a desk, up to a limit.
-#[derive(Debug, PartialEq, Eq, Drop)]
+#[derive(PartialEq, Eq, Drop)]
 pub enum Counted {
     /// The projects: at most 1,000.
     Projects,
@@ -134,7 +134,7 @@ pub enum Counted {
 
 /// One look-up. Each is by a full key or by the front of one, but for the greatest numbers, for the least open epoch and for whether a count has
 /// reached its limit, of which a shelf may know more than its rows: none needs a walk over a table.
-#[derive(Debug, Drop)]
+#[derive(Drop)]
 pub enum Want {
     /// How many requests are stored.
     Requests,
@@ -177,7 +177,7 @@ pub enum Want {
 }
 
 /// What a load asks for.
-#[derive(Debug, Drop)]
+#[derive(Drop)]
 pub struct Need {
     pub wants: Vec<Want>,
 }
@@ -228,7 +228,7 @@ pub struct Delta {
 }
 
 /// A stored request, with the texts of its command and its reply.
-#[derive(Debug, Drop)]
+#[derive(Drop)]
 pub struct Kept {
     pub caller: AccountNo,
     pub epoch: Epoch,
@@ -240,7 +240,7 @@ pub struct Kept {
 }
 
 /// What is known of the identity of a request.
-#[derive(Debug, Drop)]
+#[derive(Drop)]
 pub enum Recalled {
     /// Its epoch is open, and the request is stored.
     Kept(Kept),

@@ -6,7 +6,7 @@ use review_words::{NotTaken, Refusal};
 use std::alloc::AllocError;
 
 /// Why a page was not written, or not all of it.
-#[derive(Clone, Copy, Debug, PartialEq, Eq)]
+#[derive(Clone, Copy, PartialEq, Eq)]
 pub enum ShowFault {
     /// There was no memory for it.
     Memory,

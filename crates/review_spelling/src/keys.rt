@@ -3,7 +3,7 @@ ghost use Rattle.std.specs.Prelude.{◌≡◌};
 ghost use Rattle.review_spelling.specs.Words.{copy_key, requirement_key};
 
 /// What stands before the colon in a term of a submit requirement.
-#[derive(Clone, Copy, Debug, PartialEq, Eq)]
+#[derive(Clone, Copy, PartialEq, Eq)]
 pub enum RequirementKey {
     /// `is`
     Is,
@@ -24,7 +24,7 @@ pub enum RequirementKey {
 }
 
 /// What stands before the colon in a term of a copy condition.
-#[derive(Clone, Copy, Debug, PartialEq, Eq)]
+#[derive(Clone, Copy, PartialEq, Eq)]
 pub enum CopyKey {
     /// `is`
     Is,

@@ -4,7 +4,7 @@ ghost use Rattle.std.specs.Prelude.{◌≡◌, ◌≢◌};
 use sqlite::{Error, ErrorCode};
 
 /// Why a desk was not made or opened.
-#[derive(Clone, Copy, Debug, PartialEq, Eq)]
+#[derive(Clone, Copy, PartialEq, Eq)]
 pub enum DeskFault {
     /// The tables are not those of a desk.
     NotADesk,

@@ -3,7 +3,7 @@ ghost use Rattle.std.specs.Prelude.{◌≡◌, MatchOption};
 ghost use Rattle.review_tables.specs.Versions.{version_of};
 
 /// A version of the tables.
-#[derive(Clone, Copy, Debug, PartialEq, Eq)]
+#[derive(Clone, Copy, PartialEq, Eq)]
 pub enum TablesVersion {
     /// No project has a parent.
     First,
@@ -27,7 +27,7 @@ impl TablesVersion {
 }
 
 /// A version before the latest.
-#[derive(Clone, Copy, Debug, PartialEq, Eq)]
+#[derive(Clone, Copy, PartialEq, Eq)]
 pub enum EarlierVersion {
     First,
     Second,

@@ -11,7 +11,7 @@ pub const MOST_BYTES: usize = 4096;
 
 /// A word, by its first byte and the byte after it, an opening parenthesis, by its place, or a
 /// closing one.
-#[derive(Clone, Copy, Debug, PartialEq, Eq)]
+#[derive(Clone, Copy, PartialEq, Eq)]
 pub enum Piece {
     Word(usize, usize),
     Open(usize),
@@ -19,7 +19,7 @@ pub enum Piece {
 }
 
 /// Why a text is not cut.
-#[derive(Clone, Copy, Debug, PartialEq, Eq)]
+#[derive(Clone, Copy, PartialEq, Eq)]
 pub enum CutFault {
     /// It has more than 4,096 bytes.
     TooLong,

@@ -10,7 +10,7 @@ use std::alloc::{AllocError, AllocFailed, Global};
 use std::collections::VecDeque;
 
 /// Why tokens have no tree. Of the first three, the first that applies is answered.
-#[derive(Clone, Copy, Debug, PartialEq, Eq)]
+#[derive(Clone, Copy, PartialEq, Eq)]
 pub enum ShapeFault {
     /// The grammar doesn't allow the tokens, even with AND and OR freely mixed.
     BadTerm,
@@ -45,7 +45,7 @@ impl<T: Drop> From<AllocFailed<T>> for ShapeFault {
 }
 
 /// Why a part was not read.
-#[derive(Clone, Copy, Debug, PartialEq, Eq)]
+#[derive(Clone, Copy, PartialEq, Eq)]
 enum Refusal {
     Grammar,
     Memory,
@@ -74,7 +74,7 @@ impl<T: Drop> From<AllocFailed<T>> for Refusal {
 }
 
 /// What stands between two members.
-#[derive(Clone, Copy, Debug, PartialEq, Eq)]
+#[derive(Clone, Copy, PartialEq, Eq)]
 enum Joint {
     Blank,
     And,
@@ -82,7 +82,7 @@ enum Joint {
 }
 
 /// What stands in front of a member.
-#[derive(Clone, Copy, Debug, PartialEq, Eq)]
+#[derive(Clone, Copy, PartialEq, Eq)]
 enum Prefix {
     None,
     Not,

@@ -29,7 +29,7 @@ impl Model for Pattern {
 }
 
 /// Why a text gives no pattern.
-#[derive(Clone, Copy, Debug, PartialEq, Eq)]
+#[derive(Clone, Copy, PartialEq, Eq)]
 pub enum PatternFault {
     /// The text is no pattern, as one that nests deeper than the engine reads. It will not be read, however
     /// often it is tried.

@@ -4,7 +4,7 @@ use crate::pattern::Pattern;
 use review_names::{AccountNo, BranchName, ChangeKind, GroupName, LabelName, Path};
 
 /// The value that a vote is compared with.
-#[derive(Clone, Copy, Debug, PartialEq, Eq)]
+#[derive(Clone, Copy, PartialEq, Eq)]
 pub enum VoteValue {
     /// The greatest value of the label.
     Max,
@@ -17,7 +17,7 @@ pub enum VoteValue {
 }
 
 /// How a vote's value is compared.
-#[derive(Clone, Copy, Debug, PartialEq, Eq)]
+#[derive(Clone, Copy, PartialEq, Eq)]
 pub enum Comparison {
     /// `=V`
     Is(VoteValue),
@@ -47,7 +47,7 @@ pub enum Voters {
 }
 
 /// How many accounts are asked for.
-#[derive(Clone, Copy, Debug, PartialEq, Eq)]
+#[derive(Clone, Copy, PartialEq, Eq)]
 pub enum Count {
     /// `count=K`
     Exactly(u8),

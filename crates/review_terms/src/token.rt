@@ -1,7 +1,7 @@
 //! What the parser reads: words that were read, parentheses and signs.
 
 /// A token of an expression whose terms are of type W.
-#[derive(Debug, Drop)]
+#[derive(Drop)]
 pub enum Token<W> {
     /// A term, in a box, so that a token is small whatever a term is.
     Word(Box<W>),

@@ -2,7 +2,7 @@
 
 /// An expression whose terms are of type W. As the parser gives it, And and Or have two or more
 /// members.
-#[derive(Debug, Drop)]
+#[derive(Drop)]
 pub enum Node<W> {
     /// A term, in a box, so that a node is small whatever a term is.
     Term(Box<W>),

@@ -3,7 +3,7 @@
 use std::alloc::{AllocError, AllocFailed};
 
 /// Why a word is no term.
-#[derive(Clone, Copy, Debug, PartialEq, Eq)]
+#[derive(Clone, Copy, PartialEq, Eq)]
 pub enum WordFault {
     /// It has no colon, an unknown key, a quote elsewhere than round the whole value, or a minus
     /// in front.

@@ -3,7 +3,7 @@
 use review_words::Epoch;
 
 /// What a desk says of itself: how many requests are stored, and which epoch is the least open one.
-#[derive(Clone, Copy, Debug, PartialEq, Eq)]
+#[derive(Clone, Copy, PartialEq, Eq)]
 pub struct Numbers {
     pub requests: u64,
     pub least: Epoch,

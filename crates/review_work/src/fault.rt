@@ -11,7 +11,7 @@ use std::fmt;
 use std::fmt::{Display, Formatter};
 
 /// What ends a job early, by the text that standard error gets.
-#[derive(Clone, Copy, Debug, PartialEq, Eq)]
+#[derive(Clone, Copy, PartialEq, Eq)]
 pub enum ProgramFault {
     /// The tables of the file are not those of a desk.
     NotADesk,

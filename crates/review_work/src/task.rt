@@ -2,7 +2,7 @@
 use review_names::{BranchName, ChangeNo, ProjectName};
 
 /// What is to be done on a desk that is there.
-#[derive(Debug, Drop)]
+#[derive(Drop)]
 pub enum Task {
     /// Takes the deliveries of the lines of the reader.
     Apply,
