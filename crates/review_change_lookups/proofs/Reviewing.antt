@@ -25,12 +25,12 @@ use Rattle.review_rows.specs.Rows.{PartKey, APart, vote_row}
 use Rattle.review_changes.specs.Votes.{voted}
 use Rattle.review_rows.specs.Shelf.{IsDamaged}
 use Rattle.review_rows.proofs.Readings.{reading_of}
-use Rattle.review_tables.specs.Content.{has_key}
+use Rattle.review_statements.specs.Content.{has_key}
 use Rattle.review_tables.specs.Fronts.{AreParts}
-use Rattle.review_tables.specs.Greatest.{HasGreatest}
-use Rattle.review_tables.specs.Search.{only, reads, row_at, rows_at}
+use Rattle.review_statements.specs.Greatest.{HasGreatest}
+use Rattle.review_statements.specs.Search.{only, reads, row_at, rows_at}
 use Rattle.review_records.specs.Forms.{where_is}
-use Rattle.review_tables.proofs.Meaning.{all_pass}
+use Rattle.review_statements.proofs.Meaning.{all_pass}
 use Rattle.review_change_records.specs.Forms.{headers, patches, votes, roles, comments, calls, change_patches, change_votes, change_roles, change_comments, change_calls, change_numbers, integer_in, is_vote}
 use Rattle.review_rows.specs.declared.rows.Rows.{Rows}
 use Rattle.review_rows.specs.declared.rows.Want.{Want}

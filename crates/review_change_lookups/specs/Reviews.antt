@@ -16,7 +16,7 @@ use Rattle.review_change_rows.specs.Tables as tables
 use Rattle.review_rows.specs.Rows.{APart}
 use Rattle.review_rows.specs.Shelf.{IsDamaged}
 use Rattle.review_tables.specs.Fronts.{AreParts}
-use Rattle.review_tables.specs.Search.{row_at}
+use Rattle.review_statements.specs.Search.{row_at}
 use Rattle.review_change_records.specs.Forms.{headers, patches, votes, roles, comments, calls, change_patches, change_votes, change_roles, change_comments, change_calls}
 use Rattle.review_database.specs.declared.sights.Sight.{Sight}
 use Rattle.review_database.specs.declared.sights.Sight.TheVariants.{Learnt, NoMemory, Damaged}

@@ -20,8 +20,8 @@ use Rattle.review_changes.specs.declared.rows.VoteKey.{VoteKey}
 use Rattle.review_changes.specs.Votes.{voted}
 use Rattle.review_rows.specs.declared.rows.BranchKey.{BranchKey}
 use Rattle.review_tables.specs.Columns.{number_in, text_in}
-use Rattle.review_tables.specs.Desk as table
-use Rattle.review_tables.specs.Search.{Search, Form, with_rowid, with_number}
+use Rattle.review_statements.specs.Desk as table
+use Rattle.review_statements.specs.Search.{Search, Form, with_rowid, with_number}
 use Rattle.review_rows.specs.declared.rows.PlaceKey.{PlaceKey}
 use Rattle.review_records.specs.Forms.{both, where_is}
 use Rattle.review_records.specs.Keyed.{is_small}

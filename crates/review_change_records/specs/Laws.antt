@@ -31,10 +31,10 @@ use Rattle.review_changes.specs.declared.rows.PatchRow.{PatchRow}
 use Rattle.review_changes.specs.declared.rows.VoteKey.{VoteKey}
 use Rattle.review_changes.specs.Seen.{vote_cmp}
 use Rattle.review_tables.specs.Columns.{number_in, text_in}
-use Rattle.review_tables.specs.Content.{has_key}
+use Rattle.review_statements.specs.Content.{has_key}
 use Rattle.review_tables.specs.Fronts.{IsExact, IsFront}
-use Rattle.review_tables.specs.Search.{IsLawful, reads}
-use Rattle.review_tables.specs.Content.{is_value}
+use Rattle.review_statements.specs.Search.{IsLawful, reads}
+use Rattle.review_statements.specs.Content.{is_value}
 use Rattle.review_tables.proofs.Keys.{equal_is, itself, same_int, same_text, text_is as stored_text}
 use Rattle.review_records.specs.Keyed.{is_number, is_small}
 use Rattle.review_records.specs.Forms.{where_is}

@@ -7,7 +7,7 @@ use review_tables::bound::Bound;
 use review_tables::columns::number_at;
 use review_tables::fronts::Front;
 use review_tables::table::{Lookup, Table};
-use review_tables::texts;
+use review_statements::texts;
 use review_words::{AccountNo, ChangeNo};
 use sqlite::{Error, Row};
 use std::alloc::{AllocError, Global};
@@ -17,8 +17,8 @@ pub struct Calls;
 
 impl Lookup for Calls {
     ghost use Rattle.std.specs.Prelude.{pos};
-    ghost use Rattle.review_tables.specs.declared.texts.TheConstants.{FIND_CALLS};
-    ghost use Rattle.review_tables.proofs.TextsOfLookups.{find_calls};
+    ghost use Rattle.review_statements.specs.declared.texts.TheConstants.{FIND_CALLS};
+    ghost use Rattle.review_statements.proofs.TextsOfLookups.{find_calls};
     ghost use Rattle.review_change_records.specs.Forms.{change_calls};
 
     type Key = ChangeNo;
@@ -65,8 +65,8 @@ impl Front for Calls {
 
 impl Table for Calls {
     ghost use Rattle.std.specs.Prelude.{pos};
-    ghost use Rattle.review_tables.specs.declared.texts.TheConstants.{INSERT_ATTENTION, DELETE_ATTENTION};
-    ghost use Rattle.review_tables.proofs.TextsOfChanges.{insert_attention, delete_attention};
+    ghost use Rattle.review_statements.specs.declared.texts.TheConstants.{INSERT_ATTENTION, DELETE_ATTENTION};
+    ghost use Rattle.review_statements.proofs.TextsOfChanges.{insert_attention, delete_attention};
     ghost use Rattle.review_change_records.specs.Forms.{calls, call_form};
     ghost use Rattle.review_change_records.specs.Laws.{call_lawful};
 

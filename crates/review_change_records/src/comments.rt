@@ -10,7 +10,7 @@ use review_tables::bound::Bound;
 use review_tables::columns::number_at;
 use review_tables::fronts::Front;
 use review_tables::table::{Lookup, Table};
-use review_tables::texts;
+use review_statements::texts;
 use review_words::{ChangeNo, CommentNo};
 use sqlite::{Error, Row};
 use std::alloc::{AllocError, Global};
@@ -20,8 +20,8 @@ pub struct Comments;
 
 impl Lookup for Comments {
     ghost use Rattle.std.specs.Prelude.{pos};
-    ghost use Rattle.review_tables.specs.declared.texts.TheConstants.{FIND_COMMENTS};
-    ghost use Rattle.review_tables.proofs.TextsOfLookups.{find_comments};
+    ghost use Rattle.review_statements.specs.declared.texts.TheConstants.{FIND_COMMENTS};
+    ghost use Rattle.review_statements.proofs.TextsOfLookups.{find_comments};
     ghost use Rattle.review_change_records.specs.Forms.{change_comments};
 
     type Key = ChangeNo;
@@ -93,8 +93,8 @@ impl Front for Comments {
 impl Table for Comments {
     ghost use Rattle.review_change_records.specs.Forms.{flag_number, answers_number};
     ghost use Rattle.std.specs.Prelude.{pos};
-    ghost use Rattle.review_tables.specs.declared.texts.TheConstants.{INSERT_COMMENT, DELETE_COMMENT};
-    ghost use Rattle.review_tables.proofs.TextsOfChanges.{insert_comment, delete_comment};
+    ghost use Rattle.review_statements.specs.declared.texts.TheConstants.{INSERT_COMMENT, DELETE_COMMENT};
+    ghost use Rattle.review_statements.proofs.TextsOfChanges.{insert_comment, delete_comment};
     ghost use Rattle.review_change_records.specs.Forms.{comments, comment_form};
     ghost use Rattle.review_change_records.specs.Laws.{comment_lawful};
 

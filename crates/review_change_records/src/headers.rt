@@ -8,7 +8,7 @@ use review_tables::bound::Bound;
 use review_tables::columns::number_at;
 use review_tables::greatest::Greatest;
 use review_tables::table::{Lookup, Table};
-use review_tables::texts;
+use review_statements::texts;
 use review_words::ChangeNo;
 use sqlite::{Error, Row};
 use std::alloc::{AllocError, Global};
@@ -18,8 +18,8 @@ pub struct Headers;
 
 impl Lookup for Headers {
     ghost use Rattle.std.specs.Prelude.{pos};
-    ghost use Rattle.review_tables.specs.declared.texts.TheConstants.{FIND_CHANGE};
-    ghost use Rattle.review_tables.proofs.TextsOfLookups.{find_change};
+    ghost use Rattle.review_statements.specs.declared.texts.TheConstants.{FIND_CHANGE};
+    ghost use Rattle.review_statements.proofs.TextsOfLookups.{find_change};
     ghost use Rattle.review_change_records.specs.Forms.{headers};
 
     type Key = ChangeNo;
@@ -76,8 +76,8 @@ impl Lookup for Headers {
 impl Table for Headers {
     ghost use Rattle.review_change_records.specs.Forms.{state_name, flag_number};
     ghost use Rattle.std.specs.Prelude.{pos};
-    ghost use Rattle.review_tables.specs.declared.texts.TheConstants.{INSERT_CHANGE, DELETE_CHANGE};
-    ghost use Rattle.review_tables.proofs.TextsOfChanges.{insert_change, delete_change};
+    ghost use Rattle.review_statements.specs.declared.texts.TheConstants.{INSERT_CHANGE, DELETE_CHANGE};
+    ghost use Rattle.review_statements.proofs.TextsOfChanges.{insert_change, delete_change};
     ghost use Rattle.review_change_records.specs.Forms.{headers, header_form};
     ghost use Rattle.review_change_records.specs.Laws.{header_lawful};
 
@@ -137,8 +137,8 @@ impl Table for Headers {
 pub struct LastChange;
 
 impl Greatest for LastChange {
-    ghost use Rattle.review_tables.specs.declared.texts.TheConstants.{FIND_LAST_CHANGE};
-    ghost use Rattle.review_tables.proofs.TextsOfLookups.{find_last_change};
+    ghost use Rattle.review_statements.specs.declared.texts.TheConstants.{FIND_LAST_CHANGE};
+    ghost use Rattle.review_statements.proofs.TextsOfLookups.{find_last_change};
     ghost use Rattle.review_change_records.specs.Forms.{change_numbers};
 
     type Key = ();
@@ -170,8 +170,8 @@ impl Greatest for LastChange {
 pub struct LastJoined;
 
 impl Greatest for LastJoined {
-    ghost use Rattle.review_tables.specs.declared.texts.TheConstants.{FIND_LAST_JOINED};
-    ghost use Rattle.review_tables.proofs.TextsOfLookups.{find_last_joined};
+    ghost use Rattle.review_statements.specs.declared.texts.TheConstants.{FIND_LAST_JOINED};
+    ghost use Rattle.review_statements.proofs.TextsOfLookups.{find_last_joined};
     ghost use Rattle.review_change_records.specs.Forms.{change_places};
 
     type Key = BranchKey;

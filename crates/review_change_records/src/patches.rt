@@ -12,7 +12,7 @@ use review_tables::columns::text_at;
 use review_tables::fronts::Front;
 use review_tables::greatest::Greatest;
 use review_tables::table::{Lookup, Table};
-use review_tables::texts;
+use review_statements::texts;
 use review_words::{ChangeNo, PatchNo};
 use sqlite::{Error, Row};
 use std::alloc::{AllocError, Global};
@@ -52,8 +52,8 @@ pub struct PatchSets;
 
 impl Lookup for PatchSets {
     ghost use Rattle.std.specs.Prelude.{pos};
-    ghost use Rattle.review_tables.specs.declared.texts.TheConstants.{FIND_PATCH};
-    ghost use Rattle.review_tables.proofs.TextsOfLookups.{find_patch};
+    ghost use Rattle.review_statements.specs.declared.texts.TheConstants.{FIND_PATCH};
+    ghost use Rattle.review_statements.proofs.TextsOfLookups.{find_patch};
     ghost use Rattle.review_change_records.specs.Forms.{patches};
 
     type Key = (ChangeNo, PatchNo);
@@ -84,8 +84,8 @@ pub struct LastPatch;
 
 impl Greatest for LastPatch {
     ghost use Rattle.std.specs.Prelude.{pos};
-    ghost use Rattle.review_tables.specs.declared.texts.TheConstants.{FIND_LAST_PATCH};
-    ghost use Rattle.review_tables.proofs.TextsOfLookups.{find_last_patch};
+    ghost use Rattle.review_statements.specs.declared.texts.TheConstants.{FIND_LAST_PATCH};
+    ghost use Rattle.review_statements.proofs.TextsOfLookups.{find_last_patch};
     ghost use Rattle.review_change_records.specs.Forms.{patch_numbers};
 
     type Key = ChangeNo;
@@ -118,8 +118,8 @@ pub struct Patches;
 
 impl Lookup for Patches {
     ghost use Rattle.std.specs.Prelude.{pos};
-    ghost use Rattle.review_tables.specs.declared.texts.TheConstants.{FIND_PATCHES};
-    ghost use Rattle.review_tables.proofs.TextsOfLookups.{find_patches};
+    ghost use Rattle.review_statements.specs.declared.texts.TheConstants.{FIND_PATCHES};
+    ghost use Rattle.review_statements.proofs.TextsOfLookups.{find_patches};
     ghost use Rattle.review_change_records.specs.Forms.{change_patches};
 
     type Key = ChangeNo;
@@ -168,8 +168,8 @@ impl Table for Patches {
     ghost use Rattle.review_names.specs.Kinds.{kind_name};
     ghost use Rattle.review_change_records.specs.Paths.{paths_text};
     ghost use Rattle.std.specs.Prelude.{pos};
-    ghost use Rattle.review_tables.specs.declared.texts.TheConstants.{INSERT_PATCH, DELETE_PATCH};
-    ghost use Rattle.review_tables.proofs.TextsOfChanges.{insert_patch, delete_patch};
+    ghost use Rattle.review_statements.specs.declared.texts.TheConstants.{INSERT_PATCH, DELETE_PATCH};
+    ghost use Rattle.review_statements.proofs.TextsOfChanges.{insert_patch, delete_patch};
     ghost use Rattle.review_change_records.specs.Forms.{patches, patch_form};
     ghost use Rattle.review_change_records.specs.Laws.{patch_lawful};
 

@@ -5,7 +5,7 @@ use review_records::names::{account_at, account_number};
 use review_tables::bound::Bound;
 use review_tables::fronts::Front;
 use review_tables::table::{Lookup, Table};
-use review_tables::texts;
+use review_statements::texts;
 use review_words::{AccountNo, ChangeNo, Role};
 use sqlite::{Error, Row};
 use std::alloc::{AllocError, Global};
@@ -15,8 +15,8 @@ pub struct Roles;
 
 impl Lookup for Roles {
     ghost use Rattle.std.specs.Prelude.{pos};
-    ghost use Rattle.review_tables.specs.declared.texts.TheConstants.{FIND_REVIEWERS};
-    ghost use Rattle.review_tables.proofs.TextsOfLookups.{find_reviewers};
+    ghost use Rattle.review_statements.specs.declared.texts.TheConstants.{FIND_REVIEWERS};
+    ghost use Rattle.review_statements.proofs.TextsOfLookups.{find_reviewers};
     ghost use Rattle.review_change_records.specs.Forms.{change_roles};
 
     type Key = ChangeNo;
@@ -62,8 +62,8 @@ impl Front for Roles {
 impl Table for Roles {
     ghost use Rattle.review_words.specs.Texts.{role_name};
     ghost use Rattle.std.specs.Prelude.{pos};
-    ghost use Rattle.review_tables.specs.declared.texts.TheConstants.{INSERT_REVIEWER, DELETE_REVIEWER};
-    ghost use Rattle.review_tables.proofs.TextsOfChanges.{insert_reviewer, delete_reviewer};
+    ghost use Rattle.review_statements.specs.declared.texts.TheConstants.{INSERT_REVIEWER, DELETE_REVIEWER};
+    ghost use Rattle.review_statements.proofs.TextsOfChanges.{insert_reviewer, delete_reviewer};
     ghost use Rattle.review_change_records.specs.Forms.{roles, role_form};
     ghost use Rattle.review_change_records.specs.Laws.{role_lawful};
 

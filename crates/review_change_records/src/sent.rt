@@ -3,7 +3,7 @@
 use crate::values::{change_at, patch_at};
 use review_tables::bound::Bound;
 use review_tables::table::Lookup;
-use review_tables::texts;
+use review_statements::texts;
 use review_words::{ChangeNo, CommitName, PatchNo};
 use sqlite::{Error, Row};
 use std::alloc::{AllocError, Global};
@@ -12,8 +12,8 @@ use std::alloc::{AllocError, Global};
 pub struct Sent;
 
 impl Lookup for Sent {
-    ghost use Rattle.review_tables.specs.declared.texts.TheConstants.{FIND_SENT};
-    ghost use Rattle.review_tables.proofs.TextsOfLookups.{find_sent};
+    ghost use Rattle.review_statements.specs.declared.texts.TheConstants.{FIND_SENT};
+    ghost use Rattle.review_statements.proofs.TextsOfLookups.{find_sent};
     ghost use Rattle.review_change_records.specs.Forms.{sent};
 
     type Key = CommitName;

@@ -6,7 +6,7 @@ use review_records::names::{account_at, account_number, name_at};
 use review_tables::bound::Bound;
 use review_tables::fronts::Front;
 use review_tables::table::{Lookup, Table};
-use review_tables::texts;
+use review_statements::texts;
 use review_words::ChangeNo;
 use sqlite::{Error, Row};
 use std::alloc::{AllocError, Global};
@@ -16,8 +16,8 @@ pub struct Votes;
 
 impl Lookup for Votes {
     ghost use Rattle.std.specs.Prelude.{pos};
-    ghost use Rattle.review_tables.specs.declared.texts.TheConstants.{FIND_VOTES};
-    ghost use Rattle.review_tables.proofs.TextsOfLookups.{find_votes};
+    ghost use Rattle.review_statements.specs.declared.texts.TheConstants.{FIND_VOTES};
+    ghost use Rattle.review_statements.proofs.TextsOfLookups.{find_votes};
     ghost use Rattle.review_change_records.specs.Forms.{change_votes};
 
     type Key = ChangeNo;
@@ -73,8 +73,8 @@ impl Front for Votes {
 
 impl Table for Votes {
     ghost use Rattle.std.specs.Prelude.{pos};
-    ghost use Rattle.review_tables.specs.declared.texts.TheConstants.{INSERT_VOTE, DELETE_VOTE};
-    ghost use Rattle.review_tables.proofs.TextsOfChanges.{insert_vote, delete_vote};
+    ghost use Rattle.review_statements.specs.declared.texts.TheConstants.{INSERT_VOTE, DELETE_VOTE};
+    ghost use Rattle.review_statements.proofs.TextsOfChanges.{insert_vote, delete_vote};
     ghost use Rattle.review_change_records.specs.Forms.{votes, vote_form};
     ghost use Rattle.review_change_records.specs.Laws.{vote_lawful};
 

@@ -32,12 +32,12 @@ use Rattle.review_changes.specs.Change.{of_number}
 use Rattle.review_change_rows.specs.Tables.{AreInOrder}
 use Rattle.review_rows.proofs.Looked.{based_from}
 use Rattle.review_tables.specs.Columns.{number_in, text_in}
-use Rattle.review_tables.specs.Content.{has_key, is_value}
+use Rattle.review_statements.specs.Content.{has_key, is_value}
 use Rattle.review_tables.specs.Fronts.{HaveRows}
-use Rattle.review_tables.specs.Greatest.{HasGreatest, IsGreatest}
-use Rattle.review_tables.specs.Search.{only, reads, row_at, rows_at}
+use Rattle.review_statements.specs.Greatest.{HasGreatest, IsGreatest}
+use Rattle.review_statements.specs.Search.{only, reads, row_at, rows_at}
 use Rattle.review_tables.proofs.Keys.{int_is, itself}
-use Rattle.review_tables.proofs.Meaning.{all_pass}
+use Rattle.review_statements.proofs.Meaning.{all_pass}
 use Rattle.review_rows.specs.declared.rows.PlaceKey.{PlaceKey}
 use Rattle.review_records.specs.Forms.{accounts, account_names, account_numbers, member_parts, bases, base_commits, base_parts, base_places}
 use Rattle.review_records.specs.Laws.{number_is, passed}

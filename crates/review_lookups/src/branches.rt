@@ -9,9 +9,9 @@ ghost use Rattle.review_rows.specs.declared.rows.Want.TheVariants as want;
 ghost use Rattle.review_rows.specs.declared.rows.Counted.TheVariants as counted;
 ghost use Rattle.review_records.specs.Forms.{base_commits, branch_bases, base_parts, base_places, bases, desk, epochs, project_names, projects};
 ghost use Rattle.review_tables.specs.Fronts.{AreParts};
-ghost use Rattle.review_tables.specs.Greatest.{HasGreatest, HasOne};
-ghost use Rattle.review_tables.specs.Ran.{Looks};
-ghost use Rattle.review_tables.specs.Search.{row_at, rows_at};
+ghost use Rattle.review_statements.specs.Greatest.{HasGreatest, HasOne};
+ghost use Rattle.review_statements.specs.Ran.{Looks};
+ghost use Rattle.review_statements.specs.Search.{row_at, rows_at};
 ghost use Rattle.review_database.specs.Loads.{HasLearnt, IfTold, Sees, IsOrdered};
 ghost use Rattle.review_database.specs.Tables.{tables_at};
 

@@ -7,9 +7,9 @@ ghost use Rattle.review_table.specs.Rows.{rows_of};
 ghost use Rattle.review_rows.specs.declared.rows.Want.TheVariants as want;
 ghost use Rattle.review_records.specs.Forms.{accounts, account_names, account_numbers, group_members, member_parts, members};
 ghost use Rattle.review_tables.specs.Fronts.{AreParts};
-ghost use Rattle.review_tables.specs.Greatest.{HasGreatest, HasOne};
-ghost use Rattle.review_tables.specs.Ran.{Looks};
-ghost use Rattle.review_tables.specs.Search.{row_at};
+ghost use Rattle.review_statements.specs.Greatest.{HasGreatest, HasOne};
+ghost use Rattle.review_statements.specs.Ran.{Looks};
+ghost use Rattle.review_statements.specs.Search.{row_at};
 ghost use Rattle.review_database.specs.Loads.{HasLearnt, Sees};
 
 use review_database::Sight;

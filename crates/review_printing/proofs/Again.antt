@@ -11,7 +11,7 @@ use Rattle.review_terms.specs.Lexemes.{Lexeme, IsCut}
 use Rattle.review_terms.specs.Words.{Reading, Good}
 use Rattle.std.specs.Char.{is_ascii_lowercase}
 use Rattle.std.proofs.lemmas.Bool.Decides.{nat_tests}
-use Rattle.review_printing.specs.Written.{IsOneWord}
+use Rattle.review_writing.specs.Written.{IsOneWord}
 use Rattle.review_expr.specs.Tokens.{operator_by, operator_or, alone, word_tokens, tokens}
 use Rattle.review_expr.specs.Expressions.{HasExpr, IsExpression}
 use Rattle.review_printing.specs.Printed.{printed}

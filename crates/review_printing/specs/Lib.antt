@@ -1,5 +1,2 @@
 pub mod Printed
 pub mod Texts
-pub mod Written
-pub mod LabelValues
-pub mod LabelWords

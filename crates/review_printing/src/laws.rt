@@ -4,7 +4,7 @@ ghost use Rattle.review_terms.specs.Grammar.{Tree};
 ghost use Rattle.review_spelling.specs.Words.{copy_reading, requirement_reading};
 ghost use Rattle.review_terms.specs.declared.terms.CopyTerm.{CopyTerm};
 ghost use Rattle.review_terms.specs.declared.terms.RequirementTerm.{RequirementTerm};
-ghost use Rattle.review_printing.specs.Written.{copy_word, requirement_word};
+ghost use Rattle.review_writing.specs.Written.{copy_word, requirement_word};
 ghost use Rattle.review_expr.specs.Expressions.{HasExpr};
 ghost use Rattle.review_printing.specs.Printed.{printed};
 

@@ -1,12 +1,12 @@
 //! How the terms of requirements and of copy conditions are written.
 
-use crate::term_words::{push_copy, push_requirement};
 use crate::written::{Respelled, Written};
 use review_terms::{CopyTerm, RequirementTerm};
+use review_writing::{push_copy, push_requirement};
 use std::alloc::AllocError;
 
 impl Written for RequirementTerm {
-    ghost use Rattle.review_printing.specs.Written.{requirement_word};
+    ghost use Rattle.review_writing.specs.Written.{requirement_word};
 
     ghost spelling = { requirement_word };
 
@@ -16,7 +16,7 @@ impl Written for RequirementTerm {
 }
 
 impl Respelled for RequirementTerm {
-    ghost use Rattle.review_printing.proofs.RequirementWords.{requirement_again, requirement_stands};
+    ghost use Rattle.review_writing.proofs.RequirementWords.{requirement_again, requirement_stands};
 
     ghost reads_again = { requirement_again };
 
@@ -24,7 +24,7 @@ impl Respelled for RequirementTerm {
 }
 
 impl Written for CopyTerm {
-    ghost use Rattle.review_printing.specs.Written.{copy_word};
+    ghost use Rattle.review_writing.specs.Written.{copy_word};
 
     ghost spelling = { copy_word };
 
@@ -34,7 +34,7 @@ impl Written for CopyTerm {
 }
 
 impl Respelled for CopyTerm {
-    ghost use Rattle.review_printing.proofs.CopyWords.{copy_again, copy_stands};
+    ghost use Rattle.review_writing.proofs.CopyWords.{copy_again, copy_stands};
 
     ghost reads_again = { copy_again };
 

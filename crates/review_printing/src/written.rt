@@ -21,7 +21,7 @@ pub trait Written: Spelled {
 pub trait Respelled: Written {
     ghost use Rattle.std.specs.Prelude.{◌≡◌, ℕ, List};
     ghost use Rattle.review_terms.specs.Words.{Good};
-    ghost use Rattle.review_printing.specs.Written.{IsOneWord};
+    ghost use Rattle.review_writing.specs.Written.{IsOneWord};
 
     ghost reads_again: { (w : List ℕ) (t : Self) → Self.reading w ≡ Good t → Self.reading (Self.spelling t) ≡ Good t };
 

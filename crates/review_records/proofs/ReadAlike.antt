@@ -13,10 +13,10 @@ use Rattle.sqlite_value.specs.declared.value.Value.{Value}
 use Rattle.sqlite_value.specs.declared.value.Value.TheVariants.{Null, Int, Real, Text, Blob}
 use Rattle.sqlite_value.specs.Order.{Row as Raw, column}
 use Rattle.sqlite_rules.specs.Cast.{as_text, cast}
-use Rattle.review_tables.specs.Content.{has_key, is_value}
-use Rattle.review_tables.specs.Moved.{AreMoved, columns_of, with_first_epoch, without_parent}
-use Rattle.review_tables.specs.Search.{Search, only, reads, rows_at}
-use Rattle.review_tables.proofs.Meaning.{cast_int}
+use Rattle.review_statements.specs.Content.{has_key, is_value}
+use Rattle.review_statements.specs.Moved.{AreMoved, columns_of, with_first_epoch, without_parent}
+use Rattle.review_statements.specs.Search.{Search, only, reads, rows_at}
+use Rattle.review_statements.proofs.Meaning.{cast_int}
 use Rattle.review_tables.specs.Columns.{number_in, text_in}
 use Rattle.review_tables.proofs.Keys.{itself, same_int}
 use Rattle.review_records.specs.Keyed.{answer_keyed, earlier_answer_keyed, is_natural, is_text, project_keyed}

@@ -3,7 +3,7 @@ use Rattle.std.specs.Prelude.{nat_le, ℕ, pos, ◌&&◌, Bool, List, [], ◌∷
 use Rattle.std.specs.Str.{is_utf8}
 use Rattle.sqlite_value.specs.declared.value.Value.TheVariants.{Int, Text}
 use Rattle.sqlite_value.specs.Order.{Row, column}
-use Rattle.review_tables.specs.Content.{is_number_below, is_natural, is_text}
+use Rattle.review_statements.specs.Content.{is_number_below, is_natural, is_text}
 use Rattle.review_names.specs.Names.{is_word}
 use Rattle.review_names.specs.Names.{is_account_number}
 use Rattle.review_words.specs.Epochs.{is_epoch}
@@ -18,8 +18,8 @@ use Rattle.review_records.specs.declared.rows.Answered.{Answered}
 use Rattle.review_records.specs.declared.rows.DeskRow.{DeskRow}
 use Rattle.review_rows.specs.declared.rows.MemberKey.{MemberKey}
 use Rattle.review_tables.specs.Columns.{number_in, text_in}
-use Rattle.review_tables.specs.Desk as table
-use Rattle.review_tables.specs.Search.{Search, Form, with_rowid, with_number}
+use Rattle.review_statements.specs.Desk as table
+use Rattle.review_statements.specs.Search.{Search, Form, with_rowid, with_number}
 pub use Rattle.review_records.specs.Keyed.{where_is}
 use Rattle.review_records.specs.Keyed.{is_small, account_keyed, member_keyed, project_keyed, base_keyed, answer_keyed, earlier_answer_keyed}
 

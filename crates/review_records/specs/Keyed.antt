@@ -4,7 +4,7 @@ use Rattle.sqlite_value.specs.declared.value.Value.{Value}
 use Rattle.sqlite_value.specs.Order.{Row, column}
 use Rattle.review_names.specs.Names.{is_account_number}
 use Rattle.review_tables.specs.Columns.{number_in}
-pub use Rattle.review_tables.specs.Content.{is_natural, is_text}
+pub use Rattle.review_statements.specs.Content.{is_natural, is_text}
 
 -- a number below 2^32
 abbrev pub is_small : ℕ → Bool

@@ -15,8 +15,8 @@ use Rattle.review_names.specs.Names.{is_word, is_account_number}
 use Rattle.review_words.specs.Epochs.{is_epoch}
 use Rattle.review_tables.specs.Columns.{number_in, text_in}
 use Rattle.review_tables.specs.Fronts.{IsExact, IsFront}
-use Rattle.review_tables.specs.Search.{IsLawful}
-use Rattle.review_tables.specs.Content.{is_value}
+use Rattle.review_statements.specs.Search.{IsLawful}
+use Rattle.review_statements.specs.Content.{is_value}
 use Rattle.review_tables.proofs.Keys.{equal_is, int_is, itself, same_int, same_text, text_is}
 use Rattle.review_records.specs.Keyed.{is_natural, is_number, is_small, is_text}
 use Rattle.review_records.specs.Forms.{where_is, alone, both, member_parts, group_members, base_parts, branch_bases, accounts, account_form, members, member_form, projects, project_form, stored_parent, parent_text, is_parent, stored_file, bases, base_form, answers, answer_form, epochs, epochs_form, desk, desk_form}

@@ -1,9 +1,9 @@
 //! The stored requests.
 ghost use Rattle.std.specs.Prelude.{◌≡◌, Some, string_bytes, IfOk};
 ghost use Rattle.sqlite.specs.Held.{state};
-ghost use Rattle.review_tables.specs.Content.{RemovesWhere};
-ghost use Rattle.review_tables.specs.Ran.{Inside, Opens};
-ghost use Rattle.review_tables.specs.Search.{SetsRow};
+ghost use Rattle.review_statements.specs.Content.{RemovesWhere};
+ghost use Rattle.review_statements.specs.Ran.{Inside, Opens};
+ghost use Rattle.review_statements.specs.Search.{SetsRow};
 ghost use Rattle.review_rows.specs.Rows.{kept_row};
 ghost use Rattle.review_records.specs.Forms.{answers, is_of_lower, request_key};
 
@@ -14,7 +14,7 @@ use review_tables::bound::Bound;
 use review_tables::changes::set;
 use review_tables::columns::{number_at, text_at};
 use review_tables::table::{Lookup, Table};
-use review_tables::texts;
+use review_statements::texts;
 use review_words::Epoch;
 use sqlite::{Alter, Error, Row, Transaction};
 use std::alloc::{AllocError, Global};
@@ -24,8 +24,8 @@ pub struct Answers;
 
 impl Lookup for Answers {
     ghost use Rattle.std.specs.Prelude.{pos};
-    ghost use Rattle.review_tables.specs.declared.texts.TheConstants.{FIND_ANSWER};
-    ghost use Rattle.review_tables.proofs.TextsOfLookups.{find_answer};
+    ghost use Rattle.review_statements.specs.declared.texts.TheConstants.{FIND_ANSWER};
+    ghost use Rattle.review_statements.proofs.TextsOfLookups.{find_answer};
     ghost use Rattle.review_records.specs.Forms.{answers};
 
     type Key = RequestKey;
@@ -67,8 +67,8 @@ impl Lookup for Answers {
 
 impl Table for Answers {
     ghost use Rattle.std.specs.Prelude.{pos};
-    ghost use Rattle.review_tables.specs.declared.texts.TheConstants.{INSERT_ANSWER, DELETE_ANSWER};
-    ghost use Rattle.review_tables.proofs.TextsOfChanges.{insert_answer, delete_answer};
+    ghost use Rattle.review_statements.specs.declared.texts.TheConstants.{INSERT_ANSWER, DELETE_ANSWER};
+    ghost use Rattle.review_statements.proofs.TextsOfChanges.{insert_answer, delete_answer};
     ghost use Rattle.review_records.specs.Forms.{answers, answer_form};
     ghost use Rattle.review_records.specs.Laws.{answer_lawful};
 

@@ -2,10 +2,10 @@
 ghost use Rattle.std.specs.Prelude.{◌≡◌, ◌∷◌, [], length, nat_lt};
 ghost use Rattle.sqlite.specs.Held.{state};
 ghost use Rattle.sqlite_value.specs.declared.value.Value.TheVariants.{Text};
-ghost use Rattle.review_tables.specs.Desk as table;
-ghost use Rattle.review_tables.specs.Greatest.{ShowsBeyond};
-ghost use Rattle.review_tables.specs.Ran.{Looks};
-ghost use Rattle.review_tables.specs.Search.{rows_at};
+ghost use Rattle.review_statements.specs.Desk as table;
+ghost use Rattle.review_statements.specs.Greatest.{ShowsBeyond};
+ghost use Rattle.review_statements.specs.Ran.{Looks};
+ghost use Rattle.review_statements.specs.Search.{rows_at};
 
 use crate::names::{name_at, place_at};
 use crate::rows::PlaceNo;
@@ -15,7 +15,7 @@ use review_tables::columns::number_at;
 use review_tables::fronts::Front;
 use review_tables::greatest::Greatest;
 use review_tables::table::{Lookup, Table};
-use review_tables::texts;
+use review_statements::texts;
 use review_words::{CommitName, ProjectName};
 use sqlite::{Alter, Error, Row, Transaction};
 use std::alloc::{AllocError, Global};
@@ -25,8 +25,8 @@ pub struct Bases;
 
 impl Lookup for Bases {
     ghost use Rattle.std.specs.Prelude.{pos};
-    ghost use Rattle.review_tables.specs.declared.texts.TheConstants.{FIND_BASE};
-    ghost use Rattle.review_tables.proofs.TextsOfLookups.{find_base};
+    ghost use Rattle.review_statements.specs.declared.texts.TheConstants.{FIND_BASE};
+    ghost use Rattle.review_statements.proofs.TextsOfLookups.{find_base};
     ghost use Rattle.review_records.specs.Forms.{bases};
 
     type Key = PlaceKey;
@@ -57,8 +57,8 @@ impl Lookup for Bases {
 
 impl Table for Bases {
     ghost use Rattle.std.specs.Prelude.{pos};
-    ghost use Rattle.review_tables.specs.declared.texts.TheConstants.{INSERT_BASE, DELETE_BASE};
-    ghost use Rattle.review_tables.proofs.TextsOfChanges.{insert_base, delete_base};
+    ghost use Rattle.review_statements.specs.declared.texts.TheConstants.{INSERT_BASE, DELETE_BASE};
+    ghost use Rattle.review_statements.proofs.TextsOfChanges.{insert_base, delete_base};
     ghost use Rattle.review_records.specs.Forms.{bases, base_form};
     ghost use Rattle.review_records.specs.Laws.{base_lawful};
 
@@ -110,8 +110,8 @@ impl Table for Bases {
 pub struct BaseCommits;
 
 impl Lookup for BaseCommits {
-    ghost use Rattle.review_tables.specs.declared.texts.TheConstants.{FIND_BASE_COMMIT};
-    ghost use Rattle.review_tables.proofs.TextsOfLookups.{find_base_commit};
+    ghost use Rattle.review_statements.specs.declared.texts.TheConstants.{FIND_BASE_COMMIT};
+    ghost use Rattle.review_statements.proofs.TextsOfLookups.{find_base_commit};
     ghost use Rattle.review_records.specs.Forms.{base_commits};
 
     type Key = Base;
@@ -146,8 +146,8 @@ impl Lookup for BaseCommits {
 pub struct BranchBases;
 
 impl Lookup for BranchBases {
-    ghost use Rattle.review_tables.specs.declared.texts.TheConstants.{FIND_BRANCH};
-    ghost use Rattle.review_tables.proofs.TextsOfLookups.{find_branch};
+    ghost use Rattle.review_statements.specs.declared.texts.TheConstants.{FIND_BRANCH};
+    ghost use Rattle.review_statements.proofs.TextsOfLookups.{find_branch};
     ghost use Rattle.review_records.specs.Forms.{branch_bases};
 
     type Key = BranchKey;
@@ -200,8 +200,8 @@ impl Front for BranchBases {
 pub struct LastPlace;
 
 impl Greatest for LastPlace {
-    ghost use Rattle.review_tables.specs.declared.texts.TheConstants.{FIND_LAST_PLACE};
-    ghost use Rattle.review_tables.proofs.TextsOfLookups.{find_last_place};
+    ghost use Rattle.review_statements.specs.declared.texts.TheConstants.{FIND_LAST_PLACE};
+    ghost use Rattle.review_statements.proofs.TextsOfLookups.{find_last_place};
     ghost use Rattle.review_records.specs.Forms.{base_places};
 
     type Key = BranchKey;

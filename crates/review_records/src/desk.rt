@@ -4,7 +4,7 @@ use crate::rows::DeskRow;
 use review_tables::bound::Bound;
 use review_tables::columns::number_at;
 use review_tables::table::{Lookup, Table};
-use review_tables::texts;
+use review_statements::texts;
 use sqlite::{Error, Row};
 use std::alloc::{AllocError, Global};
 
@@ -12,8 +12,8 @@ use std::alloc::{AllocError, Global};
 pub struct Desk;
 
 impl Lookup for Desk {
-    ghost use Rattle.review_tables.specs.declared.texts.TheConstants.{FIND_DESK};
-    ghost use Rattle.review_tables.proofs.TextsOfLookups.{find_desk};
+    ghost use Rattle.review_statements.specs.declared.texts.TheConstants.{FIND_DESK};
+    ghost use Rattle.review_statements.proofs.TextsOfLookups.{find_desk};
     ghost use Rattle.review_records.specs.Forms.{desk};
 
     type Key = ();
@@ -44,8 +44,8 @@ impl Lookup for Desk {
 
 impl Table for Desk {
     ghost use Rattle.std.specs.Prelude.{pos};
-    ghost use Rattle.review_tables.specs.declared.texts.TheConstants.{INSERT_DESK, DELETE_DESK};
-    ghost use Rattle.review_tables.proofs.TextsOfChanges.{insert_desk, delete_desk};
+    ghost use Rattle.review_statements.specs.declared.texts.TheConstants.{INSERT_DESK, DELETE_DESK};
+    ghost use Rattle.review_statements.proofs.TextsOfChanges.{insert_desk, delete_desk};
     ghost use Rattle.review_records.specs.Forms.{desk, desk_form};
     ghost use Rattle.review_records.specs.Laws.{desk_lawful};
 

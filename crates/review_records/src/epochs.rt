@@ -3,7 +3,7 @@
 use crate::names::{epoch_at, epoch_number};
 use review_tables::bound::Bound;
 use review_tables::table::{Lookup, Table};
-use review_tables::texts;
+use review_statements::texts;
 use review_words::Epoch;
 use sqlite::{Error, Row};
 use std::alloc::{AllocError, Global};
@@ -12,8 +12,8 @@ use std::alloc::{AllocError, Global};
 pub struct Epochs;
 
 impl Lookup for Epochs {
-    ghost use Rattle.review_tables.specs.declared.texts.TheConstants.{FIND_EPOCHS};
-    ghost use Rattle.review_tables.proofs.TextsOfLookups.{find_epochs};
+    ghost use Rattle.review_statements.specs.declared.texts.TheConstants.{FIND_EPOCHS};
+    ghost use Rattle.review_statements.proofs.TextsOfLookups.{find_epochs};
     ghost use Rattle.review_records.specs.Forms.{epochs};
 
     type Key = ();
@@ -41,8 +41,8 @@ impl Lookup for Epochs {
 
 impl Table for Epochs {
     ghost use Rattle.std.specs.Prelude.{pos};
-    ghost use Rattle.review_tables.specs.declared.texts.TheConstants.{INSERT_EPOCHS, DELETE_EPOCHS};
-    ghost use Rattle.review_tables.proofs.TextsOfChanges.{insert_epochs, delete_epochs};
+    ghost use Rattle.review_statements.specs.declared.texts.TheConstants.{INSERT_EPOCHS, DELETE_EPOCHS};
+    ghost use Rattle.review_statements.proofs.TextsOfChanges.{insert_epochs, delete_epochs};
     ghost use Rattle.review_records.specs.Forms.{epochs, epochs_form};
     ghost use Rattle.review_records.specs.Laws.{epochs_lawful};
 

@@ -5,7 +5,7 @@ use review_rows::MemberKey;
 use review_tables::bound::Bound;
 use review_tables::fronts::Front;
 use review_tables::table::{Lookup, Table};
-use review_tables::texts;
+use review_statements::texts;
 use review_words::{AccountNo, GroupName};
 use sqlite::{Error, Row};
 use std::alloc::{AllocError, Global};
@@ -15,8 +15,8 @@ pub struct Members;
 
 impl Lookup for Members {
     ghost use Rattle.std.specs.Prelude.{pos};
-    ghost use Rattle.review_tables.specs.declared.texts.TheConstants.{FIND_MEMBER};
-    ghost use Rattle.review_tables.proofs.TextsOfLookups.{find_member};
+    ghost use Rattle.review_statements.specs.declared.texts.TheConstants.{FIND_MEMBER};
+    ghost use Rattle.review_statements.proofs.TextsOfLookups.{find_member};
     ghost use Rattle.review_records.specs.Forms.{members};
 
     type Key = MemberKey;
@@ -48,8 +48,8 @@ impl Lookup for Members {
 
 impl Table for Members {
     ghost use Rattle.std.specs.Prelude.{pos};
-    ghost use Rattle.review_tables.specs.declared.texts.TheConstants.{INSERT_MEMBER, DELETE_MEMBER};
-    ghost use Rattle.review_tables.proofs.TextsOfChanges.{insert_member, delete_member};
+    ghost use Rattle.review_statements.specs.declared.texts.TheConstants.{INSERT_MEMBER, DELETE_MEMBER};
+    ghost use Rattle.review_statements.proofs.TextsOfChanges.{insert_member, delete_member};
     ghost use Rattle.review_records.specs.Forms.{members, member_form};
     ghost use Rattle.review_records.specs.Laws.{member_lawful};
 
@@ -98,8 +98,8 @@ impl Table for Members {
 pub struct GroupMembers;
 
 impl Lookup for GroupMembers {
-    ghost use Rattle.review_tables.specs.declared.texts.TheConstants.{FIND_GROUP};
-    ghost use Rattle.review_tables.proofs.TextsOfLookups.{find_group};
+    ghost use Rattle.review_statements.specs.declared.texts.TheConstants.{FIND_GROUP};
+    ghost use Rattle.review_statements.proofs.TextsOfLookups.{find_group};
     ghost use Rattle.review_records.specs.Forms.{group_members};
 
     type Key = GroupName;

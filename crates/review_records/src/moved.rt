@@ -2,8 +2,8 @@
 ghost use Rattle.std.specs.Prelude.{◌≡◌, ◌≢◌, [], ℕ, List, Option, Some, false, length, not, option_map};
 ghost use Rattle.std.specs.List.{list_any};
 ghost use Rattle.sqlite_value.specs.Order.{Row as Raw};
-ghost use Rattle.review_tables.specs.Moved.{AreMoved, with_first_epoch, without_parent};
-ghost use Rattle.review_tables.specs.Search.{only, reads, rows_at};
+ghost use Rattle.review_statements.specs.Moved.{AreMoved, with_first_epoch, without_parent};
+ghost use Rattle.review_statements.specs.Search.{only, reads, rows_at};
 ghost use Rattle.review_records.specs.Forms.{answers, earlier_answers, first_epoch, first_projects, projects, earlier_key};
 ghost use Rattle.review_records.specs.declared.rows.Answered.{Answered as Rest};
 ghost use Rattle.review_rows.specs.declared.rows.StoredFile.{StoredFile};

@@ -2,10 +2,10 @@
 ghost use Rattle.std.specs.Prelude.{◌≡◌, [], true, IfOk, length, nat_lt};
 ghost use Rattle.sqlite.specs.Held.{state};
 ghost use Rattle.sqlite_value.specs.Order.{column};
-ghost use Rattle.review_tables.specs.Desk as table;
-ghost use Rattle.review_tables.specs.Greatest.{ShowsBeyond};
-ghost use Rattle.review_tables.specs.Ran.{Looks};
-ghost use Rattle.review_tables.specs.Search.{rows_at};
+ghost use Rattle.review_statements.specs.Desk as table;
+ghost use Rattle.review_statements.specs.Greatest.{ShowsBeyond};
+ghost use Rattle.review_statements.specs.Ran.{Looks};
+ghost use Rattle.review_statements.specs.Search.{rows_at};
 ghost use Rattle.review_tables.specs.Columns.{text_in};
 ghost use Rattle.review_records.specs.Forms.{is_parent, stored_parent, parent_text};
 
@@ -14,7 +14,7 @@ use review_rows::StoredFile;
 use review_tables::bound::Bound;
 use review_tables::columns::text_at;
 use review_tables::table::{Lookup, Table};
-use review_tables::texts;
+use review_statements::texts;
 use review_words::{FileText, ProjectName};
 use sqlite::{Alter, Error, Row, Transaction};
 use std::alloc::{AllocError, Global};
@@ -47,8 +47,8 @@ fn parent_text(parent: &Option<ProjectName>) -> &str
 }
 
 impl Lookup for Projects {
-    ghost use Rattle.review_tables.specs.declared.texts.TheConstants.{FIND_PROJECT};
-    ghost use Rattle.review_tables.proofs.TextsOfLookups.{find_project};
+    ghost use Rattle.review_statements.specs.declared.texts.TheConstants.{FIND_PROJECT};
+    ghost use Rattle.review_statements.proofs.TextsOfLookups.{find_project};
     ghost use Rattle.review_records.specs.Forms.{projects};
 
     type Key = ProjectName;
@@ -82,8 +82,8 @@ impl Lookup for Projects {
 }
 
 impl Table for Projects {
-    ghost use Rattle.review_tables.specs.declared.texts.TheConstants.{INSERT_PROJECT, DELETE_PROJECT};
-    ghost use Rattle.review_tables.proofs.TextsOfChanges.{insert_project, delete_project};
+    ghost use Rattle.review_statements.specs.declared.texts.TheConstants.{INSERT_PROJECT, DELETE_PROJECT};
+    ghost use Rattle.review_statements.proofs.TextsOfChanges.{insert_project, delete_project};
     ghost use Rattle.review_records.specs.Forms.{projects, project_form, parent_text};
     ghost use Rattle.review_records.specs.Laws.{project_lawful};
 
@@ -132,8 +132,8 @@ impl Table for Projects {
 pub struct ProjectNames;
 
 impl Lookup for ProjectNames {
-    ghost use Rattle.review_tables.specs.declared.texts.TheConstants.{FIND_PROJECT_NAME};
-    ghost use Rattle.review_tables.proofs.TextsOfLookups.{find_project_name};
+    ghost use Rattle.review_statements.specs.declared.texts.TheConstants.{FIND_PROJECT_NAME};
+    ghost use Rattle.review_statements.proofs.TextsOfLookups.{find_project_name};
     ghost use Rattle.review_records.specs.Forms.{project_names};
 
     type Key = ProjectName;

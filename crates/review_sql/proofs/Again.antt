@@ -5,7 +5,7 @@ use Rattle.sqlite_trees.specs.declared.store.Store.{Ghosts}
 use Rattle.sqlite.specs.Effect.{Database}
 use Rattle.sqlite.specs.State.{State}
 use Rattle.sqlite.specs.Held.{Held, state}
-use Rattle.review_tables.specs.Ran.{IsReady}
+use Rattle.review_statements.specs.Ran.{IsReady}
 use Rattle.review_transactions.specs.Numbers.{IsDesk}
 use Rattle.review_transactions.specs.declared.numbers.Numbers.{Numbers}
 use Rattle.review_sql.specs.declared.faults.DeskFault.{DeskFault}

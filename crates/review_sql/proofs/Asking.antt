@@ -21,7 +21,7 @@ use Rattle.sqlite.specs.Effect.{Reads}
 use Rattle.sqlite.specs.declared.error.Error.{Error}
 use Rattle.sqlite_trees.specs.Tree.{Trees}
 use Rattle.sqlite.proofs.StateLemmas.{survives_weaker}
-use Rattle.review_tables.specs.declared.texts.TheConstants.{FIND_DESK, FIND_EPOCHS}
+use Rattle.review_statements.specs.declared.texts.TheConstants.{FIND_DESK, FIND_EPOCHS}
 use Rattle.review_sql.specs.Said.{ShowsRows}
 use Rattle.review_sql.specs.Shelf.{Stays}
 

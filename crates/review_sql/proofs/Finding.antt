@@ -6,7 +6,7 @@ use Rattle.review_rows.specs.declared.rows.Rows.{Rows}
 use Rattle.review_rows.specs.declared.rows.Want.{Want}
 use Rattle.review_rows.specs.Known.{AreAsked, Agrees}
 use Rattle.review_rows.proofs.Looked.{asked_more, looked_agrees}
-use Rattle.review_tables.specs.Ran.{Looks}
+use Rattle.review_statements.specs.Ran.{Looks}
 use Rattle.review_tables.proofs.Found.{look_on, look_both}
 use Rattle.review_database.specs.declared.sights.Sight.TheVariants as sight
 use Rattle.review_database.specs.Loads.{HasLearnt, Sees}

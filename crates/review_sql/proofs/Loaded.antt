@@ -2,7 +2,7 @@
 use Rattle.std.proofs.Common.{◌≡◌, ℕ, Bool, List, Option, Ok, IfOk, IsTrue}
 use Rattle.sqlite.specs.State.{HasCleanDisk}
 use Rattle.review_rows.specs.Rows.{Tables}
-use Rattle.review_tables.specs.Ran.{Serves}
+use Rattle.review_statements.specs.Ran.{Serves}
 use Rattle.sqlite_trees.specs.declared.store.Store.{Ghosts}
 use Rattle.sqlite.specs.Held.{Held, state}
 use Rattle.review_rows.specs.Known.{Agrees, AreAsked}

@@ -6,14 +6,14 @@ use Rattle.sqlite.specs.State.{State, HasCleanDisk}
 use Rattle.sqlite.specs.declared.error.Error.{Error}
 use Rattle.sqlite.specs.Held.{Held, state}
 use Rattle.sqlite.proofs.StateLemmas.{survives_then}
-use Rattle.review_tables.specs.Desk.{schema_0}
+use Rattle.review_statements.specs.Desk.{schema_0}
 use Rattle.review_tables.specs.Made.{IsBlank}
-use Rattle.review_tables.specs.Ran.{Transacts}
+use Rattle.review_statements.specs.Ran.{Transacts}
 use Rattle.review_transactions.specs.Numbers.{IsDesk}
 use Rattle.review_transactions.specs.First.{MakesDesk}
 use Rattle.review_sql.specs.Shelf.{Holds, IsAnyThere, IsUnmade, Stays}
 use Rattle.review_sql.specs.Created.{IsCreated}
-use Rattle.review_tables.specs.Ran.{IsReady}
+use Rattle.review_statements.specs.Ran.{IsReady}
 use Rattle.review_sql.specs.declared.seen.Seen.{Seen}
 use Rattle.review_sql.specs.Opened.{IsOpened, IsRefused, IsSeen}
 use Rattle.review_sql.specs.declared.faults.DeskFault.{DeskFault}

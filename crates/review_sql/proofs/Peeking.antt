@@ -8,10 +8,10 @@ use Rattle.sqlite_trees.specs.Tree.{Trees}
 use Rattle.sqlite.specs.State.{State, HasCleanDisk, Survives, IsRolledBack}
 use Rattle.sqlite.specs.declared.error.Error.{Error}
 use Rattle.sqlite.proofs.StateLemmas.{survives_then}
-use Rattle.review_tables.specs.Ran.{Looks}
+use Rattle.review_statements.specs.Ran.{Looks}
 use Rattle.review_tables.proofs.Sequences.{begun, taken_back, survives_from}
-use Rattle.review_tables.specs.Content.{AreApart}
-use Rattle.review_tables.specs.Desk.{desk_schema}
+use Rattle.review_statements.specs.Content.{AreApart}
+use Rattle.review_statements.specs.Desk.{desk_schema}
 use Rattle.review_transactions.specs.declared.numbers.Numbers.{Numbers}
 use Rattle.review_sql.specs.declared.seen.Said.{Said}
 use Rattle.review_sql.specs.declared.seen.Seen.{Seen}

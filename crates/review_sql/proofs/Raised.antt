@@ -13,10 +13,10 @@ use Rattle.sqlite.specs.declared.error.Error.{Error}
 use Rattle.sqlite.proofs.StateLemmas.{survives_then, survives_weaker}
 use Rattle.review_words.specs.History.{Entry}
 use Rattle.review_rows.specs.View.{IsView}
-use Rattle.review_tables.specs.declared.texts.TheConstants.{FIND_ANSWER}
-use Rattle.review_tables.specs.Content.{Then}
-use Rattle.review_tables.specs.Desk.{desk_schema}
-use Rattle.review_tables.specs.Ran.{Inside, Looks, OnDesk, Transacts, Within}
+use Rattle.review_statements.specs.declared.texts.TheConstants.{FIND_ANSWER}
+use Rattle.review_statements.specs.Content.{Then}
+use Rattle.review_statements.specs.Desk.{desk_schema}
+use Rattle.review_statements.specs.Ran.{Inside, Looks, OnDesk, Transacts, Within}
 use Rattle.review_tables.specs.Migrated.{Migrates}
 use Rattle.review_tables.proofs.Migrated.{apart_after}
 use Rattle.review_tables.proofs.Sequences.{Next, follow, settled_as}

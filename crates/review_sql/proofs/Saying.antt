@@ -20,13 +20,13 @@ use Rattle.sqlite_keyed.proofs.ListLemmas.{filter_same}
 use Rattle.sqlite.specs.Effect.{Database, Reads}
 use Rattle.sqlite.specs.Listing.{understood, listing_schema}
 use Rattle.sqlite.proofs.Callers.{command_of, one_permutation}
-use Rattle.review_tables.specs.declared.texts.TheConstants.{FIND_DESK, FIND_EPOCHS, READ_ROWS}
-use Rattle.review_tables.specs.Content.{has_key}
-use Rattle.review_tables.specs.Desk.{desk_schema, schema_0}
-use Rattle.review_tables.specs.Search.{only, reads, row_at}
-use Rattle.review_tables.specs.Texts.{over_table}
-use Rattle.review_tables.proofs.Meaning.{plain}
-use Rattle.review_tables.proofs.Queries.{passes, selects, shows}
+use Rattle.review_statements.specs.declared.texts.TheConstants.{FIND_DESK, FIND_EPOCHS, READ_ROWS}
+use Rattle.review_statements.specs.Content.{has_key}
+use Rattle.review_statements.specs.Desk.{desk_schema, schema_0}
+use Rattle.review_statements.specs.Search.{only, reads, row_at}
+use Rattle.review_statements.specs.Texts.{over_table}
+use Rattle.review_statements.proofs.Meaning.{plain}
+use Rattle.review_statements.proofs.Queries.{passes, selects, shows}
 use Rattle.review_records.specs.declared.rows.DeskRow.{DeskRow}
 use Rattle.review_records.specs.Forms.{desk, desk_row, epochs, first_epoch, where_is}
 use Rattle.review_records.specs.Keyed.{is_small}

@@ -16,7 +16,7 @@ use Rattle.review_rows.proofs.Readings.{reading_of}
 use Rattle.review_rows.specs.declared.shelf.ShelfFault.{ShelfFault}
 use Rattle.review_rows.specs.declared.shelf.ShelfFault.TheVariants.{Memory, Store, Damaged}
 use Rattle.review_rows.specs.Shelf.{Blames, LeavesBy, StaysOrShuts, Shows, IsCommitted, IsDamaged, cause_of}
-use Rattle.review_tables.specs.Ran.{IsReady, IsDeskIfOpen, Serves, Transacts}
+use Rattle.review_statements.specs.Ran.{IsReady, IsDeskIfOpen, Serves, Transacts}
 use Rattle.review_database.specs.Tables.{tables_at}
 use Rattle.review_transactions.specs.Numbers.{IsDesk, with_request}
 use Rattle.review_transactions.specs.declared.numbers.Numbers.{Numbers}

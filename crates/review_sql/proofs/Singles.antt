@@ -11,11 +11,11 @@ use Rattle.sqlite_schema.specs.Rules.{agree, differ}
 use Rattle.sqlite_catalog.specs.Listing.{IsSound}
 use Rattle.sqlite_catalog.proofs.AlterLemmas.{keys_are_unique}
 use Rattle.sqlite.specs.Effect.{Database}
-use Rattle.review_tables.specs.Content.{has_key, is_value, AreApart}
+use Rattle.review_statements.specs.Content.{has_key, is_value, AreApart}
 use Rattle.review_tables.proofs.Keys.{int_is, itself}
-use Rattle.review_tables.specs.Desk.{desk_schema, projects_2 as project_table, bases as base_table}
-use Rattle.review_tables.specs.Ran.{IsReady}
-use Rattle.review_tables.specs.Search.{rows_at}
+use Rattle.review_statements.specs.Desk.{desk_schema, projects_2 as project_table, bases as base_table}
+use Rattle.review_statements.specs.Ran.{IsReady}
+use Rattle.review_statements.specs.Search.{rows_at}
 use Rattle.review_tables.proofs.Single.{equal_values, differ_ids, one_passes}
 use Rattle.review_rows.specs.declared.rows.PlaceKey.{PlaceKey}
 use Rattle.review_records.specs.Forms.{projects, bases}

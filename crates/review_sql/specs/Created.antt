@@ -6,7 +6,7 @@ use Rattle.sqlite.specs.State.{HasCleanDisk, Survives}
 use Rattle.sqlite.specs.Held.{Held, state}
 use Rattle.review_rows.specs.Shelf.{StopLeavesOwnTables}
 use Rattle.review_rows.specs.View.{IsView}
-use Rattle.review_tables.specs.Desk.{schema_0}
+use Rattle.review_statements.specs.Desk.{schema_0}
 use Rattle.review_transactions.specs.First.{MakesDesk}
 use Rattle.review_database.specs.Tables.{tables_at}
 use Rattle.review_sql.specs.Shelf.{ShelfView, IsAnyThere, shown}

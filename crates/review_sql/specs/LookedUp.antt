@@ -4,7 +4,7 @@ use Rattle.sqlite_trees.specs.Tree.{Trees}
 use Rattle.review_words.specs.History.{Identity}
 use Rattle.review_rows.specs.Rows.{Tables}
 use Rattle.review_rows.specs.Shelf.{Answers, IsClosedIn}
-use Rattle.review_tables.specs.Search.{row_at}
+use Rattle.review_statements.specs.Search.{row_at}
 use Rattle.review_records.specs.declared.rows.RequestKey.{RequestKey}
 use Rattle.review_records.specs.Forms.{answers}
 use Rattle.review_database.specs.Tables.{stored_as}

@@ -12,8 +12,8 @@ use Rattle.review_words.specs.History.{Entry}
 use Rattle.review_rows.specs.Rows.{Tables}
 use Rattle.review_rows.specs.Shelf.{StopLeavesOwnTables}
 use Rattle.review_rows.specs.View.{IsView, tables_version}
-use Rattle.review_tables.specs.Desk as table
-use Rattle.review_tables.specs.Ran.{IsReady, Transacts}
+use Rattle.review_statements.specs.Desk as table
+use Rattle.review_statements.specs.Ran.{IsReady, Transacts}
 use Rattle.review_tables.specs.Migrated.{AllMoved}
 use Rattle.review_tables.specs.Versions.{is_new, schema_at, version_number, version_of}
 use Rattle.review_tables.specs.declared.versions.EarlierVersion.{EarlierVersion}

@@ -5,7 +5,7 @@ use Rattle.sqlite_value.specs.Order.{Row, column}
 use Rattle.sqlite_resolve.specs.declared.compiled.Compiled.{Compiled}
 use Rattle.sqlite.specs.Effect.{Database, Reads}
 use Rattle.sqlite.specs.Listing.{understood}
-use Rattle.review_tables.specs.declared.texts.TheConstants.{FIND_DESK, FIND_EPOCHS}
+use Rattle.review_statements.specs.declared.texts.TheConstants.{FIND_DESK, FIND_EPOCHS}
 use Rattle.review_tables.specs.Columns.{number_in}
 use Rattle.review_tables.specs.Versions.{version_number}
 use Rattle.review_tables.specs.declared.versions.TablesVersion.{TablesVersion}

@@ -2,7 +2,7 @@
 use Rattle.std.specs.Prelude.{ℕ, ◌≡◌, ◌≤◌, map, false, Bool, List, Option, Some, None, Result, Ok, Err, IsTrue, if◌then◌else◌, refl, min}
 use Rattle.std.proofs.Math.Nat.{min-le_right}
 use Rattle.std.specs.List.{Contains}
-use Rattle.review_tables.specs.declared.texts.TheConstants.{ANY_ROW, READ_ROWS, READ_ROWS_1, READ_ROWS_2}
+use Rattle.review_statements.specs.declared.texts.TheConstants.{ANY_ROW, READ_ROWS, READ_ROWS_1, READ_ROWS_2}
 use Rattle.std.specs.Coded.{Coded, code_by, coded×, coded_ℕ}
 use Rattle.sqlite_trees.specs.declared.store.Store.{Ghosts}
 use Rattle.sqlite_trees.specs.Tree.{Trees}
@@ -20,7 +20,7 @@ use Rattle.review_rows.specs.declared.shelf.ShelfFault.{ShelfFault}
 use Rattle.review_rows.specs.declared.shelf.ShelfFault.TheVariants.{Memory, Damaged}
 use Rattle.review_database.specs.declared.sights.Loaded.{Loaded}
 use Rattle.review_database.specs.declared.sights.Loaded.TheVariants as loaded
-use Rattle.review_tables.specs.Ran.{IsReady}
+use Rattle.review_statements.specs.Ran.{IsReady}
 use Rattle.review_tables.specs.declared.versions.TablesVersion.{TablesVersion}
 use Rattle.review_tables.specs.declared.versions.TablesVersion.TheVariants.{First, Second, Third}
 use Rattle.review_transactions.specs.First.{MakesDesk}

@@ -1,7 +1,7 @@
 //! What the look-ups of a need find.
 ghost use Rattle.std.specs.Prelude.{◌≡◌, false, IfOk};
 ghost use Rattle.sqlite.specs.Held.{state};
-ghost use Rattle.review_tables.specs.Ran.{Looks, Serves};
+ghost use Rattle.review_statements.specs.Ran.{Looks, Serves};
 ghost use Rattle.review_database.specs.Loads.{Sees, AreLoaded, HasLearnt, WereAsked};
 
 use review_change_lookups::{bases, joins, places, reviews, senders};

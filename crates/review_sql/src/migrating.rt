@@ -1,8 +1,8 @@
 //! Tables of an earlier version become those of a desk, in one transaction.
 ghost use Rattle.std.specs.Prelude.{◌≡◌, ◌≢◌, true, false, IsTrue, IfOk, IfErr};
 ghost use Rattle.sqlite.specs.Held.{state};
-ghost use Rattle.review_tables.specs.Content.{Then};
-ghost use Rattle.review_tables.specs.Ran.{Inside, Within, Opens, Transacts};
+ghost use Rattle.review_statements.specs.Content.{Then};
+ghost use Rattle.review_statements.specs.Ran.{Inside, Within, Opens, Transacts};
 ghost use Rattle.review_tables.specs.Versions.{schema_at, version_of};
 ghost use Rattle.review_transactions.specs.Changes.{SetsDesk, SetsLeast};
 ghost use Rattle.review_sql.specs.Migrated.{IsBrought, IsHindered, IsKept, IsNotMigrated, IsRaised, IsUnfit, Upgrades, if_whole};

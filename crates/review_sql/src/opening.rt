@@ -14,7 +14,7 @@ use crate::there::{are_all_there, is_understood};
 use review_tables::columns::number_at;
 use review_tables::creating::is_desk;
 use review_tables::rowids::are_all_apart;
-use review_tables::texts;
+use review_statements::texts;
 use review_tables::versions::TablesVersion;
 use review_transactions::Numbers;
 use review_words::Epoch;

@@ -1,7 +1,7 @@
 //! The calls of a shelf.
 ghost use Rattle.std.specs.Prelude.{◌≡◌, false};
 ghost use Rattle.sqlite.specs.Held.{state};
-ghost use Rattle.review_tables.specs.Ran.{Looks, Serves};
+ghost use Rattle.review_statements.specs.Ran.{Looks, Serves};
 ghost use Rattle.review_sql.specs.LookedUp.{IsLookedUp};
 
 use review_records::answers::Answers;

@@ -5,7 +5,7 @@ ghost use Rattle.sqlite.specs.Held.{state};
 ghost use Rattle.sqlite.specs.State.{HasCleanDisk};
 ghost use Rattle.review_rows.specs.Rows.{ClosedEpochs, Tables, kept_row};
 ghost use Rattle.review_rows.specs.Shelf.{CountsFaults, IsCounted, IsRecalled, greatest_count};
-ghost use Rattle.review_tables.specs.Desk.{schema_0};
+ghost use Rattle.review_statements.specs.Desk.{schema_0};
 ghost use Rattle.review_sql.specs.LookedUp.{IsLookedUpIn};
 ghost use Rattle.review_sql.specs.Shelf.{Stays, answer_of};
 

@@ -5,9 +5,9 @@ use Rattle.std.proofs.lemmas.Bool.{cases_Bool, both_ways}
 use Rattle.sqlite_trees.specs.Tree.{Trees}
 use Rattle.review_table.specs.declared.table.Change.{Change}
 use Rattle.review_table.specs.Rows.{change_of, after_change}
-use Rattle.review_tables.specs.Content.{SparesOthers}
+use Rattle.review_statements.specs.Content.{SparesOthers}
 use Rattle.review_tables.specs.Fronts.{IsExact, SetsParts}
-use Rattle.review_tables.specs.Search.{Search, row_at, SetsRows}
+use Rattle.review_statements.specs.Search.{Search, row_at, SetsRows}
 use Rattle.review_tables.proofs.Keys.{spares_then}
 
 module _ {A X : Type 0} (s : Search A X) where

@@ -14,9 +14,9 @@ use Rattle.sqlite.proofs.StateLemmas.{survives_then}
 use Rattle.review_tables.proofs.Sequences.{keeps_then}
 use Rattle.sqlite.specs.declared.error.Error.{Error}
 use Rattle.sqlite.proofs.Callers.{one_permutation}
-use Rattle.review_tables.specs.Ran.{Looks}
-use Rattle.review_tables.specs.Search.{Search, shown, reads, only, row_at, rows_at, Finds, WereRead, AreFound}
-use Rattle.review_tables.specs.Greatest.{HasOne, first_as}
+use Rattle.review_statements.specs.Ran.{Looks}
+use Rattle.review_statements.specs.Search.{Search, shown, reads, only, row_at, rows_at, Finds, WereRead, AreFound}
+use Rattle.review_statements.specs.Greatest.{HasOne, first_as}
 
 -- one row of a table is shown as one row
 only_shown : {X : Type 0} (f : Row → Row) (read : Row → Option X) (xs ys : List Row) → IsPermutation (map f xs) ys → only read ys ≡ only (λ r. read (f r)) xs

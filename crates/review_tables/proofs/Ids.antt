@@ -21,12 +21,12 @@ use Rattle.sqlite_trees.specs.View.{is_int}
 use Rattle.sqlite_trees.proofs.ListLemmas.{all-permutation}
 use Rattle.sqlite_rules.specs.Edit.{is_taken}
 use Rattle.sqlite_keyed.proofs.ListLemmas.{map-map}
-use Rattle.review_tables.specs.Content.{AreApart}
-use Rattle.review_tables.specs.Desk.{desk_tables, table_at}
+use Rattle.review_statements.specs.Content.{AreApart}
+use Rattle.review_statements.specs.Desk.{desk_tables, table_at}
 use Rattle.sqlite_schema.specs.declared.schema.Table.{Table}
 use Rattle.review_tables.specs.Rowids.{firsts, is_same, AreOwn, AreIds}
-use Rattle.review_tables.specs.Search.{FindsIds}
-use Rattle.review_tables.proofs.Lists.{eq_back}
+use Rattle.review_statements.specs.Search.{FindsIds}
+use Rattle.review_statements.proofs.Lists.{eq_back}
 
 int_back : (m n : ℤ) → int_eq m n ≡ int_eq n m
 int_back m n = int_eq_equiv.symm m n

@@ -11,8 +11,8 @@ use Rattle.sqlite_value.proofs.OrderLemmas.{value_cmp_total, value_cmp-Int, valu
 use Rattle.sqlite_trees.specs.Tree.{Trees}
 use Rattle.sqlite_keyed.proofs.ListLemmas.{filter-filter}
 use Rattle.sqlite_keyed.proofs.KeyedLemmas.{same_int as whole}
-use Rattle.review_tables.specs.Content.{has_key, is_value, Adds, Removes, Sets, SparesOthers, Then}
-use Rattle.review_tables.specs.Search.{At, Search, reads, only, Form, IsLawful, Puts, SetsRow}
+use Rattle.review_statements.specs.Content.{has_key, is_value, Adds, Removes, Sets, SparesOthers, Then}
+use Rattle.review_statements.specs.Search.{At, Search, reads, only, Form, IsLawful, Puts, SetsRow}
 
 pub equal_is : (o : Ordering) → is_eq o ≡ true → o ≡ Equal
 equal_is Less h = absurd (cc)

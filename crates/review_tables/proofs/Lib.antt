@@ -8,14 +8,3 @@ pub mod Ids
 pub mod Single
 pub mod ByTree
 pub mod Migrated
-pub mod Lists
-pub mod Queries
-pub mod Statements
-pub mod Meaning
-pub mod Cut
-pub mod ChangesMade
-pub mod TextsOfTables
-pub mod TextsOfChanges
-pub mod TextsOfLookups
-pub mod TextsOfMoves
-pub mod Moves

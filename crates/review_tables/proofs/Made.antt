@@ -4,11 +4,11 @@ use Rattle.std.proofs.lemmas.List.{append_assoc}
 use Rattle.std.proofs.Common.{◌∷◌, ◌++◌, true, inl, inr, eqb, eqb-true}
 use Rattle.std.proofs.lemmas.Bool.{or_cases, and_parts}
 use Rattle.sqlite_trees.specs.Tree.{Trees}
-use Rattle.review_tables.specs.Content.{AreApart}
-use Rattle.review_tables.specs.Desk.{desk_schema}
-use Rattle.review_tables.specs.Desk.{schema_of, schema_0, tables_1, tables_2}
-use Rattle.review_tables.specs.declared.texts.TheConstants.{CREATE}
-use Rattle.review_tables.proofs.TextsOfTables.{◌also◌}
+use Rattle.review_statements.specs.Content.{AreApart}
+use Rattle.review_statements.specs.Desk.{desk_schema}
+use Rattle.review_statements.specs.Desk.{schema_of, schema_0, tables_1, tables_2}
+use Rattle.review_statements.specs.declared.texts.TheConstants.{CREATE}
+use Rattle.review_statements.proofs.TextsOfTables.{◌also◌}
 use Rattle.sqlite_schema.specs.declared.schema.Table.{Table}
 use Rattle.sqlite_schema.specs.declared.schema.Schema.{Schema}
 use Rattle.sqlite_schema.specs.declared.command.Command.TheVariants.{CreateTable}
@@ -27,19 +27,19 @@ use Rattle.sqlite_trees.specs.declared.memory.MemStore.{MemStore}
 use Rattle.sqlite.specs.Held.{Held, state}
 use Rattle.sqlite.specs.Steps.{over_memory, IsEmpty}
 use Rattle.sqlite.proofs.Callers.{memory_is_clean}
-use Rattle.review_tables.specs.Desk.{simple}
+use Rattle.review_statements.specs.Desk.{simple}
 use Rattle.review_tables.specs.Plain.{IsPlainColumn, IsPlainForm, IsPlainSchema}
-use Rattle.review_tables.specs.Ran.{IsReady, Transacts}
+use Rattle.review_statements.specs.Ran.{IsReady, Transacts}
 use Rattle.std.specs.List.{AllByRecursion, list_all, list_any}
 use Rattle.sqlite_value.specs.declared.value.Value.{Value}
 use Rattle.sqlite_value.specs.declared.value.Value.TheVariants.{Null, Int, Real, Text, Blob}
 use Rattle.sqlite_sql.specs.Ops.{is_null}
 use Rattle.sqlite_schema.specs.declared.schema.Column.{Column}
-use Rattle.review_tables.proofs.ChangesMade.{IsSimple, are_simple}
+use Rattle.review_statements.proofs.Changes.{IsSimple, are_simple}
 use Rattle.review_tables.specs.declared.versions.TablesVersion.{TablesVersion}
 use Rattle.review_tables.specs.declared.versions.TablesVersion.TheVariants.{First, Second, Third}
 use Rattle.review_tables.specs.Versions.{schema_at}
-use Rattle.review_tables.proofs.Statements.{went, same_value}
+use Rattle.review_statements.proofs.Statements.{went, same_value}
 use Rattle.review_tables.proofs.Sequences.{Next}
 
 -- a table is made, and the others keep their rows

@@ -10,11 +10,11 @@ use Rattle.sqlite_schema.specs.declared.schema.Table.{Table}
 use Rattle.sqlite_tied.specs.Compute.{everything}
 use Rattle.sqlite.specs.Effect.{Database}
 use Rattle.sqlite.specs.Listing.{understood}
-use Rattle.review_tables.specs.declared.texts.TheConstants.{CREATE_ANSWERS_3, CREATE_EPOCHS, CREATE_PROJECTS_2, DROP_ANSWERS, DROP_PROJECTS, MOVE_ANSWERS, MOVE_PROJECTS}
-use Rattle.review_tables.specs.Content.{AreApart}
-use Rattle.review_tables.specs.Desk.{answers_3, desk_schema, desk_tables, epochs, projects_2, schema_0, schema_1, schema_2, schema_of, tables_1, tables_2}
-use Rattle.review_tables.specs.Moved.{AreMoved, Drops, Fills, Move, answers_move, columns_of, projects_move, tables_without_epochs, with_both, with_first_epoch, without_parent}
-use Rattle.review_tables.proofs.TextsOfMoves.{DropsText, FillsText, answers_dropped, answers_filled, projects_dropped, projects_filled}
+use Rattle.review_statements.specs.declared.texts.TheConstants.{CREATE_ANSWERS_3, CREATE_EPOCHS, CREATE_PROJECTS_2, DROP_ANSWERS, DROP_PROJECTS, MOVE_ANSWERS, MOVE_PROJECTS}
+use Rattle.review_statements.specs.Content.{AreApart}
+use Rattle.review_statements.specs.Desk.{answers_3, desk_schema, desk_tables, epochs, projects_2, schema_0, schema_1, schema_2, schema_of, tables_1, tables_2}
+use Rattle.review_statements.specs.Moved.{AreMoved, Drops, Fills, Move, answers_move, columns_of, projects_move, tables_without_epochs, with_both, with_first_epoch, without_parent}
+use Rattle.review_statements.proofs.TextsOfMoves.{DropsText, FillsText, answers_dropped, answers_filled, projects_dropped, projects_filled}
 use Rattle.review_tables.specs.Made.{Grows, IsMade, MakesBy, MakesText}
 use Rattle.review_tables.specs.Migrated.{DropsBy, FillsBy, Migrates, Moves}
 use Rattle.review_tables.specs.Versions.{is_new, schema_at, tables_since, version_of}

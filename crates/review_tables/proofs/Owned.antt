@@ -13,9 +13,9 @@ use Rattle.sqlite_trees.specs.Tree.{Trees}
 use Rattle.sqlite_keyed.proofs.ListLemmas.{IsPermutation-filter, filter-map, filter-filter, map-map, all_unmap}
 use Rattle.sqlite.proofs.Callers.{one_permutation}
 use Rattle.review_table.specs.Rows.{row_in}
-use Rattle.review_tables.specs.Content.{has_key}
+use Rattle.review_statements.specs.Content.{has_key}
 use Rattle.review_tables.specs.Fronts.{IsFront, IsExact, WereApart, WereSorted, HasTwins, AreParts, HaveRows, is_of, at_key}
-use Rattle.review_tables.specs.Search.{Search, HasOdd, shown, reads, row_at, only, rows_at, Finds}
+use Rattle.review_statements.specs.Search.{Search, HasOdd, shown, reads, row_at, only, rows_at, Finds}
 
 -- it is there
 abbrev IsThere : {X : Type 0} → Option X → Type 0

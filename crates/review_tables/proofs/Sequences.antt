@@ -11,11 +11,11 @@ use Rattle.sqlite_schema.specs.declared.command.Returning.{Returning}
 use Rattle.sqlite.specs.Clock.{timed}
 use Rattle.sqlite.specs.Listing.{understood}
 use Rattle.sqlite.proofs.Callers.{IsPlain}
-use Rattle.review_tables.specs.Desk.{desk_schema}
+use Rattle.review_statements.specs.Desk.{desk_schema}
 use Rattle.sqlite.specs.State.{FailsToQuery, FailsToShow, Shown, ShowsRows, IsNotRun, IsTooLate, State, HasCleanDisk, Survives, KeepsCommit, IsUnchanged, IsRolledBack, Executes, ExecutesInside, Shows, KeepsCounts}
 use Rattle.sqlite.proofs.StateLemmas.{survives_then}
-use Rattle.review_tables.specs.Content.{Then}
-use Rattle.review_tables.specs.Ran.{IsReady, IsDeskIfOpen, Within, OnDesk, Inside, Transacts, Looks, Serves}
+use Rattle.review_statements.specs.Content.{Then}
+use Rattle.review_statements.specs.Ran.{IsReady, IsDeskIfOpen, Within, OnDesk, Inside, Transacts, Looks, Serves}
 
 kept_unchanged : (old new : State) → IsUnchanged old new ⊎ IsRolledBack old new → KeepsCommit old new
 kept_unchanged old new (inl same) = record { was_open = λ _. same.0.was_open; committed = λ _. same.0.committed_is }

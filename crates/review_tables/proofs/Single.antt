@@ -15,10 +15,10 @@ use Rattle.sqlite_schema.specs.Rules.{equal, differ}
 use Rattle.sqlite_rules.specs.Lists.{Has}
 use Rattle.sqlite_rules.specs.Edit.{is_taken, id_in}
 use Rattle.sqlite_rules.proofs.TableLemmas.{int_is}
-use Rattle.review_tables.specs.Content.{AreApart}
+use Rattle.review_statements.specs.Content.{AreApart}
 use Rattle.review_tables.proofs.Keys.{same_value}
-use Rattle.review_tables.proofs.Lists.{eq_back}
-use Rattle.review_tables.proofs.Meaning.{equals, told_true}
+use Rattle.review_statements.proofs.Lists.{eq_back}
+use Rattle.review_statements.proofs.Meaning.{equals, told_true}
 
 there : (v w : Value) → is_null w ≡ false → is_eq (value_cmp v w) ≡ true → is_null v ≡ false
 there Null w some is = absurd (let e = rw (value_cmp-Null-apart w some) at is in cc)

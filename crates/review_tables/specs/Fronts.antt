@@ -6,8 +6,8 @@ use Rattle.sqlite_value.specs.Order.{Row as Raw}
 use Rattle.sqlite_trees.specs.Tree.{Trees}
 use Rattle.review_table.specs.declared.table.Change.{Change}
 use Rattle.review_table.specs.Rows.{row_in}
-use Rattle.review_tables.specs.Content.{has_key}
-use Rattle.review_tables.specs.Search.{Search, HasOdd, reads, row_at, rows_at, SetsRow}
+use Rattle.review_statements.specs.Content.{has_key}
+use Rattle.review_statements.specs.Search.{Search, HasOdd, reads, row_at, rows_at, SetsRow}
 
 -- the order of keys tells them apart
 pub record IsExact {A : Type 0} (cmp : A → A → Ordering) : Type 0 where

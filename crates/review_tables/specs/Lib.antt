@@ -5,10 +5,3 @@ pub mod Plain
 pub mod Rowids
 pub mod Columns
 pub mod Versions
-pub mod Desk
-pub mod Content
-pub mod Ran
-pub mod Search
-pub mod Greatest
-pub mod Texts
-pub mod Moved

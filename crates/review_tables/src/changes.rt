@@ -1,8 +1,8 @@
 //! What a table has at a key is changed, whatever the table.
 ghost use Rattle.std.specs.Prelude.{◌≡◌, Some};
 ghost use Rattle.sqlite.specs.Held.{state};
-ghost use Rattle.review_tables.specs.Ran.{Inside, Opens};
-ghost use Rattle.review_tables.specs.Search.{SetsRow, SetsRows};
+ghost use Rattle.review_statements.specs.Ran.{Inside, Opens};
+ghost use Rattle.review_statements.specs.Search.{SetsRow, SetsRows};
 
 use crate::table::{Table, insert, remove};
 use review_table::Change;

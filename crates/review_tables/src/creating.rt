@@ -2,8 +2,8 @@
 ghost use Rattle.std.specs.Prelude.{◌≡◌, false, IfOk};
 ghost use Rattle.std.specs.Bool.{Decides};
 ghost use Rattle.sqlite.specs.Held.{state};
-ghost use Rattle.review_tables.specs.Desk.{schema_0};
-ghost use Rattle.review_tables.specs.Ran.{Within, Opens, Transacts};
+ghost use Rattle.review_statements.specs.Desk.{schema_0};
+ghost use Rattle.review_statements.specs.Ran.{Within, Opens, Transacts};
 ghost use Rattle.review_tables.specs.Made.{Grows};
 ghost use Rattle.review_tables.specs.Versions.{schema_at};
 

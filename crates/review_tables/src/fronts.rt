@@ -3,8 +3,8 @@ ghost use Rattle.std.specs.Prelude.{◌≡◌, option_map, IfOk};
 ghost use Rattle.sqlite.specs.Held.{state};
 ghost use Rattle.review_table.specs.Rows.{rows_of};
 ghost use Rattle.review_tables.specs.Fronts.{AreParts, WereSorted, SetsParts};
-ghost use Rattle.review_tables.specs.Ran.{Inside, Looks, Opens};
-ghost use Rattle.review_tables.specs.Search.{SetsRow};
+ghost use Rattle.review_statements.specs.Ran.{Inside, Looks, Opens};
+ghost use Rattle.review_statements.specs.Search.{SetsRow};
 
 use crate::changes::change;
 use crate::table::{Lookup, Table, select};
@@ -15,7 +15,7 @@ use std::alloc::{AllocError, Global};
 /// A look-up of all rows of an owner, each with the rest of its key.
 pub trait Front: Lookup<Item = (<Self as Front>::Part, <Self as Front>::Rest)> {
     ghost use Rattle.std.specs.Prelude.{◌≡◌};
-    ghost use Rattle.review_tables.specs.Search.{Search};
+    ghost use Rattle.review_statements.specs.Search.{Search};
     ghost use Rattle.review_tables.specs.Fronts.{IsFront};
 
     /// The rest of a key.

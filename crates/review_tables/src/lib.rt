@@ -1,5 +1,4 @@
 //! How a table of a desk in SQLite is asked and changed, whatever its rows are, and how its tables are made and known again.
-//! And the statements of a desk: their texts, and what each of them means for its tables.
 #![tactic(auto)]
 
 pub mod bound;
@@ -14,5 +13,4 @@ pub mod reads;
 pub mod rowids;
 mod schemas;
 pub mod table;
-pub mod texts;
 pub mod versions;

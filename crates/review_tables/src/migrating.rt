@@ -1,14 +1,14 @@
 //! Tables of an earlier version become those of the latest, a version after the other.
 ghost use Rattle.std.specs.Prelude.{◌≡◌};
 ghost use Rattle.sqlite.specs.Held.{state};
-ghost use Rattle.review_tables.specs.Moved.{answers_move, projects_move};
-ghost use Rattle.review_tables.specs.Ran.{Within, Opens};
+ghost use Rattle.review_statements.specs.Moved.{answers_move, projects_move};
+ghost use Rattle.review_statements.specs.Ran.{Within, Opens};
 ghost use Rattle.review_tables.specs.Migrated.{DropsBy, FillsBy, Migrates, Moves};
 ghost use Rattle.review_tables.specs.declared.versions.EarlierVersion.TheVariants as earlier;
 
 use crate::making::make;
-use crate::texts;
 use crate::versions::EarlierVersion;
+use review_statements::texts;
 use sqlite::{Alter, Error, Transaction};
 
 // Moves rows to a new table, by a text.

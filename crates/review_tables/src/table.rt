@@ -1,10 +1,10 @@
 //! Tables: the texts that look rows up, put them in and take them away, and how rows read and are stored.
 ghost use Rattle.std.specs.Prelude.{◌≡◌, true, IfOk, OnOk};
 ghost use Rattle.sqlite.specs.Held.{state};
-ghost use Rattle.review_tables.specs.Content.{Removes};
-ghost use Rattle.review_tables.specs.Ran.{Inside, Looks, Opens};
-ghost use Rattle.review_tables.specs.Search.{Finds, Puts};
-ghost use Rattle.review_tables.specs.Texts.{values_of};
+ghost use Rattle.review_statements.specs.Content.{Removes};
+ghost use Rattle.review_statements.specs.Ran.{Inside, Looks, Opens};
+ghost use Rattle.review_statements.specs.Search.{Finds, Puts};
+ghost use Rattle.review_statements.specs.Texts.{values_of};
 
 use crate::bound::Bound;
 use sqlite::{Alter, Error, Row, Transaction};
@@ -13,8 +13,8 @@ use std::alloc::{AllocError, Global};
 /// A look-up of rows by the values of some columns.
 pub trait Lookup {
     ghost use Rattle.std.specs.Prelude.{ℕ, List};
-    ghost use Rattle.review_tables.specs.Search.{Search};
-    ghost use Rattle.review_tables.specs.Texts.{Asks, rows_where};
+    ghost use Rattle.review_statements.specs.Search.{Search};
+    ghost use Rattle.review_statements.specs.Texts.{Asks, rows_where};
 
     /// The values that are asked for.
     type Key;
@@ -59,8 +59,8 @@ pub fn select<L: Lookup, S: Alter>(
 /// A table, whose rows are put in and taken away by their keys.
 pub trait Table {
     ghost use Rattle.std.specs.Prelude.{ℕ, List};
-    ghost use Rattle.review_tables.specs.Search.{Search, Form, IsLawful};
-    ghost use Rattle.review_tables.specs.Texts.{Deletes, Inserts};
+    ghost use Rattle.review_statements.specs.Search.{Search, Form, IsLawful};
+    ghost use Rattle.review_statements.specs.Texts.{Deletes, Inserts};
 
     /// A key; of rows that belong to an owner, the owner and the rest of a key.
     type Key;

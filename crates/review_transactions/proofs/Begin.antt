@@ -12,10 +12,10 @@ use Rattle.review_rows.specs.declared.rows.MemberKey.{MemberKey}
 use Rattle.review_rows.specs.Rows.{Key, AccountKey, MemberKey as OfMember, FileKey, BaseKey, PartKey, OddKey, AccountRow, MemberRow, FileRow, BaseRow, APart, OddRow, Count, Projects, BasesOf, ClosedEpochs, Stored}
 use Rattle.review_rows.specs.Changes.{Reading}
 use Rattle.review_rows.specs.View.{IsView, fact, counted}
-use Rattle.review_tables.specs.Desk.{schema_0, desk_schema, is_tree}
+use Rattle.review_statements.specs.Desk.{schema_0, desk_schema, is_tree}
 use Rattle.review_tables.specs.Made.{Grows, IsBlank}
-use Rattle.review_tables.specs.Ran.{OnDesk}
-use Rattle.review_tables.specs.Search.{rows_at, row_at, only, reads, SetsRow}
+use Rattle.review_statements.specs.Ran.{OnDesk}
+use Rattle.review_statements.specs.Search.{rows_at, row_at, only, reads, SetsRow}
 use Rattle.review_tables.proofs.Sequences.{Next}
 use Rattle.review_tables.proofs.Made.{ready_blank, empty_at}
 use Rattle.review_transactions.specs.Numbers.{IsDesk}

@@ -23,11 +23,11 @@ use Rattle.review_rows.specs.Shelf.{IsCommitted}
 use Rattle.review_rows.proofs.Puts.{exact_place, place_total}
 use Rattle.review_rows.specs.declared.rows.PlaceKey.{PlaceKey}
 use Rattle.review_rows.specs.declared.rows.StoredFile.{StoredFile}
-use Rattle.review_tables.specs.Content.{SparesOthers, Then, has_key, is_number_below, is_natural, is_text, is_value}
-use Rattle.review_tables.proofs.Meaning.{and_true}
-use Rattle.review_tables.specs.Desk.{is_tree}
-use Rattle.review_tables.specs.Ran.{OnDesk}
-use Rattle.review_tables.specs.Search.{row_at, rows_at, only, reads, Search}
+use Rattle.review_statements.specs.Content.{SparesOthers, Then, has_key, is_number_below, is_natural, is_text, is_value}
+use Rattle.review_statements.proofs.Meaning.{and_true}
+use Rattle.review_statements.specs.Desk.{is_tree}
+use Rattle.review_statements.specs.Ran.{OnDesk}
+use Rattle.review_statements.specs.Search.{row_at, rows_at, only, reads, Search}
 use Rattle.review_tables.specs.Fronts.{IsExact}
 use Rattle.review_tables.proofs.Changed.{rows_changed, rows_spare}
 use Rattle.review_tables.proofs.Keys.{equal_is, int_is, same_text, text_is}
@@ -196,7 +196,7 @@ module _ (epoch : Option ℕ) (old new : Trees) (h : GivesUp epoch old new) wher
   answer_after : (i : Identity) → answer_in new i ≡ cond (is_below epoch i.epoch) None (answer_in old i)
   answer_after i = by epoch h
     where
-      at : Rattle.review_tables.specs.Search.At
+      at : Rattle.review_statements.specs.Search.At
       at = answers.at (request_key i)
 
       gone : (least : ℕ) (b : Bool) → nat_lt i.epoch least ≡ b → new 28 ≡ filter (λ r. not (is_of_lower least r)) (old 28) → answer_in new i ≡ cond b None (answer_in old i)

@@ -10,9 +10,9 @@ use Rattle.review_changes.specs.Seen.{vote_cmp}
 use Rattle.review_changes.specs.declared.rows.VoteKey.{VoteKey}
 use Rattle.review_rows.specs.declared.rows.ChangeEdit.{ChangeEdit}
 use Rattle.review_rows.specs.Rows.{APart, edited, part_change, vote_row}
-use Rattle.review_tables.specs.Content.{SparesOthers}
-use Rattle.review_tables.specs.Desk.{is_tree}
-use Rattle.review_tables.specs.Search.{only, reads, rows_at}
+use Rattle.review_statements.specs.Content.{SparesOthers}
+use Rattle.review_statements.specs.Desk.{is_tree}
+use Rattle.review_statements.specs.Search.{only, reads, rows_at}
 use Rattle.review_tables.proofs.Changed.{parts_apart, parts_changed, parts_spare}
 use Rattle.review_records.specs.Laws.{numbers_exact}
 use Rattle.review_change_records.specs.Forms.{headers, patches, votes, roles, comments, calls}

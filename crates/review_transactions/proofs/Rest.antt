@@ -10,9 +10,9 @@ use Rattle.review_rows.specs.declared.rows.ChangeEdit.{ChangeEdit}
 use Rattle.review_rows.specs.declared.rows.Delta.{Delta}
 use Rattle.review_rows.specs.declared.rows.Kept.{Kept}
 use Rattle.review_rows.specs.declared.rows.Put.{Put}
-use Rattle.review_tables.specs.Content.{Then}
-use Rattle.review_tables.specs.Desk.{is_tree}
-use Rattle.review_tables.specs.Search.{Search, SetsRow, SetsRows}
+use Rattle.review_statements.specs.Content.{Then}
+use Rattle.review_statements.specs.Desk.{is_tree}
+use Rattle.review_statements.specs.Search.{Search, SetsRow, SetsRows}
 use Rattle.review_tables.specs.Fronts.{SetsParts}
 use Rattle.review_change_records.specs.Forms.{headers, patches, votes, roles, comments, calls}
 use Rattle.review_records.specs.Forms.{accounts, members, projects, bases, answers, desk, epochs, is_of_lower, request_key}

@@ -9,9 +9,9 @@ use Rattle.review_rows.specs.declared.rows.Put.{Put}
 use Rattle.review_rows.specs.Rows.{kept_row}
 use Rattle.review_rows.specs.View.{tables_version}
 use Rattle.std.specs.Prelude.{string_bytes}
-use Rattle.review_tables.specs.Content.{Then, RemovesWhere}
+use Rattle.review_statements.specs.Content.{Then, RemovesWhere}
 use Rattle.review_tables.specs.Fronts.{SetsParts}
-use Rattle.review_tables.specs.Search.{Search, SetsRow, SetsRows}
+use Rattle.review_statements.specs.Search.{Search, SetsRow, SetsRows}
 use Rattle.review_change_records.specs.Forms.{headers, patches, votes, roles, comments, calls}
 use Rattle.review_records.specs.Forms.{accounts, members, projects, bases, answers, desk, epochs, is_of_lower, request_key}
 

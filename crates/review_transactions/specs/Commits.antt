@@ -6,8 +6,8 @@ use Rattle.review_rows.specs.Rows.{kept_row}
 use Rattle.review_rows.specs.Shelf.{IsCommitted}
 use Rattle.review_rows.specs.declared.rows.Delta.{Delta}
 use Rattle.review_rows.specs.declared.rows.Kept.{Kept}
-use Rattle.review_tables.specs.Ran.{IsReady}
-use Rattle.review_tables.specs.Search.{rows_at}
+use Rattle.review_statements.specs.Ran.{IsReady}
+use Rattle.review_statements.specs.Search.{rows_at}
 use Rattle.review_rows.specs.declared.rows.PlaceKey.{PlaceKey}
 use Rattle.review_records.specs.Forms.{projects, bases}
 use Rattle.review_database.specs.Tables.{tables_at}

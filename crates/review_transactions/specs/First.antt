@@ -4,11 +4,11 @@ use Rattle.sqlite_trees.specs.Tree.{Trees}
 use Rattle.sqlite.specs.Effect.{Database}
 use Rattle.review_names.specs.Names.{admin_name, administrators}
 use Rattle.review_rows.specs.View.{IsView}
-use Rattle.review_tables.specs.Content.{Then}
-use Rattle.review_tables.specs.Desk.{schema_0}
+use Rattle.review_statements.specs.Content.{Then}
+use Rattle.review_statements.specs.Desk.{schema_0}
 use Rattle.review_tables.specs.Made.{IsBlank}
-use Rattle.review_tables.specs.Ran.{IsReady}
-use Rattle.review_tables.specs.Search.{SetsRow}
+use Rattle.review_statements.specs.Ran.{IsReady}
+use Rattle.review_statements.specs.Search.{SetsRow}
 use Rattle.review_records.specs.Forms.{accounts, members}
 use Rattle.review_transactions.specs.Changes.{SetsDesk, SetsLeast}
 use Rattle.review_database.specs.Tables.{tables_at}

@@ -8,9 +8,9 @@ use Rattle.review_rows.specs.declared.rows.ChangeEdit.{ChangeEdit}
 use Rattle.review_rows.specs.declared.rows.Delta.{Delta}
 use Rattle.review_rows.specs.declared.rows.Kept.{Kept}
 use Rattle.review_rows.specs.Rows.{kept_row}
-use Rattle.review_tables.specs.Content.{has_key}
-use Rattle.review_tables.specs.Desk.{is_tree}
-use Rattle.review_tables.specs.Search.{Search}
+use Rattle.review_statements.specs.Content.{has_key}
+use Rattle.review_statements.specs.Desk.{is_tree}
+use Rattle.review_statements.specs.Search.{Search}
 use Rattle.review_change_records.specs.Forms.{headers, patches, votes, roles, comments, calls}
 use Rattle.review_records.specs.Forms.{accounts, members, projects, bases, answers, desk, epochs, is_of_lower, request_key}
 

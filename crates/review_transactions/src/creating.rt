@@ -1,7 +1,7 @@
 //! A desk is made.
 ghost use Rattle.std.specs.Prelude.{◌≡◌, false};
 ghost use Rattle.sqlite.specs.Held.{state};
-ghost use Rattle.review_tables.specs.Ran.{Inside, Within, Opens, Transacts};
+ghost use Rattle.review_statements.specs.Ran.{Inside, Within, Opens, Transacts};
 ghost use Rattle.review_transactions.specs.First.{SetsFirst, MakesDesk};
 
 use review_records::accounts::Accounts;

@@ -1,7 +1,7 @@
 //! What a delivery changes is written, all of it or nothing.
 ghost use Rattle.std.specs.Prelude.{◌≡◌, Some, [], ◌+◌, ◌<◌, ◌^◌, false};
 ghost use Rattle.sqlite.specs.Held.{state};
-ghost use Rattle.review_tables.specs.Ran.{Inside, Within, Opens, Transacts};
+ghost use Rattle.review_statements.specs.Ran.{Inside, Within, Opens, Transacts};
 ghost use Rattle.review_transactions.specs.Changes.{GivesUp, SetsDelta, SetsEdit, SetsEdits, SetsPut, SetsUnless, SetsUnowned, is_named};
 ghost use Rattle.review_transactions.specs.Commits.{Commits};
 

@@ -2,8 +2,8 @@ use Rattle.std.proofs.Common.{◌≡◌, ℕ, Option, Some, None, Ok, subst, rul
 use Rattle.sqlite.specs.Held.{state}
 use Rattle.sqlite_trees.specs.Tree.{Trees}
 use Rattle.review_changes.specs.declared.rows.Header.{Header}
-use Rattle.review_tables.specs.Greatest.{HasGreatest}
-use Rattle.review_tables.specs.Search.{row_at}
+use Rattle.review_statements.specs.Greatest.{HasGreatest}
+use Rattle.review_statements.specs.Search.{row_at}
 use Rattle.review_tables.proofs.Found.{look_both, look_on}
 use Rattle.review_change_records.specs.Forms.{change_places, headers}
 use Rattle.review_change_lookups.proofs.Placed.{last_joined_damaged}

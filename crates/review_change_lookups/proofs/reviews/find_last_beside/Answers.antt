@@ -2,7 +2,7 @@ use Rattle.std.proofs.Common.{Option, ℕ, Ok}
 use Rattle.sqlite.specs.Held.{state}
 use Rattle.sqlite_trees.specs.Tree.{Trees}
 use Rattle.review_rows.specs.declared.rows.Want.TheVariants as want
-use Rattle.review_tables.specs.Greatest.{HasGreatest}
+use Rattle.review_statements.specs.Greatest.{HasGreatest}
 use Rattle.review_change_records.specs.Forms.{change_numbers}
 use Rattle.review_tables.proofs.Found.{look_both, look_on}
 use Rattle.review_database.specs.declared.sights.Sight.{Sight}

@@ -3,7 +3,7 @@ use Rattle.sqlite.specs.Held.{state}
 use Rattle.sqlite_trees.specs.Tree.{Trees}
 use Rattle.std.proofs.Common.{nat_lt, length, ◌∷◌, []}
 use Rattle.sqlite_value.specs.declared.value.Value.TheVariants.{Text}
-use Rattle.review_tables.specs.Search.{rows_at}
+use Rattle.review_statements.specs.Search.{rows_at}
 use Rattle.review_tables.proofs.Found.{look_on}
 use Rattle.review_lookups.proofs.branches.find_room_for_bases.Goals as goal
 

@@ -2,9 +2,9 @@ use Rattle.std.proofs.Common.{◌≡◌, [], ◌∷◌, refl}
 use Rattle.sqlite.specs.Held.{state}
 use Rattle.sqlite.specs.Values.{bound}
 use Rattle.sqlite_value.specs.declared.value.Value.TheVariants.{Text}
-use Rattle.review_tables.specs.Desk.{bases}
-use Rattle.review_tables.proofs.Cut.{asked_beyond}
-use Rattle.review_tables.proofs.TextsOfLookups.{find_base_beyond}
+use Rattle.review_statements.specs.Desk.{bases}
+use Rattle.review_statements.proofs.Cut.{asked_beyond}
+use Rattle.review_statements.proofs.TextsOfLookups.{find_base_beyond}
 use Rattle.review_tables.proofs.Sequences.{look}
 use Rattle.review_records.proofs.bases.find_beyond.Goals as goal
 

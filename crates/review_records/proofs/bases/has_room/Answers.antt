@@ -3,10 +3,10 @@ use Rattle.sqlite.specs.Held.{state}
 use Rattle.sqlite.specs.declared.rows.Row.{Row}
 use Rattle.sqlite_value.specs.declared.value.Value.TheVariants.{Text}
 use Rattle.sqlite_trees.specs.Tree.{Trees}
-use Rattle.review_tables.specs.Desk.{bases}
-use Rattle.review_tables.specs.Greatest.{ShowsBeyond}
-use Rattle.review_tables.specs.Search.{rows_at}
-use Rattle.review_tables.proofs.Cut.{fewer}
+use Rattle.review_statements.specs.Desk.{bases}
+use Rattle.review_statements.specs.Greatest.{ShowsBeyond}
+use Rattle.review_statements.specs.Search.{rows_at}
+use Rattle.review_statements.proofs.Cut.{fewer}
 use Rattle.review_tables.proofs.Found.{look_on}
 use Rattle.review_records.proofs.bases.has_room.Goals as goal
 

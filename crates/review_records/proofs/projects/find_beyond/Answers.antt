@@ -1,8 +1,8 @@
 use Rattle.std.proofs.Common.{[], ◌∷◌}
 use Rattle.sqlite.specs.Held.{state}
-use Rattle.review_tables.specs.Desk.{projects_2}
-use Rattle.review_tables.proofs.Cut.{asked_beyond}
-use Rattle.review_tables.proofs.TextsOfLookups.{find_project_beyond}
+use Rattle.review_statements.specs.Desk.{projects_2}
+use Rattle.review_statements.proofs.Cut.{asked_beyond}
+use Rattle.review_statements.proofs.TextsOfLookups.{find_project_beyond}
 use Rattle.review_tables.proofs.Sequences.{look}
 use Rattle.review_records.proofs.projects.find_beyond.Goals as goal
 

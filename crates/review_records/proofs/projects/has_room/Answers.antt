@@ -2,12 +2,12 @@ use Rattle.std.proofs.Common.{Vec, Global, rules, ◌≡◌, ◌∙◌, ◌==◌
 use Rattle.sqlite.specs.Held.{state}
 use Rattle.sqlite.specs.declared.rows.Row.{Row}
 use Rattle.sqlite_trees.specs.Tree.{Trees}
-use Rattle.review_tables.specs.Desk.{projects_2}
-use Rattle.review_tables.specs.Greatest.{ShowsBeyond}
-use Rattle.review_tables.specs.Search.{rows_at}
-use Rattle.review_tables.proofs.Cut.{fewer}
+use Rattle.review_statements.specs.Desk.{projects_2}
+use Rattle.review_statements.specs.Greatest.{ShowsBeyond}
+use Rattle.review_statements.specs.Search.{rows_at}
+use Rattle.review_statements.proofs.Cut.{fewer}
 use Rattle.review_tables.proofs.Found.{look_on}
-use Rattle.review_tables.proofs.Meaning.{all_pass}
+use Rattle.review_statements.proofs.Meaning.{all_pass}
 use Rattle.review_records.proofs.projects.has_room.Goals as goal
 
 pub returns-clause-looks : goal.returns-clause-looks

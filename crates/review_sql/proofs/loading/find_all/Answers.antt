@@ -2,7 +2,7 @@ use Rattle.std.proofs.Common.{◌≡◌, ◌∙◌, Ok, subst, rules, arith}
 use Rattle.std.proofs.lemmas.List.{take_all}
 use Rattle.sqlite.specs.Held.{state}
 use Rattle.review_rows.specs.Known.{AreAsked}
-use Rattle.review_tables.specs.Ran.{Looks}
+use Rattle.review_statements.specs.Ran.{Looks}
 use Rattle.review_tables.proofs.Found.{look_on}
 use Rattle.review_database.specs.declared.sights.Loaded.TheVariants as loaded
 use Rattle.review_database.specs.declared.sights.Sight.TheVariants as sight

@@ -1,6 +1,6 @@
 use Rattle.std.proofs.Common.{rules, ◌≡◌, ◌∙◌, ap, true, false, subst, Ok, IsTrue}
 use Rattle.sqlite.specs.Held.{state}
-use Rattle.review_tables.specs.Ran.{Transacts}
+use Rattle.review_statements.specs.Ran.{Transacts}
 use Rattle.sqlite.specs.declared.error.Error.TheVariants.{InvalidQuery}
 use Rattle.review_sql.specs.declared.faults.DeskFault.TheVariants.{NotOurs}
 use Rattle.review_tables.specs.Versions.{schema_at}

@@ -3,7 +3,7 @@ use Rattle.std.specs.Prelude.{nat_lt}
 use Rattle.std.proofs.lemmas.Bool.Decides.{nat_tests}
 use Rattle.sqlite.specs.Held.{state}
 use Rattle.sqlite_trees.specs.Tree.{Trees}
-use Rattle.review_tables.specs.Search.{row_at}
+use Rattle.review_statements.specs.Search.{row_at}
 use Rattle.review_tables.proofs.Found.{look_on}
 use Rattle.review_records.specs.Forms.{answers, epochs}
 use Rattle.review_records.specs.declared.rows.Answered.{Answered}

@@ -2,7 +2,7 @@ use Rattle.std.proofs.Common.{rules, ◌≡◌, ◌<◌, ℕ, List, length, refl
 use Rattle.std.proofs.lemmas.Bool.{cases_lt}
 use Rattle.sqlite.specs.Effect.{Database}
 use Rattle.sqlite.specs.Held.{state}
-use Rattle.review_tables.specs.declared.texts.TheConstants.{ANY_ROW}
+use Rattle.review_statements.specs.declared.texts.TheConstants.{ANY_ROW}
 use Rattle.review_sql.specs.Shelf.{IsUnderstood}
 use Rattle.review_sql.proofs.Staying.{stays_still, stays_then}
 use Rattle.review_sql.proofs.there.is_any_there.Goals as goal

@@ -1,7 +1,7 @@
 use Rattle.std.proofs.Common.{rules, ◌≡◌, Option, None, Ok, sym, subst}
 use Rattle.sqlite.specs.Held.{state}
-use Rattle.review_tables.specs.Ran.{Inside}
-use Rattle.review_tables.specs.Search.{SetsRow}
+use Rattle.review_statements.specs.Ran.{Inside}
+use Rattle.review_statements.specs.Search.{SetsRow}
 use Rattle.review_tables.proofs.Sequences.{told}
 use Rattle.review_tables.proofs.Keys.{row_gone}
 use Rattle.review_tables.proofs.changes.change.Goals as goal

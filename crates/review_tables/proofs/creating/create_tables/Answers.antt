@@ -1,8 +1,8 @@
 use Rattle.std.proofs.Common.{sym, subst}
 use Rattle.sqlite.specs.Held.{state}
-use Rattle.review_tables.specs.Desk.{desk_schema, schema_0, schema_1, schema_2}
-use Rattle.review_tables.specs.Moved.{projects_move}
-use Rattle.review_tables.specs.Ran.{Within}
+use Rattle.review_statements.specs.Desk.{desk_schema, schema_0, schema_1, schema_2}
+use Rattle.review_statements.specs.Moved.{projects_move}
+use Rattle.review_statements.specs.Ran.{Within}
 use Rattle.review_tables.specs.Made.{Grows}
 use Rattle.review_tables.specs.Migrated.{Migrates, Moves}
 use Rattle.review_tables.specs.Versions.{schema_at}

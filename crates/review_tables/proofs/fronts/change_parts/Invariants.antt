@@ -1,6 +1,6 @@
 use Rattle.std.proofs.Common.{◌≡◌, ◌≤◌, length, drop, Ok}
 use Rattle.sqlite.specs.Held.{state}
-use Rattle.review_tables.specs.Ran.{Inside}
+use Rattle.review_statements.specs.Ran.{Inside}
 use Rattle.review_tables.specs.Fronts.{SetsParts}
 use Rattle.review_tables.proofs.fronts.change_parts.Given as goal
 

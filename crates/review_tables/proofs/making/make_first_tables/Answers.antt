@@ -1,7 +1,7 @@
 use Rattle.std.proofs.Common.{◌≡◌, ◌∙◌, ◌+◌, suc, take, Ok, subst, arith}
 use Rattle.sqlite.specs.Held.{state}
-use Rattle.review_tables.specs.Desk.{tables_1, schema_0, schema_of}
-use Rattle.review_tables.specs.Ran.{Within}
+use Rattle.review_statements.specs.Desk.{tables_1, schema_0, schema_of}
+use Rattle.review_statements.specs.Ran.{Within}
 use Rattle.review_tables.specs.Made.{MakesBy, Grows}
 use Rattle.review_tables.proofs.Sequences.{follow, settled_as}
 use Rattle.review_tables.proofs.Made.{makes_first, makes_next}

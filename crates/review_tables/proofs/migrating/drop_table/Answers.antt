@@ -1,6 +1,6 @@
 use Rattle.std.proofs.Common.{[]}
 use Rattle.sqlite.specs.Held.{state}
-use Rattle.review_tables.proofs.TextsOfMoves.{drops}
+use Rattle.review_statements.proofs.TextsOfMoves.{drops}
 use Rattle.review_tables.specs.Migrated.{DropsBy}
 use Rattle.review_tables.proofs.Sequences.{one}
 use Rattle.review_tables.proofs.migrating.drop_table.Goals as goal

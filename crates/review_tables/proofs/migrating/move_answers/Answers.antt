@@ -1,5 +1,5 @@
 use Rattle.sqlite.specs.Held.{state}
-use Rattle.review_tables.specs.Moved.{answers_move}
+use Rattle.review_statements.specs.Moved.{answers_move}
 use Rattle.review_tables.specs.Migrated.{Moves}
 use Rattle.review_tables.proofs.Sequences.{follow, settled_as}
 use Rattle.review_tables.proofs.Migrated.{moves_answers}

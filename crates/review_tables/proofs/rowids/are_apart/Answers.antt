@@ -4,9 +4,9 @@ use Rattle.std.specs.List.{AllByRecursion}
 use Rattle.sqlite.specs.Held.{state}
 use Rattle.sqlite.specs.declared.rows.Row.{Row}
 use Rattle.sqlite_trees.specs.Tree.{Trees}
-use Rattle.review_tables.specs.Desk.{table_at}
-use Rattle.review_tables.specs.Search.{FindsIds}
-use Rattle.review_tables.proofs.TextsOfTables.{ids_at}
+use Rattle.review_statements.specs.Desk.{table_at}
+use Rattle.review_statements.specs.Search.{FindsIds}
+use Rattle.review_statements.proofs.TextsOfTables.{ids_at}
 use Rattle.review_tables.specs.Rowids.{AreOwn, firsts}
 use Rattle.review_tables.proofs.Found.{look_on}
 use Rattle.review_tables.proofs.Ids.{decides_at}

@@ -1,8 +1,8 @@
 use Rattle.std.proofs.Common.{◌≡◌, ◌∙◌}
 use Rattle.sqlite.specs.Held.{state}
 use Rattle.sqlite.specs.Values.{bound}
-use Rattle.review_tables.specs.Texts.{values_of}
-use Rattle.review_tables.proofs.ChangesMade.{deleted}
+use Rattle.review_statements.specs.Texts.{values_of}
+use Rattle.review_statements.proofs.Changes.{deleted}
 use Rattle.review_tables.proofs.Sequences.{one_inside, opened}
 use Rattle.review_tables.proofs.table.remove.Goals as goal
 

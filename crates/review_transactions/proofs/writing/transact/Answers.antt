@@ -2,7 +2,7 @@ use Rattle.std.proofs.Common.{rules, refl, ◌≡◌, ◌∙◌, sym, ap, not, s
 use Rattle.sqlite.specs.Held.{Held, state}
 use Rattle.sqlite.proofs.StateLemmas.{clean_if_open}
 use Rattle.review_transactions.specs.Commits.{Commits}
-use Rattle.review_tables.specs.Ran.{Transacts}
+use Rattle.review_statements.specs.Ran.{Transacts}
 use Rattle.review_tables.proofs.Sequences.{failed, ended}
 use Rattle.review_transactions.proofs.writing.transact.Goals as goal
 

@@ -1,6 +1,6 @@
 use Rattle.std.proofs.Common.{rules, ◌≡◌, [], subst}
 use Rattle.sqlite.specs.Held.{state}
-use Rattle.review_tables.specs.Ran.{Inside}
+use Rattle.review_statements.specs.Ran.{Inside}
 use Rattle.review_tables.proofs.Sequences.{next}
 use Rattle.review_transactions.specs.Changes.{SetsEdits}
 use Rattle.review_transactions.proofs.writing.write_delta.Goals as goal

@@ -1,6 +1,6 @@
 use Rattle.std.proofs.Common.{◌≡◌, Ok, refl, subst, sym, true, false, rules}
 use Rattle.sqlite.specs.Held.{state}
-use Rattle.review_tables.specs.Ran.{Inside}
+use Rattle.review_statements.specs.Ran.{Inside}
 use Rattle.review_tables.proofs.Sequences.{still}
 use Rattle.review_transactions.specs.Changes.{SetsUnless, is_named}
 use Rattle.review_transactions.proofs.writing.write_unless.Goals as goal

@@ -6,7 +6,7 @@ use Rattle.review_rows.specs.Rows.{Tables}
 use Rattle.review_rows.specs.Shelf.{BlamesTables, KeepsTables, Shows}
 use Rattle.review_rows.specs.declared.rows.Rows.{Rows}
 use Rattle.review_rows.specs.declared.shelf.ShelfFault.{ShelfFault}
-use Rattle.review_tables.specs.Ran.{Serves}
+use Rattle.review_statements.specs.Ran.{Serves}
 use Rattle.review_database.specs.Loads.{AreLoaded}
 use Rattle.review_sql.specs.Shelf.{ShelfView, answer_of, tables_of, stops_of}
 use Rattle.review_sql.proofs.Loaded.{blames_loaded, keeps_loaded, shows_loaded, tables_kept, was_asked}

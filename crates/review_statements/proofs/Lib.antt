@@ -1,0 +1,11 @@
+pub mod Lists
+pub mod Queries
+pub mod Statements
+pub mod Meaning
+pub mod Cut
+pub mod Changes
+pub mod TextsOfTables
+pub mod TextsOfChanges
+pub mod TextsOfLookups
+pub mod TextsOfMoves
+pub mod Moves

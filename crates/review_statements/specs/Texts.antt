@@ -1,0 +1,143 @@
+-- What texts are understood as, by the tables of a desk.
+use Rattle.std.specs.Prelude.{codes, ℕ, ℤ, zero, suc, pos, negsuc, ◌≡◌, ◌+◌, ◌/◌, ◌++◌, false, List, [], ◌∷◌, map, drop, length, Option, None, Some, slice_get}
+use Rattle.sqlite_value.specs.declared.value.Value.{Value}
+use Rattle.sqlite_value.specs.declared.value.Value.TheVariants.{Null, Int, Real, Text, Blob}
+use Rattle.sqlite_value.specs.declared.keys.Collation.TheVariants.{Binary}
+use Rattle.sqlite_value.specs.declared.keys.Key.{Key}
+use Rattle.sqlite_value.specs.Order.{Row}
+use Rattle.sqlite_trees.specs.Tree.{Trees}
+use Rattle.sqlite_sql.specs.Term.{Term, lit, col, op1, op2}
+use Rattle.sqlite_sql.specs.Query.{Query, inner, end}
+use Rattle.sqlite_sql.specs.declared.ops.BinaryOp.TheVariants.{Compare}
+use Rattle.sqlite_sql.specs.declared.ops.CompareOp.TheVariants.{Eq, Lt}
+use Rattle.sqlite_sql.specs.declared.ops.UnaryOp.TheVariants.{Not, ToNumeric, TypeOf}
+use Rattle.sqlite_schema.specs.declared.schema.Column.{Column}
+use Rattle.sqlite_schema.specs.declared.schema.Table.{Table}
+use Rattle.sqlite_schema.specs.declared.command.Command.{Command}
+use Rattle.sqlite_schema.specs.declared.command.Command.TheVariants.{Insert, Select, Delete}
+use Rattle.sqlite_schema.specs.declared.command.Source.TheVariants.{Values}
+use Rattle.sqlite_rules.specs.declared.error.Rowids.TheVariants.{Chosen}
+use Rattle.sqlite_rules.specs.Edit.{edit_of}
+use Rattle.sqlite.specs.Effect.{value_rows}
+use Rattle.sqlite.specs.Listing.{understood, reads_listing}
+use Rattle.sqlite.proofs.Callers.{IsPlain, command_of}
+use Rattle.review_statements.specs.Desk.{desk_schema}
+use Rattle.review_statements.specs.Search.{At}
+
+-- ---- the tests of a WHERE
+
+-- what is bound at a place, as it is compared with a column of numbers; a rowid is compared with it as it is
+abbrev pub number_at : ℕ → ℕ → Term
+number_at zero at = col 0 at
+number_at (suc place) at = op1 ToNumeric (col 0 at)
+
+-- a column has an integer, and no other number that equals one
+abbrev pub has_integer : ℕ → Term
+has_integer place = op2 (Compare Eq Binary) (op1 TypeOf (col 1 place)) (lit (Text (codes "integer")))
+
+-- a column has the number or the text that is bound at a place; no other value is asked for
+abbrev pub tests_for : ℕ → Value → ℕ → List Term
+tests_for place Null at = lit Null ∷ []
+tests_for place (Int n) at = op2 (Compare Eq Binary) (col 1 place) (number_at place at) ∷ has_integer place ∷ []
+tests_for place (Real x) at = lit Null ∷ []
+tests_for place (Text t) at = op2 (Compare Eq Binary) (col 1 place) (col 0 at) ∷ []
+tests_for place (Blob b) at = lit Null ∷ []
+
+-- each of these columns has its value, of those that are bound from a place on
+abbrev pub tests_from : ℕ → At → List Term
+tests_from at [] = []
+tests_from at (c ∷ key) = tests_for c.0 c.1 at ++ tests_from (suc at) key
+
+-- the values that are bound for a key
+abbrev pub values_of : At → Row
+values_of key = map (λ c. c.1) key
+
+-- ---- queries
+
+-- some columns of the rows of a table that pass tests, in some order
+abbrev pub over_table : ℕ → List Term → List Term → List (Term × Key) → Query
+over_table tree tests project order = record {
+  from = inner tree end;
+  filter = tests;
+  group = None;
+  project = project;
+  distinct = false;
+  collations = [];
+  order = order;
+  limit = lit (Int (negsuc 0));
+  offset = lit (Int (pos 0));
+}
+
+-- these columns of the rows of a key
+abbrev pub rows_where : ℕ → At → List ℕ → Query
+rows_where tree key columns = over_table tree (tests_from 0 key) (map (col 1) columns) []
+
+-- by a column, the greatest value first
+abbrev pub falling : ℕ → List (Term × Key)
+falling place = (col 1 place, record { collation = Binary; descending = Rattle.std.specs.Prelude.true }) ∷ []
+
+-- the same of the one row with the greatest value of a column
+abbrev pub last_where : ℕ → At → List ℕ → ℕ → Query
+last_where tree key columns place = record (over_table tree (tests_from 0 key) (map (col 1) columns) (falling place)) { limit = lit (Int (pos 1)) }
+
+-- the same of one row after so many
+abbrev pub beyond_where : ℕ → At → List ℕ → ℕ → Query
+beyond_where tree key columns count = record (over_table tree (tests_from 0 key) (map (col 1) columns) []) { limit = lit (Int (pos 1)); offset = lit (Int (pos count)) }
+
+-- a text is understood as this query
+pub record Asks (sql : List ℕ) (query : Query) : Type 0 where
+  pub names : List (List ℕ)
+  pub is : command_of (understood desk_schema sql) ≡ Select (record { lets = []; body = query }) names
+  pub plain : IsPlain (understood desk_schema sql)
+  pub unlisted : reads_listing desk_schema sql ≡ false
+
+-- ---- changes
+
+-- a text is understood as this change of the table of a tree
+pub record Alters (sql : List ℕ) (tree : ℕ) (command : ℕ → Table → Command) : Type 0 where
+  pub table : Table
+  pub at : ℕ
+  pub there : slice_get desk_schema.tables at ≡ Some table
+  pub tree_is : table.tree ≡ tree
+  pub is : command_of (understood desk_schema sql) ≡ command at table
+  pub plain : IsPlain (understood desk_schema sql)
+
+-- a text takes the rows of a key out of a table
+abbrev pub Deletes : List ℕ → ℕ → At → Type 0
+Deletes sql tree key = Alters sql tree (λ at table. Delete at (record { lets = []; body = rows_where tree key (0 ∷ []) }))
+
+-- a column has no negative number
+abbrev pub not_negative : ℕ → Term
+not_negative place = op1 Not (op2 (Compare Lt Binary) (col 1 place) (lit (Int (pos 0))))
+
+-- a column has a text
+abbrev pub has_text : ℕ → Term
+has_text place = op2 (Compare Eq Binary) (op1 TypeOf (col 1 place)) (lit (Text (codes "text")))
+
+-- a row has an integer in one column that isn't negative and is below the one that is bound, an integer in another that isn't negative, and a text in a third
+abbrev pub tests_below : ℕ → ℕ → ℕ → List Term
+tests_below below number text =
+    op2 (Compare Lt Binary) (col 1 below) (number_at below 0) ∷ not_negative below ∷ has_integer below ∷ not_negative number ∷ has_integer number ∷ has_text text ∷ []
+
+-- a text takes these rows out of a table
+abbrev pub DeletesBelow : List ℕ → ℕ → ℕ → ℕ → ℕ → Type 0
+DeletesBelow sql tree below number text =
+    Alters sql tree (λ at table. Delete at (record { lets = []; body = over_table tree (tests_below below number text) (col 1 0 ∷ []) [] }))
+
+-- for each column what is bound at its place
+abbrev pub bound_from : ℕ → List Column → List Term
+bound_from at [] = []
+bound_from at (c ∷ columns) = col 0 at ∷ bound_from (suc at) columns
+
+-- the rowid of a new row, and then its columns; the number of a row is its rowid, and its column is left empty
+abbrev pub terms_for : Option ℕ → List Column → List Term
+terms_for None columns = lit Null ∷ bound_from 0 columns
+terms_for (Some key) columns = col 0 0 ∷ lit Null ∷ bound_from 1 (drop 1 columns)
+
+abbrev pub new_terms : Table → List Term
+new_terms table = terms_for table.key table.columns
+
+-- a text puts values into a table, as a row that is stored so
+pub record Inserts (sql : List ℕ) (tree : ℕ) (values : Row) (stored : ℤ → Row) : Type 0 where
+  pub alters : Alters sql tree (λ at table. Insert at (Values (new_terms table) (length (new_terms table))))
+  pub row : (db : Trees) → (id : ℤ) × ((edit_of db alters.table [] Chosen 0 (value_rows values (length (new_terms alters.table)) (length (new_terms alters.table) / length (new_terms alters.table)) (new_terms alters.table))).news ≡ stored id ∷ [])
