@@ -29,7 +29,7 @@ fn needs_quotes(value: &str) -> bool
     value.as_bytes().iter().any(|byte| is_end(*byte))
 }
 
-#[tactic(auto, unfolding(crate::specs::Printed::quoted))]
+#[tactic(auto, unfolding(crate::specs::Written::quoted))]
 fn push_quoted(text: &mut String, value: &str) -> Result<(), AllocError>
     ensures { OnOk result (string_bytes text.new ≡ string_bytes text.old ++ quoted value.now) }
 {
@@ -43,7 +43,7 @@ fn push_quoted(text: &mut String, value: &str) -> Result<(), AllocError>
     Ok(())
 }
 
-#[tactic(auto, unfolding(crate::specs::Printed::word_of))]
+#[tactic(auto, unfolding(crate::specs::Written::word_of))]
 fn push_word(text: &mut String, key: &str, value: &str) -> Result<(), AllocError>
     ensures { OnOk result (string_bytes text.new ≡ string_bytes text.old ++ word_of key.now value.now) }
 {
@@ -60,7 +60,7 @@ fn push_decimal(text: &mut String, number: u32) -> Result<(), AllocError>
     write!(text, "{number}")
 }
 
-#[tactic(auto, unfolding(crate::specs::Printed::number_text))]
+#[tactic(auto, unfolding(crate::specs::Written::number_text))]
 fn push_number(text: &mut String, number: i8) -> Result<(), AllocError>
     ensures { OnOk result (string_bytes text.new ≡ string_bytes text.old ++ number_text number) }
 {
@@ -140,7 +140,7 @@ fn push_count(text: &mut String, asked: Option<Count>) -> Result<(), AllocError>
     Ok(())
 }
 
-#[tactic(auto, unfolding(crate::specs::Printed::label_text))]
+#[tactic(auto, unfolding(crate::specs::Written::label_text))]
 fn push_label(text: &mut String, term: &LabelTerm) -> Result<(), AllocError>
     ensures { OnOk result (string_bytes text.new ≡ string_bytes text.old ++ label_text term.now) }
 {
