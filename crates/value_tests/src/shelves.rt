@@ -1,6 +1,7 @@
 //! Shelves that fail, beside one that doesn't: account 2 becomes ann, then bob, and so gives up the name, which no command does; which account
 //! has which name, and whether the first request is stored.
 
+use crate::fault::Fault;
 use review_rows::{Delta, Kept, Need, Recalled, Shelf, ShelfFault, Want};
 use review_shelves::{FaultyShelf, MemoryShelf, ShuttingShelf};
 use review_table::Change;
@@ -8,16 +9,16 @@ use review_words::{AccountName, AccountNo, Epoch, Name, RequestId};
 use std::alloc::Global;
 use std::test::Fail;
 
-fn account_name(alloc: Global, text: &str) -> Result<AccountName, Fail> {
+fn account_name(alloc: Global, text: &str) -> Result<AccountName, Fault> {
     Ok(Name::read(alloc, text)?)
 }
 
-fn request_id(alloc: Global, text: &str) -> Result<RequestId, Fail> {
+fn request_id(alloc: Global, text: &str) -> Result<RequestId, Fault> {
     Ok(Name::read(alloc, text)?)
 }
 
 /// Account 2 gets a name.
-fn second_account(alloc: Global, name: &str) -> Result<Delta, Fail> {
+fn second_account(alloc: Global, name: &str) -> Result<Delta, Fault> {
     let name = account_name(alloc, name)?;
     let change = Change {
         key: AccountNo::from_number(2).unwrap_or(AccountNo::last()),
@@ -47,7 +48,7 @@ fn closing(alloc: Global) -> Delta {
 }
 
 /// A request of account 1, of an epoch.
-fn request(alloc: Global, epoch: Epoch, id: &str) -> Result<Kept, Fail> {
+fn request(alloc: Global, epoch: Epoch, id: &str) -> Result<Kept, Fault> {
     let id = request_id(alloc, id)?;
     Ok(Kept {
         caller: AccountNo::first(),
@@ -77,7 +78,7 @@ fn commit_word<S: Shelf>(alloc: Global, shelf: &mut S, delta: &Delta, kept: &Kep
 }
 
 /// Gives account 2 a name: what the commit answers.
-fn commit<S: Shelf>(alloc: Global, shelf: &mut S, name: &str) -> Result<&'static str, Fail> {
+fn commit<S: Shelf>(alloc: Global, shelf: &mut S, name: &str) -> Result<&'static str, Fault> {
     let kept = request(alloc, Epoch::first(), name)?;
     let delta = second_account(alloc, name)?;
     Ok(commit_word(alloc, shelf, &delta, &kept))
@@ -93,7 +94,7 @@ fn holder_word(holder: Option<AccountNo>) -> &'static str {
 }
 
 /// What is needed to know the account of a name.
-fn need_of(alloc: Global, name: &AccountName) -> Result<Need, Fail> {
+fn need_of(alloc: Global, name: &AccountName) -> Result<Need, Fault> {
     let name = name.copy(alloc)?;
     let wants = vec![in alloc; Want::AccountNamed(name)]?;
     Ok(Need { wants })
@@ -113,7 +114,7 @@ fn loaded_word<S: Shelf>(
 }
 
 /// The account of a name, or what else the look-up answers.
-fn account_of<S: Shelf>(alloc: Global, shelf: &mut S, name: &str) -> Result<&'static str, Fail> {
+fn account_of<S: Shelf>(alloc: Global, shelf: &mut S, name: &str) -> Result<&'static str, Fault> {
     let name = account_name(alloc, name)?;
     let need = need_of(alloc, &name)?;
     Ok(loaded_word(alloc, shelf, &need, &name))
@@ -125,7 +126,7 @@ fn recall_in<S: Shelf>(
     shelf: &mut S,
     epoch: Epoch,
     id: &str,
-) -> Result<&'static str, Fail> {
+) -> Result<&'static str, Fault> {
     let id = request_id(alloc, id)?;
     match shelf.recall(alloc, AccountNo::first(), epoch, &id) {
         Ok(Recalled::Kept(_)) => Ok("recalled"),
@@ -136,7 +137,7 @@ fn recall_in<S: Shelf>(
 }
 
 /// Whether a request of account 1 that names no epoch is recalled.
-fn recall<S: Shelf>(alloc: Global, shelf: &mut S, id: &str) -> Result<&'static str, Fail> {
+fn recall<S: Shelf>(alloc: Global, shelf: &mut S, id: &str) -> Result<&'static str, Fault> {
     recall_in(alloc, shelf, Epoch::first(), id)
 }
 
@@ -152,7 +153,7 @@ struct Calls {
 }
 
 /// Commits ann, then bob, asks whose the names are, and recalls the first request.
-fn call<S: Shelf>(alloc: Global, shelf: &mut S) -> Result<Calls, Fail> {
+fn call<S: Shelf>(alloc: Global, shelf: &mut S) -> Result<Calls, Fault> {
     let first = commit(alloc, shelf, "ann")?;
     let second = commit(alloc, shelf, "bob")?;
     let ann = account_of(alloc, shelf, "ann")?;
@@ -169,13 +170,13 @@ fn call<S: Shelf>(alloc: Global, shelf: &mut S) -> Result<Calls, Fail> {
 }
 
 /// What the five calls answer on a shelf none of whose calls fails.
-fn call_memory(alloc: Global) -> Result<Calls, Fail> {
+fn call_memory(alloc: Global) -> Result<Calls, Fault> {
     let mut shelf = MemoryShelf::new(alloc)?;
     call(alloc, &mut shelf)
 }
 
 /// What the five calls answer on a shelf one of whose calls fails.
-fn call_faulty(alloc: Global, failing: u64) -> Result<Calls, Fail> {
+fn call_faulty(alloc: Global, failing: u64) -> Result<Calls, Fault> {
     let mut shelf = FaultyShelf::new(MemoryShelf::new(alloc)?, failing);
     call(alloc, &mut shelf)
 }
@@ -216,13 +217,13 @@ fn a_look_up_that_fails_tells_nothing(rt: HostRuntime) -> Result<(), Fail> {
 }
 
 /// The account of bob on the shelf below one that shut.
-fn bob_below(alloc: Global, shelf: ShuttingShelf<MemoryShelf>) -> Result<&'static str, Fail> {
+fn bob_below(alloc: Global, shelf: ShuttingShelf<MemoryShelf>) -> Result<&'static str, Fault> {
     let mut below = shelf.into_inner();
     account_of(alloc, &mut below, "bob")
 }
 
 /// What the five calls answer on a shelf that shuts in the second commit, and whose bob is below it.
-fn call_shutting(alloc: Global) -> Result<(Calls, &'static str), Fail> {
+fn call_shutting(alloc: Global) -> Result<(Calls, &'static str), Fault> {
     let mut shelf = ShuttingShelf::new(MemoryShelf::new(alloc)?, 2);
     let calls = call(alloc, &mut shelf);
     let bob = bob_below(alloc, shelf);
@@ -257,13 +258,13 @@ fn next_epoch() -> Epoch {
 }
 
 /// Closes epoch 0 in a request of epoch 1.
-fn close<S: Shelf>(alloc: Global, shelf: &mut S) -> Result<&'static str, Fail> {
+fn close<S: Shelf>(alloc: Global, shelf: &mut S) -> Result<&'static str, Fault> {
     let kept = request(alloc, next_epoch(), "close")?;
     Ok(commit_word(alloc, shelf, &closing(alloc), &kept))
 }
 
 /// Stores ann in epoch 0 and closes this epoch; then what is known of both requests, and of a new one of epoch 1.
-fn call_closing<S: Shelf>(alloc: Global, shelf: &mut S) -> Result<Closed, Fail> {
+fn call_closing<S: Shelf>(alloc: Global, shelf: &mut S) -> Result<Closed, Fault> {
     commit(alloc, shelf, "ann")?;
     close(alloc, shelf)?;
     let before = recall(alloc, shelf, "ann")?;
@@ -273,7 +274,7 @@ fn call_closing<S: Shelf>(alloc: Global, shelf: &mut S) -> Result<Closed, Fail> 
 }
 
 /// The same on a new shelf.
-fn close_in_memory(alloc: Global) -> Result<Closed, Fail> {
+fn close_in_memory(alloc: Global) -> Result<Closed, Fault> {
     let mut shelf = MemoryShelf::new(alloc)?;
     call_closing(alloc, &mut shelf)
 }

@@ -1,14 +1,21 @@
 //! Keys of tables, and tables by numbers of accounts: each call that can want for memory, with ample memory.
 
+use crate::fault::Fault;
 use review_table::{BadRows, Change, Key, Table};
 use review_words::{AccountNo, Form, LabelName};
 use std::alloc::{AllocError, Global};
 use std::test::Fail;
 
+/// Whether the copy of a label's name is that name.
+fn is_copied(alloc: Global) -> Result<bool, Fault> {
+    let label = LabelName::read(alloc, "Verified")?;
+    let copy = Key::copy(&label, alloc)?;
+    Ok(copy == label)
+}
+
 #[test]
 fn a_key_is_copied(rt: HostRuntime) -> Result<(), Fail> {
-    let label = LabelName::read(rt.alloc(), "Verified")?;
-    assert!(rt; Key::copy(&label, rt.alloc())? == label);
+    assert!(rt; is_copied(rt.alloc())?);
     Ok(())
 }
 

@@ -1,5 +1,6 @@
 //! A term that no word spells: `file:` with a path of several components.
 
+use crate::fault::Fault;
 use review_judging::{ChangeFacts, eval};
 use review_names::{AccountNo, BranchName, Groups, Path, Paths};
 use review_terms::{Node, RequirementTerm};
@@ -7,13 +8,13 @@ use std::alloc::Global;
 use std::collections::BTreeMap;
 use std::test::Fail;
 
-fn paths(alloc: Global, path: &str) -> Result<Paths, Fail> {
+fn paths(alloc: Global, path: &str) -> Result<Paths, Fault> {
     let path = Path::read(alloc, path)?;
     let paths = vec![in alloc; path]?;
     Ok(Paths::from_vec(alloc, paths)?)
 }
 
-fn change(alloc: Global, path: &str) -> Result<ChangeFacts, Fail> {
+fn change(alloc: Global, path: &str) -> Result<ChangeFacts, Fault> {
     let branch = BranchName::read(alloc, "main")?;
     let paths = paths(alloc, path)?;
     Ok(ChangeFacts {
@@ -29,7 +30,7 @@ fn change(alloc: Global, path: &str) -> Result<ChangeFacts, Fail> {
 }
 
 /// Whether a change with one path has a component.
-fn has_component(alloc: Global, path: &str, name: &str) -> Result<bool, Fail> {
+fn has_component(alloc: Global, path: &str, name: &str) -> Result<bool, Fault> {
     let change = change(alloc, path)?;
     let name = Path::read(alloc, name)?;
     let node = Node::Term(Box::new(alloc, RequirementTerm::File(name))?);

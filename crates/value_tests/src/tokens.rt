@@ -1,13 +1,14 @@
 //! Tokens that no text has: a text with parentheses that don't match is refused before it has tokens, as is one without any, and a
 //! second minus makes its word a bad one.
 
+use crate::fault::Fault;
 use review_terms::{ShapeFault, Token, parse};
 use std::alloc::Global;
 use std::collections::VecDeque;
 use std::test::Fail;
 
 /// The token that a character writes.
-fn token(alloc: Global, byte: u8) -> Result<Token<u8>, Fail> {
+fn token(alloc: Global, byte: u8) -> Result<Token<u8>, Fault> {
     match byte {
         b'(' => Ok(Token::Open),
         b')' => Ok(Token::Close),
@@ -17,7 +18,7 @@ fn token(alloc: Global, byte: u8) -> Result<Token<u8>, Fail> {
 }
 
 /// The fault of tokens that are written one character each, after so many NOT.
-fn fault_of(alloc: Global, negations: usize, text: &str) -> Result<Option<ShapeFault>, Fail> {
+fn fault_of(alloc: Global, negations: usize, text: &str) -> Result<Option<ShapeFault>, Fault> {
     let mut tokens = VecDeque::new(alloc);
     for _ in 0..negations {
         tokens.push_back(Token::Not)?;
