@@ -3,9 +3,9 @@
 use crate::values::change_at;
 use review_records::names::name_at;
 use review_rows::{BranchKey, PlaceKey};
+use review_statements::texts;
 use review_tables::bound::Bound;
 use review_tables::table::Lookup;
-use review_statements::texts;
 use review_words::ChangeNo;
 use sqlite::{Error, Row};
 use std::alloc::{AllocError, Global};

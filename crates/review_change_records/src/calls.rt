@@ -3,11 +3,11 @@
 use crate::values::change_number;
 use review_changes::Called;
 use review_records::names::{account_at, account_number, name_at};
+use review_statements::texts;
 use review_tables::bound::Bound;
 use review_tables::columns::number_at;
 use review_tables::fronts::Front;
 use review_tables::table::{Lookup, Table};
-use review_statements::texts;
 use review_words::{AccountNo, ChangeNo};
 use sqlite::{Error, Row};
 use std::alloc::{AllocError, Global};

@@ -6,11 +6,11 @@ use crate::values::{
 };
 use review_changes::{Comment, CommentRow};
 use review_records::names::{account_at, account_number, name_at, small, small_at};
+use review_statements::texts;
 use review_tables::bound::Bound;
 use review_tables::columns::number_at;
 use review_tables::fronts::Front;
 use review_tables::table::{Lookup, Table};
-use review_statements::texts;
 use review_words::{ChangeNo, CommentNo};
 use sqlite::{Error, Row};
 use std::alloc::{AllocError, Global};

@@ -4,11 +4,11 @@ use crate::values::{change_at, change_number, flag_at, flag_number, state_at, st
 use review_changes::Header;
 use review_records::names::{account_at, account_number, name_at, small, small_at};
 use review_rows::BranchKey;
+use review_statements::texts;
 use review_tables::bound::Bound;
 use review_tables::columns::number_at;
 use review_tables::greatest::Greatest;
 use review_tables::table::{Lookup, Table};
-use review_statements::texts;
 use review_words::ChangeNo;
 use sqlite::{Error, Row};
 use std::alloc::{AllocError, Global};

@@ -1,9 +1,9 @@
 //! The patch sets that have a commit.
 
 use crate::values::{change_at, patch_at};
+use review_statements::texts;
 use review_tables::bound::Bound;
 use review_tables::table::Lookup;
-use review_statements::texts;
 use review_words::{ChangeNo, CommitName, PatchNo};
 use sqlite::{Error, Row};
 use std::alloc::{AllocError, Global};

@@ -3,10 +3,10 @@
 use crate::values::{change_number, patch_at, patch_number, vote_at, vote_value};
 use review_changes::{Vote, VoteKey};
 use review_records::names::{account_at, account_number, name_at};
+use review_statements::texts;
 use review_tables::bound::Bound;
 use review_tables::fronts::Front;
 use review_tables::table::{Lookup, Table};
-use review_statements::texts;
 use review_words::ChangeNo;
 use sqlite::{Error, Row};
 use std::alloc::{AllocError, Global};

@@ -1,11 +1,11 @@
 //! The accounts, by their numbers and by their names.
 
 use crate::names::{account_at, account_number, name_at};
+use review_statements::texts;
 use review_tables::bound::Bound;
 use review_tables::columns::number_at;
 use review_tables::greatest::Greatest;
 use review_tables::table::{Lookup, Table};
-use review_statements::texts;
 use review_words::{AccountName, AccountNo};
 use sqlite::{Error, Row};
 use std::alloc::{AllocError, Global};

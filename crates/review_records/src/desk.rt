@@ -1,10 +1,10 @@
 //! The one row of the desk.
 
 use crate::rows::DeskRow;
+use review_statements::texts;
 use review_tables::bound::Bound;
 use review_tables::columns::number_at;
 use review_tables::table::{Lookup, Table};
-use review_statements::texts;
 use sqlite::{Error, Row};
 use std::alloc::{AllocError, Global};
 

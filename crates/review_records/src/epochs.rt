@@ -1,9 +1,9 @@
 //! The least open epoch.
 
 use crate::names::{epoch_at, epoch_number};
+use review_statements::texts;
 use review_tables::bound::Bound;
 use review_tables::table::{Lookup, Table};
-use review_statements::texts;
 use review_words::Epoch;
 use sqlite::{Error, Row};
 use std::alloc::{AllocError, Global};

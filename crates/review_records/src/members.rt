@@ -2,10 +2,10 @@
 
 use crate::names::{account_at, account_number};
 use review_rows::MemberKey;
+use review_statements::texts;
 use review_tables::bound::Bound;
 use review_tables::fronts::Front;
 use review_tables::table::{Lookup, Table};
-use review_statements::texts;
 use review_words::{AccountNo, GroupName};
 use sqlite::{Error, Row};
 use std::alloc::{AllocError, Global};

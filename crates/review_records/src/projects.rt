@@ -11,10 +11,10 @@ ghost use Rattle.review_records.specs.Forms.{is_parent, stored_parent, parent_te
 
 use crate::names::name_at;
 use review_rows::StoredFile;
+use review_statements::texts;
 use review_tables::bound::Bound;
 use review_tables::columns::text_at;
 use review_tables::table::{Lookup, Table};
-use review_statements::texts;
 use review_words::{FileText, ProjectName};
 use sqlite::{Alter, Error, Row, Transaction};
 use std::alloc::{AllocError, Global};
