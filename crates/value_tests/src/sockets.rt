@@ -1,7 +1,8 @@
-//! A request over a socket of this machine, with both ends in this process, sent twice: each time the peer is sent the same bytes.
+//! A request over a socket of this machine, with both ends in this process, sent twice: each time the peer is sent the same bytes, and no fault is counted where none came.
 
 use crate::fault::Fault;
 use review_counted::Counted;
+use review_http::Served;
 use review_machine::{MemoryShelf, serve_one};
 use std::alloc::Global;
 use std::io;
@@ -37,21 +38,23 @@ fn received(alloc: Global, peer: &mut TcpStream) -> io::Result<Vec<u8>> {
     Ok(response)
 }
 
-/// Serves the request that comes over a stream on a shelf, and closes the stream.
-fn serve(alloc: Global, stream: TcpStream, shelf: &mut MemoryShelf) -> io::Result<()> {
+/// Serves the request that comes over a stream on a shelf, and closes the stream: whether it was answered with status 200, and no read and no write was counted as
+/// a fault.
+fn is_served(alloc: Global, stream: TcpStream, shelf: &mut MemoryShelf) -> io::Result<bool> {
     let mut reader = Counted::new(stream.try_clone()?);
     let mut writer = Counted::new(stream);
-    let _ = serve_one(alloc, &mut reader, &mut writer, shelf);
-    Ok(())
+    let served = serve_one(alloc, &mut reader, &mut writer, shelf);
+    let is_answered = served == Ok(Served::Answered(200));
+    Ok(is_answered && reader.faults() == 0 && writer.faults() == 0)
 }
 
-/// Whether the peer that sends the request over a socket is sent the response.
+/// Whether the request that is sent over a socket is served so, and its peer is sent the response.
 fn is_told(rt: &HostRuntime, shelf: &mut MemoryShelf) -> Result<bool, Fault> {
     let (mut peer, stream) = connected(rt)?;
     peer.write_all(REQUEST.as_bytes())?;
-    serve(rt.alloc(), stream, shelf)?;
+    let is_served = is_served(rt.alloc(), stream, shelf)?;
     let response = received(rt.alloc(), &mut peer)?;
-    Ok(response.as_slice() == RESPONSE.as_bytes())
+    Ok(is_served && response.as_slice() == RESPONSE.as_bytes())
 }
 
 fn is_told_twice(rt: &HostRuntime, shelf: &mut MemoryShelf) -> Result<bool, Fault> {
