@@ -13,14 +13,15 @@
 //!
 //! [`read_file`] gives the file that a text spells, or the first of its faults in the order of
 //! [`FileFault`]; its contract says which. A file, a [`Label`] and a [`Requirement`] are shared: a copy has the same parts and takes no memory.
-//! What is true of every file [`ProjectFile::facts`] tells. [`covers`] holds one file against another and takes no
-//! memory. The file of a project that goes on from its parent's is told by `review_effective`, what a file gives an
-//! account by `review_ranges`; what an expression is, and when it holds, by `review_expr`.
+//! What is true of every file [`ProjectFile::facts`] tells. [`covers`] holds one file against another, [`may`] and [`range_of`] tell what a
+//! file gives an account; these take no memory. The file of a project that goes on from its parent's is told by `review_effective`; what an
+//! expression is, and when it holds, by `review_expr`.
 #![tactic(auto)]
 
 mod access;
 pub mod covering;
 pub mod file;
+pub mod granted;
 mod labels;
 pub mod read;
 mod requirements;
@@ -29,6 +30,7 @@ pub mod unknown;
 
 pub use covering::covers;
 pub use file::{Access, Content, Label, LabelValue, ProjectFile, Requirement};
+pub use granted::{may, range_of};
 pub use read::{named_parent, read_file};
 pub use review_document::limits::{MOST_BYTES, MOST_DESCRIPTION, MOST_PARTS, MOST_TEXT};
 pub use review_project::{Grant, ReadFault, Right};

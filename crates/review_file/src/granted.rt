@@ -7,7 +7,7 @@ ghost use Rattle.review_names.specs.Groups.{has_account};
 ghost use Rattle.review_project.specs.Rights.{granted, grants_of, greatest_of, least_of, may};
 ghost use Rattle.review_project.specs.Sound.{is_value};
 
-use review_file::ProjectFile;
+use crate::file::ProjectFile;
 use review_project::{Grant, Right};
 use review_words::{AccountNo, Groups, LabelName};
 

@@ -3,7 +3,7 @@ use Rattle.std.specs.Prelude.{filter, fold}
 use Rattle.std.specs.Int.{int_min}
 use Rattle.review_names.specs.Groups.{has_account}
 use Rattle.review_project.specs.Rights.{least_of}
-use Rattle.review_ranges.proofs.rights.least_of.Given as goal
+use Rattle.review_file.proofs.granted.least_of.Given as goal
 
 abbrev pub invariant-loop-grant : goal.invariant-loop-grant
 invariant-loop-grant l =
