@@ -15,7 +15,7 @@ use review_account_decisions::{close_epoch, create_account, put_group, record_ba
 use review_change_decisions::{create_change, on_change};
 use review_effective::FileMemo;
 use review_file::ProjectFile;
-use review_file_decisions::put_project;
+use review_needs::put_project;
 use review_rows::{Delta, Rows};
 use review_submit_decisions::submit;
 use review_words::{AccountNo, Command, Epoch, NotTaken, Refusal, Reply};

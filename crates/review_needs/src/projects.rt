@@ -17,7 +17,7 @@ ghost use Rattle.review_project.specs.declared.fault.ReadFault.TheVariants.{File
 ghost use Rattle.review_rows.specs.Answer.{is_same_parent};
 ghost use Rattle.review_rows.specs.Decisions.{IsUndecided, IsUnread, NamesEachOnce};
 ghost use Rattle.review_account_decisions.specs.Decisions.{IsEmpty};
-ghost use Rattle.review_file_decisions.specs.Files.{file_refused, has_unknown, heir, keeps_parent, parent_refused, room_in, IsFilePut, IsPut, IsPutBelow, IsReadCause, PutsFile};
+ghost use Rattle.review_needs.specs.Files.{file_refused, has_unknown, heir, keeps_parent, parent_refused, room_in, IsFilePut, IsPut, IsPutBelow, IsReadCause, PutsFile};
 
 use crate::reading::read_line;
 use review_account_decisions::{is_admin, nothing, refused};

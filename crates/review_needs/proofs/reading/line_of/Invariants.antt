@@ -1,8 +1,8 @@
 use Rattle.std.proofs.Common.{◌≡◌, ◌++◌, map}
 use Rattle.std.specs.Prelude.{option_copied}
 use Rattle.review_rows.specs.Steps.{texts_in}
-use Rattle.review_file_decisions.proofs.Texts.{texts_from}
-use Rattle.review_file_decisions.proofs.reading.line_of.Given as goal
+use Rattle.review_needs.proofs.Texts.{texts_from}
+use Rattle.review_needs.proofs.reading.line_of.Given as goal
 
 -- the texts that were taken with those that are left are all
 abbrev pub invariant-loop-left : goal.invariant-loop-left

@@ -13,7 +13,7 @@ use Rattle.review_rows.specs.Decisions.{IsUnread, SomePattern}
 use Rattle.review_rows.specs.Files.{File}
 use Rattle.review_rows.specs.Lines.{line_of, most_depth, with_above}
 use Rattle.review_rows.specs.Steps.{HasFile, own_in, texts_in}
-use Rattle.review_file_decisions.specs.Files.{unread_cause}
+use Rattle.review_needs.specs.Files.{unread_cause}
 
 -- the texts of a project and its ancestors, so many at most
 abbrev pub texts_from : Rows → ℕ → Option (List ℕ) → List (List ℕ)

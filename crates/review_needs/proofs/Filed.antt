@@ -46,7 +46,7 @@ use Rattle.review_ancestors.proofs.Effective.{OneEffective, effective_is, line_r
 use Rattle.review_account_decisions.specs.Decisions.{IsEmpty}
 use Rattle.review_account_decisions.proofs.Told.{room_told}
 use Rattle.review_account_decisions.proofs.Decided.{asked_beside, empty_changes, outcome_answer, project_refused, refused_decided, file_decided}
-use Rattle.review_file_decisions.specs.Files.{IsFilePut, IsPut, IsPutBelow, IsReadCause, file_refused, has_unknown, heir, heir_refused, keeps_parent, parent_refused, room_in}
+use Rattle.review_needs.specs.Files.{IsFilePut, IsPut, IsPutBelow, IsReadCause, file_refused, has_unknown, heir, heir_refused, keeps_parent, parent_refused, room_in}
 
 -- a refusal changes nothing
 pub refused_nothing : (r : Delta × Reply) (refusal : Refusal) → IsEmpty r.0 → r.1 ≡ Refused refusal → HasNoEffect r.1 r.0

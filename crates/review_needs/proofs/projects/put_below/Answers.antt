@@ -2,8 +2,8 @@ use Rattle.std.proofs.Common.{◌∙◌, [], ap, length, subst, sym}
 use Rattle.std.specs.Option.{option_copied, option_map, option_map_or}
 use Rattle.review_effective.specs.Texts.{LineView}
 use Rattle.review_rows.specs.Steps.{HasFile, texts_in}
-use Rattle.review_file_decisions.proofs.Filed.{below_by, refused_nothing}
-use Rattle.review_file_decisions.proofs.projects.put_below.Goals as goal
+use Rattle.review_needs.proofs.Filed.{below_by, refused_nothing}
+use Rattle.review_needs.proofs.projects.put_below.Goals as goal
 
 pub returns-in-Some-clause-refused : goal.returns-in-Some-clause-refused
 returns-in-Some-clause-refused c = refused_nothing c.refused.result c.in-Some.refusal c.refused.ensures.empty c.refused.ensures.reply

@@ -2,8 +2,8 @@ use Rattle.std.proofs.Common.{◌∙◌, ◌-◌, ◌∷◌, map, ap, sym}
 use Rattle.std.specs.Option.{option_copied}
 use Rattle.std.proofs.lemmas.List.{map-append}
 use Rattle.review_rows.specs.Steps.{texts_in}
-use Rattle.review_file_decisions.proofs.Texts.{taken_more, texts_from, texts_more}
-use Rattle.review_file_decisions.proofs.reading.line_of.Goals as goal
+use Rattle.review_needs.proofs.Texts.{taken_more, texts_from, texts_more}
+use Rattle.review_needs.proofs.reading.line_of.Goals as goal
 
 pub loop-left-preserved : goal.loop-left-preserved
 loop-left-preserved c =
