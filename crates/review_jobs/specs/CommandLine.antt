@@ -1,6 +1,7 @@
 -- The command line of the program, as `clap` takes it.
-use Rattle.std.specs.Prelude.{◌≡◌, true, false, Some, codes}
-use Rattle.clap.specs.Words.{App, Rule, new_app, new_rule, with_rule, with_subcommand}
+use Rattle.std.specs.Prelude.{◌≡◌, true, false, Some, Result, IfOk, codes}
+use Rattle.std.specs.declared.alloc.AllocError.{AllocError}
+use Rattle.clap.specs.Words.{App, Rule, app_of, new_app, new_rule, with_rule, with_subcommand}
 use Rattle.clap.specs.declared.builder.action.ArgAction.TheVariants.{Set}
 use Rattle.clap.specs.declared.builder.command.Command.{Command}
 use Rattle.clap.specs.declared.builder.command.Command.TheViews.{out-Command}
@@ -72,3 +73,7 @@ desk = with_subcommand (with_subcommand changing show.top) joined.top
 -- a command with no argument that goes to those below it
 abbrev pub IsLocal : Command → Type 0
 IsLocal c = (out-Command c).has_globals ≡ false
+
+-- whatever command was made is this one, and has no argument that goes to those below it
+abbrev pub Makes : App → Result Command AllocError → Type 0
+Makes a made = IfOk made (λ c. (app_of c ≡ a) × IsLocal c)

@@ -1,7 +1,7 @@
 //! The command line of the program. Each call fails for want of memory alone.
-ghost use Rattle.std.specs.Prelude.{◌≡◌, IfOk, false};
-ghost use Rattle.clap.specs.Words.{app_of, rule_of};
-ghost use Rattle.review_jobs.specs.CommandLine.{IsLocal, apply, branch, change, changing, count, desk, file, init, joined, making, migrate, port, project, serve, show, top};
+ghost use Rattle.std.specs.Prelude.{◌≡◌, Ok, false};
+ghost use Rattle.clap.specs.Words.{App, new_app, rule_of, with_rule, with_subcommand};
+ghost use Rattle.review_jobs.specs.CommandLine.{Makes, branch, change, changing, count, desk, file, joined, making, port, project, serve, show, top};
 
 use clap::{Arg, ArgAction, Command};
 use std::alloc::{AllocError, Global};
@@ -65,56 +65,60 @@ fn count_arg<'a>(alloc: Global) -> Arg<'a>
         .action(ArgAction::Set)
 }
 
-fn init_command<'a>(alloc: Global) -> Result<Command<'a>, AllocError>
-    ensures shape { IfOk result (λ c. app_of c ≡ init) }
-    ensures local { IfOk result IsLocal }
+/// A command, if there is one, with an argument more.
+fn with_arg<'a>(
+    command: Result<Command<'a>, AllocError>,
+    arg: Arg<'a>,
+) -> Result<Command<'a>, AllocError>
+    ensures { arg.entry.global ≡ false → (a : App) → Makes a command.entry → Makes (with_rule a (rule_of arg.entry)) result }
 {
-    Command::new(alloc, "init").arg(file_arg(alloc))
+    command?.arg(arg)
 }
 
-fn migrate_command<'a>(alloc: Global) -> Result<Command<'a>, AllocError>
-    ensures shape { IfOk result (λ c. app_of c ≡ migrate) }
-    ensures local { IfOk result IsLocal }
+/// A program, if there is one, with a command more, if there is that.
+fn with_command<'a>(
+    program: Result<Command<'a>, AllocError>,
+    command: Result<Command<'a>, AllocError>,
+) -> Result<Command<'a>, AllocError>
+    ensures { (a b : App) → Makes a program.entry → Makes b command.entry → Makes (with_subcommand a b.top) result }
 {
-    Command::new(alloc, "migrate").arg(file_arg(alloc))
+    let program = program?;
+    let command = command?;
+    program.subcommand(command)
 }
 
-fn apply_command<'a>(alloc: Global) -> Result<Command<'a>, AllocError>
-    ensures shape { IfOk result (λ c. app_of c ≡ apply) }
-    ensures local { IfOk result IsLocal }
+/// A command of a name, on a file.
+fn command_on_file<'a>(alloc: Global, name: &'a str) -> Result<Command<'a>, AllocError>
+    ensures { Makes (with_rule (new_app name.now) file) result }
 {
-    Command::new(alloc, "apply").arg(file_arg(alloc))
+    Command::new(alloc, name).arg(file_arg(alloc))
 }
 
 fn serve_command<'a>(alloc: Global) -> Result<Command<'a>, AllocError>
-    ensures shape { IfOk result (λ c. app_of c ≡ serve) }
-    ensures local { IfOk result IsLocal }
+    ensures { Makes serve result }
 {
-    let with_file = Command::new(alloc, "serve").arg(file_arg(alloc))?;
-    let with_port = with_file.arg(port_arg(alloc))?;
-    with_port.arg(count_arg(alloc))
+    let with_file = command_on_file(alloc, "serve");
+    let with_port = with_arg(with_file, port_arg(alloc));
+    with_arg(with_port, count_arg(alloc))
 }
 
 fn show_command<'a>(alloc: Global) -> Result<Command<'a>, AllocError>
-    ensures shape { IfOk result (λ c. app_of c ≡ show) }
-    ensures local { IfOk result IsLocal }
+    ensures { Makes show result }
 {
-    let with_file = Command::new(alloc, "show").arg(file_arg(alloc))?;
-    with_file.arg(change_arg(alloc))
+    let with_file = command_on_file(alloc, "show");
+    with_arg(with_file, change_arg(alloc))
 }
 
 fn joined_command<'a>(alloc: Global) -> Result<Command<'a>, AllocError>
-    ensures shape { IfOk result (λ c. app_of c ≡ joined) }
-    ensures local { IfOk result IsLocal }
+    ensures { Makes joined result }
 {
-    let with_file = Command::new(alloc, "joined").arg(file_arg(alloc))?;
-    let with_project = with_file.arg(project_arg(alloc))?;
-    with_project.arg(branch_arg(alloc))
+    let with_file = command_on_file(alloc, "joined");
+    let with_project = with_arg(with_file, project_arg(alloc));
+    with_arg(with_project, branch_arg(alloc))
 }
 
 fn top_command<'a>(alloc: Global) -> Command<'a>
-    ensures shape { app_of result ≡ top }
-    ensures local { IsLocal result }
+    ensures { Makes top (Ok result) }
 {
     Command::new(alloc, "review_desk")
         .no_binary_name(true)
@@ -123,26 +127,24 @@ fn top_command<'a>(alloc: Global) -> Command<'a>
 
 /// The program with the commands that make a desk.
 fn making_command<'a>(alloc: Global) -> Result<Command<'a>, AllocError>
-    ensures shape { IfOk result (λ c. app_of c ≡ making) }
-    ensures local { IfOk result IsLocal }
+    ensures { Makes making result }
 {
-    let with_init = top_command(alloc).subcommand(init_command(alloc)?)?;
-    with_init.subcommand(migrate_command(alloc)?)
+    let with_init = with_command(Ok(top_command(alloc)), command_on_file(alloc, "init"));
+    with_command(with_init, command_on_file(alloc, "migrate"))
 }
 
 /// The program with the commands that may change a desk.
 fn changing_command<'a>(alloc: Global) -> Result<Command<'a>, AllocError>
-    ensures shape { IfOk result (λ c. app_of c ≡ changing) }
-    ensures local { IfOk result IsLocal }
+    ensures { Makes changing result }
 {
-    let with_apply = making_command(alloc)?.subcommand(apply_command(alloc)?)?;
-    with_apply.subcommand(serve_command(alloc)?)
+    let with_apply = with_command(making_command(alloc), command_on_file(alloc, "apply"));
+    with_command(with_apply, serve_command(alloc))
 }
 
 /// The program with all its commands.
 pub fn desk_command<'a>(alloc: Global) -> Result<Command<'a>, AllocError>
-    ensures { IfOk result (λ c. app_of c ≡ desk) }
+    ensures { Makes desk result }
 {
-    let with_show = changing_command(alloc)?.subcommand(show_command(alloc)?)?;
-    with_show.subcommand(joined_command(alloc)?)
+    let with_show = with_command(changing_command(alloc), show_command(alloc));
+    with_command(with_show, joined_command(alloc))
 }

@@ -4,9 +4,9 @@ use Rattle.review_jobs.proofs.Usage.{found_job, no_job}
 use Rattle.review_jobs.proofs.reading.job_of.Goals as goal
 
 pub returns : goal.returns
-returns c = no_job _ _ c.in-Err.error c.in-Ok.ensures c.in-Err.ensures.kinds (λ h. c.in_default-kind.not-OutOfMemory (c.kind.ensures ∙ h))
+returns c = no_job _ _ c.in-Err.error c.in-Ok.ensures.0 c.in-Err.ensures.kinds (λ h. c.in_default-kind.not-OutOfMemory (c.kind.ensures ∙ h))
 
 pub returns-in-Ok-try_get_matches_from : goal.returns-in-Ok-try_get_matches_from
 returns-in-Ok-try_get_matches_from c =
     let it = c.in-Ok-try_get_matches_from in
-    subst (Gives spelled c.job_in.result) (found_job _ _ it.matches c.in-Ok.ensures it.ensures.matches it.ensures.kinds) c.job_in.ensures
+    subst (Gives spelled c.job_in.result) (found_job _ _ it.matches c.in-Ok.ensures.0 it.ensures.matches it.ensures.kinds) c.job_in.ensures
