@@ -390,7 +390,7 @@ unread_lawful h caller query (Some t) Pattern before after hist v u counted = ((
 unread_lawful h caller query tables Full before after hist v u counted = absurd u
 
 -- what is left where not all was gathered views the history as before
-views_left_by : (h : List Entry) (cause : Cause) (old new : Option Tables) → LeavesBy cause old new → Views h old → Views h new
+pub views_left_by : (h : List Entry) (cause : Cause) (old new : Option Tables) → LeavesBy cause old new → Views h old → Views h new
 views_left_by h Memory old new e v = subst (Views h) (sym e) v
 views_left_by h Damaged old new e v = subst (Views h) (sym e) v
 views_left_by h Pattern old new e v = subst (Views h) (sym e) v

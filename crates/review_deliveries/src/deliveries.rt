@@ -10,11 +10,12 @@ ghost use Rattle.review_rows.specs.declared.rows.Want.{Want};
 ghost use Rattle.review_rows.specs.declared.rows.Want.TheVariants as want;
 ghost use Rattle.review_rows.specs.Known.{known, number_of};
 ghost use Rattle.review_rows.specs.Rows.{HasNoEffect, Tables, closing, is_above, is_below, kept_row};
-ghost use Rattle.review_rows.specs.Shelf.{Answers, BlamesTables, CountsFaults, IsCommitted, LeavesUndone, Shows, StopLeavesOwnTables, Views};
+ghost use Rattle.review_rows.specs.Shelf.{AddsNoStop, Answers, BlamesTables, CountsFaults, IsCommitted, LeavesUndone, Shows, StopLeavesOwnTables, Views};
 ghost use Rattle.review_rows.specs.Steps.{OfCommand};
 ghost use Rattle.review_rows.specs.View.{AreEnough, IsDecidedAt};
 ghost use Rattle.review_deliveries.specs.Delivered.{IsDelivered};
-ghost use Rattle.review_deliveries.specs.Gathered.{IsUnstored};
+ghost use Rattle.review_deliveries.specs.Deciding.{IsDecidedBy, WasDecided, WasUndecided};
+ghost use Rattle.review_deliveries.specs.Gathered.{CountsCause, IsUnstored, LeavesTables};
 ghost use Rattle.review_deliveries.specs.Kept.{row_for};
 ghost use Rattle.review_deliveries.specs.Replies.{IsServed, IsToldAgain, KeepsUntaken, StoresOnce, CountsReply, reply_of};
 
@@ -172,41 +173,51 @@ fn first_arrival<S: Shelf, R: Rules>(
         StoresOnce (Write caller epoch id.now command.now) (reply_of result) (S.state shelf.old).tables (S.state shelf.new).tables }
     ensures counted { CountsReply (reply_of result) (S.state shelf.old).faults (S.state shelf.new).faults }
 {
-    let mut rows = Rows::new(alloc);
-    first_arrival_with(
-        alloc, shelf, rules, &mut rows, caller, epoch, id, command, content,
-    )
+    let decided = gather_and_decide(alloc, shelf, rules, caller, epoch, command)?;
+    store(alloc, shelf, caller, epoch, id, &decided, content)?;
+    Ok(decided.reply)
 }
 
-// The same, with the rows by which it is decided, which know nothing yet.
-fn first_arrival_with<S: Shelf, R: Rules>(
+// Decides a command by what the tables tell.
+fn gather_and_decide<S: Shelf, R: Rules>(
+    alloc: Global,
+    shelf: &mut S,
+    rules: &mut R,
+    caller: AccountNo,
+    epoch: Epoch,
+    command: &Command,
+) -> Result<Decided, NotTaken>
+    ensures honest { (S.state shelf.new).is_honest → (S.state shelf.old).is_honest }
+    ensures decided { IfOk result (WasDecided caller epoch command.now (S.state shelf.new).is_honest (S.state shelf.old).tables) }
+    ensures cause { IfErr result (WasUndecided caller command.now (S.state shelf.new).is_honest (S.state shelf.old).tables) }
+    ensures tables { (S.state shelf.new).is_honest → LeavesTables result (S.state shelf.old).tables (S.state shelf.new).tables }
+    ensures stops { (S.state shelf.new).is_honest → AddsNoStop (S.state shelf.old) (S.state shelf.new) }
+    ensures counted { CountsCause result (S.state shelf.old).faults (S.state shelf.new).faults }
+{
+    let mut rows = Rows::new(alloc);
+    gather_and_decide_with(alloc, shelf, rules, &mut rows, caller, epoch, command)
+}
+
+// The same, with rows that know nothing yet.
+fn gather_and_decide_with<S: Shelf, R: Rules>(
     alloc: Global,
     shelf: &mut S,
     rules: &mut R,
     rows: &mut Rows,
     caller: AccountNo,
     epoch: Epoch,
-    id: &RequestId,
     command: &Command,
-    content: String,
-) -> Result<Reply, NotTaken>
+) -> Result<Decided, NotTaken>
     requires nothing { (w : Want) → known rows.old w ≡ None }
-    requires content { string_bytes content ≡ content_text command.now }
     ensures honest { (S.state shelf.new).is_honest → (S.state shelf.old).is_honest }
-    ensures served { (S.state shelf.new).is_honest → (h : List Entry) → IsHistory h → Views h (S.state shelf.old).tables →
-        IsFirst h (record { caller = caller; epoch = epoch; id = id.now }) →
-        IsServed h (Write caller epoch id.now command.now) (reply_of result) (S.state shelf.old) (S.state shelf.new) }
-    ensures unchanged { (S.state shelf.new).is_honest → Shows (S.state shelf.old).tables (λ t. Answers t (record { caller = caller; epoch = epoch; id = id.now }) None) →
-        KeepsUntaken (Write caller epoch id.now command.now) (reply_of result) (S.state shelf.old).tables (S.state shelf.new).tables }
-    ensures once { (S.state shelf.new).is_honest → Shows (S.state shelf.old).tables (λ t. Answers t (record { caller = caller; epoch = epoch; id = id.now }) None) →
-        StoresOnce (Write caller epoch id.now command.now) (reply_of result) (S.state shelf.old).tables (S.state shelf.new).tables }
-    ensures counted { CountsReply (reply_of result) (S.state shelf.old).faults (S.state shelf.new).faults }
+    ensures decided { IfOk result (WasDecided caller epoch command.now (S.state shelf.new).is_honest (S.state shelf.old).tables) }
+    ensures cause { IfErr result (WasUndecided caller command.now (S.state shelf.new).is_honest (S.state shelf.old).tables) }
+    ensures tables { (S.state shelf.new).is_honest → LeavesTables result (S.state shelf.old).tables (S.state shelf.new).tables }
+    ensures stops { (S.state shelf.new).is_honest → AddsNoStop (S.state shelf.old) (S.state shelf.new) }
+    ensures counted { CountsCause result (S.state shelf.old).faults (S.state shelf.new).faults }
 {
-    let matter = Matter::Command(command);
-    let read = gathered(alloc, shelf, rules, rows, caller, matter)?;
-    let decided = decide(alloc, rules, read.as_ref(), rows, caller, epoch, command)?;
-    store(alloc, shelf, caller, epoch, id, &decided, content)?;
-    Ok(decided.reply)
+    let read = gathered(alloc, shelf, rules, rows, caller, Matter::Command(command))?;
+    decide(alloc, rules, read.as_ref(), rows, caller, epoch, command)
 }
 
 /// What is to be stored of a command that was decided.
@@ -228,13 +239,7 @@ fn decide<R: Rules>(
     epoch: Epoch,
     command: &Command,
 ) -> Result<Decided, NotTaken>
-    ensures request { IfOk result (λ d. (d.request ≡ number_of (known rows.now want.Requests) + 1) × (d.request ≤ most_requests)) }
-    ensures decided { IfOk result (λ d. (reading : Reading) (h : List Entry) → length h < most_requests → RestsOn (OfCommand command.now) h → AreEnough reading h caller (OfCommand command.now) (option_copied read.entry) rows.now → IsDecidedAt reading h caller epoch command.now d.delta d.reply) }
-    ensures stored { IfOk result (λ d. IsStored d.reply) }
-    ensures refused { IfOk result (λ d. HasNoEffect d.reply d.delta) }
-    ensures closes { IfOk result (λ d. d.delta.least_epoch ≡ closing (if_done d.reply command.now)) }
-    ensures own { IfOk result (λ d. is_below d.delta.least_epoch epoch ≡ false) }
-    ensures raises { IfOk result (λ d. is_above d.delta.least_epoch (number_of (known rows.now want.LeastEpoch)) ≡ true) }
+    ensures decided { IfOk result (IsDecidedBy caller epoch command.now (option_copied read.entry) rows.now) }
     ensures cause { IfErr result (IsUnstored caller command.now (option_copied read.entry) rows.now) }
 {
     let requests = rows.requests();
