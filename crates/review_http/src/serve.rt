@@ -42,18 +42,30 @@ pub enum ServeFault {
 fn respond<W: Write>(
     alloc: Global,
     writer: &mut Counted<W>,
+    told: &Result<Reply, HttpFault>,
+) -> Result<Served, ServeFault>
+    ensures written { (text : List ℕ) × Appends (W.contents (inner_of writer.old)) (W.contents (inner_of writer.new)) text × IsWritten told.now text result }
+    ensures write { result ≡ Err ServeFault.Write → faults_of writer.new ≡ one_more (faults_of writer.old) }
+{
+    let Ok(response) = response_of(alloc, told) else {
+        return Err(ServeFault::Memory);
+    };
+    match write_and_flush(writer, response.as_slice()) {
+        Ok(()) => Ok(Served::Answered(status_of(told))),
+        Err(_) => Err(ServeFault::Write),
+    }
+}
+
+/// The same, of what is told once.
+fn tell<W: Write>(
+    alloc: Global,
+    writer: &mut Counted<W>,
     told: Result<Reply, HttpFault>,
 ) -> Result<Served, ServeFault>
     ensures written { (text : List ℕ) × Appends (W.contents (inner_of writer.old)) (W.contents (inner_of writer.new)) text × IsWritten told text result }
     ensures write { result ≡ Err ServeFault.Write → faults_of writer.new ≡ one_more (faults_of writer.old) }
 {
-    let Ok(response) = response_of(alloc, &told) else {
-        return Err(ServeFault::Memory);
-    };
-    match write_and_flush(writer, response.as_slice()) {
-        Ok(()) => Ok(Served::Answered(status_of(&told))),
-        Err(_) => Err(ServeFault::Write),
-    }
+    respond(alloc, writer, &told)
 }
 
 /// Reads a request, takes the delivery that its bytes call for, and writes the response.
@@ -82,9 +94,9 @@ pub fn serve_request<R: Read, W: Write, S: Shelf, D: Rules>(
     match read_request(alloc, routes, reader) {
         Ok(delivery) => {
             let reply = deliver(alloc, shelf, rules, &delivery);
-            respond(alloc, writer, Ok(reply))
+            tell(alloc, writer, Ok(reply))
         }
-        Err(RequestFault::Http(fault)) => respond(alloc, writer, Err(fault)),
+        Err(RequestFault::Http(fault)) => tell(alloc, writer, Err(fault)),
         Err(RequestFault::Empty) => Ok(Served::Empty),
         Err(RequestFault::Read) => Err(ServeFault::Read),
         Err(RequestFault::Reads) => Err(ServeFault::Reads),

@@ -12,3 +12,4 @@ pub mod Upgraded
 pub mod Raised
 pub mod NoParents
 pub mod Recalled
+pub mod Found

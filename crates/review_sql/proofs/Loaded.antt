@@ -1,5 +1,5 @@
 -- What is answered of what look-ups found.
-use Rattle.std.proofs.Common.{◌≡◌, ℕ, Bool, List, Option, Ok, IfOk, IsTrue}
+use Rattle.std.proofs.Common.{◌≡◌, Bool, List, Option, Ok, IfOk, IsTrue}
 use Rattle.sqlite.specs.State.{HasCleanDisk}
 use Rattle.review_rows.specs.Rows.{Tables}
 use Rattle.review_statements.specs.Ran.{Serves}

@@ -1,7 +1,7 @@
 -- A look at tables that is taken back.
 use Rattle.sqlite_value.specs.Order.{Row}
 use Rattle.sqlite.specs.Effect.{Database}
-use Rattle.std.proofs.Common.{◌≡◌, ◌≢◌, ◌∙◌, ◌⊎◌, inl, inr, ℕ, List, Some, None, Bool, true, false, Ok, Err, Result, IfOk, IfErr, IsTrue, refl, sym, subst, arith, Option, IfSome}
+use Rattle.std.proofs.Common.{◌≡◌, ◌≢◌, ◌∙◌, ◌⊎◌, inl, inr, ℕ, List, Some, None, Bool, false, Ok, Err, Result, IfOk, IfErr, IsTrue, refl, sym, subst, arith, Option, IfSome}
 use Rattle.std.specs.Bool.{Decides}
 use Rattle.std.specs.List.{AllByRecursion}
 use Rattle.sqlite_trees.specs.Tree.{Trees}

@@ -1,5 +1,5 @@
 -- Tables of an earlier version that are made those of a desk, in one transaction.
-use Rattle.std.proofs.Common.{◌≡◌, ◌≢◌, ◌∙◌, ◌⊎◌, inl, inr, ℕ, Bool, true, false, Some, Ok, Err, Result, List, OnOk, OnErr, IfOk, IfErr, IsTrue, refl, sym, ap, subst, arith}
+use Rattle.std.proofs.Common.{◌≡◌, ◌≢◌, ◌∙◌, ◌⊎◌, inl, inr, Bool, true, false, Some, Ok, Err, Result, List, OnOk, OnErr, IfOk, IfErr, IsTrue, refl, sym, ap, subst, arith}
 use Rattle.std.specs.Bool.{Decides}
 use Rattle.std.specs.Result.{is_ok}
 use Rattle.sqlite_tied.specs.Compute.{everything}

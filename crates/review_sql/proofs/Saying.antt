@@ -29,9 +29,6 @@ use Rattle.review_statements.proofs.Meaning.{plain}
 use Rattle.review_statements.proofs.Queries.{passes, selects, shows}
 use Rattle.review_records.specs.declared.rows.DeskRow.{DeskRow}
 use Rattle.review_records.specs.Forms.{desk, desk_row, epochs, first_epoch, where_is}
-use Rattle.review_records.specs.Keyed.{is_small}
-use Rattle.review_records.specs.Laws.{passed}
-use Rattle.review_tables.specs.Columns.{number_in}
 use Rattle.review_tables.specs.Versions.{schema_at, version_number, version_of}
 use Rattle.review_tables.specs.declared.versions.EarlierVersion.{EarlierVersion}
 use Rattle.review_tables.specs.declared.versions.TablesVersion.{TablesVersion}

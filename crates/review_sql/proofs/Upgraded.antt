@@ -12,7 +12,7 @@ use Rattle.review_changes.specs.Parts.{Part}
 use Rattle.review_rows.specs.declared.rows.StoredFile.{StoredFile}
 use Rattle.review_rows.specs.Changes.{Reading, own_of}
 use Rattle.review_rows.specs.Rows.{Key, AccountKey, MemberKey, FileKey, BaseKey, PartKey, OddKey, Row, AccountRow, MemberRow, FileRow, BaseRow, OddRow, Count, Projects, BasesOf, ClosedEpochs}
-use Rattle.review_rows.specs.View.{IsViewBy, fact, counted, stored_answer, tables_version, kept_answer}
+use Rattle.review_rows.specs.View.{IsViewBy, fact, counted, tables_version, kept_answer}
 use Rattle.review_statements.specs.Content.{AreApart, Then}
 use Rattle.review_statements.specs.Desk.{desk_schema, desk_tables, is_tree}
 use Rattle.review_statements.specs.Moved.{AreMoved, with_first_epoch, without_parent}

@@ -1,5 +1,5 @@
 -- What is seen of tables before a desk is opened, what opening gives, and why it is refused.
-use Rattle.std.specs.Prelude.{ℕ, ◌≡◌, ◌≢◌, true, Result, IsTrue, IfOk}
+use Rattle.std.specs.Prelude.{◌≡◌, ◌≢◌, true, Result, IsTrue, IfOk}
 use Rattle.std.specs.List.{AllByRecursion}
 use Rattle.sqlite_trees.specs.Tree.{Trees}
 use Rattle.sqlite_trees.specs.declared.store.Store.{Ghosts}

@@ -1,8 +1,10 @@
 //! What the look-ups of a need find.
-ghost use Rattle.std.specs.Prelude.{◌≡◌, false, IfOk};
+ghost use Rattle.std.specs.Prelude.{◌≡◌, None, false, IfOk};
 ghost use Rattle.sqlite.specs.Held.{state};
 ghost use Rattle.review_statements.specs.Ran.{Looks, Serves};
+ghost use Rattle.review_rows.specs.Known.{AreAsked, known};
 ghost use Rattle.review_database.specs.Loads.{Sees, AreLoaded, HasLearnt, WereAsked};
+ghost use Rattle.review_sql.specs.Looking.{WereSeen, loaded_by};
 
 use review_change_lookups::{bases, joins, places, reviews, senders};
 use review_database::{Loaded, Sight};
@@ -49,27 +51,61 @@ fn find<S: Alter>(
     }
 }
 
-fn find_all<S: Alter>(
+// Makes look-ups one after the other, up to one that tells nothing.
+fn find_each<S: Alter>(
     tx: &mut Transaction<'_, S>,
     alloc: Global,
     wants: &[Want],
-) -> Result<Loaded, Error>
+    rows: &mut Rows,
+) -> Result<Sight, Error>
+    requires nothing { (w : Want) → known rows.old w ≡ None }
     ensures same_reference { tx.new.conn.ghost_name ≡ tx.old.conn.ghost_name }
-    ensures looks { Looks AreLoaded (state S.Store tx.old.conn.now) (state S.Store tx.new.conn.now) result }
-    ensures asked { IfOk result (WereAsked wants.now) }
+    ensures looks { Looks (WereSeen rows.new) (state S.Store tx.old.conn.now) (state S.Store tx.new.conn.now) result }
+    ensures asked { IfOk result (λ s. s ≡ Sight.Learnt → AreAsked wants.now rows.new) }
 {
     // A store that was shut is found so, whatever is asked.
     let _desk = find_row::<Desk, S>(tx, alloc, &())?;
-    let mut rows = Rows::new(alloc);
     for want in wants {
-        let sight = find(tx, alloc, want, &mut rows)?;
+        let sight = find(tx, alloc, want, rows)?;
         match sight {
             Sight::Learnt => {}
-            Sight::NoMemory => return Ok(Loaded::NoMemory),
-            Sight::Damaged => return Ok(Loaded::Damaged),
+            Sight::NoMemory => return Ok(Sight::NoMemory),
+            Sight::Damaged => return Ok(Sight::Damaged),
         }
     }
-    Ok(Loaded::Rows(rows))
+    Ok(Sight::Learnt)
+}
+
+// The same, in a transaction of its own.
+fn load_each<S: Alter>(
+    conn: &mut Connection<S>,
+    alloc: Global,
+    wants: &[Want],
+    rows: &mut Rows,
+) -> Result<Sight, Error>
+    requires mode { conn.old.in_transaction ≡ false }
+    requires nothing { (w : Want) → known rows.old w ≡ None }
+    ensures mode { conn.new.in_transaction ≡ false }
+    ensures serves { Serves (WereSeen rows.new) (state S.Store conn.old) (state S.Store conn.new) result }
+    ensures asked { IfOk result (λ s. s ≡ Sight.Learnt → AreAsked wants.now rows.new) }
+{
+    let _settled = conn.is_autocommit();
+    let mut tx = conn.transaction();
+    let sight = find_each(&mut tx, alloc, wants, rows)?;
+    tx.commit()?;
+    Ok(sight)
+}
+
+// What look-ups found, by how they ended, and the rows that learnt it.
+fn loaded(seen: Result<Sight, Error>, rows: Rows) -> Result<Loaded, Error>
+    ensures { result ≡ loaded_by rows seen }
+{
+    match seen {
+        Ok(Sight::Learnt) => Ok(Loaded::Rows(rows)),
+        Ok(Sight::NoMemory) => Ok(Loaded::NoMemory),
+        Ok(Sight::Damaged) => Ok(Loaded::Damaged),
+        Err(error) => Err(error),
+    }
 }
 
 /// What look-ups find, and no others.
@@ -83,9 +119,7 @@ pub fn load<S: Alter>(
     ensures serves { Serves AreLoaded (state S.Store conn.old) (state S.Store conn.new) result }
     ensures asked { IfOk result (WereAsked wants.now) }
 {
-    let _settled = conn.is_autocommit();
-    let mut tx = conn.transaction();
-    let found = find_all(&mut tx, alloc, wants)?;
-    tx.commit()?;
-    Ok(found)
+    let mut rows = Rows::new(alloc);
+    let seen = load_each(conn, alloc, wants, &mut rows);
+    loaded(seen, rows)
 }

@@ -1,4 +1,4 @@
-use Rattle.std.proofs.Common.{rules, sym, subst, Option, ℕ, ◌≡◌, None, IfSome}
+use Rattle.std.proofs.Common.{rules, sym, subst, IfSome}
 use Rattle.sqlite.specs.Held.{state}
 use Rattle.sqlite.proofs.StateLemmas.{clean_if_open}
 use Rattle.review_sql.specs.Said.{LacksLeast, SaysLeast, ShowsEpochs}

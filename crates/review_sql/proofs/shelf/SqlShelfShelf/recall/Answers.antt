@@ -1,6 +1,5 @@
-use Rattle.std.proofs.Common.{rules, ◌≡◌, ◌∙◌, ap, sym, not, subst, IsTrue, Result, Ok, IfOk, ℕ}
-use Rattle.sqlite_trees.specs.Tree.{Trees}
-use Rattle.sqlite.specs.Held.{Held, state}
+use Rattle.std.proofs.Common.{rules, ◌≡◌, ◌∙◌, ap, not, subst, IsTrue, IfOk}
+use Rattle.sqlite.specs.Held.{Held}
 use Rattle.sqlite.proofs.StateLemmas.{clean_if_open}
 use Rattle.review_words.specs.History.{Identity}
 use Rattle.review_rows.specs.Rows.{Tables}

@@ -4,11 +4,11 @@ use Rattle.sqlite.specs.Held.{state}
 use Rattle.review_rows.specs.Known.{AreAsked}
 use Rattle.review_statements.specs.Ran.{Looks}
 use Rattle.review_tables.proofs.Found.{look_on}
-use Rattle.review_database.specs.declared.sights.Loaded.TheVariants as loaded
 use Rattle.review_database.specs.declared.sights.Sight.TheVariants as sight
-use Rattle.review_database.specs.Loads.{AreLoaded, Sees}
+use Rattle.review_database.specs.Loads.{Sees}
+use Rattle.review_sql.specs.Looking.{WereSeen}
 use Rattle.review_sql.proofs.Finding.{Have, have_more, learnt_asked}
-use Rattle.review_sql.proofs.loading.find_all.Goals as goal
+use Rattle.review_sql.proofs.loading.find_each.Goals as goal
 
 pub loop-want-preserved : goal.loop-want-preserved
 loop-want-preserved g c =
@@ -30,9 +30,9 @@ loop-want-preserved g c =
 pub returns-clause-looks : goal.returns-clause-looks
 returns-clause-looks g c =
     let rows = c.loop-want.rows in
-    look_on (Have rows) AreLoaded (state g.S.Store c.args.tx.now.conn.now) (state g.S.Store c.loop-want.tx.conn.now) (tt {0}) (Ok (loaded.Rows rows)) c.loop-want.invariant.looks (λ db h. h)
+    look_on (Have rows) (WereSeen rows) (state g.S.Store c.args.tx.now.conn.now) (state g.S.Store c.loop-want.tx.conn.now) (tt {0}) (Ok sight.Learnt) c.loop-want.invariant.looks (λ db h. h)
 
 pub returns-clause-asked : goal.returns-clause-asked
 returns-clause-asked g c =
     let wants = c.args.wants.now in
-    subst (λ ws. AreAsked ws c.loop-want.rows) (take_all c.loop-want.want-index wants (omega (arith, c.loop-want-test.false))) c.loop-want.invariant.asked
+    λ learnt. subst (λ ws. AreAsked ws c.loop-want.rows) (take_all c.loop-want.want-index wants (omega (arith, c.loop-want-test.false))) c.loop-want.invariant.asked

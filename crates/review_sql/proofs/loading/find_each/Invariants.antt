@@ -3,7 +3,7 @@ use Rattle.sqlite.specs.Held.{state}
 use Rattle.review_rows.specs.Known.{AreAsked}
 use Rattle.review_statements.specs.Ran.{Looks}
 use Rattle.review_sql.proofs.Finding.{Have}
-use Rattle.review_sql.proofs.loading.find_all.Given as goal
+use Rattle.review_sql.proofs.loading.find_each.Given as goal
 
 abbrev pub invariant-loop-want : goal.invariant-loop-want
 invariant-loop-want g l = record {

@@ -1,0 +1,31 @@
+-- What look-ups found, by how the last one ended.
+use Rattle.std.proofs.Common.{◌≡◌, List, Ok, Err, refl, sym, subst}
+use Rattle.std.specs.Prelude.{Result, IfOk}
+use Rattle.sqlite.specs.State.{State}
+use Rattle.sqlite.specs.declared.error.Error.{Error}
+use Rattle.review_rows.specs.Known.{AreAsked}
+use Rattle.review_rows.specs.declared.rows.Rows.{Rows}
+use Rattle.review_rows.specs.declared.rows.Want.{Want}
+use Rattle.review_statements.specs.Ran.{Serves}
+use Rattle.review_database.specs.Loads.{AreLoaded, WereAsked}
+use Rattle.review_database.specs.declared.sights.Loaded.{Loaded}
+use Rattle.review_database.specs.declared.sights.Sight.{Sight}
+use Rattle.review_database.specs.declared.sights.Sight.TheVariants as sight
+use Rattle.review_sql.specs.Looking.{WereSeen, loaded_by}
+
+on_loaded : (rows : Rows) (old new : State) (r : Result Sight Error) → Serves (WereSeen rows) old new r → Serves AreLoaded old new (loaded_by rows r)
+on_loaded rows old new (Ok s) it = record { found = it.found; undone = it.undone; survives = it.survives }
+on_loaded rows old new (Err e) it = record { found = it.found; undone = it.undone; survives = it.survives }
+
+pub served_loaded : (rows : Rows) (old new : State) (r : Result Sight Error) (l : Result Loaded Error) → l ≡ loaded_by rows r → Serves (WereSeen rows) old new r → Serves AreLoaded old new l
+served_loaded rows old new r l is it = subst (Serves AreLoaded old new) (sym is) (on_loaded rows old new r it)
+
+on_asked : (wants : List Want) (rows : Rows) (r : Result Sight Error) → IfOk r (λ s. s ≡ sight.Learnt → AreAsked wants rows) → IfOk (loaded_by rows r) (WereAsked wants)
+on_asked wants rows (Ok sight.Learnt) asked = asked refl
+on_asked wants rows (Ok sight.NoMemory) asked = tt
+on_asked wants rows (Ok sight.Damaged) asked = tt
+on_asked wants rows (Err e) asked = tt
+
+pub asked_loaded : (wants : List Want) (rows : Rows) (r : Result Sight Error) (l : Result Loaded Error) → l ≡ loaded_by rows r → IfOk r (λ s. s ≡ sight.Learnt → AreAsked wants rows) →
+    IfOk l (WereAsked wants)
+asked_loaded wants rows r l is asked = subst (λ x. IfOk x (WereAsked wants)) (sym is) (on_asked wants rows r asked)

@@ -1,0 +1,25 @@
+-- What look-ups that are made one after the other tell.
+use Rattle.std.specs.Prelude.{Result, Ok, Err}
+use Rattle.sqlite.specs.declared.error.Error.{Error}
+use Rattle.sqlite_trees.specs.Tree.{Trees}
+use Rattle.review_rows.specs.declared.rows.Rows.{Rows}
+use Rattle.review_database.specs.declared.sights.Loaded.{Loaded}
+use Rattle.review_database.specs.declared.sights.Loaded.TheVariants as loaded
+use Rattle.review_database.specs.declared.sights.Sight.{Sight}
+use Rattle.review_database.specs.declared.sights.Sight.TheVariants as sight
+use Rattle.review_database.specs.Loads.{AreLoaded}
+
+-- what all found, by how the last one ended, and the rows that learnt it
+abbrev pub all_found : Rows → Sight → Loaded
+all_found rows sight.Learnt = loaded.Rows rows
+all_found rows sight.NoMemory = loaded.NoMemory
+all_found rows sight.Damaged = loaded.Damaged
+
+-- the same, unless the store failed
+abbrev pub loaded_by : Rows → Result Sight Error → Result Loaded Error
+loaded_by rows (Ok s) = Ok (all_found rows s)
+loaded_by rows (Err e) = Err e
+
+-- how the last one ended, of these tables
+abbrev pub WereSeen : Rows → Trees → Sight → Type 0
+WereSeen rows db s = AreLoaded db (all_found rows s)
