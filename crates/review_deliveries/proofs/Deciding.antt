@@ -15,7 +15,7 @@ use Rattle.review_rows.specs.Changes.{Reading, Reads}
 use Rattle.review_rows.specs.Decisions.{RestsOn}
 use Rattle.review_rows.specs.Files.{File}
 use Rattle.review_rows.specs.Known.{Agrees, known, number_of}
-use Rattle.review_rows.specs.Rows.{HasNoEffect, Tables, closing, is_above, is_below}
+use Rattle.review_rows.specs.Rows.{HasNoEffect, Tables, new_least, is_above, is_below}
 use Rattle.review_rows.specs.Shelf.{AddsNoStop, Answers, LeavesBy, Shown, Shows, Views}
 use Rattle.review_rows.specs.Steps.{OfCommand}
 use Rattle.review_rows.specs.View.{AreEnough, IsDecidedAt}

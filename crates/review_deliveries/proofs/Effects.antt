@@ -9,7 +9,7 @@ use Rattle.review_words.specs.declared.reply.Reply.TheVariants.{Done, Refused, I
 use Rattle.review_words.specs.History.{Identity, is_same, latest, if_done}
 use Rattle.review_rows.specs.declared.rows.Delta.{Delta}
 use Rattle.review_rows.specs.declared.rows.Rows.{Rows}
-use Rattle.review_rows.specs.Rows.{Key, Count, ClosedEpochs, AnswerRow, Stored, Answered, Tables, HasNoEffect, after, count_after, closing, is_above, is_below}
+use Rattle.review_rows.specs.Rows.{Key, Count, ClosedEpochs, AnswerRow, Stored, Answered, Tables, HasNoEffect, after, count_after, new_least, is_above, is_below}
 use Rattle.review_rows.specs.declared.rows.Want.TheVariants.{LeastEpoch, Requests}
 use Rattle.review_rows.specs.Files.{File}
 use Rattle.review_rows.specs.Known.{Agrees, known, number_of}
@@ -44,8 +44,8 @@ own_stays i j b x y own = at b (is_same i j) own
 
 -- an accepted CloseEpoch names an epoch above the least open one
 rises : (command : Command) (reply : Reply) (o : Option ℕ) (file : Option File) (rows : Rows) (caller : ℕ) (t : Tables) →
-    Agrees t rows → next file rows caller (OfCommand command) ≡ [] → o ≡ closing (if_done reply command) → is_above o (number_of (known rows LeastEpoch)) ≡ true →
-    is_above (closing (if_done reply command)) (t.count ClosedEpochs) ≡ true
+    Agrees t rows → next file rows caller (OfCommand command) ≡ [] → o ≡ new_least (if_done reply command) → is_above o (number_of (known rows LeastEpoch)) ≡ true →
+    is_above (new_least (if_done reply command)) (t.count ClosedEpochs) ≡ true
 rises (CloseEpoch least) (Done a) o file rows caller t agree left closes above =
     ap (λ n. nat_lt n least) (sym (least_epoch_is t file rows caller least agree left)) ∙ (ap (λ p. is_above p (number_of (known rows LeastEpoch))) (sym closes) ∙ above)
 rises (CreateAccount name) (Done a) o file rows caller t agree left closes above = refl
@@ -67,7 +67,7 @@ still_open (Some n) least epoch own opened = own
 
 -- a first arrival whose request was stored
 stored_request : (i : Identity) (command : Command) (reply : Reply) (delta : Delta) (file : Option File) (rows : Rows) (row : AnswerRow) (t u : Tables) →
-    Answers t i None → Agrees t rows → next file rows i.caller (OfCommand command) ≡ [] → HasNoEffect reply delta → delta.least_epoch ≡ closing (if_done reply command) → is_below delta.least_epoch i.epoch ≡ false → is_above delta.least_epoch (number_of (known rows LeastEpoch)) ≡ true → IsCommitted t delta row u →
+    Answers t i None → Agrees t rows → next file rows i.caller (OfCommand command) ≡ [] → HasNoEffect reply delta → delta.least_epoch ≡ new_least (if_done reply command) → is_below delta.least_epoch i.epoch ≡ false → is_above delta.least_epoch (number_of (known rows LeastEpoch)) ≡ true → IsCommitted t delta row u →
     ((n : ℕ) → number_of (known rows Requests) ≡ n → row ≡ answer_row (record { identity = i; version = latest; command = command; reply = reply }) (n + 1)) → StoresRequest i command reply t u
 stored_request i command reply delta file rows row t u none agree left quiet closes own above c is = record {
   was_new = none;
@@ -81,7 +81,7 @@ stored_request i command reply delta file rows row t u none agree left quiet clo
 }
   where
     closed : Option ℕ
-    closed = closing (if_done reply command)
+    closed = new_least (if_done reply command)
 
     own_open : is_below closed i.epoch ≡ false
     own_open = ap (λ o. is_below o i.epoch) (sym closes) ∙ own
@@ -99,7 +99,7 @@ stored_request i command reply delta file rows row t u none agree left quiet clo
         (λ here. ap (λ n. is_below closed n) (λ k. (sym (same_from i j here) k).epoch) ∙ own_open)
 
 pub stored_shown : (i : Identity) (command : Command) (reply : Reply) (delta : Delta) (file : Option File) (rows : Rows) (row : AnswerRow) (old mid new : Option Tables) →
-    mid ≡ old → Shows old (λ t. Answers t i None) → Shows old (λ t. Agrees t rows) → next file rows i.caller (OfCommand command) ≡ [] → HasNoEffect reply delta → delta.least_epoch ≡ closing (if_done reply command) → is_below delta.least_epoch i.epoch ≡ false → is_above delta.least_epoch (number_of (known rows LeastEpoch)) ≡ true → Shows mid (λ t. Shows new (IsCommitted t delta row)) →
+    mid ≡ old → Shows old (λ t. Answers t i None) → Shows old (λ t. Agrees t rows) → next file rows i.caller (OfCommand command) ≡ [] → HasNoEffect reply delta → delta.least_epoch ≡ new_least (if_done reply command) → is_below delta.least_epoch i.epoch ≡ false → is_above delta.least_epoch (number_of (known rows LeastEpoch)) ≡ true → Shows mid (λ t. Shows new (IsCommitted t delta row)) →
     ((n : ℕ) → number_of (known rows Requests) ≡ n → row ≡ answer_row (record { identity = i; version = latest; command = command; reply = reply }) (n + 1)) →
     IsFoundOrStored i command reply old new
 stored_shown i command reply delta file rows row old mid new stays none agree left quiet closes own above c is =

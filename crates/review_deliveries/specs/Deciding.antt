@@ -9,7 +9,7 @@ use Rattle.review_rows.specs.Changes.{Reading}
 use Rattle.review_rows.specs.Decisions.{RestsOn}
 use Rattle.review_rows.specs.Files.{File}
 use Rattle.review_rows.specs.Known.{known, number_of, Agrees}
-use Rattle.review_rows.specs.Rows.{HasNoEffect, Tables, closing, is_above, is_below}
+use Rattle.review_rows.specs.Rows.{HasNoEffect, Tables, new_least, is_above, is_below}
 use Rattle.review_rows.specs.Shelf.{Shows}
 use Rattle.review_rows.specs.Steps.{OfCommand}
 use Rattle.review_rows.specs.View.{AreEnough, IsDecidedAt}
@@ -18,14 +18,14 @@ use Rattle.review_rows.specs.declared.rows.Want.TheVariants.{LeastEpoch, Request
 use Rattle.review_deliveries.specs.Gathered.{IsAllAsked, IsUngathered, IsUnstored}
 use Rattle.review_deliveries.specs.declared.deliveries.Decided.{Decided}
 
--- what rules decide of a command by a file and rows, where a number is left for its request
+-- What rules decide of a command by a file and rows, as they promise it, and the number of its request, for which there is room. That the delta names each key once, which they promise too, is left out: what a commit does is said without it.
 pub record IsDecidedBy (caller epoch : ℕ) (command : Command) (file : Option File) (rows : Rows) (d : Decided) : Type 0 where
   pub request : (d.request ≡ number_of (known rows Requests) + 1) × (d.request ≤ most_requests)
   pub decided : (reading : Reading) (h : List Entry) → length h < most_requests → RestsOn (OfCommand command) h → AreEnough reading h caller (OfCommand command) file rows →
       IsDecidedAt reading h caller epoch command d.delta d.reply
   pub stored : IsStored d.reply
   pub refused : HasNoEffect d.reply d.delta
-  pub closes : d.delta.least_epoch ≡ closing (if_done d.reply command)
+  pub closes : d.delta.least_epoch ≡ new_least (if_done d.reply command)
   pub own : is_below d.delta.least_epoch epoch ≡ false
   pub raises : is_above d.delta.least_epoch (number_of (known rows LeastEpoch)) ≡ true
 
@@ -37,11 +37,11 @@ pub record ByTables (caller : ℕ) (command : Command) (IsHonest : Type 0) (tabl
   pub found : IsHonest → Shows tables (λ t. Agrees t rows)
   pub is : Is file rows
 
--- what was decided of a command
+-- so it was decided, by a file and rows that are so in the tables
 abbrev pub WasDecided : ℕ → ℕ → Command → Type 0 → Option Tables → Decided → Type 0
 WasDecided caller epoch command IsHonest tables d = ByTables caller command IsHonest tables (λ file rows. IsDecidedBy caller epoch command file rows d)
 
--- why nothing was decided: not all was gathered, or there is no number left, or the rules don't decide it
+-- Why nothing was decided. Where the store was honest, not all was gathered, for a cause that is so of the tables; or there is no number left, or the rules don't decide it, by a file and rows that are so in the tables.
 abbrev pub WasUndecided : ℕ → Command → Type 0 → Option Tables → Cause → Type 0
 WasUndecided caller command IsHonest tables cause =
     (IsHonest → IsUngathered (OfCommand command) tables cause) ⊎ ByTables caller command IsHonest tables (λ file rows. IsUnstored caller command file rows cause)

@@ -26,7 +26,7 @@ pub record IsDelivered (d : Delivery) (reply : Reply) (old new : Shown) : Type 0
 pub record WasRun (ds : List Delivery) (replies : List Reply) (old new : Shown) : Type 0 where
   pub each : length replies ≡ length ds
   pub honest : new.is_honest → old.is_honest
-  -- from the tables of any history, right replies and the tables of the history in which each request of an epoch that was open then stands once, at its first arrival
+  -- from the tables of any history, right replies and the tables of the history in which each request stands once, at the first arrival that is taken while its epoch is open
   pub acts_once : new.is_honest → (h : List Entry) → IsHistory h → Views h old.tables → IsRun h ds replies old new
   -- of the history that it leaves: each change joined its branch once, at its place, after what it stands on, and was ready just before
   pub branches : new.is_honest → (h : List Entry) → IsHistory h → Views h old.tables → AreSoundBranches (history_after h ds replies)

@@ -11,7 +11,7 @@ use Rattle.review_words.specs.History.{Entry, Identity, IsFirst, entry_of, store
 use Rattle.review_words.specs.Texts.{content_text, reply_text, IsStored}
 use Rattle.review_rows.specs.Answer.{IsHistory, IsAnswer, most_requests}
 use Rattle.review_rows.specs.Questions.{IsQueryAnswer}
-use Rattle.review_rows.specs.Rows.{Key, Count, ClosedEpochs, Tables, AnswerRow, Answered, is_above, is_below, closing}
+use Rattle.review_rows.specs.Rows.{Key, Count, ClosedEpochs, Tables, AnswerRow, Answered, is_above, is_below, new_least}
 use Rattle.review_rows.specs.View.{IsView, answer_row}
 use Rattle.review_rows.specs.Changes.{Reading, Reads}
 use Rattle.review_rows.specs.Decisions.{HasPatternIn, ReadsPattern, IsDoneOrRefused, asking_project}
@@ -220,10 +220,10 @@ pub record StoresRequest (i : Identity) (command : Command) (reply : Reply) (t u
   pub stands : Answers u i (Some (Answered (next_row i command reply t.requests)))
   pub requests : u.requests ≡ t.requests + 1
   -- the other requests stay, but that an accepted CloseEpoch gives up those of lower epochs than it names
-  pub others : (j : Identity) → is_same i j ≡ false → u.answer j ≡ (if is_below (closing (if_done reply command)) j.epoch then None else t.answer j)
+  pub others : (j : Identity) → is_same i j ≡ false → u.answer j ≡ (if is_below (new_least (if_done reply command)) j.epoch then None else t.answer j)
   -- nothing but an accepted CloseEpoch changes the least open epoch, and it makes the one that it names so, which is above it: no epoch opens again
-  pub least : u.count ClosedEpochs ≡ unwrap_or (closing (if_done reply command)) (t.count ClosedEpochs)
-  pub rises : is_above (closing (if_done reply command)) (t.count ClosedEpochs) ≡ true
+  pub least : u.count ClosedEpochs ≡ unwrap_or (new_least (if_done reply command)) (t.count ClosedEpochs)
+  pub rises : is_above (new_least (if_done reply command)) (t.count ClosedEpochs) ≡ true
   -- a refusal changes no row
   pub rows : KeepsRows reply t u
   pub version : u.version ≡ t.version

@@ -9,7 +9,7 @@ ghost use Rattle.review_rows.specs.Decisions.{RestsOn};
 ghost use Rattle.review_rows.specs.declared.rows.Want.{Want};
 ghost use Rattle.review_rows.specs.declared.rows.Want.TheVariants as want;
 ghost use Rattle.review_rows.specs.Known.{known, number_of};
-ghost use Rattle.review_rows.specs.Rows.{HasNoEffect, Tables, closing, is_above, is_below, kept_row};
+ghost use Rattle.review_rows.specs.Rows.{HasNoEffect, Tables, new_least, is_above, is_below, kept_row};
 ghost use Rattle.review_rows.specs.Shelf.{AddsNoStop, Answers, BlamesTables, CountsFaults, IsCommitted, LeavesUndone, Shows, StopLeavesOwnTables, Views};
 ghost use Rattle.review_rows.specs.Steps.{OfCommand};
 ghost use Rattle.review_rows.specs.View.{AreEnough, IsDecidedAt};

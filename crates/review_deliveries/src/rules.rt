@@ -14,7 +14,7 @@ pub trait Rules {
     ghost use Rattle.review_rows.specs.Answer.{most_requests};
     ghost use Rattle.review_rows.specs.Questions.{IsQueryAnswerBy};
     ghost use Rattle.review_rows.specs.Changes.{Reading};
-    ghost use Rattle.review_rows.specs.Rows.{HasNoEffect, closing, is_above, is_below};
+    ghost use Rattle.review_rows.specs.Rows.{HasNoEffect, new_least, is_above, is_below};
     ghost use Rattle.review_rows.specs.Known.{known, number_of};
     ghost use Rattle.review_rows.specs.declared.rows.Want.TheVariants as want;
     ghost use Rattle.review_rows.specs.Steps.{HasComeTo, HasFile, next, texts_for, topic_of, wants_in, unless_none, OfCommand, OfQuery};
@@ -62,7 +62,7 @@ pub trait Rules {
         ensures cause { IfErr result (IsUndecided caller command.now (option_copied read.entry) rows.now) }
         ensures stored { IfOk result (λ r. IsStored r.1) }
         ensures refused { IfOk result (λ r. HasNoEffect r.1 r.0) }
-        ensures closes { IfOk result (λ r. r.0.least_epoch ≡ closing (if_done r.1 command.now)) }
+        ensures closes { IfOk result (λ r. r.0.least_epoch ≡ new_least (if_done r.1 command.now)) }
         ensures own { IfOk result (λ r. is_below r.0.least_epoch epoch ≡ false) }
         ensures raises { IfOk result (λ r. is_above r.0.least_epoch (number_of (known rows.now want.LeastEpoch)) ≡ true) }
         ensures once { IfOk result (λ r. NamesEachOnce r.0) };

@@ -58,7 +58,7 @@ joined = with_rule (with_rule (with_rule (new_app (codes "joined")) file) projec
 abbrev pub top : App
 top = record (new_app (codes "review_desk")) { top = record (new_app (codes "review_desk")).top { no_binary_name = true; subcommand_required = true } }
 
--- the program with the commands that make a desk
+-- the program with the commands that make a desk, or make it one of version 3
 abbrev pub making : App
 making = with_subcommand (with_subcommand top init.top) migrate.top
 
@@ -74,6 +74,6 @@ desk = with_subcommand (with_subcommand changing show.top) joined.top
 abbrev pub IsLocal : Command → Type 0
 IsLocal c = (out-Command c).has_globals ≡ false
 
--- whatever command was made is this one, and has no argument that goes to those below it
+-- where a command was made, it is this one by the rules of `clap`, and has no argument that goes to those below it
 abbrev pub Makes : App → Result Command AllocError → Type 0
 Makes a made = IfOk made (λ c. (app_of c ≡ a) × IsLocal c)

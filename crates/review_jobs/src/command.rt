@@ -65,7 +65,7 @@ fn count_arg<'a>(alloc: Global) -> Arg<'a>
         .action(ArgAction::Set)
 }
 
-/// A command, if there is one, with an argument more.
+/// The command with an argument more, if there is a command.
 fn with_arg<'a>(
     command: Result<Command<'a>, AllocError>,
     arg: Arg<'a>,
@@ -75,7 +75,7 @@ fn with_arg<'a>(
     command?.arg(arg)
 }
 
-/// A program, if there is one, with a command more, if there is that.
+/// The program with a command more, if there are both.
 fn with_command<'a>(
     program: Result<Command<'a>, AllocError>,
     command: Result<Command<'a>, AllocError>,
@@ -125,7 +125,7 @@ fn top_command<'a>(alloc: Global) -> Command<'a>
         .subcommand_required(true)
 }
 
-/// The program with the commands that make a desk.
+/// The program with the commands that make a desk, or make it one of version 3.
 fn making_command<'a>(alloc: Global) -> Result<Command<'a>, AllocError>
     ensures { Makes making result }
 {

@@ -21,11 +21,11 @@ key_of i = record { epoch = i.epoch; caller = i.caller; id = i.id }
 abbrev pub is_among : List AnswerKey → AnswerKey → Bool
 is_among keys q = list_any (λ k. is_at (answer_cmp k) q) keys
 
--- a key, where its epoch is below the least
+-- a key, where its epoch is below the least open one
 abbrev pub if_lower : ℕ → AnswerKey → List AnswerKey
 if_lower least k = if nat_lt k.epoch least then k ∷ [] else []
 
--- the keys of rows whose epochs are below the least
+-- the keys of rows whose epochs are below the least open one
 abbrev pub lower : ℕ → List (AnswerKey × StoredAnswer) → List AnswerKey
 lower least rows = flat_map (λ e. if_lower least e.0) rows
 

@@ -48,7 +48,7 @@ fn tell_requests(found: Option<Option<DeskRow>>, rows: &mut Rows) -> Sight
     }
 }
 
-/// How many requests are stored.
+/// How many requests were ever stored.
 pub fn find_requests<S: Alter>(
     tx: &mut Transaction<'_, S>,
     alloc: Global,

@@ -15,8 +15,9 @@ use std::alloc::Global;
 /// The tables are then those of the history after it, and a stop leaves what it could leave before, or the whole effect with
 /// the answer; after Done or Refused it leaves only tables of a history that has the request.
 ///
-/// Pattern is lawful only for a first arrival that puts a project file with a pattern which the engine refuses, or that is judged by a
-/// project's file with a pattern: the file of the project that the command names, or of the change that it names.
+/// Pattern is lawful only for a first arrival that puts a project file with a pattern which the engine refuses, or where a first arrival is
+/// judged or a question answered by the effective file of a project that has a pattern in its own file or in an ancestor's: the project that it
+/// names, or that of the change that it names, or the parent of a project that it makes.
 ///
 /// On any tables whatever, what isn't taken, a used identity and a closed epoch leave them as they are, and Done and Refused either found
 /// the identity stored with this command and this reply, and left them, or stored the request beside the others, of which an
@@ -33,8 +34,8 @@ pub fn deliver<S: Shelf>(alloc: Global, shelf: &mut S, delivery: &Delivery) -> R
     review_deliveries::deliver(alloc, shelf, &mut DeskRules::new(alloc), delivery)
 }
 
-/// Takes deliveries in order. Whatever comes, repeated, lost or reordered, tables and replies are those of the run in which
-/// each request of an epoch that was open when it first came stands once, at its first arrival: from the tables of any history, each reply is the right one after the
+/// Takes deliveries in order. Whatever comes, repeated, lost or reordered, tables and replies are those of the run in which each request
+/// stands once, at the first arrival that is taken while its epoch is open: from the tables of any history, each reply is the right one after the
 /// deliveries before it, and the tables at the end are those of the history with each taken first arrival of an open epoch added, its repeats
 /// deleted; a repeat is told the first answer, or later that its epoch is closed, and changes nothing. Where there is no memory for the list of replies it stops before the first
 /// delivery, and only there.

@@ -228,8 +228,8 @@ IsOutcome reading h caller command reply = reply ≡ Done (done reading h comman
 abbrev pub IsAnswerBy : Reading → List Entry → ℕ → Command → Reply → Type 0
 IsAnswerBy reading h caller command reply = MatchOption (refused_by reading h caller command) (IsOutcome reading h caller command reply) (λ refusal. reply ≡ Refused refusal)
 
--- The checks of a CloseEpoch in a request of this epoch, after that of the caller: the epoch that is to be the least open one is not beyond the request's own, and it is above the
--- one that is so.
+-- The checks of a CloseEpoch in a request of this epoch, after those that the caller is an account and an administrator: the epoch that is to be the least open one is not beyond the
+-- request's own, and it is above the present one.
 abbrev pub epoch_checks : List Entry → ℕ → ℕ → List (Bool × Refusal)
 epoch_checks h epoch least = (nat_le least epoch, EpochAhead) ∷ (nat_lt (least_open h) least, SameState) ∷ []
 
@@ -259,8 +259,8 @@ IsAnswerIn h asking command reply =
     MatchBool (nat_lt asking.version 2 && puts_parent command) (IsAnswerWithoutParents h asking.caller command reply) (IsAnswer h asking.caller asking.epoch command reply)
 
 -- A history: each identity stands once, and its epoch was open before it; each reply is an answer after what stood before by the rules of its version;
--- there are at most so many requests, and versions never fall. Nothing is asked of the forms of names and numbers in it, nor that entries of version 1 are of epoch 0, so where a
--- history is assumed, more lists are spoken of than the desk can make.
+-- there are at most so many requests, and versions never fall. Nothing is asked of the forms of names and numbers in it, nor that entries of version 1 are of epoch 0 and close none, nor that an epoch is at most 1,000,000,000,
+-- so where a history is assumed, more lists are spoken of than the desk can make.
 abbrev pub IsHistory : List Entry → Type 0
 IsHistory [] = Unit {0}
 IsHistory (e ∷ h) =

@@ -136,7 +136,7 @@ pub enum Counted {
 /// reached its limit, of which a shelf may know more than its rows: none needs a walk over a table.
 #[derive(Drop)]
 pub enum Want {
-    /// How many requests are stored.
+    /// How many requests were ever stored, those that were given up among them.
     Requests,
     /// The account of a number.
     Account(AccountNo),

@@ -152,7 +152,7 @@ AreInUse accounts names = (k : NameKey) → row_in name_cmp names k ≡ Some tt 
 abbrev pub IsNumbered : List (Member × Unit {0}) → Type 0
 IsNumbered members = (k : Member) → row_in member_cmp members k ≡ Some tt → IsNumber k.account
 
--- nothing is counted more often than there were requests
+-- there are no more projects, and no more bases of a project, than there were requests
 pub record IsBounded (d : Desk) : Type 0 where
   pub projects : d.projects ≤ d.requests
   pub bases : (p : List ℕ) → total_in d.branches.totals p ≤ d.requests

@@ -11,10 +11,12 @@ use Rattle.review_database.specs.Loads.{AreLoaded, WereAsked}
 use Rattle.review_database.specs.declared.sights.Loaded.{Loaded}
 use Rattle.review_database.specs.declared.sights.Sight.{Sight}
 use Rattle.review_database.specs.declared.sights.Sight.TheVariants as sight
-use Rattle.review_sql.specs.Looking.{WereSeen, loaded_by}
+use Rattle.review_sql.specs.Loading.{WereSeen, loaded_by}
 
 on_loaded : (rows : Rows) (old new : State) (r : Result Sight Error) → Serves (WereSeen rows) old new r → Serves AreLoaded old new (loaded_by rows r)
-on_loaded rows old new (Ok s) it = record { found = it.found; undone = it.undone; survives = it.survives }
+on_loaded rows old new (Ok sight.Learnt) it = record { found = it.found; undone = it.undone; survives = it.survives }
+on_loaded rows old new (Ok sight.NoMemory) it = record { found = it.found; undone = it.undone; survives = it.survives }
+on_loaded rows old new (Ok sight.Damaged) it = record { found = it.found; undone = it.undone; survives = it.survives }
 on_loaded rows old new (Err e) it = record { found = it.found; undone = it.undone; survives = it.survives }
 
 pub served_loaded : (rows : Rows) (old new : State) (r : Result Sight Error) (l : Result Loaded Error) → l ≡ loaded_by rows r → Serves (WereSeen rows) old new r → Serves AreLoaded old new l

@@ -5,4 +5,4 @@ pub mod Said
 pub mod Opened
 pub mod Reopened
 pub mod Migrated
-pub mod Looking
+pub mod Loading

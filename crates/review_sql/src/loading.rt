@@ -4,7 +4,7 @@ ghost use Rattle.sqlite.specs.Held.{state};
 ghost use Rattle.review_statements.specs.Ran.{Looks, Serves};
 ghost use Rattle.review_rows.specs.Known.{AreAsked, known};
 ghost use Rattle.review_database.specs.Loads.{Sees, AreLoaded, HasLearnt, WereAsked};
-ghost use Rattle.review_sql.specs.Looking.{WereSeen, loaded_by};
+ghost use Rattle.review_sql.specs.Loading.{WereSeen, loaded_by};
 
 use review_change_lookups::{bases, joins, places, reviews, senders};
 use review_database::{Loaded, Sight};
@@ -51,7 +51,7 @@ fn find<S: Alter>(
     }
 }
 
-// Makes look-ups one after the other, up to one that tells nothing.
+// Makes look-ups one after the other, until all have learnt, or there is no memory, or one meets damage; what the rows know counts only where all have learnt.
 fn find_each<S: Alter>(
     tx: &mut Transaction<'_, S>,
     alloc: Global,

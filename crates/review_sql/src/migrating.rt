@@ -24,7 +24,7 @@ use review_transactions::Numbers;
 use sqlite::{Alter, Connection, Error, Transaction};
 use std::alloc::Global;
 
-// Says which epoch is the least open one, version 3, and how many requests are stored.
+// Says which epoch is the least open one, version 3, and how many requests were ever stored.
 fn put_version<S: Alter>(
     tx: &mut Transaction<'_, S>,
     alloc: Global,

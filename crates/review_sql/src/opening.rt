@@ -167,7 +167,7 @@ fn find_tables<S: Alter>(
     }
 }
 
-/// Whether the tables have the form that this version of them has where they were made here, how many requests are stored, and which epoch is the least open one. Nothing is written.
+/// Whether the tables have the form that this version of them has where they were made here, how many requests were ever stored, and which epoch is the least open one. Nothing is written.
 pub fn see_tables<S: Alter>(
     conn: &mut Connection<S>,
     alloc: Global,

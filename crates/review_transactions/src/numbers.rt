@@ -2,7 +2,7 @@
 
 use review_words::Epoch;
 
-/// What a desk says of itself: how many requests are stored, and which epoch is the least open one.
+/// What a desk says of itself: how many requests were ever stored, and which epoch is the least open one.
 #[derive(Clone, Copy, PartialEq, Eq)]
 pub struct Numbers {
     pub requests: u64,
@@ -10,7 +10,7 @@ pub struct Numbers {
 }
 
 impl Numbers {
-    ghost use Rattle.std.specs.Prelude.{◌≡◌, ◌+◌, ◌<◌, ◌^◌, IfSome};
+    ghost use Rattle.std.specs.Prelude.{◌≡◌, ◌+◌, ◌<◌, ◌≤◌, ◌^◌, IfSome, IfNone};
     ghost use Rattle.review_transactions.specs.Numbers.{with_request};
 
     /// What a desk without requests says.
@@ -27,6 +27,7 @@ impl Numbers {
     pub fn with_request(&self, epoch: Option<Epoch>) -> Option<Numbers>
         ensures value { IfSome result (λ numbers. numbers ≡ with_request self.now epoch) }
         ensures room { IfSome result (λ numbers. self.now.requests + 1 < 2 ^ 64) }
+        ensures none { IfNone result (2 ^ 64 ≤ self.now.requests + 1) }
     {
         let requests = self.requests.checked_add(1)?;
         let least = epoch.unwrap_or(self.least);

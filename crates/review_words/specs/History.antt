@@ -76,7 +76,7 @@ abbrev pub least_open : List Entry → ℕ
 least_open [] = 0
 least_open (e ∷ h) = raised (accepted e) (least_open h)
 
--- whether an epoch is closed
+-- whether an epoch is closed: it is below the least open one
 abbrev pub is_closed : List Entry → ℕ → Bool
 is_closed h epoch = nat_lt epoch (least_open h)
 

@@ -6,7 +6,7 @@ use Rattle.review_statements.specs.Ran.{Looks}
 use Rattle.review_tables.proofs.Found.{look_on}
 use Rattle.review_database.specs.declared.sights.Sight.TheVariants as sight
 use Rattle.review_database.specs.Loads.{Sees}
-use Rattle.review_sql.specs.Looking.{WereSeen}
+use Rattle.review_sql.specs.Loading.{WereSeen}
 use Rattle.review_sql.proofs.Finding.{Have, have_more, learnt_asked}
 use Rattle.review_sql.proofs.loading.find_each.Goals as goal
 

@@ -3,7 +3,7 @@ use Rattle.sqlite.specs.Held.{Held, state}
 use Rattle.sqlite.proofs.StateLemmas.{clean_if_open}
 use Rattle.review_statements.specs.Ran.{Serves}
 use Rattle.review_tables.proofs.Sequences.{look_failed, look_ended}
-use Rattle.review_sql.specs.Looking.{WereSeen}
+use Rattle.review_sql.specs.Loading.{WereSeen}
 use Rattle.review_sql.proofs.loading.load_each.Goals as goal
 
 pub returns-in_err-sight-clause-serves : goal.returns-in_err-sight-clause-serves

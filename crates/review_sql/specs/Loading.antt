@@ -1,13 +1,15 @@
--- What look-ups that are made one after the other tell.
+-- What look-ups tell that are made one after the other.
 use Rattle.std.specs.Prelude.{Result, Ok, Err}
 use Rattle.sqlite.specs.declared.error.Error.{Error}
 use Rattle.sqlite_trees.specs.Tree.{Trees}
+use Rattle.review_rows.specs.Known.{Agrees}
+use Rattle.review_rows.specs.Shelf.{IsDamaged}
 use Rattle.review_rows.specs.declared.rows.Rows.{Rows}
 use Rattle.review_database.specs.declared.sights.Loaded.{Loaded}
 use Rattle.review_database.specs.declared.sights.Loaded.TheVariants as loaded
 use Rattle.review_database.specs.declared.sights.Sight.{Sight}
 use Rattle.review_database.specs.declared.sights.Sight.TheVariants as sight
-use Rattle.review_database.specs.Loads.{AreLoaded}
+use Rattle.review_database.specs.Tables.{tables_at}
 
 -- what all found, by how the last one ended, and the rows that learnt it
 abbrev pub all_found : Rows → Sight → Loaded
@@ -20,6 +22,8 @@ abbrev pub loaded_by : Rows → Result Sight Error → Result Loaded Error
 loaded_by rows (Ok s) = Ok (all_found rows s)
 loaded_by rows (Err e) = Err e
 
--- how the last one ended, of these tables
+-- What look-ups tell of tables: where all learnt, what the rows know is so in them; where there was no memory, nothing; and where one met damage, they are those of no history.
 abbrev pub WereSeen : Rows → Trees → Sight → Type 0
-WereSeen rows db s = AreLoaded db (all_found rows s)
+WereSeen rows db sight.Learnt = Agrees (tables_at db) rows
+WereSeen rows db sight.NoMemory = Unit {0}
+WereSeen rows db sight.Damaged = IsDamaged (tables_at db)
