@@ -198,7 +198,7 @@ fn gather_and_decide<S: Shelf, R: Rules>(
     gather_and_decide_with(alloc, shelf, rules, &mut rows, caller, epoch, command)
 }
 
-// The same, with rows that know nothing yet.
+// The same, with rows that know nothing yet and are the caller's, so that they aren't written out whole at each way out.
 fn gather_and_decide_with<S: Shelf, R: Rules>(
     alloc: Global,
     shelf: &mut S,
