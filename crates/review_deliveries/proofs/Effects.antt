@@ -2,28 +2,22 @@
 use Rattle.std.proofs.Common.{◌≡◌, ℕ, ◌+◌, ◌≤◌, List, [], Option, Some, None, Result, Ok, Err, cond, refl, sym, ◌∙◌, subst, inl, inr, Bool, true, false, ap}
 use Rattle.std.specs.Prelude.{nat_lt, unwrap_or}
 use Rattle.review_words.specs.declared.command.Command.{Command}
-use Rattle.review_words.specs.declared.command.Command.TheVariants.{CreateAccount, PutGroup, PutProject, RecordBase, CreateChange, OnChange, Submit, CloseEpoch}
 use Rattle.review_words.specs.declared.command.Delivery.TheVariants.{Write}
 use Rattle.review_words.specs.declared.reply.Reply.{Reply}
 use Rattle.review_words.specs.declared.reply.Reply.TheVariants.{Done, Refused, IdentityReused, EpochClosed, NotTaken}
 use Rattle.review_words.specs.History.{Identity, is_same, latest, if_done}
 use Rattle.review_rows.specs.declared.rows.Delta.{Delta}
-use Rattle.review_rows.specs.declared.rows.Rows.{Rows}
 use Rattle.review_rows.specs.Rows.{Key, Count, ClosedEpochs, AnswerRow, Stored, Answered, Tables, HasNoEffect, after, count_after, new_least, is_above, is_below}
-use Rattle.review_rows.specs.declared.rows.Want.TheVariants.{LeastEpoch, Requests}
-use Rattle.review_rows.specs.Files.{File}
-use Rattle.review_rows.specs.Known.{Agrees, known, number_of}
-use Rattle.review_rows.specs.Steps.{OfCommand, next}
-use Rattle.review_rows.proofs.Asked.{least_epoch_is, requests_are}
 use Rattle.review_rows.specs.Shelf.{Answers, IsCommitted, Shows, LeavesBy, IsCounted, cause_of}
 use Rattle.review_rows.specs.declared.shelf.ShelfFault.{ShelfFault}
 use Rattle.review_rows.specs.declared.shelf.ShelfFault.TheVariants as fault
 use Rattle.review_words.specs.Texts.{IsStored, content_text}
 use Rattle.review_rows.specs.View.{answer_row}
-use Rattle.review_rows.specs.Answer.{most_requests}
 use Rattle.review_words.specs.declared.reply.NotTaken.{NotTaken as Cause}
 use Rattle.review_words.specs.declared.reply.NotTaken.TheVariants.{Memory, Store, Damaged, Pattern, Full}
 use Rattle.review_deliveries.proofs.Histories.{same_from, same_to}
+use Rattle.review_deliveries.specs.declared.deliveries.Decided.{Decided}
+use Rattle.review_deliveries.specs.Deciding.{WasDecided}
 use Rattle.review_deliveries.specs.Replies.{StoresOnce, IsFoundOrStored, StoresRequest, next_row, KeepsRows, KeepsUntaken, CountsReply, IsToldAgain, reply_of, HasStored, HasTexts, HasOtherContent}
 
 kept : (reply : Reply) (delta : Delta) (t u : Tables) → HasNoEffect reply delta → ((k : Key) → u.row k ≡ after delta k (t.row k)) → ((c : Count) → u.count c ≡ count_after delta t.row c (t.count c)) → KeepsRows reply t u
@@ -42,40 +36,21 @@ own_stays i j b x y own = at b (is_same i j) own
     at true false up = refl
     at false c up = refl
 
--- an accepted CloseEpoch names an epoch above the least open one
-rises : (command : Command) (reply : Reply) (o : Option ℕ) (file : Option File) (rows : Rows) (caller : ℕ) (t : Tables) →
-    Agrees t rows → next file rows caller (OfCommand command) ≡ [] → o ≡ new_least (if_done reply command) → is_above o (number_of (known rows LeastEpoch)) ≡ true →
-    is_above (new_least (if_done reply command)) (t.count ClosedEpochs) ≡ true
-rises (CloseEpoch least) (Done a) o file rows caller t agree left closes above =
-    ap (λ n. nat_lt n least) (sym (least_epoch_is t file rows caller least agree left)) ∙ (ap (λ p. is_above p (number_of (known rows LeastEpoch))) (sym closes) ∙ above)
-rises (CreateAccount name) (Done a) o file rows caller t agree left closes above = refl
-rises (PutGroup group members) (Done a) o file rows caller t agree left closes above = refl
-rises (PutProject project text) (Done a) o file rows caller t agree left closes above = refl
-rises (RecordBase project branch new) (Done a) o file rows caller t agree left closes above = refl
-rises (CreateChange new) (Done a) o file rows caller t agree left closes above = refl
-rises (OnChange change on) (Done a) o file rows caller t agree left closes above = refl
-rises (Submit change) (Done a) o file rows caller t agree left closes above = refl
-rises command (Refused r) o file rows caller t agree left closes above = refl
-rises command IdentityReused o file rows caller t agree left closes above = refl
-rises command EpochClosed o file rows caller t agree left closes above = refl
-rises command (NotTaken cause) o file rows caller t agree left closes above = refl
-
 -- the epoch of the request stays open
 still_open : (o : Option ℕ) (least epoch : ℕ) → is_below o epoch ≡ false → nat_lt epoch least ≡ false → nat_lt epoch (unwrap_or o least) ≡ false
 still_open None least epoch own opened = opened
 still_open (Some n) least epoch own opened = own
 
 -- a first arrival whose request was stored
-stored_request : (i : Identity) (command : Command) (reply : Reply) (delta : Delta) (file : Option File) (rows : Rows) (row : AnswerRow) (t u : Tables) →
-    Answers t i None → Agrees t rows → next file rows i.caller (OfCommand command) ≡ [] → HasNoEffect reply delta → delta.least_epoch ≡ new_least (if_done reply command) → is_below delta.least_epoch i.epoch ≡ false → is_above delta.least_epoch (number_of (known rows LeastEpoch)) ≡ true → IsCommitted t delta row u →
-    ((n : ℕ) → number_of (known rows Requests) ≡ n → row ≡ answer_row (record { identity = i; version = latest; command = command; reply = reply }) (n + 1)) → StoresRequest i command reply t u
-stored_request i command reply delta file rows row t u none agree left quiet closes own above c is = record {
+stored_request : (i : Identity) (command : Command) (reply : Reply) (delta : Delta) (row : AnswerRow) (t u : Tables) → Answers t i None → HasNoEffect reply delta → delta.least_epoch ≡ new_least (if_done reply command) →
+    is_below delta.least_epoch i.epoch ≡ false → is_above delta.least_epoch (t.count ClosedEpochs) ≡ true → IsCommitted t delta row u → row ≡ next_row i command reply t.requests → StoresRequest i command reply t u
+stored_request i command reply delta row t u none quiet closes own above c same = record {
   was_new = none;
   stands = (ap (nat_lt i.epoch) least ∙ still_open closed (t.count ClosedEpochs) i.epoch own_open none.0, answer_is i ∙ ap (λ b. cond b (Some (Answered (next_row i command reply t.requests))) (cond (is_below closed i.epoch) None (t.answer i))) (same_to i i refl));
   requests = c.requests;
   others = λ j other. answer_is j ∙ ap (λ b. cond b (Some (Answered (next_row i command reply t.requests))) (cond (is_below closed j.epoch) None (t.answer j))) other;
   least = least;
-  rises = rises command reply delta.least_epoch file rows i.caller t agree left closes above;
+  rises = ap (λ o. is_above o (t.count ClosedEpochs)) (sym closes) ∙ above;
   rows = kept reply delta t u quiet c.row_is c.count_is;
   version = c.version;
 }
@@ -86,9 +61,6 @@ stored_request i command reply delta file rows row t u none agree left quiet clo
     own_open : is_below closed i.epoch ≡ false
     own_open = ap (λ o. is_below o i.epoch) (sym closes) ∙ own
 
-    same : row ≡ next_row i command reply t.requests
-    same = is t.requests (requests_are t file rows i.caller command agree left)
-
     least : u.count ClosedEpochs ≡ unwrap_or closed (t.count ClosedEpochs)
     least = c.count_is ClosedEpochs ∙ ap (λ o. unwrap_or o (t.count ClosedEpochs)) closes
 
@@ -98,18 +70,17 @@ stored_request i command reply delta file rows row t u none agree left quiet clo
         ∙ own_stays i j (is_below closed j.epoch) (Some (Answered (next_row i command reply t.requests))) (t.answer j)
         (λ here. ap (λ n. is_below closed n) (λ k. (sym (same_from i j here) k).epoch) ∙ own_open)
 
-pub stored_shown : (i : Identity) (command : Command) (reply : Reply) (delta : Delta) (file : Option File) (rows : Rows) (row : AnswerRow) (old mid new : Option Tables) →
-    mid ≡ old → Shows old (λ t. Answers t i None) → Shows old (λ t. Agrees t rows) → next file rows i.caller (OfCommand command) ≡ [] → HasNoEffect reply delta → delta.least_epoch ≡ new_least (if_done reply command) → is_below delta.least_epoch i.epoch ≡ false → is_above delta.least_epoch (number_of (known rows LeastEpoch)) ≡ true → Shows mid (λ t. Shows new (IsCommitted t delta row)) →
-    ((n : ℕ) → number_of (known rows Requests) ≡ n → row ≡ answer_row (record { identity = i; version = latest; command = command; reply = reply }) (n + 1)) →
-    IsFoundOrStored i command reply old new
-stored_shown i command reply delta file rows row old mid new stays none agree left quiet closes own above c is =
-    inr (both old new none agree (subst (λ (m : Option Tables). Shows m (λ t. Shows new (IsCommitted t delta row))) stays c))
+pub stored_shown : (i : Identity) (command : Command) (d : Decided) (row : AnswerRow) (old mid new : Option Tables) → mid ≡ old → Shows old (λ t. Answers t i None) → WasDecided i.caller i.epoch command old d →
+    Shows mid (λ t. Shows new (IsCommitted t d.delta row)) → row ≡ answer_row (record { identity = i; version = latest; command = command; reply = d.reply }) d.request → IsFoundOrStored i command d.reply old new
+stored_shown i command d row old mid new stays none by c is = inr (both old new none by (subst (λ (m : Option Tables). Shows m (λ t. Shows new (IsCommitted t d.delta row))) stays c))
   where
-    both : (old new : Option Tables) → Shows old (λ t. Answers t i None) → Shows old (λ t. Agrees t rows) → Shows old (λ t. Shows new (IsCommitted t delta row)) →
-        Shows old (λ t. Shows new (StoresRequest i command reply t))
-    both None new none agree c = absurd c
-    both (Some t) None none agree c = absurd c
-    both (Some t) (Some u) none agree c = stored_request i command reply delta file rows row t u none agree left quiet closes own above c is
+    both : (old new : Option Tables) → Shows old (λ t. Answers t i None) → WasDecided i.caller i.epoch command old d → Shows old (λ t. Shows new (IsCommitted t d.delta row)) →
+        Shows old (λ t. Shows new (StoresRequest i command d.reply t))
+    both None new none by c = absurd c
+    both (Some t) None none by c = absurd c
+    both (Some t) (Some u) none by c =
+        stored_request i command d.reply d.delta row t u none by.refused by.closes by.own by.raises c
+        (is ∙ ap (answer_row (record { identity = i; version = latest; command = command; reply = d.reply })) by.request.0)
 
 pub stores_once : (caller epoch : ℕ) (id : List ℕ) (command : Command) (reply : Reply) (old new : Option Tables) →
     IsFoundOrStored (record { caller = caller; epoch = epoch; id = id }) command reply old new → StoresOnce (Write caller epoch id command) reply old new
@@ -160,14 +131,6 @@ pub fault_keeps : (caller epoch : ℕ) (id : List ℕ) (command : Command) (f : 
 fault_keeps caller epoch id command fault.Memory old new stays = (tt, stays)
 fault_keeps caller epoch id command fault.Store old new stays = (tt, stays)
 fault_keeps caller epoch id command fault.Damaged old new stays = (tt, stays)
-
--- a new identity after the last number
-pub full_keeps : (caller epoch : ℕ) (id : List ℕ) (command : Command) (file : Option File) (rows : Rows) (old new : Option Tables) →
-    Shows old (λ t. Answers t (record { caller = caller; epoch = epoch; id = id }) None) → Shows old (λ t. Agrees t rows) → next file rows caller (OfCommand command) ≡ [] →
-    most_requests ≤ number_of (known rows Requests) → new ≡ old →
-    KeepsUntaken (Write caller epoch id command) (NotTaken Full) old new
-full_keeps caller epoch id command file rows None new none agree left most stays = absurd none
-full_keeps caller epoch id command file rows (Some t) new none agree left most stays = ((none, subst (λ n. most_requests ≤ n) (requests_are t file rows caller command agree left) most), stays)
 
 -- an answer that is stored says nothing of faults
 pub stored_counts : (reply : Reply) (before after : ℕ) → IsStored reply → after ≡ before → CountsReply reply before after

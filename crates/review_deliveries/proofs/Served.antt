@@ -21,19 +21,18 @@ use Rattle.review_rows.specs.declared.shelf.ShelfFault.TheVariants as fault
 use Rattle.review_rows.specs.declared.rows.Delta.{Delta}
 use Rattle.review_rows.specs.declared.rows.Rows.{Rows}
 use Rattle.review_rows.specs.Rows.{AnswerRow, Answered, Tables, ClosedEpochs}
-use Rattle.review_rows.specs.Steps.{OfCommand, OfQuery}
+use Rattle.review_rows.specs.Steps.{OfQuery}
 use Rattle.review_rows.specs.Answer.{IsHistory, IsAnswer, most_requests}
 use Rattle.review_rows.specs.Questions.{IsQueryAnswer, IsQueryAnswerBy}
 use Rattle.review_rows.specs.View.{AreEnough, IsView, IsDecidedAt, answer_row}
 use Rattle.review_rows.specs.Shelf.{Answers, IsCommitted, Shown, Shows, Views, LeavesBy, StopLeavesOwnTables, AddsNoStop, IsCounted, Blames, cause_of, IsClosedIn}
-use Rattle.review_rows.specs.Decisions.{IsUndecided, IsUnshown, IsDoneOrRefused, RestsOn}
+use Rattle.review_rows.specs.Decisions.{IsUnshown, IsDoneOrRefused, RestsOn}
 use Rattle.review_rows.specs.Changes.{Reading, Reads}
 use Rattle.review_rows.specs.Files.{File}
 use Rattle.review_rows.specs.Known.{Agrees}
 use Rattle.review_rows.proofs.Readings.{reading_of}
 use Rattle.review_deliveries.specs.Gathered.{IsAllAsked, IsUngathered}
 use Rattle.review_deliveries.specs.Replies.{history_after, has_identity, with_entries as hist, IsRight, IsTold, IsToldOfStored, IsServed, IsToldAgain, IsLawful, reply_of, IsNew, HasEffect, StopGoesOnFrom, StopHasEntry, IsEntered, GoesOn, KeepsUntaken, CountsReply}
-use Rattle.review_deliveries.proofs.Patterns.{reads_pattern}
 use Rattle.review_deliveries.proofs.Resting.{rests_on}
 use Rattle.review_deliveries.proofs.Histories.{answers_are, passed_over, told_where, where_told, latest_follows, recalled, not_recalled, view_grows, answer_given, stored_given, enough_shown, stored_stays, stored_here, same_to}
 
@@ -344,41 +343,6 @@ pub alone_since : (h : List Entry) (s : Shown) → IsHistory h → Views h s.tab
 alone_since h s hist v alone t x = ([], hist, subst (Views h) (alone t x) v)
 
 -- a command that was not decided
-pub undecided_lawful : (h : List Entry) (caller epoch : ℕ) (id : List ℕ) (command : Command) (file : Option File) (rows : Rows) (cause : Cause) (before after : ℕ) → IsHistory h →
-    ((reading : Reading) → Reads reading h → AreEnough reading h caller (OfCommand command) file rows) →
-    IsFirst h (record { caller = caller; epoch = epoch; id = id }) → IsUndecided caller command file rows cause → after ≡ before → IsLawful h (Write caller epoch id command) cause before after
-undecided_lawful h caller epoch id command file rows Memory before after hist l none u same = same
-undecided_lawful h caller epoch id command file rows Pattern before after hist l none u same = (none, (λ reading reads. reads_pattern reading h hist caller command file rows (l reading reads) u), same)
-undecided_lawful h caller epoch id command file rows Damaged before after hist l none u same = let r = reading_of h hist in absurd (u r.0 h hist (l r.0 r.1))
-undecided_lawful h caller epoch id command file rows Store before after hist l none u same = absurd u
-undecided_lawful h caller epoch id command file rows Full before after hist l none u same = absurd u
-
-pub undecided_keeps : (caller epoch : ℕ) (id : List ℕ) (command : Command) (file : Option File) (rows : Rows) (cause : Cause) (old new : Option Tables) → IsUndecided caller command file rows cause → new ≡ old →
-    KeepsUntaken (Write caller epoch id command) (NotTaken cause) old new
-undecided_keeps caller epoch id command file rows Memory old new u same = (tt, same)
-undecided_keeps caller epoch id command file rows Pattern old new u same = (tt, same)
-undecided_keeps caller epoch id command file rows Damaged old new u same = (tt, same)
-undecided_keeps caller epoch id command file rows Store old new u same = absurd u
-undecided_keeps caller epoch id command file rows Full old new u same = absurd u
-
-pub undecided_counts : (caller : ℕ) (command : Command) (file : Option File) (rows : Rows) (cause : Cause) (before after : ℕ) → IsUndecided caller command file rows cause → after ≡ before → CountsReply (NotTaken cause) before after
-undecided_counts caller command file rows Memory before after u same = same
-undecided_counts caller command file rows Pattern before after u same = same
-undecided_counts caller command file rows Damaged before after u same = same
-undecided_counts caller command file rows Store before after u same = absurd u
-undecided_counts caller command file rows Full before after u same = absurd u
-
--- why not all was gathered
-ungathered_lawful : (h : List Entry) (caller epoch : ℕ) (id : List ℕ) (command : Command) (tables : Option Tables) (cause : Cause) (before after : ℕ) → IsHistory h → Views h tables →
-    IsFirst h (record { caller = caller; epoch = epoch; id = id }) → IsUngathered (OfCommand command) tables cause → CountsReply (NotTaken cause) before after → IsLawful h (Write caller epoch id command) cause before after
-ungathered_lawful h caller epoch id command tables Memory before after hist v none u counted = counted
-ungathered_lawful h caller epoch id command tables Store before after hist v none u counted = counted
-ungathered_lawful h caller epoch id command None Damaged before after hist v none u counted = absurd u
-ungathered_lawful h caller epoch id command (Some t) Damaged before after hist v none u counted = absurd (u h hist v)
-ungathered_lawful h caller epoch id command None Pattern before after hist v none u counted = absurd u
-ungathered_lawful h caller epoch id command (Some t) Pattern before after hist v none u counted = (none, (λ reading reads. inr (u reading h reads v)), counted)
-ungathered_lawful h caller epoch id command tables Full before after hist v none u counted = absurd u
-
 unread_lawful : (h : List Entry) (caller : ℕ) (query : Query) (tables : Option Tables) (cause : Cause) (before after : ℕ) → IsHistory h → Views h tables →
     IsUngathered (OfQuery query) tables cause → CountsReply (NotTaken cause) before after → IsLawful h (Read caller query) cause before after
 unread_lawful h caller query tables Memory before after hist v u counted = counted
@@ -399,28 +363,12 @@ views_left_by h Store old new (inl e) v = subst (Views h) (sym e) v
 views_left_by h Store old new (inr e) v = subst (Views h) (sym e) tt
 
 -- a command for which not all was gathered
-pub ungathered_served : (h : List Entry) (caller epoch : ℕ) (id : List ℕ) (command : Command) (cause : Cause) (old new : Shown) → IsHistory h → Views h old.tables →
-    IsFirst h (record { caller = caller; epoch = epoch; id = id }) → IsUngathered (OfCommand command) old.tables cause → LeavesBy cause old.tables new.tables →
-    CountsReply (NotTaken cause) old.faults new.faults → AddsNoStop old new → IsServed h (Write caller epoch id command) (NotTaken cause) old new
-ungathered_served h caller epoch id command cause old new hist v none u left counted adds =
-    not_taken_served h (Write caller epoch id command) cause old new hist (views_left_by h cause old.tables new.tables left v)
-    (ungathered_lawful h caller epoch id command old.tables cause old.faults new.faults hist v none u counted) (λ t x. inl (adds t x))
-
--- and a question
 pub unread_served : (h : List Entry) (caller : ℕ) (query : Query) (cause : Cause) (old new : Shown) → IsHistory h → Views h old.tables →
     IsUngathered (OfQuery query) old.tables cause → LeavesBy cause old.tables new.tables →
     CountsReply (NotTaken cause) old.faults new.faults → AddsNoStop old new → IsServed h (Read caller query) (NotTaken cause) old new
 unread_served h caller query cause old new hist v u left counted adds =
     not_taken_served h (Read caller query) cause old new hist (views_left_by h cause old.tables new.tables left v)
     (unread_lawful h caller query old.tables cause old.faults new.faults hist v u counted) (λ t x. inl (adds t x))
-
-pub ungathered_keeps : (caller epoch : ℕ) (id : List ℕ) (command : Command) (cause : Cause) (old new : Option Tables) → IsUngathered (OfCommand command) old cause → LeavesBy cause old new →
-    KeepsUntaken (Write caller epoch id command) (NotTaken cause) old new
-ungathered_keeps caller epoch id command Memory old new u left = (tt, left)
-ungathered_keeps caller epoch id command Store old new u left = (tt, left)
-ungathered_keeps caller epoch id command Damaged old new u left = (tt, left)
-ungathered_keeps caller epoch id command Pattern old new u left = (tt, left)
-ungathered_keeps caller epoch id command Full old new u left = absurd u
 
 -- a question that was not answered
 unshown_lawful : (h : List Entry) (caller : ℕ) (query : Query) (file : Option File) (rows : Rows) (cause : Cause) (before after : ℕ) → IsHistory h →

@@ -1,24 +1,25 @@
 -- What is decided of a command that is new, by what the tables tell.
-use Rattle.std.specs.Prelude.{ℕ, ◌≡◌, ◌≤◌, ◌<◌, ◌+◌, ◌⊎◌, List, Option, length, true, false}
+use Rattle.std.specs.Prelude.{ℕ, ◌≡◌, ◌≤◌, ◌<◌, ◌+◌, List, Option, length, true, false}
 use Rattle.review_words.specs.Texts.{IsStored}
 use Rattle.review_words.specs.History.{Entry, if_done}
 use Rattle.review_words.specs.declared.command.Command.{Command}
 use Rattle.review_words.specs.declared.reply.NotTaken.{NotTaken as Cause}
-use Rattle.review_rows.specs.Answer.{most_requests}
-use Rattle.review_rows.specs.Changes.{Reading}
-use Rattle.review_rows.specs.Decisions.{RestsOn}
+use Rattle.review_words.specs.declared.reply.NotTaken.TheVariants.{Memory, Store, Damaged, Pattern, Full}
+use Rattle.review_rows.specs.Answer.{IsHistory, most_requests}
+use Rattle.review_rows.specs.Changes.{Reading, Reads}
+use Rattle.review_rows.specs.Decisions.{ReadsPattern, RestsOn}
 use Rattle.review_rows.specs.Files.{File}
-use Rattle.review_rows.specs.Known.{known, number_of, Agrees}
-use Rattle.review_rows.specs.Rows.{HasNoEffect, Tables, new_least, is_above, is_below}
-use Rattle.review_rows.specs.Shelf.{Shows}
+use Rattle.review_rows.specs.Known.{known, number_of}
+use Rattle.review_rows.specs.Rows.{ClosedEpochs, HasNoEffect, Tables, is_above, is_below, new_least}
+use Rattle.review_rows.specs.Shelf.{IsDamaged, Shows, Views}
 use Rattle.review_rows.specs.Steps.{OfCommand}
-use Rattle.review_rows.specs.View.{AreEnough, IsDecidedAt}
+use Rattle.review_rows.specs.View.{AreEnough, IsDecidedAt, IsView}
 use Rattle.review_rows.specs.declared.rows.Rows.{Rows}
 use Rattle.review_rows.specs.declared.rows.Want.TheVariants.{LeastEpoch, Requests}
-use Rattle.review_deliveries.specs.Gathered.{IsAllAsked, IsUngathered, IsUnstored}
 use Rattle.review_deliveries.specs.declared.deliveries.Decided.{Decided}
 
--- What rules decide of a command by a file and rows, as they promise it, and the number of its request, for which there is room. That the delta names each key once, which they promise too, is left out: what a commit does is said without it.
+-- What rules decide of a command by a file and rows, and the number of its request, for which there is room. They promise too that the delta names each key once;
+-- what a commit does is said without it.
 pub record IsDecidedBy (caller epoch : ℕ) (command : Command) (file : Option File) (rows : Rows) (d : Decided) : Type 0 where
   pub request : (d.request ≡ number_of (known rows Requests) + 1) × (d.request ≤ most_requests)
   pub decided : (reading : Reading) (h : List Entry) → length h < most_requests → RestsOn (OfCommand command) h → AreEnough reading h caller (OfCommand command) file rows →
@@ -29,19 +30,28 @@ pub record IsDecidedBy (caller epoch : ℕ) (command : Command) (file : Option F
   pub own : is_below d.delta.least_epoch epoch ≡ false
   pub raises : is_above d.delta.least_epoch (number_of (known rows LeastEpoch)) ≡ true
 
--- A file and rows by which something is so of a command: the rows hold all that is asked, and what they hold is so in the tables where the store was honest.
-pub record ByTables (caller : ℕ) (command : Command) (IsHonest : Type 0) (tables : Option Tables) (Is : Option File → Rows → Type 0) : Type 0 where
-  pub file : Option File
-  pub rows : Rows
-  pub asked : IsAllAsked caller (OfCommand command) file rows
-  pub found : IsHonest → Shows tables (λ t. Agrees t rows)
-  pub is : Is file rows
+-- What was decided of a command, by the tables.
+pub record WasDecided (caller epoch : ℕ) (command : Command) (tables : Option Tables) (d : Decided) : Type 0 where
+  -- its request has the next number, for which there is room
+  pub request : Shows tables (λ t. d.request ≡ t.requests + 1) × (d.request ≤ most_requests)
+  -- it is right after each history whose tables these are
+  pub right : (reading : Reading) (h : List Entry) → IsHistory h → Reads reading h → Views h tables → IsDecidedAt reading h caller epoch command d.delta d.reply
+  -- on any tables whatever a refusal changes nothing
+  pub refused : HasNoEffect d.reply d.delta
+  -- and nothing but an accepted CloseEpoch changes the least open epoch: it makes the one that it names so, which is above the present one and not above that of the request
+  pub closes : d.delta.least_epoch ≡ new_least (if_done d.reply command)
+  pub own : is_below d.delta.least_epoch epoch ≡ false
+  pub raises : Shows tables (λ t. is_above d.delta.least_epoch (t.count ClosedEpochs) ≡ true)
 
--- so it was decided, by a file and rows that are so in the tables
-abbrev pub WasDecided : ℕ → ℕ → Command → Type 0 → Option Tables → Decided → Type 0
-WasDecided caller epoch command IsHonest tables d = ByTables caller command IsHonest tables (λ file rows. IsDecidedBy caller epoch command file rows d)
+-- in each history whose tables these are the command reads a pattern that the engine may refuse
+abbrev pub IsPutOrJudgedByPattern : Command → Tables → Type 0
+IsPutOrJudgedByPattern command t = (reading : Reading) (h : List Entry) → IsHistory h → Reads reading h → IsView h t → ReadsPattern reading h command
 
--- Why nothing was decided. Where the store was honest, not all was gathered, for a cause that is so of the tables; or there is no number left, or the rules don't decide it, by a file and rows that are so in the tables.
-abbrev pub WasUndecided : ℕ → Command → Type 0 → Option Tables → Cause → Type 0
-WasUndecided caller command IsHonest tables cause =
-    (IsHonest → IsUngathered (OfCommand command) tables cause) ⊎ ByTables caller command IsHonest tables (λ file rows. IsUnstored caller command file rows cause)
+-- Why nothing was decided of a command, by the tables: want of memory, a fault of the store, tables that are those of no history, a pattern that the engine may refuse,
+-- or no number that is left for its request.
+abbrev pub WasUndecided : Command → Option Tables → Cause → Type 0
+WasUndecided command tables Memory = Unit {0}
+WasUndecided command tables Store = Unit {0}
+WasUndecided command tables Damaged = Shows tables IsDamaged
+WasUndecided command tables Pattern = Shows tables (IsPutOrJudgedByPattern command)
+WasUndecided command tables Full = Shows tables (λ t. most_requests ≤ t.requests)

@@ -188,8 +188,9 @@ fn gather_and_decide<S: Shelf, R: Rules>(
     command: &Command,
 ) -> Result<Decided, NotTaken>
     ensures honest { (S.state shelf.new).is_honest → (S.state shelf.old).is_honest }
-    ensures decided { IfOk result (WasDecided caller epoch command.now (S.state shelf.new).is_honest (S.state shelf.old).tables) }
-    ensures cause { IfErr result (WasUndecided caller command.now (S.state shelf.new).is_honest (S.state shelf.old).tables) }
+    ensures decided { (S.state shelf.new).is_honest → IfOk result (WasDecided caller epoch command.now (S.state shelf.old).tables) }
+    ensures stored { IfOk result (λ decided. IsStored decided.reply) }
+    ensures cause { (S.state shelf.new).is_honest → IfErr result (WasUndecided command.now (S.state shelf.old).tables) }
     ensures tables { (S.state shelf.new).is_honest → LeavesTables result (S.state shelf.old).tables (S.state shelf.new).tables }
     ensures stops { (S.state shelf.new).is_honest → AddsNoStop (S.state shelf.old) (S.state shelf.new) }
     ensures counted { CountsCause result (S.state shelf.old).faults (S.state shelf.new).faults }
@@ -210,8 +211,9 @@ fn gather_and_decide_with<S: Shelf, R: Rules>(
 ) -> Result<Decided, NotTaken>
     requires nothing { (w : Want) → known rows.old w ≡ None }
     ensures honest { (S.state shelf.new).is_honest → (S.state shelf.old).is_honest }
-    ensures decided { IfOk result (WasDecided caller epoch command.now (S.state shelf.new).is_honest (S.state shelf.old).tables) }
-    ensures cause { IfErr result (WasUndecided caller command.now (S.state shelf.new).is_honest (S.state shelf.old).tables) }
+    ensures decided { (S.state shelf.new).is_honest → IfOk result (WasDecided caller epoch command.now (S.state shelf.old).tables) }
+    ensures stored { IfOk result (λ decided. IsStored decided.reply) }
+    ensures cause { (S.state shelf.new).is_honest → IfErr result (WasUndecided command.now (S.state shelf.old).tables) }
     ensures tables { (S.state shelf.new).is_honest → LeavesTables result (S.state shelf.old).tables (S.state shelf.new).tables }
     ensures stops { (S.state shelf.new).is_honest → AddsNoStop (S.state shelf.old) (S.state shelf.new) }
     ensures counted { CountsCause result (S.state shelf.old).faults (S.state shelf.new).faults }

@@ -5,13 +5,14 @@ use Rattle.review_words.specs.Texts.{reply_text}
 use Rattle.review_words.specs.declared.command.Delivery.TheVariants.{Write}
 use Rattle.review_words.specs.declared.reply.Reply.TheVariants.{NotTaken}
 use Rattle.review_rows.specs.Answer.{most_requests}
+use Rattle.review_rows.specs.Changes.{Reading, Reads}
 use Rattle.review_rows.specs.Rows.{AnswerRow}
 use Rattle.review_rows.specs.Shelf.{IsCommitted, IsCounted, Shows, cause_of}
 use Rattle.review_rows.specs.View.{answer_row}
 use Rattle.review_deliveries.specs.Kept.{row_for}
 use Rattle.review_deliveries.specs.Replies.{IsServed, KeepsUntaken, CountsReply}
 use Rattle.review_deliveries.proofs.Asking.{left_before}
-use Rattle.review_deliveries.proofs.Deciding.{decided_after, next_number, undecided_keeps_tables, undecided_served}
+use Rattle.review_deliveries.proofs.Deciding.{next_number, undecided_keeps, undecided_served}
 use Rattle.review_deliveries.proofs.Effects.{stores_once, stored_shown, decided_keeps, fault_keeps, fault_counts, stored_counts}
 use Rattle.review_deliveries.proofs.Served.{after_read, effect, err_reply, fault_served, first_served, views_stay}
 use Rattle.review_deliveries.proofs.deliveries.first_arrival.Goals as goal
@@ -26,9 +27,10 @@ returns-clause-served g c = λ honest h hist v fresh.
     let mid = g.S.Shelf.state c.gather_and_decide.new.shelf in
     let new = g.S.Shelf.state c.store.new.shelf in
     let between = y.honest honest in
-    let number : decided.request ≡ length h + 1 = next_number h a.caller a.epoch a.command.now _ old.tables decided hist v between x.decided in
-    let room : length h < most_requests = let p = x.decided.is.request.1 in let q = number in omega arith in
-    let d = decided_after h a.caller a.epoch a.command.now _ old.tables decided hist v between x.decided room in
+    let by = x.decided between in
+    let number : decided.request ≡ length h + 1 = next_number h a.caller a.epoch a.command.now old.tables decided hist v by in
+    let room : length h < most_requests = let p = by.request.1 in let q = number in omega arith in
+    let d = (λ (reading : Reading) (reads : Reads reading h). by.right reading h hist reads v) in
     let row : AnswerRow = row_for a.caller a.epoch a.id.now decided (string_bytes a.content) in
     let is : row ≡ answer_row (entry_of a.caller a.epoch a.id.now a.command.now decided.reply) (length h + 1) =
     λ i. record { identity = record { caller = a.caller; epoch = a.epoch; id = a.id.now }; request = number i; content = c.requires.content i; reply = reply_text decided.reply } in
@@ -41,27 +43,25 @@ returns-clause-served g c = λ honest h hist v fresh.
 
 pub returns-clause-counted : goal.returns-clause-counted
 returns-clause-counted g c =
-    stored_counts c.in_ok-decided.decided.reply (g.S.Shelf.state c.args.shelf.now).faults (g.S.Shelf.state c.store.new.shelf).faults c.in_ok-decided.ensures.decided.is.stored (c.in_ok-store.ensures.counted ∙ c.in_ok-decided.ensures.counted)
+    stored_counts c.in_ok-decided.decided.reply (g.S.Shelf.state c.args.shelf.now).faults (g.S.Shelf.state c.store.new.shelf).faults c.in_ok-decided.ensures.stored (c.in_ok-store.ensures.counted ∙ c.in_ok-decided.ensures.counted)
 
 pub returns-clause-unchanged : goal.returns-clause-unchanged
 returns-clause-unchanged g c = λ honest none.
     let a = c.args in
-    decided_keeps a.caller a.epoch a.id.now a.command.now c.in_ok-decided.decided.reply (g.S.Shelf.state a.shelf.now).tables (g.S.Shelf.state c.store.new.shelf).tables c.in_ok-decided.ensures.decided.is.stored
+    decided_keeps a.caller a.epoch a.id.now a.command.now c.in_ok-decided.decided.reply (g.S.Shelf.state a.shelf.now).tables (g.S.Shelf.state c.store.new.shelf).tables c.in_ok-decided.ensures.stored
 
 pub returns-clause-once : goal.returns-clause-once
 returns-clause-once g c = λ honest none.
     let x = c.in_ok-decided.ensures in
     let y = c.in_ok-store.ensures in
     let a = c.args in
-    let by = x.decided in
     let decided = c.in_ok-decided.decided in
     let i : Identity = record { caller = a.caller; epoch = a.epoch; id = a.id.now } in
     let between = y.honest honest in
     stores_once a.caller a.epoch a.id.now a.command.now decided.reply (g.S.Shelf.state a.shelf.now).tables (g.S.Shelf.state c.store.new.shelf).tables
-    (stored_shown i a.command.now decided.reply decided.delta by.file by.rows _
+    (stored_shown i a.command.now decided _
     (g.S.Shelf.state a.shelf.now).tables (g.S.Shelf.state c.gather_and_decide.new.shelf).tables (g.S.Shelf.state c.store.new.shelf).tables
-    (x.tables between) none (by.found between) by.asked.0 by.is.refused by.is.closes by.is.own by.is.raises (y.done honest)
-    (λ n e k. record { identity = record { caller = a.caller; epoch = a.epoch; id = a.id.now }; request = (by.is.request.0 ∙ ap (λ m. m + 1) e) k; content = c.requires.content k; reply = reply_text decided.reply }))
+    (x.tables between) none (x.decided between) (y.done honest) (λ k. record { identity = i; request = decided.request; content = c.requires.content k; reply = reply_text decided.reply }))
 
 pub returns-in_err-decided-clause-served : goal.returns-in_err-decided-clause-served
 returns-in_err-decided-clause-served g c = λ honest h hist v fresh.
@@ -71,7 +71,7 @@ returns-in_err-decided-clause-served g c = λ honest h hist v fresh.
     let old = g.S.Shelf.state a.shelf.now in
     let new = g.S.Shelf.state c.gather_and_decide.new.shelf in
     subst (λ r. IsServed h (Write a.caller a.epoch a.id.now a.command.now) r old new) (err_reply c.from_residual.result cause c.from_residual.ensures)
-    (undecided_served h a.caller a.epoch a.id.now a.command.now cause _ old new hist v fresh honest x.cause (x.tables honest) x.counted (x.stops honest))
+    (undecided_served h a.caller a.epoch a.id.now a.command.now cause old new hist v fresh (x.cause honest) (x.tables honest) x.counted (x.stops honest))
 
 pub returns-in_err-decided-clause-unchanged : goal.returns-in_err-decided-clause-unchanged
 returns-in_err-decided-clause-unchanged g c = λ honest none.
@@ -81,7 +81,7 @@ returns-in_err-decided-clause-unchanged g c = λ honest none.
     let old = (g.S.Shelf.state a.shelf.now).tables in
     let new = (g.S.Shelf.state c.gather_and_decide.new.shelf).tables in
     subst (λ r. KeepsUntaken (Write a.caller a.epoch a.id.now a.command.now) r old new) (err_reply c.from_residual.result cause c.from_residual.ensures)
-    (undecided_keeps_tables a.caller a.epoch a.id.now a.command.now cause _ old new none honest x.cause (x.tables honest))
+    (undecided_keeps a.caller a.epoch a.id.now a.command.now cause old new none (x.cause honest) (x.tables honest))
 
 pub returns-in_err-decided-clause-counted : goal.returns-in_err-decided-clause-counted
 returns-in_err-decided-clause-counted g c =
@@ -101,9 +101,10 @@ returns-in_err-store-clause-served g c = λ honest h hist v fresh.
     let mid = g.S.Shelf.state c.gather_and_decide.new.shelf in
     let new = g.S.Shelf.state c.store.new.shelf in
     let between = y.honest honest in
-    let number : decided.request ≡ length h + 1 = next_number h a.caller a.epoch a.command.now _ old.tables decided hist v between x.decided in
-    let room : length h < most_requests = let p = x.decided.is.request.1 in let q = number in omega arith in
-    let d = decided_after h a.caller a.epoch a.command.now _ old.tables decided hist v between x.decided room in
+    let by = x.decided between in
+    let number : decided.request ≡ length h + 1 = next_number h a.caller a.epoch a.command.now old.tables decided hist v by in
+    let room : length h < most_requests = let p = by.request.1 in let q = number in omega arith in
+    let d = (λ (reading : Reading) (reads : Reads reading h). by.right reading h hist reads v) in
     let row : AnswerRow = row_for a.caller a.epoch a.id.now decided (string_bytes a.content) in
     let is : row ≡ answer_row (entry_of a.caller a.epoch a.id.now a.command.now decided.reply) (length h + 1) =
     λ i. record { identity = record { caller = a.caller; epoch = a.epoch; id = a.id.now }; request = number i; content = c.requires.content i; reply = reply_text decided.reply } in

@@ -3,27 +3,28 @@ use Rattle.std.specs.Prelude.{option_copied}
 use Rattle.review_rows.specs.Steps.{OfCommand}
 use Rattle.review_deliveries.specs.Deciding.{WasUndecided}
 use Rattle.review_deliveries.specs.Gathered.{IsAllAsked}
-use Rattle.review_deliveries.proofs.Deciding.{counts_none, leaves_alike, was_decided, was_undecided}
+use Rattle.review_deliveries.proofs.Deciding.{counts_none, leaves_alike, ungathered_undecided, was_decided, was_stored, was_undecided}
 use Rattle.review_deliveries.proofs.Filed.{passed_on}
 use Rattle.review_deliveries.proofs.deliveries.gather_and_decide_with.Goals as goal
 
 pub returns-clause-decided : goal.returns-clause-decided
-returns-clause-decided g c =
+returns-clause-decided g c = λ honest.
     let x = c.in_ok-read.ensures in
     let a = c.args in
     let file = option_copied c.as_ref.result in
     let asked = subst (λ f. IsAllAsked a.caller (OfCommand a.command.now) f c.gathered.new.rows) (sym c.as_ref.ensures.value) x.enough in
-    was_decided a.caller a.epoch a.command.now _ (g.S.Shelf.state a.shelf.now).tables file c.gathered.new.rows c.decide.result asked
-    (λ honest. x.found honest (inl c.requires.nothing)) c.decide.ensures.decided
+    was_decided a.caller a.epoch a.command.now (g.S.Shelf.state a.shelf.now).tables file c.gathered.new.rows c.decide.result asked (x.found honest (inl c.requires.nothing)) c.decide.ensures.decided
+
+pub returns-clause-stored : goal.returns-clause-stored
+returns-clause-stored g c = was_stored c.args.caller c.args.epoch c.args.command.now (option_copied c.as_ref.result) c.gathered.new.rows c.decide.result c.decide.ensures.decided
 
 pub returns-clause-cause : goal.returns-clause-cause
-returns-clause-cause g c =
+returns-clause-cause g c = λ honest.
     let x = c.in_ok-read.ensures in
     let a = c.args in
     let file = option_copied c.as_ref.result in
     let asked = subst (λ f. IsAllAsked a.caller (OfCommand a.command.now) f c.gathered.new.rows) (sym c.as_ref.ensures.value) x.enough in
-    was_undecided a.caller a.command.now _ (g.S.Shelf.state a.shelf.now).tables file c.gathered.new.rows c.decide.result asked
-    (λ honest. x.found honest (inl c.requires.nothing)) c.decide.ensures.cause
+    was_undecided a.caller a.command.now (g.S.Shelf.state a.shelf.now).tables file c.gathered.new.rows c.decide.result asked (x.found honest (inl c.requires.nothing)) c.decide.ensures.cause
 
 pub returns-clause-tables : goal.returns-clause-tables
 returns-clause-tables g c = λ honest.
@@ -35,8 +36,8 @@ returns-clause-counted g c =
     c.decide.ensures.cause c.in_ok-read.ensures.counted
 
 pub returns-in_err-read-clause-cause : goal.returns-in_err-read-clause-cause
-returns-in_err-read-clause-cause g c =
+returns-in_err-read-clause-cause g c = λ honest.
     let x = c.in_err-read.ensures in
     let a = c.args in
-    passed_on (WasUndecided a.caller a.command.now (g.S.Shelf.state c.gathered.new.shelf).is_honest (g.S.Shelf.state a.shelf.now).tables) c.from_residual.result c.in_err-read.field-0.0 c.from_residual.ensures
-    (inl (λ honest. x.cause honest (inl c.requires.nothing)))
+    let old = (g.S.Shelf.state a.shelf.now).tables in
+    passed_on (WasUndecided a.command.now old) c.from_residual.result c.in_err-read.field-0.0 c.from_residual.ensures (ungathered_undecided a.command.now old c.in_err-read.field-0.0 (x.cause honest (inl c.requires.nothing)))
