@@ -1,5 +1,5 @@
 -- Effective files keep what they had, over many requests.
-use Rattle.std.proofs.Common.{◌≡◌, ℕ, ℤ, List, [], ◌∷◌, ◌++◌, Option, Some, None, Bool, true, false, refl, sym, ap, ◌∙◌, subst}
+use Rattle.std.proofs.Common.{◌≡◌, ℕ, List, [], ◌∷◌, ◌++◌, Some, None, Bool, true, false, refl, sym, ap, ◌∙◌}
 use Rattle.std.specs.Prelude.{◌&&◌}
 use Rattle.std.specs.List.{list_any}
 use Rattle.std.specs.Option.{option_map_or}
@@ -10,12 +10,10 @@ use Rattle.review_project.specs.Rights.{covers}
 use Rattle.review_inheritance.proofs.Covered.{OrderedLabels, covers_found, covers_itself, covers_through, label_name, values_through}
 use Rattle.review_inheritance.proofs.Named.{named}
 use Rattle.review_inheritance.proofs.Trees.{OneFile}
-use Rattle.review_changes.specs.Change.{label_in}
 use Rattle.review_rows.specs.Answer.{IsHistory, is_value_of}
 use Rattle.review_rows.specs.Changes.{Reading, Reads, file_of, own_of}
 use Rattle.review_rows.specs.Files.{File}
 use Rattle.review_rows.specs.Lines.{most_depth}
-use Rattle.review_rows.proofs.Lined.{there_is}
 use Rattle.review_ancestors.proofs.Growing.{eff_ordered}
 use Rattle.review_ancestors.proofs.Histories.{files_grow, lines_end, sound_files}
 use Rattle.review_change_laws.proofs.Projects.{text_stays}

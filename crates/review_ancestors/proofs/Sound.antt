@@ -1,5 +1,5 @@
 -- Every project of a history is sound.
-use Rattle.std.proofs.Common.{◌≡◌, ℕ, List, ◌++◌, Some, true, refl, sym, subst}
+use Rattle.std.proofs.Common.{◌≡◌, ℕ, List, ◌++◌, true, sym, subst}
 use Rattle.review_words.specs.History.{Entry, is_project}
 use Rattle.review_project.specs.Rights.{covers}
 use Rattle.review_inheritance.proofs.Trees.{OneFile}

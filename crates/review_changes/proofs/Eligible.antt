@@ -1,5 +1,5 @@
 -- Who is in the attention set is eligible.
-use Rattle.std.proofs.Common.{◌≡◌, ℕ, List, Option, Some, None, Bool, true, false, not, ◌&&◌, ◌||◌, refl, sym, ap, ◌∙◌, eqb-true, ⊎_elim}
+use Rattle.std.proofs.Common.{◌≡◌, ℕ, Option, Some, None, Bool, true, false, not, ◌&&◌, ◌||◌, refl, sym, ap, ◌∙◌, eqb-true, ⊎_elim}
 use Rattle.std.specs.Prelude.{◌==◌, is_some, if◌then◌else◌, is_none}
 use Rattle.std.proofs.lemmas.Bool.{cases_Bool}
 use Rattle.review_words.specs.declared.changes.Role.{Role}

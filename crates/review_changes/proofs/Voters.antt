@@ -1,6 +1,6 @@
 -- Who votes has a role.
-use Rattle.std.proofs.Common.{◌≡◌, ℕ, ℤ, pos, List, [], ◌∷◌, Option, Some, None, Bool, true, false, not, ◌&&◌, ◌||◌, refl, sym, ap, ◌∙◌, bytes_eq}
-use Rattle.std.specs.Prelude.{if◌then◌else◌, is_some, ◌==◌}
+use Rattle.std.proofs.Common.{◌≡◌, ℕ, ℤ, List, [], ◌∷◌, Option, Some, Bool, true, false, refl, sym, ◌∙◌, bytes_eq}
+use Rattle.std.specs.Prelude.{if◌then◌else◌, is_some}
 use Rattle.std.specs.List.{list_any}
 use Rattle.std.proofs.lemmas.Bool.{or_parts}
 use Rattle.review_words.specs.declared.changes.Given.{Given}

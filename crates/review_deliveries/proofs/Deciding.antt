@@ -1,5 +1,5 @@
 -- What was decided of a command, or not, by what the tables tell.
-use Rattle.std.proofs.Common.{◌≡◌, ◌∙◌, ℕ, ◌≤◌, ◌<◌, ◌+◌, inl, inr, List, [], Option, Some, None, length, true, false, refl, sym, subst, ap, arith}
+use Rattle.std.proofs.Common.{◌≡◌, ◌∙◌, ℕ, ◌≤◌, ◌<◌, ◌+◌, inl, inr, List, [], Option, Some, None, length, true, refl, sym, subst, ap, arith}
 use Rattle.std.specs.Prelude.{Result, Ok, Err, IfOk, IfErr, nat_lt}
 use Rattle.review_words.specs.Texts.{IsStored}
 use Rattle.review_words.specs.declared.command.Command.{Command}

@@ -1,5 +1,5 @@
 -- What a delivery does to any tables whatever.
-use Rattle.std.proofs.Common.{◌≡◌, ℕ, ◌+◌, ◌≤◌, List, [], Option, Some, None, Result, Ok, Err, cond, refl, sym, ◌∙◌, subst, inl, inr, Bool, true, false, ap}
+use Rattle.std.proofs.Common.{◌≡◌, ℕ, List, Option, Some, None, Result, Ok, Err, cond, refl, sym, ◌∙◌, subst, inl, inr, Bool, true, false, ap}
 use Rattle.std.specs.Prelude.{nat_lt, unwrap_or}
 use Rattle.review_words.specs.declared.command.Command.{Command}
 use Rattle.review_words.specs.declared.command.Delivery.TheVariants.{Write}

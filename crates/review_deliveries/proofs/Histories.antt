@@ -1,6 +1,6 @@
 -- Identities in histories, and the tables of a history with one more entry.
-use Rattle.std.proofs.Common.{◌≡◌, ℕ, ◌+◌, ◌≤◌, List, [], ◌∷◌, ◌++◌, length, Option, Some, None, true, false, cond, refl, sym, ap, ◌∙◌, subst, ⊎_elim, inl, inr, arith, eqb-true, eq-eqb, ◌==◌, ◌&&◌, ◌||◌, Bool}
-use Rattle.std.specs.Prelude.{MatchOption, nat_le, is_some, nat_lt, unwrap_or}
+use Rattle.std.proofs.Common.{◌≡◌, ℕ, ◌+◌, ◌≤◌, List, [], ◌∷◌, ◌++◌, length, Option, Some, None, true, false, cond, refl, sym, ap, ◌∙◌, subst, ⊎_elim, inl, inr, arith, eqb-true, eq-eqb, ◌==◌, ◌&&◌, Bool}
+use Rattle.std.specs.Prelude.{MatchOption, nat_le, nat_lt, unwrap_or}
 use Rattle.std.specs.Str.{bytes_eq}
 use Rattle.std.proofs.lemmas.Bool.{and_parts, and_from, cases_Bool}
 use Rattle.std.proofs.lemmas.Slice.Eq.{bytes_eq-Decides}
@@ -15,7 +15,7 @@ use Rattle.review_words.specs.declared.reply.Reply.{Reply}
 use Rattle.review_words.specs.declared.reply.Reply.TheVariants.{Done, Refused, IdentityReused, EpochClosed, NotTaken}
 use Rattle.review_words.specs.declared.reply.Answer.TheVariants.{Nothing}
 use Rattle.review_words.specs.declared.reply.Refusal.{Refusal}
-use Rattle.review_words.specs.History.{Entry, Identity, IsFirst, stored, is_same, entry_of, latest, may_follow, version_of, is_closed, least_open, raised, if_done}
+use Rattle.review_words.specs.History.{Entry, Identity, stored, is_same, entry_of, latest, may_follow, version_of, is_closed, least_open}
 use Rattle.review_changes.specs.Change.{Change}
 use Rattle.review_rows.specs.declared.rows.Delta.{Delta}
 use Rattle.review_rows.specs.declared.rows.Rows.{Rows}

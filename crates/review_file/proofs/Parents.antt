@@ -1,5 +1,5 @@
 -- The parent of a file.
-use Rattle.std.proofs.Common.{◌≡◌, ◌∙◌, ℕ, List, Option, None, cond, sym, ap}
+use Rattle.std.proofs.Common.{◌≡◌, ◌∙◌, ℕ, List, None, cond, sym, ap}
 use Rattle.std.specs.Prelude.{option_and_then}
 use Rattle.toml.specs.Data.{table}
 use Rattle.toml.specs.Parse.{parse_document}

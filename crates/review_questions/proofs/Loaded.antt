@@ -19,7 +19,6 @@ use Rattle.review_rows.specs.Lines.{line_of, most_depth, with_above}
 use Rattle.review_rows.specs.declared.rows.StoredFile.{StoredFile}
 use Rattle.review_rows.proofs.Lined.{texts_told, there_is}
 use Rattle.review_ancestors.proofs.Effective.{OneEffective, same_file}
-use Rattle.std.specs.Option.{option_map_or}
 use Rattle.review_rows.specs.Decisions.{IsUnshown}
 use Rattle.review_rows.specs.Files.{File}
 use Rattle.review_rows.specs.Known.{IsKnown, change_in, known}

@@ -1,5 +1,5 @@
 -- Rows that moved to the table of a later version read there as they did.
-use Rattle.std.proofs.Common.{◌≡◌, ◌≢◌, ◌∙◌, ◌&&◌, ◌||◌, ℕ, ℤ, pos, negsuc, suc, Bool, true, false, not, List, [], ◌∷◌, Option, Some, None, option_map, map, filter, length, get_or, refl, sym, ap, subst, subst₂, inl, inr}
+use Rattle.std.proofs.Common.{◌≡◌, ◌≢◌, ◌∙◌, ◌&&◌, ◌||◌, ℕ, pos, negsuc, suc, Bool, true, false, not, List, [], ◌∷◌, Option, Some, None, option_map, map, filter, length, get_or, refl, sym, ap, subst, subst₂, inl, inr}
 use Rattle.std.specs.List.{AllByRecursion, list_any}
 use Rattle.std.specs.List.Sorted.{IsPermutation}
 use Rattle.std.proofs.lemmas.Bool.{and_from, and_parts, cases_Bool, or_parts}

@@ -1,5 +1,5 @@
 -- Which stored rows have a key of their table: those whose columns of the key have values of its kinds, so that a look-up by some key may meet them.
-use Rattle.std.specs.Prelude.{ℕ, ◌&&◌, Bool, true, false, Option, Some, None, is_some, nat_lt, if◌then◌else◌}
+use Rattle.std.specs.Prelude.{ℕ, ◌&&◌, Bool, Option, Some, None, is_some, nat_lt, if◌then◌else◌}
 use Rattle.sqlite_value.specs.declared.value.Value.{Value}
 use Rattle.sqlite_value.specs.Order.{Row, column}
 use Rattle.review_names.specs.Names.{is_account_number}

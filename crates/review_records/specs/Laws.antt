@@ -12,7 +12,6 @@ use Rattle.sqlite_value.specs.declared.value.Value.TheVariants.{Null, Int, Real,
 use Rattle.sqlite_value.specs.declared.value.Value.{Value}
 use Rattle.sqlite_value.specs.Order.{column}
 use Rattle.review_names.specs.Names.{is_word, is_account_number}
-use Rattle.review_words.specs.Epochs.{is_epoch}
 use Rattle.review_tables.specs.Columns.{number_in, text_in}
 use Rattle.review_tables.specs.Fronts.{IsExact, IsFront}
 use Rattle.review_statements.specs.Search.{IsLawful}

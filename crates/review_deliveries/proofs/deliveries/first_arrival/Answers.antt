@@ -1,4 +1,4 @@
-use Rattle.std.proofs.Common.{◌≡◌, ◌∙◌, ◌+◌, ◌<◌, ap, subst, arith, length, inl, inr, ⊎_elim}
+use Rattle.std.proofs.Common.{◌≡◌, ◌∙◌, ◌+◌, ◌<◌, subst, arith, length, inl, inr, ⊎_elim}
 use Rattle.std.specs.Prelude.{string_bytes}
 use Rattle.review_words.specs.History.{Identity, entry_of}
 use Rattle.review_words.specs.Texts.{reply_text}
