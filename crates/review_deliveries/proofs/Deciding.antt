@@ -21,8 +21,8 @@ use Rattle.review_rows.specs.Steps.{OfCommand, next}
 use Rattle.review_rows.proofs.Asked.{least_epoch_is, requests_are}
 use Rattle.review_rows.proofs.Readings.{reading_of}
 use Rattle.review_deliveries.specs.declared.deliveries.Decided.{Decided}
-use Rattle.review_deliveries.specs.Deciding.{IsDecidedBy, WasDecided, WasUndecided}
-use Rattle.review_deliveries.specs.Gathered.{CountsCause, IsAllAsked, IsUngathered, IsUnstored, LeavesTables}
+use Rattle.review_deliveries.specs.Deciding.{IsDecidedBy, IsUndecidedBy, WasDecided, WasUndecided}
+use Rattle.review_deliveries.specs.Gathered.{CountsCause, IsAllAsked, IsUngathered, LeavesTables}
 use Rattle.review_deliveries.specs.Replies.{CountsReply, IsLawful, IsServed, KeepsUntaken}
 use Rattle.review_deliveries.proofs.Histories.{enough_shown, history_length, requests_told}
 use Rattle.review_deliveries.proofs.Patterns.{reads_pattern}
@@ -78,7 +78,7 @@ was_stored caller epoch command file rows (Err cause) by = tt
 
 -- why rules don't decide by rows that are so in the tables
 undecided_shown : (caller : ℕ) (command : Command) (tables : Option Tables) (file : Option File) (rows : Rows) (cause : Cause) → IsAllAsked caller (OfCommand command) file rows →
-    Shows tables (λ t. Agrees t rows) → IsUnstored caller command file rows cause → WasUndecided command tables cause
+    Shows tables (λ t. Agrees t rows) → IsUndecidedBy caller command file rows cause → WasUndecided command tables cause
 undecided_shown caller command tables file rows Memory asked found why = tt
 undecided_shown caller command tables file rows Store asked found why = absurd why
 undecided_shown caller command None file rows Damaged asked found why = absurd found
@@ -91,7 +91,7 @@ undecided_shown caller command None file rows Full asked found why = absurd foun
 undecided_shown caller command (Some t) file rows Full asked found why = subst (λ n. most_requests ≤ n) (requests_are t file rows caller command found asked.0) why
 
 pub was_undecided : (caller : ℕ) (command : Command) (tables : Option Tables) (file : Option File) (rows : Rows) (r : Result Decided Cause) → IsAllAsked caller (OfCommand command) file rows →
-    Shows tables (λ t. Agrees t rows) → IfErr r (IsUnstored caller command file rows) → IfErr r (WasUndecided command tables)
+    Shows tables (λ t. Agrees t rows) → IfErr r (IsUndecidedBy caller command file rows) → IfErr r (WasUndecided command tables)
 was_undecided caller command tables file rows (Ok d) asked found why = tt
 was_undecided caller command tables file rows (Err cause) asked found why = undecided_shown caller command tables file rows cause asked found why
 
@@ -117,18 +117,18 @@ leaves_alike (Ok x) old new same = same
 leaves_alike (Err cause) old new same = left_alike cause old new same
 
 -- rules count no fault
-unstored_counts : (caller : ℕ) (command : Command) (file : Option File) (rows : Rows) (cause : Cause) (before after : ℕ) → IsUnstored caller command file rows cause → after ≡ before →
+undecided_counts : (caller : ℕ) (command : Command) (file : Option File) (rows : Rows) (cause : Cause) (before after : ℕ) → IsUndecidedBy caller command file rows cause → after ≡ before →
     CountsReply (NotTaken cause) before after
-unstored_counts caller command file rows Memory before after why same = same
-unstored_counts caller command file rows Pattern before after why same = same
-unstored_counts caller command file rows Damaged before after why same = same
-unstored_counts caller command file rows Store before after why same = absurd why
-unstored_counts caller command file rows Full before after why same = same
+undecided_counts caller command file rows Memory before after why same = same
+undecided_counts caller command file rows Pattern before after why same = same
+undecided_counts caller command file rows Damaged before after why same = same
+undecided_counts caller command file rows Store before after why same = absurd why
+undecided_counts caller command file rows Full before after why same = same
 
-pub counts_none : (caller : ℕ) (command : Command) (file : Option File) (rows : Rows) (r : Result Decided Cause) (before after : ℕ) → IfErr r (IsUnstored caller command file rows) → after ≡ before →
+pub counts_none : (caller : ℕ) (command : Command) (file : Option File) (rows : Rows) (r : Result Decided Cause) (before after : ℕ) → IfErr r (IsUndecidedBy caller command file rows) → after ≡ before →
     CountsCause r before after
 counts_none caller command file rows (Ok d) before after why same = same
-counts_none caller command file rows (Err cause) before after why same = unstored_counts caller command file rows cause before after why same
+counts_none caller command file rows (Err cause) before after why same = undecided_counts caller command file rows cause before after why same
 
 -- it is lawful not to take what was not decided
 undecided_lawful : (h : List Entry) (caller epoch : ℕ) (id : List ℕ) (command : Command) (tables : Option Tables) (cause : Cause) (before after : ℕ) → IsHistory h → Views h tables →

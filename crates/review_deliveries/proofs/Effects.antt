@@ -1,5 +1,5 @@
 -- What a delivery does to any tables whatever.
-use Rattle.std.proofs.Common.{◌≡◌, ℕ, List, Option, Some, None, Result, Ok, Err, cond, refl, sym, ◌∙◌, subst, inl, inr, Bool, true, false, ap}
+use Rattle.std.proofs.Common.{◌≡◌, ℕ, ◌+◌, ◌≤◌, ◌<◌, arith, List, Option, Some, None, Result, Ok, Err, cond, refl, sym, ◌∙◌, subst, inl, inr, Bool, true, false, ap}
 use Rattle.std.specs.Prelude.{nat_lt, unwrap_or}
 use Rattle.review_words.specs.declared.command.Command.{Command}
 use Rattle.review_words.specs.declared.command.Delivery.TheVariants.{Write}
@@ -12,6 +12,7 @@ use Rattle.review_rows.specs.Shelf.{Answers, IsCommitted, Shows, LeavesBy, IsCou
 use Rattle.review_rows.specs.declared.shelf.ShelfFault.{ShelfFault}
 use Rattle.review_rows.specs.declared.shelf.ShelfFault.TheVariants as fault
 use Rattle.review_words.specs.Texts.{IsStored, content_text}
+use Rattle.review_rows.specs.Answer.{most_requests}
 use Rattle.review_rows.specs.View.{answer_row}
 use Rattle.review_words.specs.declared.reply.NotTaken.{NotTaken as Cause}
 use Rattle.review_words.specs.declared.reply.NotTaken.TheVariants.{Memory, Store, Damaged, Pattern, Full}
@@ -43,9 +44,10 @@ still_open (Some n) least epoch own opened = own
 
 -- a first arrival whose request was stored
 stored_request : (i : Identity) (command : Command) (reply : Reply) (delta : Delta) (row : AnswerRow) (t u : Tables) → Answers t i None → HasNoEffect reply delta → delta.least_epoch ≡ new_least (if_done reply command) →
-    is_below delta.least_epoch i.epoch ≡ false → is_above delta.least_epoch (t.count ClosedEpochs) ≡ true → IsCommitted t delta row u → row ≡ next_row i command reply t.requests → StoresRequest i command reply t u
-stored_request i command reply delta row t u none quiet closes own above c same = record {
+    is_below delta.least_epoch i.epoch ≡ false → is_above delta.least_epoch (t.count ClosedEpochs) ≡ true → t.requests < most_requests → IsCommitted t delta row u → row ≡ next_row i command reply t.requests → StoresRequest i command reply t u
+stored_request i command reply delta row t u none quiet closes own above room c same = record {
   was_new = none;
+  room = room;
   stands = (ap (nat_lt i.epoch) least ∙ still_open closed (t.count ClosedEpochs) i.epoch own_open none.0, answer_is i ∙ ap (λ b. cond b (Some (Answered (next_row i command reply t.requests))) (cond (is_below closed i.epoch) None (t.answer i))) (same_to i i refl));
   requests = c.requests;
   others = λ j other. answer_is j ∙ ap (λ b. cond b (Some (Answered (next_row i command reply t.requests))) (cond (is_below closed j.epoch) None (t.answer j))) other;
@@ -79,7 +81,9 @@ stored_shown i command d row old mid new stays none by c is = inr (both old new 
     both None new none by c = absurd c
     both (Some t) None none by c = absurd c
     both (Some t) (Some u) none by c =
-        stored_request i command d.reply d.delta row t u none by.refused by.closes by.own by.raises c
+        let number : d.request ≡ t.requests + 1 = by.request.0 in
+        let most : d.request ≤ most_requests = by.request.1 in
+        stored_request i command d.reply d.delta row t u none by.refused by.closes by.own by.raises (omega arith) c
         (is ∙ ap (answer_row (record { identity = i; version = latest; command = command; reply = d.reply })) by.request.0)
 
 pub stores_once : (caller epoch : ℕ) (id : List ℕ) (command : Command) (reply : Reply) (old new : Option Tables) →

@@ -362,7 +362,7 @@ views_left_by h Full old new e v = subst (Views h) (sym e) v
 views_left_by h Store old new (inl e) v = subst (Views h) (sym e) v
 views_left_by h Store old new (inr e) v = subst (Views h) (sym e) tt
 
--- a command for which not all was gathered
+-- a question for which not all was gathered
 pub unread_served : (h : List Entry) (caller : ℕ) (query : Query) (cause : Cause) (old new : Shown) → IsHistory h → Views h old.tables →
     IsUngathered (OfQuery query) old.tables cause → LeavesBy cause old.tables new.tables →
     CountsReply (NotTaken cause) old.faults new.faults → AddsNoStop old new → IsServed h (Read caller query) (NotTaken cause) old new
@@ -403,14 +403,23 @@ shown_counts caller query file rows (Err Pattern) before after answered cause sa
 shown_counts caller query file rows (Err Store) before after answered cause same = absurd cause
 shown_counts caller query file rows (Err Full) before after answered cause same = absurd cause
 
-pub shown_keeps : (caller : ℕ) (query : Query) (r : Result Reply Cause) (old new : Option Tables) → IfOk r IsDoneOrRefused → new ≡ old → KeepsUntaken (Read caller query) (reply_of r) old new
-shown_keeps caller query (Ok (Done a)) old new answered same = same
-shown_keeps caller query (Ok (Refused x)) old new answered same = same
-shown_keeps caller query (Ok IdentityReused) old new answered same = absurd answered
-shown_keeps caller query (Ok EpochClosed) old new answered same = absurd answered
-shown_keeps caller query (Ok (NotTaken c)) old new answered same = absurd answered
-shown_keeps caller query (Err Store) old new answered same = inl same
-shown_keeps caller query (Err Memory) old new answered same = same
-shown_keeps caller query (Err Damaged) old new answered same = same
-shown_keeps caller query (Err Pattern) old new answered same = same
-shown_keeps caller query (Err Full) old new answered same = same
+pub shown_keeps : (caller : ℕ) (query : Query) (file : Option File) (rows : Rows) (r : Result Reply Cause) (old new : Option Tables) → IfOk r IsDoneOrRefused → IfErr r (IsUnshown caller query file rows) → new ≡ old →
+    KeepsUntaken (Read caller query) (reply_of r) old new
+shown_keeps caller query file rows (Ok (Done a)) old new answered cause same = same
+shown_keeps caller query file rows (Ok (Refused x)) old new answered cause same = same
+shown_keeps caller query file rows (Ok IdentityReused) old new answered cause same = absurd answered
+shown_keeps caller query file rows (Ok EpochClosed) old new answered cause same = absurd answered
+shown_keeps caller query file rows (Ok (NotTaken c)) old new answered cause same = absurd answered
+shown_keeps caller query file rows (Err Store) old new answered cause same = absurd cause
+shown_keeps caller query file rows (Err Memory) old new answered cause same = same
+shown_keeps caller query file rows (Err Damaged) old new answered cause same = same
+shown_keeps caller query file rows (Err Pattern) old new answered cause same = absurd cause
+shown_keeps caller query file rows (Err Full) old new answered cause same = absurd cause
+
+-- a question for which not all was gathered
+pub unread_keeps : (caller : ℕ) (query : Query) (cause : Cause) (old new : Option Tables) → IsUngathered (OfQuery query) old cause → LeavesBy cause old new → KeepsUntaken (Read caller query) (NotTaken cause) old new
+unread_keeps caller query Memory old new why left = left
+unread_keeps caller query Store old new why left = left
+unread_keeps caller query Damaged old new why left = left
+unread_keeps caller query Pattern old new why left = left
+unread_keeps caller query Full old new why left = absurd why

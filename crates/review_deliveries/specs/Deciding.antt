@@ -7,7 +7,7 @@ use Rattle.review_words.specs.declared.reply.NotTaken.{NotTaken as Cause}
 use Rattle.review_words.specs.declared.reply.NotTaken.TheVariants.{Memory, Store, Damaged, Pattern, Full}
 use Rattle.review_rows.specs.Answer.{IsHistory, most_requests}
 use Rattle.review_rows.specs.Changes.{Reading, Reads}
-use Rattle.review_rows.specs.Decisions.{ReadsPattern, RestsOn}
+use Rattle.review_rows.specs.Decisions.{IsUndecided, ReadsPattern, RestsOn}
 use Rattle.review_rows.specs.Files.{File}
 use Rattle.review_rows.specs.Known.{known, number_of}
 use Rattle.review_rows.specs.Rows.{ClosedEpochs, HasNoEffect, Tables, is_above, is_below, new_least}
@@ -30,6 +30,11 @@ pub record IsDecidedBy (caller epoch : ℕ) (command : Command) (file : Option F
   pub own : is_below d.delta.least_epoch epoch ≡ false
   pub raises : is_above d.delta.least_epoch (number_of (known rows LeastEpoch)) ≡ true
 
+-- Why nothing is decided of a command by a file and rows: no number is left for its request, or the rules don't decide it.
+abbrev pub IsUndecidedBy : ℕ → Command → Option File → Rows → Cause → Type 0
+IsUndecidedBy caller command file rows Full = most_requests ≤ number_of (known rows Requests)
+IsUndecidedBy caller command file rows cause = IsUndecided caller command file rows cause
+
 -- What was decided of a command, by the tables.
 pub record WasDecided (caller epoch : ℕ) (command : Command) (tables : Option Tables) (d : Decided) : Type 0 where
   -- its request has the next number, for which there is room
@@ -44,8 +49,8 @@ pub record WasDecided (caller epoch : ℕ) (command : Command) (tables : Option 
   pub raises : Shows tables (λ t. is_above d.delta.least_epoch (t.count ClosedEpochs) ≡ true)
 
 -- in each history whose tables these are the command reads a pattern that the engine may refuse
-abbrev pub IsPutOrJudgedByPattern : Command → Tables → Type 0
-IsPutOrJudgedByPattern command t = (reading : Reading) (h : List Entry) → IsHistory h → Reads reading h → IsView h t → ReadsPattern reading h command
+abbrev pub AlwaysReadsPattern : Command → Tables → Type 0
+AlwaysReadsPattern command t = (reading : Reading) (h : List Entry) → IsHistory h → Reads reading h → IsView h t → ReadsPattern reading h command
 
 -- Why nothing was decided of a command, by the tables: want of memory, a fault of the store, tables that are those of no history, a pattern that the engine may refuse,
 -- or no number that is left for its request.
@@ -53,5 +58,5 @@ abbrev pub WasUndecided : Command → Option Tables → Cause → Type 0
 WasUndecided command tables Memory = Unit {0}
 WasUndecided command tables Store = Unit {0}
 WasUndecided command tables Damaged = Shows tables IsDamaged
-WasUndecided command tables Pattern = Shows tables (IsPutOrJudgedByPattern command)
+WasUndecided command tables Pattern = Shows tables (AlwaysReadsPattern command)
 WasUndecided command tables Full = Shows tables (λ t. most_requests ≤ t.requests)

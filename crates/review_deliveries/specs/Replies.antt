@@ -60,7 +60,8 @@ with_entries h0 (e ∷ es) = if is_closed h0 e.identity.epoch then with_entries 
 abbrev pub history_after : List Entry → List Delivery → List Reply → List Entry
 history_after h0 ds rs = with_entries h0 (first_arrivals h0 (taken ds rs))
 
--- the lawful reasons for which a delivery is not taken, where the count of faults went from before to after
+-- Why a delivery may be not taken, where the count of faults went from before to after: want of memory; a fault of the store, which was counted, or the count stands at its greatest; for a first arrival
+-- a pattern that its command reads, or that the last number is given; for a question a pattern in the file by which it is answered; and never damage.
 abbrev pub IsLawful : List Entry → Delivery → Cause → ℕ → ℕ → Type 0
 IsLawful h d Memory before after = after ≡ before
 IsLawful h d Store before after = (before < after) ⊎ ((before ≡ greatest_count) × (after ≡ before))
@@ -182,18 +183,19 @@ HasTexts command reply row = (row.content ≡ content_text command) × (row.repl
 abbrev pub HasOtherContent : Command → AnswerRow → Type 0
 HasOtherContent command row = row.content ≡ content_text command → ⊥
 
--- On any tables whatever: a delivery is not taken for a full history only where its epoch is open, its identity new and the last number given.
+-- On any tables whatever: a write is not taken for a full history only where its epoch is open, its identity new and the last number given.
 abbrev pub IsFullWhereSaid : Identity → Cause → Option Tables → Type 0
 IsFullWhereSaid i Full tables = Shows tables (λ t. Answers t i None × (most_requests ≤ t.requests))
 IsFullWhereSaid i _ tables = Unit {0}
 
 -- On any tables whatever: what is not taken leaves them, though a store fault may shut the store; so does a clash, where the identity is stored with another command, a write whose epoch
--- is closed in them, and each question, which is told neither of the two.
+-- is closed in them, and each question, which is told neither of the two. A full history is told of a write alone, and only where it is so.
 abbrev pub KeepsUntaken : Delivery → Reply → Option Tables → Option Tables → Type 0
 KeepsUntaken (Write caller epoch id command) IdentityReused old new = HasStored (record { caller = caller; epoch = epoch; id = id }) old (HasOtherContent command) × (new ≡ old)
 KeepsUntaken (Write caller epoch id command) (NotTaken cause) old new = IsFullWhereSaid (record { caller = caller; epoch = epoch; id = id }) cause old × LeavesBy cause old new
 KeepsUntaken (Write caller epoch id command) EpochClosed old new = Shows old (λ t. IsClosedIn t epoch) × (new ≡ old)
 KeepsUntaken (Write caller epoch id command) _ old new = Unit {0}
+KeepsUntaken (Read caller query) (NotTaken Full) old new = ⊥
 KeepsUntaken (Read caller query) (NotTaken cause) old new = LeavesBy cause old new
 KeepsUntaken (Read caller query) IdentityReused old new = ⊥
 KeepsUntaken (Read caller query) EpochClosed old new = ⊥
@@ -203,7 +205,7 @@ KeepsUntaken (Read caller query) _ old new = new ≡ old
 abbrev pub SameRows : Tables → Tables → Type 0
 SameRows t u = ((k : Key) → u.row k ≡ t.row k) × ((c : Count) → u.count c ≡ t.count c)
 
--- a refusal changes no row
+-- a refusal changes no row and no count
 abbrev pub KeepsRows : Reply → Tables → Tables → Type 0
 KeepsRows (Refused r) t u = SameRows t u
 KeepsRows _ t u = Unit {0}
@@ -216,6 +218,8 @@ next_row i command reply requests = answer_row (record { identity = i; version =
 pub record StoresRequest (i : Identity) (command : Command) (reply : Reply) (t u : Tables) : Type 0 where
   -- its epoch was open and it was new
   pub was_new : Answers t i None
+  -- there was a number left for it
+  pub room : t.requests < most_requests
   -- its epoch is open, and it is stored with its reply under the next number
   pub stands : Answers u i (Some (Answered (next_row i command reply t.requests)))
   pub requests : u.requests ≡ t.requests + 1
@@ -224,7 +228,7 @@ pub record StoresRequest (i : Identity) (command : Command) (reply : Reply) (t u
   -- nothing but an accepted CloseEpoch changes the least open epoch, and it makes the one that it names so, which is above it: no epoch opens again
   pub least : u.count ClosedEpochs ≡ unwrap_or (new_least (if_done reply command)) (t.count ClosedEpochs)
   pub rises : is_above (new_least (if_done reply command)) (t.count ClosedEpochs) ≡ true
-  -- a refusal changes no row
+  -- a refusal changes no row and no count
   pub rows : KeepsRows reply t u
   pub version : u.version ≡ t.version
 

@@ -14,8 +14,8 @@ ghost use Rattle.review_rows.specs.Shelf.{AddsNoStop, Answers, BlamesTables, Cou
 ghost use Rattle.review_rows.specs.Steps.{OfCommand};
 ghost use Rattle.review_rows.specs.View.{AreEnough, IsDecidedAt};
 ghost use Rattle.review_deliveries.specs.Delivered.{IsDelivered};
-ghost use Rattle.review_deliveries.specs.Deciding.{IsDecidedBy, WasDecided, WasUndecided};
-ghost use Rattle.review_deliveries.specs.Gathered.{CountsCause, IsUnstored, LeavesTables};
+ghost use Rattle.review_deliveries.specs.Deciding.{IsDecidedBy, IsUndecidedBy, WasDecided, WasUndecided};
+ghost use Rattle.review_deliveries.specs.Gathered.{CountsCause, LeavesTables};
 ghost use Rattle.review_deliveries.specs.Kept.{row_for};
 ghost use Rattle.review_deliveries.specs.Replies.{IsServed, IsToldAgain, KeepsUntaken, StoresOnce, CountsReply, reply_of};
 
@@ -199,7 +199,7 @@ fn gather_and_decide<S: Shelf, R: Rules>(
     gather_and_decide_with(alloc, shelf, rules, &mut rows, caller, epoch, command)
 }
 
-// The same, with rows that know nothing yet and are the caller's, so that they aren't written out whole at each way out.
+// The same, with rows that know nothing yet. They are the caller's, so that the checker need not write them out at each `?`.
 fn gather_and_decide_with<S: Shelf, R: Rules>(
     alloc: Global,
     shelf: &mut S,
@@ -242,7 +242,7 @@ fn decide<R: Rules>(
     command: &Command,
 ) -> Result<Decided, NotTaken>
     ensures decided { IfOk result (IsDecidedBy caller epoch command.now (option_copied read.entry) rows.now) }
-    ensures cause { IfErr result (IsUnstored caller command.now (option_copied read.entry) rows.now) }
+    ensures cause { IfErr result (IsUndecidedBy caller command.now (option_copied read.entry) rows.now) }
 {
     let requests = rows.requests();
     if requests >= MOST_REQUESTS {

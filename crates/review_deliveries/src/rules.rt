@@ -6,7 +6,7 @@ use review_words::{AccountNo, Command, Epoch, NotTaken, Query, Reply};
 use std::alloc::{AllocError, Global};
 
 /// What a desk is told of commands and questions, from the rows that decide them and the project file by which they are judged. It may
-/// keep what it worked out before, of which no answer may depend.
+/// keep what it worked out before, on which no answer may depend.
 pub trait Rules {
     ghost use Rattle.std.specs.Prelude.{◌≡◌, true, false, ◌<◌, List, length, IfOk, IfErr, option_copied};
     ghost use Rattle.review_words.specs.Texts.{IsStored};
@@ -48,7 +48,9 @@ pub trait Rules {
         ensures read { IfOk result (λ r. HasFile (texts_for rows.now (topic_of matter.entry)) r) }
         ensures cause { IfErr result (IsUnread (texts_for rows.now (topic_of matter.entry))) };
 
-    /// The reply to a command and what it changes, where this file was read and a number is left for the request. A least open epoch is named just where a CloseEpoch is accepted: the one that it names, which isn't beyond that of the request and is above the one that rows tell.
+    /// The reply to a command and what it changes, where this file was read and a number is left for the request. A refusal changes nothing.
+    /// A least open epoch is named just where a CloseEpoch is accepted: the one that it names, which isn't beyond that of the request and is
+    /// above the one that rows tell.
     fn decide(
         &mut self,
         alloc: Global,

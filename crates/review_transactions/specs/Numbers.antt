@@ -4,7 +4,7 @@ use Rattle.sqlite_trees.specs.Tree.{Trees}
 use Rattle.review_database.specs.Tables.{SaysDesk}
 use Rattle.review_transactions.specs.declared.numbers.Numbers.{Numbers}
 
--- the tables say that they are a desk's, how many requests were ever stored, and which epoch is the least open one
+-- the tables say that they are a desk's, that so many requests were ever stored, and that this epoch is the least open one
 abbrev pub IsDesk : Numbers → Trees → Type 0
 IsDesk numbers = SaysDesk numbers.requests numbers.least
 

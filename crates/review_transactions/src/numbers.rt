@@ -23,7 +23,7 @@ impl Numbers {
         }
     }
 
-    /// The same once one request more is stored, with this epoch as the least open one, if one is named; nothing where the last number is given.
+    /// The same once one request more is stored, with this epoch as the least open one, if one is named; nothing where so many are no `u64`.
     pub fn with_request(&self, epoch: Option<Epoch>) -> Option<Numbers>
         ensures value { IfSome result (λ numbers. numbers ≡ with_request self.now epoch) }
         ensures room { IfSome result (λ numbers. self.now.requests + 1 < 2 ^ 64) }
