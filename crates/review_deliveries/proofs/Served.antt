@@ -342,7 +342,7 @@ stopped h d reply old new history s since = (leaves_since h d reply old new hist
 pub alone_since : (h : List Entry) (s : Shown) → IsHistory h → Views h s.tables → StopLeavesOwnTables s → StopGoesOnFrom h s
 alone_since h s hist v alone t x = ([], hist, subst (Views h) (alone t x) v)
 
--- a command that was not decided
+-- it is lawful not to answer a question for which not all was gathered
 unread_lawful : (h : List Entry) (caller : ℕ) (query : Query) (tables : Option Tables) (cause : Cause) (before after : ℕ) → IsHistory h → Views h tables →
     IsUngathered (OfQuery query) tables cause → CountsReply (NotTaken cause) before after → IsLawful h (Read caller query) cause before after
 unread_lawful h caller query tables Memory before after hist v u counted = counted
