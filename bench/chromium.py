@@ -1,11 +1,13 @@
 """Headless Chromium, driven over its pipe by the DevTools protocol: what bench/page needs of it, with the standard library alone."""
 import base64
+import fcntl
 import json
 import os
 import select
 import subprocess
 import time
 
+NOT_TAKEN = {"503": b")]}'\n{\"not_taken\":\"MEMORY\"}\n", "429": b"<html>Too Many Requests</html>"}
 KEYS = {"Tab": 9, "Enter": 13, " ": 32, "ArrowDown": 40, "ArrowUp": 38}
 
 
@@ -15,14 +17,15 @@ class Browser:
     def __init__(self, folder):
         to_it, self.into = os.pipe()
         self.out, from_it = os.pipe()
+        ends = [fcntl.fcntl(end, fcntl.F_DUPFD_CLOEXEC, 10) for end in (to_it, from_it)]  # away from 3 and 4, which they become
         words = ["chromium", "--headless", "--remote-debugging-pipe", f"--user-data-dir={folder}", "--ignore-certificate-errors", "--no-first-run", "--disable-gpu",
                  "--disable-background-networking", "--disable-component-update", "--disable-sync", "--disable-dev-shm-usage", "--hide-scrollbars"]
         if os.geteuid() == 0:
             words.append("--no-sandbox")
-        self.process = subprocess.Popen(["sh", "-c", f'exec "$@" 3<&{to_it} 4>&{from_it}', "sh", *words], pass_fds=(to_it, from_it), stdout=subprocess.DEVNULL, stderr=subprocess.DEVNULL,
+        self.process = subprocess.Popen(["bash", "-c", f'exec "$@" 3<&{ends[0]} 4>&{ends[1]}', "bash", *words], pass_fds=ends, stdout=subprocess.DEVNULL, stderr=subprocess.DEVNULL,
                                         env={**os.environ, "TMPDIR": os.path.dirname(folder)})
-        os.close(to_it)
-        os.close(from_it)
+        for end in (to_it, from_it, *ends):
+            os.close(end)
         self.last, self.held, self.pages = 0, b"", {}
 
     def post(self, method, session=None, **words):
@@ -108,16 +111,16 @@ class Page:
             self.faults.append(f"security: {said['entry']['text']}")
 
     def pass_on(self, said):
-        """Passes a request or an answer on. POSTs are noted; `lost` says at which stage the next one is lost, or that it is told 503."""
+        """Passes a request or an answer on. POSTs are noted; `lost` says at which stage the next one is lost, or that it is told 503 or 429."""
         number, is_answer, is_post = said["requestId"], "responseStatusCode" in said or "responseErrorReason" in said, said["request"]["method"] == "POST"
         if is_post and not is_answer:
             self.sent.append((said["request"]["url"], said["request"]["headers"].get("Request-Id"), said["request"].get("postData")))
         if is_post and self.lost == ("answer" if is_answer else "request"):
             self.lost = None
             self.post("Fetch.failRequest", requestId=number, errorReason="ConnectionReset")
-        elif is_post and self.lost == "503" and not is_answer:
-            self.lost, told = None, base64.b64encode(b")]}'\n{\"not_taken\":\"MEMORY\"}\n").decode()
-            self.post("Fetch.fulfillRequest", requestId=number, responseCode=503, body=told)
+        elif is_post and self.lost in NOT_TAKEN and not is_answer:
+            self.post("Fetch.fulfillRequest", requestId=number, responseCode=int(self.lost), body=base64.b64encode(NOT_TAKEN[self.lost]).decode())
+            self.lost = None
         elif is_post and self.is_holding and not is_answer:
             self.held.append(number)
         else:

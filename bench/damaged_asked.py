@@ -220,6 +220,8 @@ class Desks:
         except ValueError:
             return self.wrong(damage, by, sent, answer)
         cause = said.get("not_taken") if isinstance(said, dict) else None
+        if (told := self.told(damage, sent)) and answer != told and not (by == "serve" and self.is_numbered_anew(sent) and "number" not in said and not cause):
+            self.wrong(damage, by, sent, answer, told)
         if answer == wanted or (by == "serve" and json.loads(sent)["do"] in NUMBERED and "number" not in said and not cause):
             self.count(damage, "answers as without damage")
         elif cause:
@@ -230,6 +232,13 @@ class Desks:
                 self.wrong(damage, by, sent, answer, wanted)
         if damage.is_one and sent in HEALTHY and answer != wanted and by == "apply":
             self.neighbour(damage, name_of(sent), answer)
+
+    def told(self, damage, sent):
+        """What must be answered, where that is told."""
+        if damage.told is None:
+            return None
+        wanted = next((answer for id, answer in damage.told.items() if f'-{id}"'.encode() in sent or f'"{id}"'.encode() in sent), None)
+        return wanted or (None if damage.told else self.wanted[sent])
 
     def judge_cause(self, damage, sent, cause):
         self.count(damage, f"not taken: {cause}")

@@ -91,7 +91,7 @@ class Side:
             self.of_change("AddAttention", 9, "new14", body={"user": self.other, "reason": "look"}),
             self.of_change("RemoveAttention", 10, "new15", account=self.other, body={"reason": "done"}),
             self.of_change("Submit", 13, "new16", self.other),
-            self.of_project("RecordBase", "new17", {"commit": commit(78)}, project=self.project, branch="main"),
+            self.of_project("RecordBase", "new17", {"commit": commit(78)}, project=self.project, branch="main"), self.makes("twice", commit(2), FIRST),
         ]
 
 

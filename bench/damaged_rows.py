@@ -129,8 +129,21 @@ MISSING = [
     ("attention", "change = 2"), ("answers_3", "id = 'a-c2'"), ("epochs", "1"), ("desk", "1"),
 ]
 
-# Where the store itself refuses a write: to a view, and of a number that stands once.
+# Where the store itself refuses a write: to a view, and of a number that stands once. Of more requests than there are answers only numbers are left out.
 REFUSED, COUNTED = ("a view", "the next request is taken", "too few requests"), (("answers_3", "request"), ("desk", "requests"))
+NO_ANSWERS = 10_000
+# Damages of which it is told what comes (docs/operations.md): all as ever, or just this answer to the lines under these ids.
+DAMAGED = b'{"not_taken":"DAMAGED"}\n'
+TOLD = [
+    # A desk that counts requests in 32 bits tells a fault of the store that nobody had.
+    *(("desk", f"{count} requests", f"UPDATE desk SET requests = {count}", {}) for count in (2**31 - 2, 2**31 - 1, 2**31, 2**32 - 2, 2**40)),
+    # Else the next change would get the votes, comments and patch sets of the lost one.
+    ("changes", "the last one lost", "DELETE FROM changes WHERE number = (SELECT max(number) FROM changes)", {"new4": DAMAGED, "twice": DAMAGED}),
+    # A commit of a change that doesn't read is never told as unknown: it can't be sent a second time, nor is a child told UNKNOWN_PARENT.
+    *(("changes", f"a {column} that is no name", f"UPDATE changes SET {column} = 'no such' WHERE number = 2", {"new4": DAMAGED, "twice": DAMAGED}) for column in ("project", "branch")),
+    *(("changes", f"{kind}, of a commit that is sent again", f"UPDATE changes SET {set_to} WHERE number = 2", {"a-new4": DAMAGED, "a-twice": DAMAGED})
+      for kind, set_to in (("an odd state", "status = 'OPEN'"), ("an odd owner", "owner = -1"), ("an odd flag", "wip = 7"))),
+]
 
 # How a damage is refused that sqlite3 doesn't do, or that finds no place in what another left.
 REFUSALS = (sqlite3.Error, sqlite3.Warning, UnicodeError, struct.error, IndexError)
@@ -139,10 +152,12 @@ REFUSALS = (sqlite3.Error, sqlite3.Warning, UnicodeError, struct.error, IndexErr
 class Damage:
     """What is done to a desk: where, what kind, in SQL; whether one row of the first side alone; whether an answer to its side is the right one or none."""
 
-    def __init__(self, table, column, kind, sql, is_one=False, is_strict=False):
+    def __init__(self, table, column, kind, sql, is_one=False, is_strict=False, told=None):
         self.table, self.column, self.kind, self.sql, self.is_one, self.is_strict = table, column, kind, sql, is_one, is_strict
         self.is_sound, self.may_be_full, self.may_match = True, table == "desk", kind == "a pattern too large"
-        self.is_refused = kind in REFUSED or (table, column) in COUNTED
+        self.is_refused = kind in REFUSED or ((table, column) in COUNTED and not is_beyond(table, kind))
+        # What must be answered to the lines under some ids, and whether all others are answered as ever; None where that isn't told.
+        self.told = told
         # Whether the tables are those of a desk alone no more, of which the program warns; None where that isn't told here.
         self.warns = None
 
@@ -153,6 +168,11 @@ class Damage:
         """Damages a file, or says by sqlite3.Error that its rules refuse that."""
         with contextlib.closing(sqlite3.connect(file, isolation_level=None)) as conn:
             conn.executescript(self.sql)
+
+
+def is_beyond(table, kind):
+    """Whether a desk says that it has more requests than it has answers."""
+    return table == "desk" and (kind in NUMBERS and NUMBERS[kind].isdigit() and int(NUMBERS[kind]) > NO_ANSWERS or kind.isdigit() and int(kind) > NO_ANSWERS)
 
 
 def loosened(conn, table, sql):
@@ -223,3 +243,9 @@ def of_tables():
         yield Damage(table, None, kind, sql)
     for table, kind, sql in SHARED:
         yield Damage(table, None, kind, sql, True)
+
+
+def of_told():
+    """Those of which it is told what comes."""
+    for table, kind, sql, told in TOLD:
+        yield Damage(table, None, kind, sql, told=told)

@@ -5,6 +5,7 @@ The environment variable DESK_PROGRAM names the program, where it isn't that of 
 import contextlib
 import importlib.machinery
 import importlib.util
+import itertools
 import json
 import os
 import re
@@ -86,6 +87,22 @@ def difference(some, others):
         if some[name] != others[name]:
             return name, [row for row in some[name] if row not in others[name]], [row for row in others[name] if row not in some[name]]
     return None
+
+
+# The sessions of scripts/program.txt that begin with the texts of a version, one after the other.
+EARLIER = {1: ("a desk of version 1",), 2: ("a desk of version 1", "a desk of version 2, after a desk of version 1")}
+
+
+def make_earlier(file, version):
+    """Makes the desk of an earlier version that sessions of scripts/program.txt begin with."""
+    with open(os.path.join(TOP, "scripts", "program.txt"), encoding="utf-8") as transcript:
+        whole = transcript.read()
+    with contextlib.closing(sqlite3.connect(file)) as conn:
+        for session in EARLIER[version]:
+            lines = whole.split(f"\n== {session}\n")[1].split("\n")
+            for statement in itertools.takewhile(lambda it: it.startswith("sql d "), lines):
+                conn.execute(statement.removeprefix("sql d "))
+        conn.commit()
 
 
 def load_model():

@@ -3,6 +3,7 @@ import base64
 import http.client
 import json
 import os
+import re
 import shutil
 import socket
 import ssl
@@ -44,11 +45,15 @@ def write(text, *path):
     os.chmod(os.path.join(*path), 0o644)
 
 
-class Proxied:
-    """A desk in a folder, served, and nginx before it. Passwords are by name, and accounts too, but for admin's."""
+# What docs/proxy.md says to take away for a desk without git.
+HOOK_ALONE = re.compile(r"^        if \(\$is_of_code\) \{\n.*\n        \}\n", re.M)
 
-    def __init__(self, program, folder, count, passwords, accounts):
-        self.folder, self.passwords = folder, passwords
+
+class Proxied:
+    """A desk in a folder, served, and nginx before it. Passwords are by name, and accounts too, but for admin's. Where authors are trusted they make changes through nginx."""
+
+    def __init__(self, program, folder, count, passwords, accounts, are_trusted=False):
+        self.folder, self.passwords, self.are_trusted = folder, passwords, are_trusted
         self.desk_port, self.port = free_ports(2)
         desk = os.path.join(folder, "desk")
         subprocess.run([program, "init", desk], check=True, stdout=subprocess.DEVNULL)
@@ -61,16 +66,18 @@ class Proxied:
     def set_up(self, accounts):
         """Puts all that nginx reads into the folder."""
         conf = read(EXAMPLES, "proxy", "nginx.conf").replace("127.0.0.1:8473", f"127.0.0.1:{self.desk_port}").replace("127.0.0.1:8443", f"127.0.0.1:{self.port}")
-        write(conf, self.folder, "nginx.conf")
+        write(HOOK_ALONE.sub("", conf) if self.are_trusted else conf, self.folder, "nginx.conf")
         lines = "".join(f"~^{name}$ {number};\n" for name, number in accounts.items())
         write(read(EXAMPLES, "proxy", "accounts.conf") + lines, self.folder, "accounts.conf")
-        secrets = {name: subprocess.run(["openssl", "passwd", "-apr1", word], check=True, capture_output=True, text=True).stdout for name, word in self.passwords.items()}
+        secrets = {name: subprocess.run(["openssl", "passwd", "-6", word], check=True, capture_output=True, text=True).stdout for name, word in self.passwords.items()}
         write("".join(f"{name}:{secret}" for name, secret in secrets.items()), self.folder, "users")
         key = ["openssl", "req", "-x509", "-newkey", "rsa:2048", "-nodes", "-keyout", "tls.key", "-out", "tls.crt", "-days", "1", "-subj", "/CN=desk", "-addext", "subjectAltName=IP:127.0.0.1"]
         subprocess.run(key, check=True, cwd=self.folder, stderr=subprocess.DEVNULL)
         shutil.copytree(os.path.join(EXAMPLES, "page"), os.path.join(self.folder, "page"))
-        for path, mode in (("", 0o755), ("page", 0o755), ("page/index.html", 0o644)):
-            os.chmod(os.path.join(self.folder, path), mode)
+        for path in ("", "page"):
+            os.chmod(os.path.join(self.folder, path), 0o755)
+        for file in os.scandir(os.path.join(self.folder, "page")):
+            os.chmod(file.path, 0o644)
 
     def wait(self):
         for _ in range(100):

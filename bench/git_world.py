@@ -15,7 +15,7 @@ import retry  # noqa: E402
 from retry import Desk, new_id, path_of  # noqa: E402
 
 EXAMPLE = os.path.join(TOP, "examples", "git")
-HOOK, FOLLOW = os.path.join(EXAMPLE, "proc-receive"), os.path.join(EXAMPLE, "follow")
+HOOK, FOLLOW, SETTLE = (os.path.join(EXAMPLE, name) for name in ("proc-receive", "follow", "settle"))
 PROJECT = """[access]
 create = ["Core"]
 submit = ["Core"]
@@ -83,9 +83,10 @@ class World:
         own = {"HOME": self.home, "GIT_CONFIG_NOSYSTEM": "1", "REMOTE_USER": user, "LC_ALL": "C.UTF-8"}
         return {**{name: value for name, value in os.environ.items() if not name.startswith("GIT_")}, **names, **dates, **own}
 
-    def git(self, *words, user="ann", folder=None, sent=None, must=True):
-        """Runs git in the clone: what it prints."""
-        ran = subprocess.run(["git", *words], cwd=folder or self.clone, env=self.environment(user), input=sent, capture_output=True, text=True, check=False)
+    def git(self, *words, user="ann", folder=None, sent=None, must=True, **more):
+        """Runs git in the clone: what it prints. More words are of its environment."""
+        environment = {**self.environment(user), **more}
+        ran = subprocess.run(["git", *words], cwd=folder or self.clone, env=environment, input=sent, capture_output=True, text=True, errors="surrogateescape", check=False)
         check(not must or ran.returncode == 0, words, ran.returncode, ran.stdout, ran.stderr)
         return ran.stdout.strip()
 

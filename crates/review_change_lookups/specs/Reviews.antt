@@ -1,8 +1,9 @@
 -- What is found of a change in its tables.
-use Rattle.std.specs.Prelude.{ℕ, ℤ, ◌≡◌, ◌⊎◌, List, Option, Some, None, IsSome, option_map}
+use Rattle.std.specs.Prelude.{ℕ, ◌+◌, ℤ, ◌≡◌, ◌⊎◌, List, Option, Some, None, IsSome, if◌then◌else◌, option_map}
 use Rattle.std.specs.declared.cmp.Ordering.{Ordering}
 use Rattle.std.specs.Ordering.{nat_cmp}
 use Rattle.sqlite_trees.specs.Tree.{Trees}
+use Rattle.review_names.specs.Forms.{is_within, most_changes}
 use Rattle.review_table.specs.Rows.{row_in, rows_of}
 use Rattle.review_words.specs.declared.changes.Role.{Role}
 use Rattle.review_changes.specs.declared.rows.Called.{Called}
@@ -60,3 +61,8 @@ HasRow {K = K} cmp entries = (k : K) × IsSome (row_in cmp entries k)
 -- a change has a patch set, a vote, a role, a comment, or an account in its attention set
 abbrev pub HaveSome : List (ℕ × PatchRow) → List (VoteKey × ℤ) → List (ℕ × Role) → List (ℕ × CommentRow) → List (ℕ × Called) → Type 0
 HaveSome patches votes roles comments attention = HasRow nat_cmp patches ⊎ (HasRow vote_cmp votes ⊎ (HasRow nat_cmp roles ⊎ (HasRow nat_cmp comments ⊎ HasRow nat_cmp attention)))
+
+-- the number of the change after this last one, where one may come
+abbrev pub number_after : Option ℕ → Option ℕ
+number_after None = None
+number_after (Some n) = if is_within most_changes (n + 1) then Some (n + 1) else None

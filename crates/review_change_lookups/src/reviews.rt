@@ -7,8 +7,9 @@ ghost use Rattle.review_rows.specs.declared.rows.Want.TheVariants as want;
 ghost use Rattle.review_statements.specs.Greatest.{HasGreatest};
 ghost use Rattle.review_statements.specs.Ran.{Looks};
 ghost use Rattle.review_change_records.specs.Forms.{change_numbers};
-ghost use Rattle.review_database.specs.Loads.{HasLearnt, Sees};
-ghost use Rattle.review_change_lookups.specs.Reviews.{AreFoundRows, AreFoundSets, AreFoundTalk, HasRow, HaveSome, HaveTables, IsWhyNone};
+ghost use Rattle.review_database.specs.Loads.{HasLearnt, Sees, last_of};
+ghost use Rattle.review_records.specs.Keyed.{is_small, where_is};
+ghost use Rattle.review_change_lookups.specs.Reviews.{AreFoundRows, AreFoundSets, AreFoundTalk, HasRow, HaveSome, HaveTables, IsWhyNone, number_after};
 
 use review_change_records::calls::Calls;
 use review_change_records::comments::Comments;
@@ -239,7 +240,9 @@ fn tell_last_change(found: Option<Option<u64>>, rows: &mut Rows) -> Sight
 }
 
 // The number of the next change, where one may come.
-fn next_change(found: Option<Option<u64>>) -> Option<ChangeNo> {
+fn next_change(found: Option<Option<u64>>) -> Option<ChangeNo>
+    ensures { result ≡ number_after (where_is is_small (last_of found)) }
+{
     let number = last(found)?;
     ChangeNo::from_number(u64::from(number) + 1)
 }

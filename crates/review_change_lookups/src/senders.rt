@@ -1,8 +1,10 @@
 //! The change that sent a commit is looked up, and what a commit is to a branch.
 ghost use Rattle.std.specs.Prelude.{◌≡◌, ℕ, Bool, true, false, Some, None, IfOk, MatchBool};
+ghost use Rattle.std.specs.Bool.{Decides};
 ghost use Rattle.sqlite.specs.Held.{state};
 ghost use Rattle.sqlite_trees.specs.Tree.{Trees};
 ghost use Rattle.review_rows.specs.declared.rows.Base.{Base};
+ghost use Rattle.review_rows.specs.declared.rows.BranchKey.{BranchKey};
 ghost use Rattle.review_rows.specs.declared.rows.Want.TheVariants as want;
 ghost use Rattle.review_rows.specs.Known.{IsBaseOrNot, StandsAs};
 ghost use Rattle.review_statements.specs.Greatest.{HasGreatest};
@@ -31,7 +33,7 @@ use std::alloc::Global;
 
 // Whether these are the project and the branch.
 fn is_for(base: &Base, project: &ProjectName, branch: &BranchName) -> bool
-    ensures { result ≡ false → project.now ≡ base.now.project → branch.now ≡ base.now.branch → ⊥ }
+    ensures { Decides result ((project.now ≡ base.now.project) × (branch.now ≡ base.now.branch)) }
 {
     project.as_str() == base.project.as_str() && branch.as_str() == base.branch.as_str()
 }
@@ -99,7 +101,7 @@ fn sent_by(
 }
 
 fn is_odd(header: &Option<Option<Header>>) -> bool
-    ensures { result ≡ true → header.now ≡ Some None }
+    ensures { Decides result (header.now ≡ Some None) }
 {
     matches!(header, Some(None))
 }
@@ -107,7 +109,8 @@ fn is_odd(header: &Option<Option<Header>>) -> bool
 // Whether a change whose header is odd has sent a commit: not where it is for another branch, and none else, since such a header is one of
 // no history.
 fn odd_sender(base: &Base, branch: Option<Option<BranchKey>>) -> Option<bool>
-    ensures { (merged : Bool) (n p : ℕ) (db : Trees) → row_at headers db n ≡ Some None → TellsIf db (HasSent merged base.now (n, p) db) result }
+    ensures tells { (merged : Bool) (n p : ℕ) (db : Trees) → row_at headers db n ≡ Some None → TellsIf db (HasSent merged base.now (n, p) db) result }
+    ensures elsewhere { result ≡ Some false → (other : BranchKey) × (branch ≡ Some (Some other)) × ((other.project ≡ base.now.project) × (other.branch ≡ base.now.branch) → ⊥) }
 {
     let is_elsewhere = match branch {
         Some(Some(branch)) => !is_for(base, &branch.project, &branch.branch),

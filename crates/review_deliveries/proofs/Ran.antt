@@ -8,6 +8,7 @@ use Rattle.review_rows.specs.Rows.{Tables}
 use Rattle.review_rows.specs.Shelf.{Shown, Views}
 use Rattle.review_branch_laws.proofs.Sound.{sound_branches}
 use Rattle.review_ancestors.proofs.Sound.{sound_projects}
+use Rattle.review_statuses.proofs.Counting.{accounts_counted}
 use Rattle.review_deliveries.specs.Delivered.{IsDelivered, WasRun}
 use Rattle.review_deliveries.specs.Replies.{AreSteps, CountsReplies, IsRun, history_after}
 use Rattle.review_deliveries.proofs.Going.{run_none, run_one, run-append}
@@ -23,6 +24,7 @@ was_run ds rs old new each honest run steps counted = record {
   acts_once = run;
   branches = λ fair h hist v. sound_branches (history_after h ds rs) (run fair h hist v).history;
   projects = λ fair h hist v. sound_projects spelled_once (history_after h ds rs) (run fair h hist v).history;
+  votes = λ fair h hist v reading right n c is. accounts_counted _ c;
   steps = steps;
   counted = counted;
 }

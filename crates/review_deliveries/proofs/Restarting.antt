@@ -20,7 +20,7 @@ use Rattle.review_deliveries.proofs.Submits.{OneStanding}
 use Rattle.review_deliveries.proofs.Outcomes.{one_answer_in}
 use Rattle.review_deliveries.proofs.Readable.{HasReading, read_on}
 use Rattle.review_deliveries.specs.Replies.{IsTold, IsRight, AreRight, IsToldOfStored, history_after, with_entries as hist, has_identity, first_arrivals as first, arrivals_after as first_after, taken, with_taken, HasEffect}
-use Rattle.review_deliveries.specs.Restart.{IsFree, RefusesBadValue, IsSettled, AreSettled, WasTaken, WereTaken, AgreeFor, AgreeOnWrites, AgreesAgain, AgreeAfter, AgreesWhereOpen, AgreeWhereOpen, RunsAsFrom, RestartIsRun, RestartAfterStop, RestartCompletes, RestartKeepsHistory, RepliesFollowHistory}
+use Rattle.review_deliveries.specs.Restart.{IsFree, RefusesBadValue, IsSettled, AreSettled, WasTaken, WereTaken, AgreeFor, AgreeOnWrites, AgreesAgain, AgreeAfter, AgreesWhereOpen, AgreeWhereOpen, RunsAsFrom, RestartIsRun, RestartAfterCut, RestartAfterStop, RestartCompletes, RestartKeepsHistory, RepliesFollowHistory}
 use Rattle.review_deliveries.proofs.Histories.{answer_given, earlier, told_where, where_told, stored_stays, stored_here, stored_there, same_to, passed_over}
 use Rattle.review_deliveries.proofs.Served.{new_history, same_history, closed_history, same_command}
 use Rattle.review_deliveries.proofs.Going.{HasSince, since_start, since_old, since_new, since_closed, dropped, added, each_way, with_taken-append, first-append, history_after-append}
@@ -440,20 +440,30 @@ effect_told g (Write caller epoch id command) t effect =
     let made : P (history_after g (Write caller epoch id command ∷ []) (r ∷ [])) = subst P (sym now) (effect.1, effect.2) in
     (r, answer_taken r kept, told, made.0, made.1)
 
+-- what a stop left within a delivery behind others that were told
+after_effect : (h0 : List Entry) (ds : List Delivery) (d : Delivery) (more : List Delivery) (rs : List Reply) (left : Tables) → length rs ≡ length ds → AreTold h0 ds rs → HasEffect (history_after h0 ds rs) d left
+    → (h : List Entry) × IsHistory h × IsView h left × RunsAsFrom h0 h (ds ++ d ∷ []) more
+after_effect h0 ds d more rs left lengths told effect =
+    let g = history_after h0 ds rs in
+    let made = effect_told g d left effect in
+    let r = made.0 in
+    let h = history_after g (d ∷ []) (r ∷ []) in
+    let grown_to : history_after h0 (ds ++ d ∷ []) (rs ++ r ∷ []) ≡ h = history_after-append h0 ds (d ∷ []) rs (r ∷ []) lengths in
+    let all : AreTold h0 (ds ++ d ∷ []) (rs ++ r ∷ []) = told_append h0 ds (d ∷ []) rs (r ∷ []) told (made.1, made.2, tt) in
+    (h, made.3, made.4, runs_as h0 h (ds ++ d ∷ []) more (rs ++ r ∷ []) made.3 (sym grown_to) all)
+
+pub after_cut : RestartAfterCut
+after_cut h0 ds d more rs counts left right given effect = after_effect h0 ds d more rs left right.replies (told_right h0 ds rs counts right given) effect
+
 pub after_stop : RestartAfterStop
 after_stop h0 ds more rs counts left right given stop =
     let i = stop.0 in
     let below : i < length ds = stop.2 in
     let lengths : length rs ≡ length ds = right.replies in
     let d = get_or ds i stop.1 in
-    let g = history_after h0 (take i ds) (take i rs) in
-    let made = effect_told g d left stop.3 in
-    let r = made.0 in
     let ds1 : List Delivery = take i ds ++ d ∷ [] in
-    let rs1 : List Reply = take i rs ++ r ∷ [] in
+    let later = drop (suc i) ds ++ more in
     let some : length (take i rs) ≡ length (take i ds) = length-take-le i rs (omega (arith, below, lengths)) ∙ sym (length-take-le i ds (omega (arith, below))) in
-    let grown_to : history_after h0 ds1 rs1 ≡ history_after g (d ∷ []) (r ∷ []) = history_after-append h0 (take i ds) (d ∷ []) (take i rs) (r ∷ []) some in
-    let told : AreTold h0 ds1 rs1 = told_append h0 (take i ds) (d ∷ []) (take i rs) (r ∷ []) (told_take i h0 ds rs (told_right h0 ds rs counts right given)) (made.1, made.2, tt) in
+    let it = after_effect h0 (take i ds) d later (take i rs) left some (told_take i h0 ds rs (told_right h0 ds rs counts right given)) stop.3 in
     let whole : ds1 ++ (drop (suc i) ds ++ more) ≡ ds ++ more = sym (append_assoc ds1 (drop (suc i) ds) more) ∙ ap (λ l. l ++ more) (split_at i ds stop.1 below) in
-    let h = history_after g (d ∷ []) (r ∷ []) in
-    (h, made.3, made.4, ds1, drop (suc i) ds ++ more, whole, runs_as h0 h ds1 (drop (suc i) ds ++ more) rs1 made.3 (sym grown_to) told)
+    (it.0, it.1, it.2, ds1, later, whole, it.3)

@@ -1,9 +1,12 @@
 -- What a delivery and a run of deliveries do, over any shelf: on the tables of a history, and on any tables whatever.
-use Rattle.std.specs.Prelude.{◌≡◌, List, [], ◌∷◌, length}
+use Rattle.std.specs.Prelude.{◌≡◌, ℕ, List, [], ◌∷◌, length, Some}
 use Rattle.review_words.specs.declared.command.Delivery.{Delivery}
 use Rattle.review_words.specs.declared.reply.Reply.{Reply}
 use Rattle.review_words.specs.History.{Entry}
+use Rattle.review_changes.specs.Change.{Change}
+use Rattle.review_statuses.specs.Counting.{CountsEachOnce}
 use Rattle.review_rows.specs.Answer.{IsHistory}
+use Rattle.review_rows.specs.Changes.{Reading, Reads, change, setting_of}
 use Rattle.review_rows.specs.Shelf.{Shown, Views}
 use Rattle.review_branch_laws.specs.Sound.{AreSoundBranches}
 use Rattle.review_ancestors.specs.Sound.{AreSoundProjects}
@@ -22,6 +25,10 @@ pub record IsDelivered (d : Delivery) (reply : Reply) (old new : Shown) : Type 0
   pub stopped : new.is_honest → (h : List Entry) → IsHistory h → Views h old.tables → StopGoesOnFrom h old →
       StopGoesOnFrom (history_after h (d ∷ []) (reply ∷ [])) new × StopHasEntry d reply new
 
+-- For each change of the history each `label:` term counts an account at most once.
+abbrev pub CountsVotesOnce : List Entry → Type 0
+CountsVotesOnce h = (reading : Reading) → Reads reading h → (n : ℕ) (c : Change) → change reading h n ≡ Some c → CountsEachOnce (setting_of reading h c.project) c
+
 -- Deliveries, one after the other, got these replies.
 pub record WasRun (ds : List Delivery) (replies : List Reply) (old new : Shown) : Type 0 where
   pub each : length replies ≡ length ds
@@ -32,6 +39,8 @@ pub record WasRun (ds : List Delivery) (replies : List Reply) (old new : Shown) 
   pub branches : new.is_honest → (h : List Entry) → IsHistory h → Views h old.tables → AreSoundBranches (history_after h ds replies)
   -- and each line of projects ends, no effective file has lost a label or a value, its requirements name its labels, and each vote is on one, with a value of it
   pub projects : new.is_honest → (h : List Entry) → IsHistory h → Views h old.tables → AreSoundProjects (history_after h ds replies)
+  -- and for each change of it each `label:` term counts an account at most once
+  pub votes : new.is_honest → (h : List Entry) → IsHistory h → Views h old.tables → CountsVotesOnce (history_after h ds replies)
   -- on any tables whatever, made of steps, one a delivery
   pub steps : new.is_honest → AreSteps ds replies old.tables new.tables
   -- on any shelf whatever, store faults are told only where they were counted

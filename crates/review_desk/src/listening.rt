@@ -1,5 +1,7 @@
 //! Connections on loopback, each with a time of its own.
+ghost use Rattle.std.specs.Prelude.{◌≡◌, ◌⊎◌, ◌≤◌, ◌<◌, ◌+◌, ◌*◌, None, IfSome};
 ghost use Rattle.std.specs.Io.{ReadsAtMost};
+ghost use Rattle.std.specs.Duration.{as_nanos};
 
 use review_http::{Connections, ConnectionsFault};
 use std::io;
@@ -15,6 +17,22 @@ const QUIET_SECONDS: u64 = 10;
 
 /// How long an answered peer may take to say that it has the answer.
 const LAST_SECONDS: u64 = 1;
+
+/// How many bytes are written at a time. A peer that doesn't take so many while it is waited for is let go.
+const PIECE_BYTES: usize = 65_536;
+
+// How long the next call of a connection of this age may take: so many seconds at most, and not beyond the whole time; none where no time is left.
+fn left_of(gone: Duration, seconds: u64) -> Option<Duration>
+    ensures some { IfSome result (λ left. 0 < as_nanos left) }
+    ensures quiet { IfSome result (λ left. as_nanos left ≤ seconds * 1_000_000_000) }
+    ensures whole { IfSome result (λ left. as_nanos gone + as_nanos left ≤ 30_000_000_000) }
+    ensures over { result ≡ None → (seconds ≡ 0) ⊎ (30_000_000_000 ≤ as_nanos gone) }
+{
+    let left = Duration::from_secs(WHOLE_SECONDS).checked_sub(gone)?;
+    let most = Duration::from_secs(seconds);
+    let next = if most < left { most } else { left };
+    if next.is_zero() { None } else { Some(next) }
+}
 
 /// Where the program listens for connections: on a port of 127.0.0.1, once it is asked to.
 #[derive(Drop)]
@@ -46,12 +64,9 @@ struct Timed<'a> {
 impl Timed<'_> {
     /// How long the next call may take: so many seconds, or what is left of the whole time. An error where nothing is left.
     fn time_left(&self, seconds: u64) -> io::Result<Duration> {
-        let gone = self.begun.elapsed(self.rt)?;
-        let most = Duration::from_secs(seconds);
-        match Duration::from_secs(WHOLE_SECONDS).checked_sub(gone) {
-            Some(left) if left > most => Ok(most),
-            Some(left) if left > Duration::ZERO => Ok(left),
-            _ => Err(Error::from(ErrorKind::TimedOut)),
+        match left_of(self.begun.elapsed(self.rt)?, seconds) {
+            Some(left) => Ok(left),
+            None => Err(Error::from(ErrorKind::TimedOut)),
         }
     }
 
@@ -93,13 +108,25 @@ impl Read for Incoming<'_> {
 #[derive(Drop)]
 pub struct Outgoing<'a> {
     timed: Timed<'a>,
+    is_late: bool,
 }
 
 impl Write for Outgoing<'_> {
     fn write(&mut self, buf: &[u8]) -> io::Result<usize> {
+        if self.is_late {
+            return Err(Error::from(ErrorKind::TimedOut));
+        }
         let left = self.timed.time_left(QUIET_SECONDS)?;
         self.timed.stream.set_write_timeout(Some(left))?;
-        self.timed.stream.write(buf)
+        let piece = &buf[..buf.len().min(PIECE_BYTES)];
+        let begun = Instant::now(self.timed.rt)?;
+        let taken = self.timed.stream.write(piece)?;
+        // Where the time is over, a part of the piece may have been taken.
+        if taken < piece.len() {
+            let waited = begun.elapsed(self.timed.rt)?;
+            self.is_late = left <= waited;
+        }
+        Ok(taken)
     }
 
     fn flush(&mut self) -> io::Result<()> {
@@ -128,6 +155,7 @@ impl<'a> Listening<'a> {
                 stream: other,
                 begun,
             },
+            is_late: false,
         };
         Ok((incoming, outgoing))
     }

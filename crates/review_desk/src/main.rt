@@ -13,6 +13,7 @@ mod notices;
 use review_jobs::{Job, Place, WordsFault, job_of};
 use review_machine::Outcome;
 use review_work::{ProgramFault, Task, status_of};
+use sqlite::{Start, Unknown};
 use std::env;
 use std::io::ErrorKind;
 use std::process::ExitCode;
@@ -35,25 +36,31 @@ fn apply_in_memory(rt: &HostRuntime) -> Result<Outcome, ProgramFault> {
     }
 }
 
-fn run_on(rt: &HostRuntime, file: &str, job: Job<'_>) -> Result<Outcome, ProgramFault> {
+// Does a job on a file, whatever the file holds.
+fn run_on<F: Start>(
+    rt: &HostRuntime,
+    file: &str,
+    start: F,
+    job: Job<'_>,
+) -> Result<Outcome, ProgramFault> {
     match job {
-        Job::Init { .. } => files::init(rt, file),
-        Job::Migrate { .. } => files::migrate(rt, file),
-        Job::Apply { .. } => files::work_on(rt, file, 0, &Task::Apply),
-        Job::Serve { port, count, .. } => files::serve(rt, file, port, count),
-        Job::Show { change, .. } => files::work_on(rt, file, 0, &Task::Show { change }),
+        Job::Init { .. } => files::init(rt, file, start),
+        Job::Migrate { .. } => files::migrate(rt, file, start),
+        Job::Apply { .. } => files::work_on(rt, file, start, 0, &Task::Apply),
+        Job::Serve { port, count, .. } => files::serve(rt, file, start, port, count),
+        Job::Show { change, .. } => files::work_on(rt, file, start, 0, &Task::Show { change }),
         Job::Joined {
             project,
             branch,
             ..
-        } => files::work_on(rt, file, 0, &Task::Joined { project, branch }),
+        } => files::work_on(rt, file, start, 0, &Task::Joined { project, branch }),
     }
 }
 
-fn run(rt: &HostRuntime, job: Job<'_>) -> Result<Outcome, ProgramFault> {
+fn run<F: Start>(rt: &HostRuntime, start: F, job: Job<'_>) -> Result<Outcome, ProgramFault> {
     match job.place() {
         Place::Memory => apply_in_memory(rt),
-        Place::File(file) => run_on(rt, file, job),
+        Place::File(file) => run_on(rt, file, start, job),
     }
 }
 
@@ -91,7 +98,8 @@ fn main(rt: HostRuntime) -> ExitCode {
         Err(fault) => return refuse_words(&rt, fault),
     };
     match job_of(rt.alloc(), &words) {
-        Ok(job) => end_with(&rt, run(&rt, job)),
+        // What the file holds is not known here, and a write that is cut off by a stop is taken to leave each byte old or new (docs/proofs.md, "Premises").
+        Ok(job) => end_with(&rt, run(&rt, Unknown, job)),
         Err(fault) => refuse_words(&rt, fault),
     }
 }

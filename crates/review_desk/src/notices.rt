@@ -1,5 +1,7 @@
 //! What standard error is told beside the fault that ends a job.
 
+ghost use Rattle.std.specs.Prelude.{◌≡◌, false};
+
 use review_work::Notices;
 
 const WARNING: &str =
@@ -14,7 +16,9 @@ pub struct StandardError<'a> {
 
 impl StandardError<'_> {
     /// Standard error, where nothing was told yet.
-    pub fn new(rt: &HostRuntime) -> StandardError<'_> {
+    pub fn new(rt: &HostRuntime) -> StandardError<'_>
+        ensures { result.is_warned ≡ false }
+    {
         StandardError {
             rt,
             is_warned: false,

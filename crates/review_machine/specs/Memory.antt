@@ -8,6 +8,7 @@ use Rattle.review_words.specs.declared.command.Delivery.{Delivery}
 use Rattle.review_words.specs.declared.reply.Reply.{Reply}
 use Rattle.review_branch_laws.specs.Sound.{AreSoundBranches}
 use Rattle.review_ancestors.specs.Sound.{AreSoundProjects}
+use Rattle.review_deliveries.specs.Delivered.{CountsVotesOnce}
 use Rattle.review_deliveries.specs.Replies.{IsRun, history_after}
 use Rattle.review_lines.specs.Answers.{WereAnswered}
 use Rattle.review_lines.specs.declared.fault.Fault.{Fault}
@@ -18,10 +19,11 @@ use Rattle.review_lines.specs.declared.fault.Outcome.{Outcome}
 abbrev pub HadNoMemory : Option (List ℕ) → Option (List ℕ) → Result Outcome Fault → Type 0
 HadNoMemory before after told = (told ≡ Err fault.Memory) × Appends before after []
 
--- Deliveries were a run from the history of no request, with no premise on a store, and the branches and the projects that it left are sound.
+-- Deliveries were a run from the history of no request, with no premise on a store, the branches and the projects that it left are sound, and each account's vote counts at most once.
 abbrev pub RunsFromNothing : Tables → Tables → List Delivery → List Reply → Type 0
 RunsFromNothing first last ds replies =
     IsRun [] ds replies (in_memory first) (in_memory last) × AreSoundBranches (history_after [] ds replies) × AreSoundProjects (history_after [] ds replies)
+    × CountsVotesOnce (history_after [] ds replies)
 
 -- The first lines of an input, all where no fault came, were such a run, and were answered.
 abbrev pub RanFromNothing : Option (List ℕ) → Option (List ℕ) → Option (List ℕ) → Result Outcome Fault → Type 0

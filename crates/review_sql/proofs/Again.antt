@@ -34,13 +34,13 @@ store_or_memory NotEmpty a b c d = absurd (c refl)
 store_or_memory NotOurs a b c d = absurd (d refl)
 store_or_memory Memory a b c d = inl refl
 
-cause_left : (s : State) (numbers : Numbers) (fault : DeskFault) → IsReady s.now → IsDesk numbers s.now.trees → IsRefused s fault → (fault ≡ Memory) ⊎ (fault ≡ Store)
+pub cause_left : (s : State) (numbers : Numbers) (fault : DeskFault) → IsReady s.now → IsDesk numbers s.now.trees → IsRefused s fault → (fault ≡ Memory) ⊎ (fault ≡ Store)
 cause_left s numbers fault ready is refused =
     store_or_memory fault (λ none. never_no_desk s.now ready.schema numbers is (refused.no_desk none)) (λ other. never_other_version s.now ready.schema numbers is (refused.other_version other)) refused.not_empty
     (λ not. (refused.not_ours not).1 ready.schema (all_apart s.now ready))
 
 -- the same of what is not migrated
-unfit_left : (db : Database) (numbers : Numbers) (fault : DeskFault) → IsReady db → IsDesk numbers db.trees → IsUnfit db fault → (fault ≡ Memory) ⊎ (fault ≡ Store)
+pub unfit_left : (db : Database) (numbers : Numbers) (fault : DeskFault) → IsReady db → IsDesk numbers db.trees → IsUnfit db fault → (fault ≡ Memory) ⊎ (fault ≡ Store)
 unfit_left db numbers fault ready is unfit =
     store_or_memory fault (λ none. let it = unfit.no_desk none in no_desk it.0 it.1) (λ other. let it = unfit.other_version other in it.2.2.1.1.0 (same_Some _ _ (sym it.2.1 ∙ (desk_says Third db ready.schema it.0 it.1 numbers is).0))) unfit.not_empty
     (λ not. let it = unfit.not_ours not in not_ours it.0 it.1.0 it.1.1 it.2)

@@ -7,6 +7,7 @@ pub mod Peeking
 pub mod Singles
 pub mod Shown
 pub mod Again
+pub mod Left
 pub mod Loaded
 pub mod Upgraded
 pub mod Raised

@@ -11,7 +11,8 @@ use Rattle.review_tables.specs.Made.{IsBlank}
 use Rattle.review_statements.specs.Ran.{Transacts}
 use Rattle.review_transactions.specs.Numbers.{IsDesk}
 use Rattle.review_transactions.specs.First.{MakesDesk}
-use Rattle.review_sql.specs.Shelf.{Holds, IsAnyThere, IsUnmade, Stays}
+use Rattle.review_sql.specs.Shelf.{AreOurs, Holds, IsAnyThere, IsUnmade, Stays}
+use Rattle.review_sql.proofs.Shown.{of_ours, ready_ours}
 use Rattle.review_sql.specs.Created.{IsCreated}
 use Rattle.review_statements.specs.Ran.{IsReady}
 use Rattle.review_sql.specs.declared.seen.Seen.{Seen}
@@ -45,7 +46,10 @@ module _ {S : Type 0} (g : Ghosts S) (c0 c1 c2 : Held S) (is_ours : Bool) (decid
     empty = λ clean any. none (omega (arith, acts.survives.clean, clean)) any;
     alone = λ clean t left.
         let d = acts.done clean in
-        rw d.1 (ap (λ (t : Trees). Some (tables_at t)) (ap (λ (d : Database). d.trees) (settled d.1) ∙ sym (law left.0 d.1 left.1)) ∙ ap Some (sym left.2));
+        let same : (state g c2).now.trees ≡ left.0 = ap (λ (d : Database). d.trees) (settled d.1) ∙ sym (law left.0 d.1 left.1) in
+        let made : IsTrue is_ours → AreOurs (state g c2).now.trees = λ ours. let b = blank (decided ours) in ready_ours (state g c2).now _ (d.2.ready b) (d.2.desk b) in
+        let tables = of_ours is_ours left.0 t left.2 (λ ours. subst AreOurs same (made ours)) in
+        rw d.1 (ap (λ (t : Trees). Some (tables_at t)) same ∙ ap Some (sym tables));
     survives = survives_then (state g c0) (state g c1) (state g c2) _ _ _ (λ _ db h. absurd h)
         (λ clean db h. let was = stays.kept h.0 in (was.0, (h.1.0, h.1.1, subst (λ (d : Database). MakesDesk d h.1.0) was.1 h.1.2))) stays.survives acts.survives;
   }

@@ -1,6 +1,6 @@
 -- A look at tables that is taken back.
 use Rattle.sqlite_value.specs.Order.{Row}
-use Rattle.sqlite.specs.Effect.{Database}
+use Rattle.sqlite.specs.Effect.{Database, IsDatabase}
 use Rattle.std.proofs.Common.{◌≡◌, ◌≢◌, ◌∙◌, ◌⊎◌, inl, inr, ℕ, List, Some, None, Bool, false, Ok, Err, Result, IfOk, IfErr, IsTrue, refl, sym, subst, arith, Option, IfSome}
 use Rattle.std.specs.Bool.{Decides}
 use Rattle.std.specs.List.{AllByRecursion}
@@ -43,9 +43,9 @@ peeked {X} Found s0 s2 s3 settled open_clean r looks undone last = record {
     by_result (Err e) h = tt
 
 -- what is seen of tables of our form, whose rows were looked at
-pub seen_ours : (s : State) (numbers : Numbers) (is_apart : Bool) → s.now.schema ≡ desk_schema → IsDeskThere s.now numbers → Decides is_apart (AreAllApart s.now.trees) → IsSeen s (record { is_ours = is_apart; numbers = numbers })
-seen_ours s numbers is_apart has there apart = record {
-  ready = λ yes. (record { schema = has; apart = λ t listed. at_tree (λ n. AreApart (s.now.trees n)) desk_schema.tables (apart.0 yes) t listed }, desk_of_ours s.now has numbers there);
+pub seen_ours : (s : State) (numbers : Numbers) (is_apart : Bool) → s.now.schema ≡ desk_schema → IsDatabase s.now → IsDeskThere s.now numbers → Decides is_apart (AreAllApart s.now.trees) → IsSeen s (record { is_ours = is_apart; numbers = numbers })
+seen_ours s numbers is_apart has sound there apart = record {
+  ready = λ yes. (record { schema = has; sound = sound; apart = λ t listed. at_tree (λ n. AreApart (s.now.trees n)) desk_schema.tables (apart.0 yes) t listed }, desk_of_ours s.now has numbers there);
   ours = λ same all. apart.1 all;
   there = there;
 }

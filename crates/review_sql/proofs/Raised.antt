@@ -35,7 +35,8 @@ use Rattle.review_database.specs.Tables.{tables_at}
 use Rattle.review_sql.specs.Migrated.{IsBrought, IsNotMigrated, IsOpenedAsIs, IsRaised, IsUnfit, IsUpgraded, IsViewIn, LeavesUpgraded, Upgrades, if_whole}
 use Rattle.review_sql.specs.Opened.{AreAllApart, AreApartIn, IsLacking, IsSeen}
 use Rattle.review_sql.specs.Said.{IsThere}
-use Rattle.review_sql.specs.Shelf.{Holds, Stays}
+use Rattle.review_sql.specs.Shelf.{AreOurs, Holds, Stays}
+use Rattle.review_sql.proofs.Shown.{of_ours, ready_ours}
 use Rattle.review_sql.proofs.Again.{goes_on}
 use Rattle.review_sql.proofs.Made.{holds_opened, is_opened}
 use Rattle.review_sql.proofs.Saying.{earlier_of_ours, first_least, not_ok}
@@ -234,7 +235,9 @@ module _ {S : Type 0} (g : Ghosts S) (is_ours : Bool) (c0 c1 : Held S) (numbers 
     view = λ clean. same_history version is_ours numbers (state g c0).now (state g c1).now (state g c1).now.trees (it.form clean) (it.there clean) (it.acts.done clean).2 refl;
     alone = λ clean t left.
         let d = it.acts.done clean in
-        rw d.1 (ap (λ (t : Trees). Some (tables_at t)) (ap (λ (d : Database). d.trees) (settled d.1) ∙ sym (law left.0 d.1 left.1)) ∙ ap Some (sym left.2));
+        let same : (state g c1).now.trees ≡ left.0 = ap (λ (d : Database). d.trees) (settled d.1) ∙ sym (law left.0 d.1 left.1) in
+        let made : IsTrue is_ours → AreOurs (state g c1).now.trees = λ ours. let it = d.2.ready ours (it.form clean ours) in ready_ours (state g c1).now numbers it.0 it.1 in
+        rw d.1 (ap (λ (t : Trees). Some (tables_at t)) same ∙ ap Some (sym (of_ours is_ours left.0 t left.2 (λ ours. subst AreOurs same (made ours)))));
     survives = survives_weaker (state g c0) (state g c1) _ _ (λ clean db h. (h.0, (h.1.0, h.1.1, h.1.2, same_history version is_ours numbers (state g c0).now h.1.0 db (it.form clean) (it.there clean) h.1.2 h.1.1))) it.acts.survives;
   })
   migrated settled law (inr it) =

@@ -21,7 +21,7 @@ use Rattle.review_database.specs.Tables.{tables_at}
 use Rattle.review_transactions.specs.Numbers.{IsDesk, with_request}
 use Rattle.review_transactions.specs.declared.numbers.Numbers.{Numbers}
 use Rattle.review_transactions.specs.Commits.{AreSingle, Commits}
-use Rattle.review_sql.specs.Shelf.{Holds, Stays, tables_of, stops_of}
+use Rattle.review_sql.specs.Shelf.{AreOurs, Holds, ShowsLeft, Stays, tables_of, stops_of}
 
 -- a stored request that is odd is one of no history
 pub not_odd : (h : List Entry) (i : Identity) → stored_answer h i ≡ Some OddAnswer → ⊥
@@ -38,6 +38,14 @@ not_kept_odd h i is = by (is_closed h i.epoch) is
 
 pub odd_is_damage : (t : Tables) (i : Identity) → t.answer i ≡ Some OddAnswer → IsDamaged t
 odd_is_damage t i odd h history view = let read = reading_of h history in not_kept_odd h i (sym ((view read.0 read.1).answer_is i) ∙ odd)
+
+-- trees of a desk of ours show their tables alone
+pub of_ours : (is_ours : Bool) (db : Trees) (t : Tables) → ShowsLeft is_ours db t → (IsTrue is_ours → AreOurs db) → t ≡ tables_at db
+of_ours is_ours db t (inl is) ours = is
+of_ours is_ours db t (inr none) ours = absurd (none.1 (ours none.0))
+
+pub ready_ours : (db : Database) (numbers : Numbers) → IsReady db → IsDesk numbers db.trees → AreOurs db.trees
+ready_ours db numbers ready desk = record { numbers = numbers; ready = subst IsReady (λ i. record { schema = ready.schema i; trees = db.trees }) ready; desk = desk }
 
 module _ {S : Type 0} (g : Ghosts S) (old new : Held S) where
   pub stays : (IsTrue (state g new).is_open → IsTrue (state g old).is_open × ((state g new).now ≡ (state g old).now)) → StaysOrShuts (tables_of g old) (tables_of g new)
@@ -71,7 +79,7 @@ module _ {S : Type 0} (g : Ghosts S) (old new : Held S) where
     }
 
     pub stops_read : {X : Type 0} (Found : Trees → X → Type 0) (r : Result X Error) → (IsTrue (state g old).is_open → (state g old).now ≡ (state g old).committed) → (IsTrue (state g old).is_open → (state g old).may_leave (state g old).committed.trees)
-        → Serves Found (state g old) (state g new) r → IsTrue is_ours → HasCleanDisk (state g new) → (t : Tables) → stops_of g new t → stops_of g old t
+        → Serves Found (state g old) (state g new) r → IsTrue is_ours → HasCleanDisk (state g new) → (t : Tables) → stops_of g is_ours new t → stops_of g is_ours old t
     stops_read Found r settled kept it ours clean t left = elim ((it.survives (desk_if_open ours)).crash clean left.0 left.1) [
       | inl was ↦ (left.0, was, left.2)
       | inr same ↦ (left.0, subst (state g old).may_leave (sym (same.1 ∙ ap (λ (d : Database). d.trees) (settled same.0))) (kept same.0), left.2)
@@ -86,12 +94,16 @@ module _ {S : Type 0} (g : Ghosts S) (old new : Held S) where
       committed_from : IsTrue is_ours → IsTrue (state g old).is_open → (after : Database) → Commits delta kept numbers (state g old).now after → IsCommitted (tables_at (state g old).now.trees) delta (kept_row kept) (tables_at after.trees)
       committed_from ours was after c = let it = holds.ready ours was in c.committed it.0 (single ours was) it.1
 
-      pub stops_committed : IsTrue is_ours → HasCleanDisk (state g new) → (t : Tables) → stops_of g new t → stops_of g old t ⊎ Shows (tables_of g old) (λ was. IsCommitted was delta (kept_row kept) t)
+      ours_after : IsTrue is_ours → IsTrue (state g old).is_open → (after : Database) → Commits delta kept numbers (state g old).now after → AreOurs after.trees
+      ours_after ours was after c = let it = holds.ready ours was in ready_ours after (with_request numbers delta.least_epoch) (c.ready it.0) (c.desk it.0 it.1)
+
+      pub stops_committed : IsTrue is_ours → HasCleanDisk (state g new) → (t : Tables) → stops_of g is_ours new t → stops_of g is_ours old t ⊎ Shows (tables_of g old) (λ was. IsCommitted was delta (kept_row kept) t)
       stops_committed ours clean t left = elim (acts.survives.crash clean left.0 left.1) [
         | inl was ↦ inl (left.0, was, left.2)
         | inr made ↦
             let all = committed_from ours made.0 made.1.0 made.1.2 in
-            inr (shown_now (λ x. IsCommitted x delta (kept_row kept) t) made.0 (subst (λ x. IsCommitted (tables_at (state g old).now.trees) delta (kept_row kept) x) (sym (left.2 ∙ ap tables_at made.1.1)) all))
+            let tables = of_ours is_ours left.0 t left.2 (λ yes. subst AreOurs (sym made.1.1) (ours_after yes made.0 made.1.0 made.1.2)) in
+            inr (shown_now (λ x. IsCommitted x delta (kept_row kept) t) made.0 (subst (λ x. IsCommitted (tables_at (state g old).now.trees) delta (kept_row kept) x) (sym (tables ∙ ap tables_at made.1.1)) all))
       ]
 
       done_as : r ≡ Ok (tt {0}) → HasCleanDisk (state g new) → IsTrue (state g old).is_open × IsTrue (state g new).is_open × Commits delta kept numbers (state g old).now (state g new).now
@@ -110,11 +122,13 @@ module _ {S : Type 0} (g : Ghosts S) (old new : Held S) where
       committed_shown is ours clean = let d = done_as is clean in let was = d.0 in let now = d.1 in rw (was, now) (committed_from ours d.0 (state g new).now d.2)
 
       pub alone : r ≡ Ok (tt {0}) → HasCleanDisk (state g new) → (IsTrue (state g new).is_open → (state g new).now ≡ (state g new).committed)
-          → ((db : Trees) → IsTrue (state g new).is_open → (state g new).may_leave db → db ≡ (state g new).committed.trees) → (t : Tables) → stops_of g new t → tables_of g new ≡ Some t
+          → ((db : Trees) → IsTrue (state g new).is_open → (state g new).may_leave db → db ≡ (state g new).committed.trees) → (t : Tables) → stops_of g is_ours new t → tables_of g new ≡ Some t
       alone is clean settled law t left =
           let d = done_as is clean in
           let is_open = d.1 in
-          rw is_open (ap (λ (t : Trees). Some (tables_at t)) (ap (λ (d : Database). d.trees) (settled d.1) ∙ sym (law left.0 d.1 left.1)) ∙ ap Some (sym left.2))
+          let same : (state g new).now.trees ≡ left.0 = ap (λ (d : Database). d.trees) (settled d.1) ∙ sym (law left.0 d.1 left.1) in
+          let tables = of_ours is_ours left.0 t left.2 (λ yes. subst AreOurs same (ours_after yes d.0 (state g new).now d.2)) in
+          rw is_open (ap (λ (t : Trees). Some (tables_at t)) same ∙ ap Some (sym tables))
 
       pub holds_undone : {e : Error} → r ≡ Err e → new.in_transaction ≡ false → Holds g new is_ours numbers
       holds_undone {e} is mode = record {
@@ -132,8 +146,8 @@ module _ {S : Type 0} (g : Ghosts S) (mid new : Held S) (still : Stays (state g 
     ready = λ ours is_open. let k = still.kept is_open in subst (λ (d : Database). IsReady d × IsDesk numbers d.trees) (sym k.1) (holds.ready ours k.0);
   }
 
-  pub stops_still : HasCleanDisk (state g new) → (t : Tables) → stops_of g new t → stops_of g mid t
-  stops_still clean t left = elim (still.survives.crash clean left.0 left.1) [ inl was ↦ (left.0, was, left.2) | inr none ↦ absurd none ]
+  pub stops_still : (is_ours : Bool) → HasCleanDisk (state g new) → (t : Tables) → stops_of g is_ours new t → stops_of g is_ours mid t
+  stops_still is_ours clean t left = elim (still.survives.crash clean left.0 left.1) [ inl was ↦ (left.0, was, left.2) | inr none ↦ absurd none ]
 
   pub clean_still : HasCleanDisk (state g new) → HasCleanDisk (state g mid)
   clean_still clean = omega (arith, still.survives.clean, clean)

@@ -1,5 +1,6 @@
 pub mod Shelf
 pub mod Created
+pub mod Left
 pub mod LookedUp
 pub mod Said
 pub mod Opened

@@ -1,5 +1,5 @@
 -- What proofs see of a shelf in SQLite.
-use Rattle.std.specs.Prelude.{ℕ, ◌≡◌, ◌≤◌, map, false, Bool, List, Option, Some, None, Result, Ok, Err, IsTrue, if◌then◌else◌, refl, min}
+use Rattle.std.specs.Prelude.{ℕ, ◌≡◌, ◌≤◌, ◌⊎◌, map, false, Bool, List, Option, Some, None, Result, Ok, Err, IsTrue, if◌then◌else◌, refl, min}
 use Rattle.std.proofs.Math.Nat.{min-le_right}
 use Rattle.std.specs.List.{Contains}
 use Rattle.review_statements.specs.declared.texts.TheConstants.{ANY_ROW, READ_ROWS, READ_ROWS_1, READ_ROWS_2}
@@ -20,6 +20,7 @@ use Rattle.review_rows.specs.declared.shelf.ShelfFault.{ShelfFault}
 use Rattle.review_rows.specs.declared.shelf.ShelfFault.TheVariants.{Memory, Damaged}
 use Rattle.review_database.specs.declared.sights.Loaded.{Loaded}
 use Rattle.review_database.specs.declared.sights.Loaded.TheVariants as loaded
+use Rattle.review_statements.specs.Desk.{desk_schema}
 use Rattle.review_statements.specs.Ran.{IsReady}
 use Rattle.review_tables.specs.declared.versions.TablesVersion.{TablesVersion}
 use Rattle.review_tables.specs.declared.versions.TablesVersion.TheVariants.{First, Second, Third}
@@ -52,13 +53,31 @@ IsHandedBack g is_ours shelf conn = (conn ≡ shelf.conn) × Holds g shelf.conn 
 abbrev pub tables_of : {S : Type 0} → Ghosts S → Held S → Option Tables
 tables_of g conn = if (state g conn).is_open then Some (tables_at (state g conn).now.trees) else None
 
+-- the trees are those of a desk of ours
+pub record AreOurs (db : Trees) : Type 0 where
+  pub numbers : Numbers
+  pub ready : IsReady (record { schema = desk_schema; trees = db })
+  pub desk : IsDesk numbers db
+
+-- Trees of which it can't be that they are not those of a desk of ours. What a stop left of one is so.
+abbrev pub AreLeftOfOurs : Trees → Type 0
+AreLeftOfOurs db = (AreOurs db → ⊥) → ⊥
+
+-- tables of no history
+abbrev pub no_tables : Tables
+no_tables = record { row = λ _. None; count = λ _. 0; answer = λ _. None; version = 0; requests = 0 }
+
+-- What trees that a stop left show: their tables; and, of a shelf of ours, tables of no history where they are not those of a desk of ours.
+abbrev pub ShowsLeft : Bool → Trees → Tables → Type 0
+ShowsLeft is_ours db t = (t ≡ tables_at db) ⊎ (IsTrue is_ours × (AreOurs db → ⊥) × (t ≡ no_tables))
+
 -- the tables that a stop may leave
-abbrev pub stops_of : {S : Type 0} → Ghosts S → Held S → Tables → Type 0
-stops_of g conn t = (db : Trees) × (state g conn).may_leave db × (t ≡ tables_at db)
+abbrev pub stops_of : {S : Type 0} → Ghosts S → Bool → Held S → Tables → Type 0
+stops_of g is_ours conn t = (db : Trees) × (state g conn).may_leave db × ShowsLeft is_ours db t
 
 -- Honest is a shelf whose tables are ours, over a disk that returned what was written; whose they are no call changes.
 abbrev pub shown : {S : Type 0} → Ghosts S → Bool → ShelfView S → Shown
-shown g is_ours k = record { tables = tables_of g k.conn; is_honest = HasCleanDisk (state g k.conn) × IsTrue is_ours; faults = min k.faults greatest_count; stops = stops_of g k.conn }
+shown g is_ours k = record { tables = tables_of g k.conn; is_honest = HasCleanDisk (state g k.conn) × IsTrue is_ours; faults = min k.faults greatest_count; stops = stops_of g is_ours k.conn }
 
 -- the count fits its type
 pub count_fits : (n : ℕ) → min n greatest_count ≤ greatest_count

@@ -5,6 +5,7 @@
 #![tactic(auto)]
 
 pub mod faults;
+pub mod laws;
 mod loading;
 mod migrating;
 mod opening;

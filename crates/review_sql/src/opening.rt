@@ -2,7 +2,7 @@
 ghost use Rattle.std.specs.Prelude.{◌≡◌, ◌≢◌, ◌⊎◌, ℕ, Some, None, true, false, IsTrue, IfOk, IfErr, IfSome};
 ghost use Rattle.std.specs.Bool.{Decides};
 ghost use Rattle.sqlite.specs.Held.{state};
-ghost use Rattle.sqlite.specs.State.{HasCleanDisk};
+ghost use Rattle.sqlite.specs.State.{HasCleanDisk, IsLive};
 ghost use Rattle.review_sql.specs.Shelf.{AreAllRead, Stays};
 ghost use Rattle.review_sql.specs.Said.{LacksLeast, least_shown, SaysLeast, ShowsDesk, ShowsEpochs, number_of_one, version_shown, requests_shown, IsSaid, IsThere, SaysVersion};
 ghost use Rattle.review_sql.specs.Opened.{AreAllApart, Peeks, IsLacking, IsSeen, IsRefused};
@@ -178,6 +178,7 @@ pub fn see_tables<S: Alter>(
     requires says { IsTrue (state S.Store conn.old).is_open → SaysVersion version (state S.Store conn.old).now said }
     ensures mode { conn.new.in_transaction ≡ false }
     ensures stays { Stays (state S.Store conn.old) (state S.Store conn.new) }
+    ensures live { IsLive (state S.Store conn.old) }
     ensures form { IfOk result (λ seen. Decides seen.is_ours (conn.old.schema ≡ schema_at version)) }
     ensures there { IsTrue (state S.Store conn.new).is_open → IfOk result (λ seen. IsThere version (state S.Store conn.old).now seen.numbers) }
     ensures lacking { IsTrue (state S.Store conn.new).is_open → IfErr result (IsLacking version (state S.Store conn.old)) }

@@ -107,7 +107,7 @@ fn may_be_made<O: Origin>(is_blank: bool) -> bool
 }
 
 impl<S: Alter + Drop, O: Origin> SqlShelf<S, O> {
-    ghost use Rattle.review_sql.specs.Shelf.{IsAnyThere, IsHandedBack, IsUnmade};
+    ghost use Rattle.review_sql.specs.Shelf.{AreLeftOfOurs, IsAnyThere, IsHandedBack, IsUnmade};
     ghost use Rattle.review_sql.specs.Said.{IsDeskThere};
     ghost use Rattle.review_sql.specs.Created.{IsCreated};
     ghost use Rattle.review_sql.specs.Opened.{IsOpened, IsRefused};
@@ -181,10 +181,12 @@ impl<S: Alter + Drop, O: Origin> SqlShelf<S, O> {
         ensures cause { IfErr result (λ e. IsTrue (state S.Store e.0).is_open → IsRefused (state S.Store conn) e.1) }
         ensures ours { IfErr result (λ e. e.1 ≡ DeskFault.NotOurs → IsTrue O.IS_OURS) }
         ensures again { IfErr result (λ e. IsRefusedAgain S.Store O.IS_OURS conn e.0 e.1) }
+        ensures left { IfErr result (λ e. IsTrue (state S.Store e.0).is_open → AreLeftOfOurs (state S.Store conn).now.trees → (e.1 ≡ DeskFault.Memory) ⊎ (e.1 ≡ DeskFault.Store)) }
         ensures no_table { IfOk result (λ s. IsTrue (state S.Store s.conn).is_open → conn.schema ≡ schema_0 → ⊥) }
         ensures empty { IfErr result (λ e. IsTrue (state S.Store e.0).is_open → conn.schema ≡ schema_0 → (e.1 ≡ DeskFault.NotADesk) ⊎ ((e.1 ≡ DeskFault.Memory) ⊎ (e.1 ≡ DeskFault.Store))) }
     {
         let mut conn = conn;
+        let _live = conn.schema();
         match see(&mut conn, alloc) {
             Ok(seen) => {
                 if O::IS_OURS && !seen.is_ours {
@@ -220,8 +222,10 @@ impl<S: Alter + Drop, O: Origin> SqlShelf<S, O> {
         ensures cause { IfErr result (λ e. IsTrue (state S.Store e.0).is_open → IsUnfit (state S.Store conn).now e.1) }
         ensures ours { IfErr result (λ e. e.1 ≡ DeskFault.NotOurs → IsTrue O.IS_OURS) }
         ensures again { IfErr result (λ e. IsRefusedAgain S.Store O.IS_OURS conn e.0 e.1) }
+        ensures left { IfErr result (λ e. IsTrue (state S.Store e.0).is_open → AreLeftOfOurs (state S.Store conn).now.trees → (e.1 ≡ DeskFault.Memory) ⊎ (e.1 ≡ DeskFault.Store)) }
     {
         let mut conn = conn;
+        let _live = conn.schema();
         match bring(&mut conn, alloc, O::IS_OURS) {
             Ok(numbers) => {
                 let _settled = conn.is_autocommit();

@@ -9,3 +9,4 @@ pub mod TextsOfChanges
 pub mod TextsOfLookups
 pub mod TextsOfMoves
 pub mod Moves
+pub mod OneSchema

@@ -15,7 +15,7 @@ use Rattle.sqlite_rules.specs.Calls.{ids_of}
 use Rattle.sqlite_schema.specs.declared.program.Program.{Program}
 use Rattle.sqlite_rules.specs.Action.{works}
 use Rattle.sqlite_rules.specs.Edit.{Edit, edit_of, edited, taken_by, without_all}
-use Rattle.sqlite.specs.Effect.{Database, value_rows, IsSource, Answers}
+use Rattle.sqlite.specs.Effect.{Database, IsDatabase, value_rows, IsSource, Answers}
 use Rattle.sqlite.specs.Rows.{Part, Written, Task, stamped, Inserts, Deletes}
 use Rattle.sqlite.specs.Does.{Tally, Does, AtPlace, OnRows, Concludes, Drops, is_acted_on}
 use Rattle.sqlite.specs.declared.run.Mode.{Mode}
@@ -99,9 +99,10 @@ spare_others tree old new (x ∷ tables) all t is other = elim (or_cases _ _ is)
   | inr later ↦ spare_others tree old new tables all.1 t later other
 ]
 
-pub ready_after : (tree : ℕ) (old new : State) → IsReady old.now → new.now.schema ≡ old.now.schema → AreApart (new.now.trees tree) → SparesOthers tree old.now.trees new.now.trees → IsReady new.now
-ready_after tree old new has schema up others = record {
+pub ready_after : (tree : ℕ) (old new : State) → IsReady old.now → new.now.schema ≡ old.now.schema → IsDatabase new.now → AreApart (new.now.trees tree) → SparesOthers tree old.now.trees new.now.trees → IsReady new.now
+ready_after tree old new has schema sound up others = record {
   schema = schema ∙ has.schema;
+  sound = sound;
   apart = λ t is. elim (cases_Bool (eqb t tree)) [
     | inl same ↦ subst (λ n. AreApart (new.now.trees n)) (sym (eqb-true t tree same)) up
     | inr other ↦ subst AreApart (sym (others t is (eqb-false t tree other))) (has.apart t is)
@@ -232,7 +233,7 @@ module _ (name : List ℕ) (tree : ℕ) (columns : List Column) (key : Option �
         let keyed : IsTrue (is_int (rowid row)) = (and_parts _ _ (ap have_rowids (sym news) ∙ it.2.keyed)).0 in
         let free : is_taken (old.now.trees tree) row ≡ false = not-true _ (and_parts _ _ (ap (are_fresh (old.now.trees tree)) (sym news) ∙ it.2.fresh)).0 in
         let others = spares _ it.1 in (
-          ready_after tree old new has it.0 (subst AreApart (sym rows) (apart_put row (old.now.trees tree) keyed free (has.apart tree listed))) others,
+          ready_after tree old new has it.0 w.sound (subst AreApart (sym rows) (apart_put row (old.now.trees tree) keyed free (has.apart tree listed))) others,
           record { rows = subst (IsAdded row (old.now.trees tree)) (sym rows) (added row (old.now.trees tree) free); others = others },
         )
 
@@ -252,4 +253,4 @@ module _ (name : List ℕ) (tree : ℕ) (columns : List Column) (key : Option �
         let rows : new.now.trees tree ≡ filter (λ r. not (test r)) (old.now.trees tree) =
         it.3.is ∙ (removed (passes params tests) (old.now.trees tree) (ids_of it.1) up ids ∙ filter_same _ _ (λ r. ap not (same r)) (old.now.trees tree)) in
         let others = spares _ it.3 in
-        (ready_after tree old new has it.0 (subst AreApart (sym rows) (apart_filter _ _ up)) others, rows, others)
+        (ready_after tree old new has it.0 w.sound (subst AreApart (sym rows) (apart_filter _ _ up)) others, rows, others)

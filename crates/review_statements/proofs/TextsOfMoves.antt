@@ -130,4 +130,5 @@ module _ (sql : List ℕ) (move : Move) (old new : State) (has : old.now.schema 
       record {
         schema = done.0 ∙ (ap (λ s. without_table s t.tree) has ∙ it.leaves);
         others = subst (λ (s : Schema). KeepsRows s.tables old.now.trees new.now.trees) (ap (λ s. without_table s t.tree) has ∙ it.leaves) done.1;
+        sound = w.sound;
       }

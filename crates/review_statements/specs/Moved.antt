@@ -7,7 +7,7 @@ use Rattle.sqlite_value.specs.declared.value.Value.TheVariants.{Int, Text}
 use Rattle.sqlite_rules.specs.Cast.{as_text, cast}
 use Rattle.sqlite_schema.specs.declared.schema.Kind.TheVariants.{Integer}
 use Rattle.sqlite_schema.specs.declared.schema.Table.{Table}
-use Rattle.sqlite.specs.Effect.{Database}
+use Rattle.sqlite.specs.Effect.{Database, IsDatabase}
 use Rattle.review_statements.specs.Content.{AreApart}
 use Rattle.review_statements.specs.Desk.{accounts, answers_1, answers_3, attention, bases, changes, comments, desk, members, patches, projects_1, projects_2, reviewers, schema_of, tables_1, tables_2, votes}
 
@@ -38,10 +38,11 @@ pub record Fills (move : Move) (old new : Database) : Type 0 where
   pub apart : AreApart (new.trees move.come.tree)
   pub others : AllByRecursion (λ t. t.tree ≢ move.come.tree → new.trees t.tree ≡ old.trees t.tree) (with_both move)
 
--- the old table goes, and all others keep their rows
+-- the old table goes, all others keep their rows, and the whole is a database
 pub record Drops (move : Move) (old new : Database) : Type 0 where
   pub schema : new.schema ≡ schema_of move.after
   pub others : AllByRecursion (λ t. new.trees t.tree ≡ old.trees t.tree) move.after
+  pub sound : IsDatabase new
 
 -- ---- from version 1 to version 2
 

@@ -14,7 +14,7 @@ use Rattle.sqlite_schema.specs.declared.schema.Schema.{Schema}
 use Rattle.sqlite_schema.specs.declared.command.Command.TheVariants.{CreateTable}
 use Rattle.sqlite_resolve.specs.Compile.{table_defined_by}
 use Rattle.sqlite_catalog.specs.Change.{created, next_tree, KeepsRows}
-use Rattle.sqlite.specs.Effect.{Database}
+use Rattle.sqlite.specs.Effect.{Database, IsDatabase}
 use Rattle.sqlite.specs.Does.{Tally, lacks_sequence}
 use Rattle.sqlite.specs.Listing.{understood}
 use Rattle.sqlite.specs.State.{State, Executes, Writes}
@@ -47,6 +47,7 @@ pub record Makes (schema : Schema) (table : Table) (old new : State) : Type 0 wh
   pub schema_is : new.now.schema ≡ created schema table
   pub empty : new.now.trees (next_tree schema) ≡ []
   pub others : KeepsRows schema.tables old.now.trees new.now.trees
+  pub sound : IsDatabase new.now
 
 pub creates : (sql : List ℕ) (old new : State) (schema : Schema) (table : Table) → old.now.schema ≡ schema → command_of (understood schema sql) ≡ CreateTable
     → statement_of sql (understood schema sql) ≡ sql → IsPlain (understood schema sql) → table_defined_by sql ≡ Ok table → lacks_sequence (created schema table) ≡ false
@@ -64,6 +65,7 @@ creates sql old new schema table has is text plain defined uncounted count h =
       schema_is = ap (λ (d : Database). d.schema) now ∙ schema_is;
       empty = ap (λ (d : Database). d.trees (next_tree schema)) now ∙ subst (λ s. first.0.trees (next_tree s) ≡ []) has made.empty;
       others = subst (λ (d : Database). KeepsRows schema.tables old.now.trees d.trees) (sym now) (subst (λ (s : Schema). KeepsRows s.tables old.now.trees first.0.trees) has made.others);
+      sound = w.sound;
     }
 
 all_more : (P : Table → Type 0) (tables : List Table) (t : Table) → AllByRecursion P tables → P t → AllByRecursion P (tables ++ t ∷ [])
@@ -77,7 +79,7 @@ still_empty (x ∷ tables) old new same none = (same.0 ∙ none.0, still_empty t
 pub makes_by : (sql : List ℕ) (old new : State) (count : ℕ) → Executes sql [] old new (Ok count) → MakesBy sql old.now new.now
 makes_by sql old new count h schema table after it has =
     let made = creates sql old new schema (record table { tree = 0 }) has it.command it.text it.plain it.defines it.uncounted count h in
-    record { schema_is = made.schema_is ∙ it.leaves; empty = made.empty; others = made.others }
+    record { schema_is = made.schema_is ∙ it.leaves; empty = made.empty; others = made.others; sound = made.sound }
 
 -- of empty tables all are empty with one more
 blank_after : (sql : List ℕ) (schema : Schema) (table : Table) (after : Schema) (old new : Database) → MakesText sql schema table after → IsBlank schema old → IsMade schema after old new → IsBlank after new
@@ -90,8 +92,8 @@ empty_at db [] all t is = absurd (cc)
 empty_at db (x ∷ tables) all t is = elim (or_cases _ _ is) [ inl here ↦ subst (λ n. db n ≡ []) (eqb-true x.tree t here) all.0 | inr later ↦ empty_at db tables all.1 t later ]
 
 -- empty tables of a desk are tables of a desk
-pub ready_blank : (db : Database) → IsBlank desk_schema db → IsReady db
-ready_blank db it = record { schema = it.schema_is; apart = λ t is. subst AreApart (sym (empty_at db.trees desk_schema.tables it.empty t is)) tt }
+pub ready_blank : (db : Database) → IsBlank desk_schema db → IsDatabase db → IsReady db
+ready_blank db it sound = record { schema = it.schema_is; sound = sound; apart = λ t is. subst AreApart (sym (empty_at db.trees desk_schema.tables it.empty t is)) tt }
 
 -- ---- the tables of the list, one after the other
 
@@ -128,20 +130,25 @@ made_at (sql ∷ texts) before (t ∷ tables) all (suc at) d low =
     let it = made_at texts (before ++ t ∷ []) tables all.1 at d (omega (arith, low)) in
     (it.0, subst₂ (λ a b. MakesText (slice_index_or texts at d) (schema_of a) it.0 (schema_of b)) (append_assoc before (t ∷ []) (take at tables)) (append_assoc before (t ∷ []) (take (suc at) tables)) it.1)
 
--- one more table of the list is made
-pub makes_next : (at : ℕ) (sql : List ℕ) → at < 12 → ((d : List ℕ) → sql ≡ slice_index_or (map (λ t. t.now) CREATE) at d) → (old new : Database)
-    → Next (Grows schema_0 (schema_of (take at tables_1))) (MakesBy sql) old new → Grows schema_0 (schema_of (take (suc at) tables_1)) old new
-makes_next at sql low is old new h was =
+-- the table at a place of the list is made
+makes_from : (at : ℕ) (sql : List ℕ) → at < 12 → ((d : List ℕ) → sql ≡ slice_index_or (map (λ t. t.now) CREATE) at d) → (mid new : Database)
+    → IsBlank (schema_of (take at tables_1)) mid → MakesBy sql mid new → IsBlank (schema_of (take (suc at) tables_1)) new × IsDatabase new
+makes_from at sql low is mid new blank makes =
     let it = made_at (map (λ t. t.now) CREATE) [] tables_1 are_made at [] low in
     let before = schema_of (take at tables_1) in
     let after = schema_of (take (suc at) tables_1) in
     let text = subst (λ s. MakesText s before it.0 after) (sym (is [])) it.1 in
-    let mid = h.1 was in
-    blank_after sql before it.0 after h.0 new text mid (h.2 before it.0 after text mid.schema_is)
+    let made = makes before it.0 after text blank.schema_is in
+    (blank_after sql before it.0 after mid new text blank made, made.sound)
+
+-- one more table of the list is made
+pub makes_next : (at : ℕ) (sql : List ℕ) → at < 12 → ((d : List ℕ) → sql ≡ slice_index_or (map (λ t. t.now) CREATE) at d) → (old new : Database)
+    → Next (Grows schema_0 (schema_of (take at tables_1))) (MakesBy sql) old new → Grows schema_0 (schema_of (take (suc at) tables_1)) old new
+makes_next at sql low is old new h was = makes_from at sql low is h.0 new (h.1 was).0 h.2
 
 -- the first table of the list is made
 pub makes_first : (sql : List ℕ) → ((d : List ℕ) → sql ≡ slice_index_or (map (λ t. t.now) CREATE) 0 d) → (old new : Database) → MakesBy sql old new → Grows schema_0 (schema_of (take 1 tables_1)) old new
-makes_first sql is old new h was = makes_next 0 sql (omega arith) is old new (old, (λ it. it), h) was
+makes_first sql is old new h was = makes_from 0 sql (omega arith) is old new was h
 
 -- ---- whether a schema is that of a desk
 
@@ -189,7 +196,7 @@ is_plain Third = (refl, plain_forms desk_schema.tables are_simple refl)
 
 -- the tables that were made in memory
 pub made_in_memory : (schema : Schema) (old new : Held MemStore) (x : Unit {0}) → IsEmpty (state over_memory old) → Transacts (Grows schema_0 schema) (state over_memory old) (state over_memory new) (Ok x) → new.schema ≡ schema
-made_in_memory schema old new x empty acts = ((acts.done (memory_is_clean new)).2 (record { schema_is = empty.2; empty = tt })).schema_is
+made_in_memory schema old new x empty acts = ((acts.done (memory_is_clean new)).2 (record { schema_is = empty.2; empty = tt })).0.schema_is
 
 pub decides_desk : (version : TablesVersion) (is : Bool) (schema plain : Schema) → plain ≡ schema_at version → Decides is ((schema ≡ plain) × IsPlainSchema plain) → Decides is (schema ≡ schema_at version)
 decides_desk version is schema plain same d = (λ yes. (d.0 yes).0 ∙ same, λ it. d.1 (it ∙ sym same, subst IsPlainSchema (sym same) (is_plain version)))

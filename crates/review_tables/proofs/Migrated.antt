@@ -15,7 +15,7 @@ use Rattle.review_statements.specs.Content.{AreApart}
 use Rattle.review_statements.specs.Desk.{answers_3, desk_schema, desk_tables, epochs, projects_2, schema_0, schema_1, schema_2, schema_of, tables_1, tables_2}
 use Rattle.review_statements.specs.Moved.{AreMoved, Drops, Fills, Move, answers_move, columns_of, projects_move, tables_without_epochs, with_both, with_first_epoch, without_parent}
 use Rattle.review_statements.proofs.TextsOfMoves.{DropsText, FillsText, answers_dropped, answers_filled, projects_dropped, projects_filled}
-use Rattle.review_tables.specs.Made.{Grows, IsMade, MakesBy, MakesText}
+use Rattle.review_tables.specs.Made.{IsBlank, Grows, IsMade, MakesBy, MakesText}
 use Rattle.review_tables.specs.Migrated.{DropsBy, FillsBy, Migrates, Moves}
 use Rattle.review_tables.specs.Versions.{is_new, schema_at, tables_since, version_of}
 use Rattle.review_tables.specs.declared.versions.EarlierVersion.{EarlierVersion}
@@ -67,7 +67,7 @@ module _ (move : Move) (create fill drop : List ℕ) (text : MovesText move crea
     moved = subst (AreMoved move.made (old.trees move.gone.tree)) (sym last) (subst (λ rows. AreMoved move.made rows (b.trees move.come.tree)) first filled.moved)
 
   moves : Moves move old new
-  moves = record { schema = λ has. (dropped has).schema; moved = moved; apart = λ has. subst AreApart (sym (last has)) (filled has).apart; others = kept }
+  moves = record { schema = λ has. (dropped has).schema; moved = moved; apart = λ has. subst AreApart (sym (last has)) (filled has).apart; others = kept; sound = λ has. (dropped has).sound }
 
 projects_text : MovesText projects_move CREATE_PROJECTS_2.now MOVE_PROJECTS.now DROP_PROJECTS.now
 unfolding understood everything
@@ -140,6 +140,7 @@ module _ (old mid new : Database) (moved : Moves answers_move old mid) (makes : 
     apart = λ has. (subst AreApart (sym (answers_kept has)) (moved.apart has), (subst AreApart (sym (made_last has).empty) tt, tt));
     empty = λ has. (made_last has).empty;
     others = second_kept;
+    sound = λ has. (made_last has).sound;
   }
 
 module _ (old mid new : Database) (moved : Moves projects_move old mid) (later : Migrates earlier.Second mid new) where
@@ -168,6 +169,7 @@ module _ (old mid new : Database) (moved : Moves projects_move old mid) (later :
     apart = λ has. (subst AreApart (sym (projects_kept has)) (moved.apart has), later.apart (moved.schema has));
     empty = λ has. later.empty (moved.schema has);
     others = first_kept;
+    sound = λ has. later.sound (moved.schema has);
   }
 
 -- the tables of an earlier version that are none of those that came since are among those of a desk
@@ -193,29 +195,31 @@ empty_moved move old new none moved = none_moved new (subst (λ rows. AreMoved m
 -- of the empty tables of version 1 those of version 2 are made
 pub grows_second : (old new : Database) → Next (Grows schema_0 schema_1) (Moves projects_move) old new → Grows schema_0 schema_2 old new
 grows_second old new h blank =
-    let was = h.1 blank in
+    let was = (h.1 blank).0 in
     let it = h.2 in
     let moved = empty_moved projects_move _ (new.trees projects_2.tree) (at_tree (λ n. h.0.trees n ≡ []) tables_1 was.empty projects_move.gone.tree refl) (it.moved was.schema_is) in
     let out : ℕ → Bool = λ n. eqb n projects_2.tree in
     let Told : Table → Type 0 = λ t. t.tree ≢ projects_2.tree → new.trees t.tree ≡ h.0.trees t.tree in
     let Stays : Table → Type 0 = λ t. out t.tree ≡ false → new.trees t.tree ≡ h.0.trees t.tree in
     let stay : AllByRecursion Stays tables_2 = all_weaker {P = Told} {Q = Stays} tables_2 (λ t stays other. stays (eqb-false t.tree projects_2.tree other)) (it.others was.schema_is) in
-    record {
+    let after : IsBlank schema_2 new = record {
       schema_is = it.schema was.schema_is;
       empty = all_after out (λ rows. rows ≡ []) h.0.trees new.trees tables_2 (λ t is. subst (λ n. new.trees n ≡ []) (sym (eqb-true t projects_2.tree is)) moved)
           stay (covered_but out (λ n. h.0.trees n ≡ []) tables_1 tables_2 was.empty refl);
-    }
+    } in
+    (after, it.sound was.schema_is)
 
 -- and those of a desk
 pub grows : (old new : Database) → Next (Grows schema_0 schema_1) (Migrates earlier.First) old new → Grows schema_0 desk_schema old new
 grows old new h blank =
-    let was = h.1 blank in
+    let was = (h.1 blank).0 in
     let it = h.2 in
     let moved = it.moved was.schema_is in
     let projects = empty_moved projects_move _ (new.trees projects_2.tree) (at_tree (λ n. h.0.trees n ≡ []) tables_1 was.empty projects_move.gone.tree refl) moved.0 in
     let answers = empty_moved answers_move _ (new.trees answers_3.tree) (at_tree (λ n. h.0.trees n ≡ []) tables_1 was.empty answers_move.gone.tree refl) moved.1.0 in
-    record {
+    let after : IsBlank desk_schema new = record {
       schema_is = it.schema was.schema_is;
       empty = all_after (is_new earlier.First) (λ rows. rows ≡ []) h.0.trees new.trees desk_tables (λ t is. at_tree (λ n. new.trees n ≡ []) (tables_since earlier.First) (projects, (answers, (it.empty was.schema_is, tt))) t is) (it.others was.schema_is)
           (of_earlier earlier.First (λ n. h.0.trees n ≡ []) was.empty);
-    }
+    } in
+    (after, it.sound was.schema_is)

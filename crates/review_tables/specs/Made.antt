@@ -6,7 +6,7 @@ use Rattle.sqlite_schema.specs.declared.schema.Schema.{Schema}
 use Rattle.sqlite_schema.specs.declared.command.Command.TheVariants.{CreateTable}
 use Rattle.sqlite_resolve.specs.Compile.{table_defined_by}
 use Rattle.sqlite_catalog.specs.Change.{created, next_tree, KeepsRows}
-use Rattle.sqlite.specs.Effect.{Database}
+use Rattle.sqlite.specs.Effect.{Database, IsDatabase}
 use Rattle.sqlite.specs.Does.{lacks_sequence}
 use Rattle.sqlite.specs.Given.{IsPlain}
 use Rattle.sqlite.specs.Listing.{understood}
@@ -26,16 +26,17 @@ pub record IsBlank (schema : Schema) (db : Database) : Type 0 where
   pub schema_is : db.schema ≡ schema
   pub empty : AllByRecursion (λ t. db.trees t.tree ≡ []) schema.tables
 
--- of this schema that is made: the new table is empty, and the others keep their rows
+-- of this schema that is made: the new table is empty, the others keep their rows, and the whole is a database
 pub record IsMade (schema after : Schema) (old new : Database) : Type 0 where
   pub schema_is : new.schema ≡ after
   pub empty : new.trees (next_tree schema) ≡ []
   pub others : KeepsRows schema.tables old.trees new.trees
+  pub sound : IsDatabase new
 
 -- one empty table comes to others
 abbrev pub MakesBy : List ℕ → Database → Database → Type 0
 MakesBy sql old new = (schema : Schema) (table : Table) (after : Schema) → MakesText sql schema table after → old.schema ≡ schema → IsMade schema after old new
 
--- of these empty tables those are made
+-- of these empty tables those are made, which are a database
 abbrev pub Grows : Schema → Schema → Database → Database → Type 0
-Grows before after old new = IsBlank before old → IsBlank after new
+Grows before after old new = IsBlank before old → IsBlank after new × IsDatabase new

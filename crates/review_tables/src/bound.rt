@@ -1,5 +1,5 @@
 //! The values that a statement is asked with.
-ghost use Rattle.std.specs.Prelude.{◌≡◌, [], ◌∷◌, ◌++◌, ◌<◌, length, pos, true, IfOk};
+ghost use Rattle.std.specs.Prelude.{IfErr, ◌≤◌, ◌^◌, ◌≡◌, [], ◌∷◌, ◌++◌, ◌<◌, length, pos, true, IfOk};
 ghost use Rattle.std.specs.Str.{is_utf8};
 ghost use Rattle.sqlite_value.specs.declared.value.Value.TheVariants.{Int, Text};
 ghost use Rattle.sqlite.specs.Values.{bound};
@@ -69,7 +69,8 @@ impl<'a> Bound<'a> {
     /// These values and a number after them; SQL has none above 9,223,372,036,854,775,807.
     pub fn large(self, number: u64) -> Result<Bound<'a>, Error>
         requires { length self < 10 }
-        ensures { IfOk result (λ bound. bound ≡ self.entry ++ Int (pos number) ∷ []) }
+        ensures values { IfOk result (λ bound. bound ≡ self.entry ++ Int (pos number) ∷ []) }
+        ensures large { IfErr result (λ e. 2 ^ 63 ≤ number) }
     {
         match i64::try_from(number) {
             Ok(number) => Ok(self.signed(number)),

@@ -105,10 +105,10 @@ module _ (a b : Trees) (blank : (t : ℕ) → is_tree t ≡ true → a t ≡ [])
 
 pub makes_desk : (old new : Database) → Next (Grows schema_0 desk_schema) (OnDesk SetsFirst) old new → MakesDesk old new
 makes_desk old new h = record {
-  ready = λ blank. h.2.ready (ready_blank h.0 (h.1 blank));
-  view = λ blank. first_view h.0.trees new.trees (none blank) (h.2.changes (ready_blank h.0 (h.1 blank)));
-  desk = λ blank. first_desk h.0.trees new.trees (none blank) (h.2.changes (ready_blank h.0 (h.1 blank)));
+  ready = λ blank. h.2.ready (ready_blank h.0 (h.1 blank).0 (h.1 blank).1);
+  view = λ blank. first_view h.0.trees new.trees (none blank) (h.2.changes (ready_blank h.0 (h.1 blank).0 (h.1 blank).1));
+  desk = λ blank. first_desk h.0.trees new.trees (none blank) (h.2.changes (ready_blank h.0 (h.1 blank).0 (h.1 blank).1));
 }
   where
     none : IsBlank schema_0 old → (t : ℕ) → is_tree t ≡ true → h.0.trees t ≡ []
-    none blank t is = empty_at h.0.trees desk_schema.tables (h.1 blank).empty t is
+    none blank t is = empty_at h.0.trees desk_schema.tables (h.1 blank).0.empty t is

@@ -8,6 +8,7 @@ use Rattle.review_words.specs.declared.command.Delivery.{Delivery}
 use Rattle.review_words.specs.declared.reply.Reply.{Reply}
 use Rattle.review_rows.specs.Shelf.{Shown}
 use Rattle.review_deliveries.specs.Delivered.{WasRun}
+use Rattle.review_deliveries.specs.Restart.{RepliesFollowHistory, RestartAfterCut, RestartAfterStop, RestartCompletes, RestartIsRun, RestartKeepsHistory, RunIsSession, RunsCompose, RunsGoOn}
 use Rattle.review_lines.specs.Answers.{WereAnswered}
 use Rattle.review_lines.specs.declared.fault.Fault.{Fault}
 use Rattle.review_lines.specs.declared.fault.Outcome.{Outcome}
@@ -16,7 +17,8 @@ use Rattle.review_http.specs.declared.connections.ConnectionsFault.{ConnectionsF
 use Rattle.review_showing.specs.declared.fault.ShowFault.{ShowFault}
 use Rattle.review_showing.specs.Shown.{Showed}
 use Rattle.review_showing.specs.Told.{branch_questions, change_page, change_questions, joined_page}
-use Rattle.review_sql.specs.Shelf.{ShelfView, Stays, shown, IsAnyThere, IsHandedBack, IsUnmade}
+use Rattle.review_sql.specs.Shelf.{AreLeftOfOurs, ShelfView, Stays, shown, IsAnyThere, IsHandedBack, IsUnmade}
+use Rattle.review_sql.specs.Left.{MakesOurs, StopLeavesDesk, TreesTellSchema}
 use Rattle.review_sql.specs.Reopened.{ReopensLast}
 use Rattle.review_sql.specs.Said.{IsDeskThere}
 use Rattle.review_sql.specs.Opened.{IsOpened, IsRefused}
@@ -24,6 +26,7 @@ use Rattle.review_sql.specs.Created.{IsCreated}
 use Rattle.review_sql.specs.Migrated.{IsNotMigrated, IsOpenedAsIs, IsUnfit, IsUpgraded}
 use Rattle.review_sql.specs.declared.faults.DeskFault.{DeskFault}
 use Rattle.review_sql.specs.declared.faults.DeskFault.TheVariants.{NotADesk, WrongVersion, NotEmpty, NotOurs}
+use Rattle.review_sql.specs.declared.faults.DeskFault.TheVariants as desk
 use Rattle.review_work.specs.Faults.{desk_fault, lines_outcome, serve_outcome, shown_outcome}
 use Rattle.review_work.specs.declared.fault.ProgramFault.{ProgramFault}
 use Rattle.review_work.specs.declared.fault.ProgramFault.TheVariants.{Memory}
@@ -87,18 +90,21 @@ pub record OnShelf {S : Type 0} (g : Ghosts S) (is_ours : Bool) (Did : Bool → 
   pub did : Did is_ours (shown g is_ours) opened left
   pub closed : IsHandedBack g is_ours left new
 
--- the tables were refused as not ours, and stayed
+-- the tables were refused as not ours, and stayed; no stop of a desk of ours left them
 pub record IsNotOurs {S : Type 0} (g : Ghosts S) (old new : Held S) : Type 0 where
   pub stays : Stays (state g old) (state g new)
   pub cause : IsTrue (state g new).is_open → IsRefused (state g old) NotOurs
+  pub left : IsTrue (state g new).is_open → AreLeftOfOurs (state g old).now.trees → ⊥
 
--- No desk was opened, for no other reason than that the tables aren't ours: they are as they were, and nothing was written or told.
+-- No desk was opened, for no other reason than that the tables aren't ours: they are as they were, and nothing was written or told. Where a stop of a desk of ours left them, there was no memory or
+-- the store had a fault.
 pub record IsRefusedDesk {S : Type 0} (g : Ghosts S) (before after : Known) (old new : Held S) (ended : Result Outcome ProgramFault) : Type 0 where
   pub fault : DeskFault
   pub ends : ended ≡ Err (desk_fault fault)
   pub lacking : fault ≢ NotOurs
   pub stays : Stays (state g old) (state g new)
   pub cause : IsTrue (state g new).is_open → IsRefused (state g old) fault
+  pub left : IsTrue (state g new).is_open → AreLeftOfOurs (state g old).now.trees → (fault ≡ desk.Memory) ⊎ (fault ≡ desk.Store)
   pub written : Appends before.output after.output []
   pub unwarned : after.is_warned ≡ before.is_warned
 
@@ -110,6 +116,22 @@ IsDoneOn {S} g Did Refuses old new =
 -- What a task did on the tables of a connection: on a desk that was opened, as `Does` says; or no desk was opened.
 pub record Worked {S : Type 0} (g : Ghosts S) (task : Task) (before after : Known) (ended : Result Outcome ProgramFault) (old new : Held S) : Type 0 where
   pub how : IsDoneOn g (Does task before after ended) (λ (s t : Held S). IsRefusedDesk g before after s t ended) old new
+
+-- What holds of runs over the shelves of ours of a store, closed and opened again, and stopped and begun again: they are one run; what a stop leaves of a desk is a desk, and what it leaves within
+-- `create` that or no table.
+pub record RunsAreOne {S : Type 0} (g : Ghosts S) : Type 0 where
+  pub compose : RunsCompose
+  pub session : RunIsSession (shown g true)
+  pub go_on : RunsGoOn (shown g true)
+  pub history : RestartKeepsHistory
+  pub replies : RepliesFollowHistory
+  pub completes : RestartCompletes
+  pub is_run : RestartIsRun
+  pub after_stop : RestartAfterStop
+  pub after_cut : RestartAfterCut
+  pub left : StopLeavesDesk g
+  pub made : MakesOurs
+  pub schema : TreesTellSchema
 
 -- Why no desk was made: never as no desk or another version; where it was for a table of one of the names that tables of a desk have in any version, one is there, and nothing was touched; and
 -- not as not ours but where one of ours was to be made, in a store with tables.
@@ -135,23 +157,25 @@ pub record WasMade {S X : Type 0} (g : Ghosts S) (old new : Held S) (made : Resu
 abbrev pub Migrated : {S : Type 0} → Ghosts S → Bool → Held S → Held S → Type 0
 Migrated {S} g is_ours old new = (shelf : ShelfView S) × (IsUpgraded g is_ours old shelf ⊎ IsOpenedAsIs g is_ours old shelf) × IsHandedBack g is_ours shelf new
 
--- No desk was migrated, for no other reason than that the tables aren't ours.
+-- No desk was migrated, for no other reason than that the tables aren't ours; where a stop of a desk of ours left them, there was no memory or the store had a fault.
 pub record IsUnmigrated {S X : Type 0} (g : Ghosts S) (is_ours : Bool) (ended : Result X ProgramFault) (old new : Held S) : Type 0 where
   pub fault : DeskFault
   pub ends : ended ≡ Err (desk_fault fault)
   pub lacking : fault ≢ NotOurs
-  pub left : IsNotMigrated is_ours fault (state g old) (state g new)
+  pub unmade : IsNotMigrated is_ours fault (state g old) (state g new)
   pub cause : IsTrue (state g new).is_open → IsUnfit (state g old).now fault
+  pub left : IsTrue (state g new).is_open → AreLeftOfOurs (state g old).now.trees → (fault ≡ desk.Memory) ⊎ (fault ≡ desk.Store)
 
 -- Tables were migrated as ours or not, or none were. It was told that they are not ours where they were migrated so, and only there.
 abbrev pub IsMigratedOrNot : {S : Type 0} → Ghosts S → Bool → Bool → Bool → Result (Unit {0}) ProgramFault → Held S → Held S → Type 0
 IsMigratedOrNot g is_ours before after ended old new =
     ((ended ≡ Ok tt) × Migrated g is_ours old new × (after ≡ (not is_ours || before))) ⊎ (IsUnmigrated g is_ours ended old new × (after ≡ before))
 
--- tables were not migrated as ours, since they are not
+-- tables were not migrated as ours, since they are not; no stop of a desk of ours left them
 pub record AreOthers {S : Type 0} (g : Ghosts S) (old new : Held S) : Type 0 where
-  pub left : IsNotMigrated true NotOurs (state g old) (state g new)
+  pub unmade : IsNotMigrated true NotOurs (state g old) (state g new)
   pub cause : IsTrue (state g new).is_open → IsUnfit (state g old).now NotOurs
+  pub left : IsTrue (state g new).is_open → AreLeftOfOurs (state g old).now.trees → ⊥
 
 -- Tables were migrated as ours, or none were; where they are not ours, they were migrated as those of others, or none were.
 abbrev pub WasMigrated : {S : Type 0} → Ghosts S → Bool → Bool → Result (Unit {0}) ProgramFault → Held S → Held S → Type 0

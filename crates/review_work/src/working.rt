@@ -2,23 +2,24 @@
 //!
 //! Tables of the form that `create` makes are opened as ours, of which all is claimed that a shelf promises, and others as those of others, of which no more is
 //! than that a desk was there, and how refused calls are counted.
-ghost use Rattle.std.specs.Prelude.{◌≡◌, ◌⊎◌, ◌||◌, false, not, Err};
+ghost use Rattle.std.specs.Prelude.{◌≡◌, ◌⊎◌, ◌||◌, true, false, not, Err};
 ghost use Rattle.sqlite.specs.Held.{Held};
 ghost use Rattle.review_sql.specs.Shelf.{IsHandedBack, ShelfView, shown};
 ghost use Rattle.review_http.specs.Peers.{Peers};
 ghost use Rattle.review_work.specs.Faults.{lines_outcome, serve_outcome, shown_outcome};
-ghost use Rattle.review_work.specs.Worked.{Does, EndsServed, HasDone, IsMigratedOrNot, IsRefusedDesk, Made, OnShelf, WasMade, WasMigrated, Worked, known};
+ghost use Rattle.review_work.specs.Worked.{Does, EndsServed, HasDone, IsMigratedOrNot, IsRefusedDesk, Made, OnShelf, RunsAreOne, WasMade, WasMigrated, Worked, known};
 
 use crate::fault::ProgramFault;
 use crate::notices::Notices;
 use crate::task::{Ends, Task};
-use review_deliveries::{Rules, restart_completes, runs_go_on};
+use review_deliveries::{Rules, restart_completes, runs_compose, runs_go_on};
 use review_http::{Connections, ConnectionsFault, serve_connections};
 use review_lines::{Fault, Outcome, apply_lines};
 use review_paths::Routes;
 use review_rows::Shelf;
 use review_showing::{ShowFault, joined_lines, show_lines};
 use review_sql::faults::DeskFault;
+use review_sql::laws::stop_leaves_desk;
 use review_sql::shelf::{Origin, Others, Ours, SqlShelf, is_blank};
 use sqlite::{Alter, Connection};
 use std::alloc::Global;
@@ -91,7 +92,7 @@ fn migrate_others<N: Notices, S: Alter + Drop>(
 }
 
 /// Does a task on the desk in the tables of a connection. Where it takes lines: with the runs that were made over this connection before, closed and opened
-/// again between them, it is one run (`runs_go_on`); the whole input sent again after a stop completes it (`restart_completes`). Before it does the
+/// again between them, it is one run; what a stop left is a desk again, and the whole input sent again after it completes the run (`RunsAreOne`). Before it does the
 /// task it tells where the tables are not ours, and only there.
 ///
 /// Errors: that no desk is there, or one of another version; what ends the task early, as [`apply_lines`], [`serve_connections`], `show_lines` and
@@ -106,12 +107,24 @@ pub fn work<R: Read, W: Write, C: Connections, N: Notices, S: Alter + Drop, D: R
     requires mode { conn.in_transaction ≡ false }
     ensures mode { result.0.in_transaction ≡ false }
     ensures done { Worked S.Store task.now (known R.remaining W.contents C.coming C.told N.is_warned ends.old) (known R.remaining W.contents C.coming C.told N.is_warned ends.new) result.1 conn result.0 }
+    ensures restarts { RunsAreOne S.Store }
 {
+    runs_are_one::<S>();
     match SqlShelf::<S, Ours>::open(alloc, conn) {
         Ok(shelf) => work_on_shelf(alloc, ends, shelf, rules, task),
         Err((conn, DeskFault::NotOurs)) => work_on_others(alloc, ends, conn, rules, task),
         Err((conn, fault)) => (conn, Err(ProgramFault::from(fault))),
     }
+}
+
+// The laws by which runs are one.
+fn runs_are_one<S: Alter + Drop>()
+    ensures { RunsAreOne S.Store }
+{
+    runs_compose();
+    runs_go_on::<SqlShelf<S, Ours>>();
+    restart_completes();
+    stop_leaves_desk::<S>();
 }
 
 fn work_on_others<R: Read, W: Write, C: Connections, N: Notices, S: Alter + Drop, D: Rules>(
@@ -154,11 +167,7 @@ fn work_on_shelf<
 {
     warn_of::<O, N>(&mut ends.notices);
     let mut shelf = shelf;
-    let ended = do_task(alloc, ends, &mut shelf, rules, task);
-    // By this law it is one run with those before it, after each of which the shelf was closed and opened again.
-    runs_go_on::<SqlShelf<S, O>>();
-    // By this one the whole input, sent again after a stop, completes what the first run began.
-    restart_completes();
+    let ended = do_task::<R, W, C, N, SqlShelf<S, O>, O, D>(alloc, ends, &mut shelf, rules, task);
     (shelf.close(), ended)
 }
 
@@ -171,13 +180,15 @@ fn warn_of<O: Origin, N: Notices>(notices: &mut N)
     }
 }
 
-fn do_task<R: Read, W: Write, C: Connections, N: Notices, S: Shelf, D: Rules>(
+// Does a task on a shelf over tables of this origin; where they are not ours, that was told before.
+fn do_task<R: Read, W: Write, C: Connections, N: Notices, S: Shelf, O: Origin, D: Rules>(
     alloc: Global,
     ends: &mut Ends<R, W, C, N>,
     shelf: &mut S,
     rules: &mut D,
     task: &Task,
 ) -> Result<Outcome, ProgramFault>
+    requires warned { not O.IS_OURS ≡ true → N.is_warned ends.old.notices ≡ true }
     ensures done { HasDone S.state task.now (known R.remaining W.contents C.coming C.told N.is_warned ends.old) (known R.remaining W.contents C.coming C.told N.is_warned ends.new) result shelf.old shelf.new }
     ensures quiet { N.is_warned ends.new.notices ≡ N.is_warned ends.old.notices }
 {

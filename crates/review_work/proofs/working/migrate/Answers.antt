@@ -1,4 +1,4 @@
-use Rattle.std.proofs.Common.{rules, refl, Err, IsTrue, true, ap, inl, inr, subst}
+use Rattle.std.proofs.Common.{rules, refl, Err, IsTrue, true, ap, inl, inr, subst, sym, ◌∙◌}
 use Rattle.sqlite.specs.Held.{state}
 use Rattle.review_sql.specs.declared.faults.DeskFault.{DeskFault}
 use Rattle.review_sql.specs.Migrated.{IsNotMigrated, IsUnfit}
@@ -13,8 +13,9 @@ returns-in-Err-clause-migrated g c = inl (inr (
     fault = c.in-Err.fault;
     ends = ap Err c.from.ensures;
     lacking = λ same. search rules;
-    left = c.in-Err.ensures.refused;
+    unmade = c.in-Err.ensures.refused;
     cause = c.in-Err.ensures.cause;
+    left = c.in-Err.ensures.left;
   },
   refl,
 ))
@@ -24,4 +25,4 @@ returns-in-Err-default-NotOurs-clause-migrated g c =
     let it = c.in-Err-default-NotOurs in
     let cause = subst (λ (f : DeskFault). IsTrue (state g.S.Store it.conn).is_open → IsUnfit (state g.S.Store c.args.conn).now f) it.field-0-1-is it.ensures.cause in
     let left = subst (λ (f : DeskFault). IsNotMigrated true f (state g.S.Store c.args.conn) (state g.S.Store it.conn)) it.field-0-1-is it.ensures.refused in
-    inr (it.conn, record { left = left; cause = cause }, c.migrate_others.ensures.migrated)
+    inr (it.conn, record { unmade = left; cause = cause; left = λ is_open left. elim (it.ensures.left is_open left) [ inl is ↦ (let e = sym it.field-0-1-is ∙ is in cc) | inr is ↦ (let e = sym it.field-0-1-is ∙ is in cc) ] }, c.migrate_others.ensures.migrated)

@@ -10,8 +10,9 @@ returns-in-Err-clause-migrated g c = inr (
     fault = c.in-Err.fault;
     ends = ap Err c.from.ensures;
     lacking = λ same. let none = c.in-Err.ensures.ours same in cc;
-    left = c.in-Err.ensures.refused;
+    unmade = c.in-Err.ensures.refused;
     cause = c.in-Err.ensures.cause;
+    left = c.in-Err.ensures.left;
   },
   refl,
 )

@@ -1,4 +1,4 @@
-use Rattle.std.proofs.Common.{rules, refl, Err, IsTrue, ap, inl, inr, subst}
+use Rattle.std.proofs.Common.{rules, refl, Err, IsTrue, ap, inl, inr, subst, sym, ◌∙◌}
 use Rattle.std.proofs.KnownBytes.{Appends-nil}
 use Rattle.sqlite.specs.Held.{state}
 use Rattle.review_sql.specs.declared.faults.DeskFault.{DeskFault}
@@ -26,6 +26,7 @@ returns-in-Err-clause-done g c = record {
     lacking = λ same. search rules;
     stays = c.in-Err.ensures.refused;
     cause = c.in-Err.ensures.cause;
+    left = c.in-Err.ensures.left;
     written = Appends-nil _;
     unwarned = refl;
   }));
@@ -35,4 +36,4 @@ pub returns-in-Err-default-NotOurs-clause-done : goal.returns-in-Err-default-Not
 returns-in-Err-default-NotOurs-clause-done g c =
     let it = c.in-Err-default-NotOurs in
     let cause = subst (λ (f : DeskFault). IsTrue (state g.S.Store it.conn).is_open → IsRefused (state g.S.Store c.args.conn) f) it.field-0-1-is it.ensures.cause in
-    record { how = inr (inr (it.conn, record { stays = it.ensures.refused; cause = cause }, c.work_on_others.ensures.done)) }
+    record { how = inr (inr (it.conn, record { stays = it.ensures.refused; cause = cause; left = λ is_open left. elim (it.ensures.left is_open left) [ inl is ↦ (let e = sym it.field-0-1-is ∙ is in cc) | inr is ↦ (let e = sym it.field-0-1-is ∙ is in cc) ] }, c.work_on_others.ensures.done)) }

@@ -20,6 +20,7 @@ returns-in-Err-clause-done g c = inr (record {
   lacking = λ same. let none = c.in-Err.ensures.ours same in cc;
   stays = c.in-Err.ensures.refused;
   cause = c.in-Err.ensures.cause;
+  left = c.in-Err.ensures.left;
   written = Appends-nil _;
   unwarned = refl;
 })

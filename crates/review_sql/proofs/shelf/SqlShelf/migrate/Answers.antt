@@ -3,6 +3,7 @@ use Rattle.sqlite.proofs.StateLemmas.{clean_if_open}
 use Rattle.sqlite.specs.Held.{state}
 use Rattle.review_sql.specs.Migrated.{IsBrought, IsNotMigrated}
 use Rattle.review_sql.proofs.Again.{unfit_closed}
+use Rattle.review_sql.proofs.Left.{unfit_left_behind}
 use Rattle.review_sql.proofs.Raised.{holds_brought, migrated}
 use Rattle.review_sql.proofs.shelf.SqlShelf.migrate.Goals as goal
 
@@ -26,3 +27,7 @@ returns-in-Err-clause-again g c =
     let same : c.IS_OURS.result ≡ g.O.Origin.IS_OURS = search rules in
     let left = subst (λ b. IsNotMigrated b c.in-Err.fault (state g.S.Store c.args.conn) (state g.S.Store c.bring.new.conn)) same c.in-Err.ensures.refused in
     unfit_closed g.S.Store g.O.Origin.IS_OURS c.args.conn c.bring.new.conn c.in-Err.fault left c.in-Err.ensures.unfit
+
+pub returns-in-Err-clause-left : goal.returns-in-Err-clause-left
+returns-in-Err-clause-left g c is_open left =
+    unfit_left_behind (state g.S.Store c.args.conn) (state g.S.Store c.bring.new.conn) c.in-Err.fault c.schema-live.ensures.live c.in-Err.ensures.refused.undone is_open left (c.in-Err.ensures.unfit is_open)

@@ -1,6 +1,9 @@
+use Rattle.std.proofs.Common.{rules, ◌≡◌, false}
 use Rattle.sqlite.specs.Held.{state}
 use Rattle.review_sql.proofs.Again.{goes_on, refused_again}
-use Rattle.review_sql.proofs.Made.{empty_refused, is_opened, none_seen}
+use Rattle.review_sql.proofs.Left.{refused_left}
+use Rattle.review_sql.proofs.Made.{empty_refused, is_opened, none_seen, not_ours}
+use Rattle.review_sql.specs.declared.faults.DeskFault.TheVariants.{NotOurs}
 use Rattle.review_sql.proofs.shelf.SqlShelf.open.Goals as goal
 
 pub returns-else-IS_OURS-clause-goes_on : goal.returns-else-IS_OURS-clause-goes_on
@@ -20,3 +23,14 @@ returns-in-Err-clause-again g c = refused_again g.S.Store g.O.Origin.IS_OURS c.a
 
 pub returns-in-Err-clause-empty : goal.returns-in-Err-clause-empty
 returns-in-Err-clause-empty g c is_open none = empty_refused (state g.S.Store c.args.conn) c.in-Err.fault none (c.in-Err.ensures.refused is_open)
+
+pub returns-then-not-seen-clause-left : goal.returns-then-not-seen-clause-left
+returns-then-not-seen-clause-left g c is_open left =
+    let old = state g.S.Store c.args.conn in
+    let last = state g.S.Store c.see.new.conn in
+    let not : c.in-Ok.seen.is_ours ≡ false = search rules in
+    refused_left old last NotOurs c.schema-live.ensures.live c.see.ensures.stays.kept is_open left (not_ours g.S.Store c.args.conn c.see.new.conn c.in-Ok.seen not (c.in-Ok.ensures.seen is_open))
+
+pub returns-in-Err-clause-left : goal.returns-in-Err-clause-left
+returns-in-Err-clause-left g c is_open left =
+    refused_left (state g.S.Store c.args.conn) (state g.S.Store c.see.new.conn) c.in-Err.fault c.schema-live.ensures.live c.see.ensures.stays.kept is_open left (c.in-Err.ensures.refused is_open)

@@ -1,11 +1,11 @@
-use Rattle.std.proofs.Common.{rules, ◌≡◌, ◌⊎◌, ap, subst, Ok, ◌∙◌}
+use Rattle.std.proofs.Common.{rules, ◌≡◌, ◌⊎◌, ap, not, subst, IsTrue, Ok, ◌∙◌}
 use Rattle.sqlite.specs.Held.{Held, state}
 use Rattle.sqlite.proofs.StateLemmas.{clean_if_open}
 use Rattle.review_rows.specs.Rows.{Tables, kept_row}
 use Rattle.review_rows.specs.Shelf.{Shows, IsCommitted, LeavesBy, cause_of}
 use Rattle.review_transactions.specs.Numbers.{with_request}
 use Rattle.review_sql.specs.Shelf.{ShelfView, Holds, tables_of, stops_of}
-use Rattle.review_sql.proofs.Shown.{holds_committed, stops_committed, committed_shown, clean_still, stops_still, leaves}
+use Rattle.review_sql.proofs.Shown.{alone, holds_committed, stops_committed, committed_shown, clean_still, stops_still, leaves}
 use Rattle.review_sql.proofs.Singles.{are_single}
 use Rattle.review_sql.proofs.shelf.SqlShelfShelf.commit.Goals as goal
 
@@ -32,7 +32,7 @@ pub returns-in-Ok-clause-stops : goal.returns-in-Ok-clause-stops
 returns-in-Ok-clause-stops g c honest =
     let old = c.self.inside.conn in
     let last = c.transact.new.conn in
-    subst (λ (h : Held _). (t : Tables) → stops_of g.S.Store last t → stops_of g.S.Store h t ⊎ Shows (tables_of g.S.Store h) (λ was. IsCommitted was c.args.delta.now (kept_row c.args.kept.now) t)) (ap (λ (k : ShelfView _). k.conn) c.self.view_is)
+    subst (λ (h : Held _). (t : Tables) → stops_of g.S.Store g.O.Origin.IS_OURS last t → stops_of g.S.Store g.O.Origin.IS_OURS h t ⊎ Shows (tables_of g.S.Store h) (λ was. IsCommitted was c.args.delta.now (kept_row c.args.kept.now) t)) (ap (λ (k : ShelfView _). k.conn) c.self.view_is)
     (stops_committed g.S.Store old last g.O.Origin.IS_OURS c.self.inside.numbers c.self.invariant c.args.delta.now c.args.kept.now c.transact.result c.transact.ensures.acts
     (λ ours was. are_single (state g.S.Store old).now (c.self.invariant.ready ours was).0 (c.schema-live.ensures.live was).0) honest.1 honest.0)
 
@@ -42,9 +42,9 @@ returns-in-Err-clause-stops g c honest =
     let mid = c.transact.new.conn in
     let last = c.told.new.conn in
     let clean = clean_still g.S.Store mid last c.told.ensures.stays honest.0 in
-    subst (λ (h : Held _). (t : Tables) → stops_of g.S.Store last t → stops_of g.S.Store h t ⊎ Shows (tables_of g.S.Store h) (λ was. IsCommitted was c.args.delta.now (kept_row c.args.kept.now) t)) (ap (λ (k : ShelfView _). k.conn) c.self.view_is)
+    subst (λ (h : Held _). (t : Tables) → stops_of g.S.Store g.O.Origin.IS_OURS last t → stops_of g.S.Store g.O.Origin.IS_OURS h t ⊎ Shows (tables_of g.S.Store h) (λ was. IsCommitted was c.args.delta.now (kept_row c.args.kept.now) t)) (ap (λ (k : ShelfView _). k.conn) c.self.view_is)
     (λ t left. stops_committed g.S.Store old mid g.O.Origin.IS_OURS c.self.inside.numbers c.self.invariant c.args.delta.now c.args.kept.now c.transact.result c.transact.ensures.acts
-    (λ ours was. are_single (state g.S.Store old).now (c.self.invariant.ready ours was).0 (c.schema-live.ensures.live was).0) honest.1 clean t (stops_still g.S.Store mid last c.told.ensures.stays honest.0 t left))
+    (λ ours was. are_single (state g.S.Store old).now (c.self.invariant.ready ours was).0 (c.schema-live.ensures.live was).0) honest.1 clean t (stops_still g.S.Store mid last c.told.ensures.stays g.O.Origin.IS_OURS honest.0 t left))
 
 pub returns-in-Err-clause-undone : goal.returns-in-Err-clause-undone
 returns-in-Err-clause-undone g c honest =
@@ -54,3 +54,13 @@ returns-in-Err-clause-undone g c honest =
     subst (λ (h : Held _). LeavesBy (cause_of c.told.result) (tables_of g.S.Store h) (tables_of g.S.Store last)) same
     (leaves g.S.Store old last (λ is_open. let k = c.told.ensures.stays.kept is_open in let u = c.in-Err.ensures.acts.undone k.0 in (u.0, k.1 ∙ u.1)) c.told.result c.told.ensures.sound
     (λ is. c.told.ensures.memory is honest.0))
+
+pub returns-in-Ok-clause-alone : goal.returns-in-Ok-clause-alone
+returns-in-Ok-clause-alone g c honest =
+    let old = c.self.inside.conn in
+    let last = c.transact.new.conn in
+    let done : c.transact.result ≡ Ok (tt {0}) = search rules in
+    let auto : IsTrue c.is_autocommit-settled.result = c.is_autocommit-settled.ensures.value ∙ ap not c.transact.ensures.mode in
+    alone g.S.Store old last g.O.Origin.IS_OURS c.self.inside.numbers c.self.invariant c.args.delta.now c.args.kept.now c.transact.result c.transact.ensures.acts
+    (λ ours was. are_single (state g.S.Store old).now (c.self.invariant.ready ours was).0 (c.schema-live.ensures.live was).0) done honest.0
+    (λ is_open. c.is_autocommit-settled.ensures.settled auto is_open) (g.met.S.Store.settled last.store)

@@ -3,14 +3,14 @@ use Rattle.sqlite.specs.Held.{Held, state}
 use Rattle.sqlite.proofs.StateLemmas.{clean_if_open}
 use Rattle.review_rows.specs.Known.{AreAsked, Agrees}
 use Rattle.review_rows.specs.Rows.{Tables}
-use Rattle.review_rows.specs.Shelf.{BlamesTables, KeepsTables, Shows}
+use Rattle.review_rows.specs.Shelf.{BlamesTables, KeepsTables, LeavesBy, Shows, cause_of}
 use Rattle.review_rows.specs.declared.rows.Rows.{Rows}
 use Rattle.review_rows.specs.declared.shelf.ShelfFault.{ShelfFault}
 use Rattle.review_statements.specs.Ran.{Serves}
 use Rattle.review_database.specs.Loads.{AreLoaded}
 use Rattle.review_sql.specs.Shelf.{ShelfView, answer_of, tables_of, stops_of}
 use Rattle.review_sql.proofs.Loaded.{blames_loaded, keeps_loaded, shows_loaded, tables_kept, was_asked}
-use Rattle.review_sql.proofs.Shown.{holds_read, served, stops_read, clean_still, stops_still}
+use Rattle.review_sql.proofs.Shown.{desk_if_open, holds_read, leaves, served, stops_read, clean_still, stops_still}
 use Rattle.review_sql.proofs.shelf.SqlShelfShelf.load.Goals as goal
 
 pub invariant_of-self : goal.invariant_of-self
@@ -58,7 +58,7 @@ returns-in-Ok-clause-stops g c honest =
     let last = c.load.new.conn in
     let same : old ≡ c.args.self.now.conn = ap (λ (k : ShelfView _). k.conn) c.self.view_is in
     let auto : IsTrue c.is_autocommit-settled.result = c.is_autocommit-settled.ensures.value ∙ ap not c.self.invariant.autocommit in
-    subst (λ (h : Held _). (t : Tables) → stops_of g.S.Store last t → stops_of g.S.Store h t) same
+    subst (λ (h : Held _). (t : Tables) → stops_of g.S.Store g.O.Origin.IS_OURS last t → stops_of g.S.Store g.O.Origin.IS_OURS h t) same
     (stops_read g.S.Store old last g.O.Origin.IS_OURS c.self.inside.numbers c.self.invariant AreLoaded c.load.result (λ was. c.is_autocommit-settled.ensures.settled auto was) (g.met.S.Store.stays old.store) c.load.ensures.serves honest.1 honest.0)
 
 pub returns-in-Err-clause-stops : goal.returns-in-Err-clause-stops
@@ -69,6 +69,16 @@ returns-in-Err-clause-stops g c honest =
     let same : old ≡ c.args.self.now.conn = ap (λ (k : ShelfView _). k.conn) c.self.view_is in
     let auto : IsTrue c.is_autocommit-settled.result = c.is_autocommit-settled.ensures.value ∙ ap not c.self.invariant.autocommit in
     let clean = clean_still g.S.Store mid last c.told.ensures.stays honest.0 in
-    subst (λ (h : Held _). (t : Tables) → stops_of g.S.Store last t → stops_of g.S.Store h t) same
+    subst (λ (h : Held _). (t : Tables) → stops_of g.S.Store g.O.Origin.IS_OURS last t → stops_of g.S.Store g.O.Origin.IS_OURS h t) same
     (λ t left. stops_read g.S.Store old mid g.O.Origin.IS_OURS c.self.inside.numbers c.self.invariant AreLoaded c.load.result (λ was. c.is_autocommit-settled.ensures.settled auto was) (g.met.S.Store.stays old.store) c.load.ensures.serves honest.1 clean t
-    (stops_still g.S.Store mid last c.told.ensures.stays honest.0 t left))
+    (stops_still g.S.Store mid last c.told.ensures.stays g.O.Origin.IS_OURS honest.0 t left))
+
+pub returns-in-Err-clause-tables : goal.returns-in-Err-clause-tables
+returns-in-Err-clause-tables g c honest =
+    let old = c.self.inside.conn in
+    let last = c.told.new.conn in
+    let same : old ≡ c.args.self.now.conn = ap (λ (k : ShelfView _). k.conn) c.self.view_is in
+    let desk = desk_if_open g.S.Store old last g.O.Origin.IS_OURS c.self.inside.numbers c.self.invariant honest.1 in
+    subst (λ (h : Held _). LeavesBy (cause_of c.told.result) (tables_of g.S.Store h) (tables_of g.S.Store last)) same
+    (leaves g.S.Store old last (λ is_open. let k = c.told.ensures.stays.kept is_open in let u = c.in-Err.ensures.serves.undone desk k.0 in (u.0, k.1 ∙ u.1)) c.told.result c.told.ensures.sound
+    (λ is. c.told.ensures.memory is honest.0))

@@ -6,7 +6,7 @@ use Rattle.review_rows.specs.Rows.{Tables}
 use Rattle.review_rows.specs.Shelf.{BlamesTables, IsRecalled, KeepsTables, Shows, LeavesBy, cause_of}
 use Rattle.review_sql.specs.Shelf.{ShelfView, tables_of, stops_of}
 use Rattle.review_sql.proofs.Recalled.{blames_recalled, keeps_recalled, shows_recalled}
-use Rattle.review_sql.proofs.Shown.{holds_read, stops_read, desk_if_open, same_shown, clean_still, stops_still, leaves}
+use Rattle.review_sql.proofs.Shown.{holds_read, holds_still, stops_read, desk_if_open, same_shown, clean_still, stops_still, leaves}
 use Rattle.review_sql.proofs.shelf.SqlShelfShelf.recall.Goals as goal
 
 pub invariant_of-self : goal.invariant_of-self
@@ -51,7 +51,7 @@ returns-in-Ok-clause-stops g c honest =
     let last = c.find_stored.new.conn in
     let same : old ≡ c.args.self.now.conn = ap (λ (k : ShelfView _). k.conn) c.self.view_is in
     let auto : IsTrue c.is_autocommit-settled.result = c.is_autocommit-settled.ensures.value ∙ ap not c.self.invariant.autocommit in
-    subst (λ (h : Held _). (t : Tables) → stops_of g.S.Store last t → stops_of g.S.Store h t) same
+    subst (λ (h : Held _). (t : Tables) → stops_of g.S.Store g.O.Origin.IS_OURS last t → stops_of g.S.Store g.O.Origin.IS_OURS h t) same
     (stops_read g.S.Store old last g.O.Origin.IS_OURS c.self.inside.numbers c.self.invariant _ c.find_stored.result (λ was. c.is_autocommit-settled.ensures.settled auto was) (g.met.S.Store.stays old.store) c.find_stored.ensures.serves honest.1 honest.0)
 
 pub returns-in-Err-clause-stops : goal.returns-in-Err-clause-stops
@@ -62,9 +62,9 @@ returns-in-Err-clause-stops g c honest =
     let same : old ≡ c.args.self.now.conn = ap (λ (k : ShelfView _). k.conn) c.self.view_is in
     let auto : IsTrue c.is_autocommit-settled.result = c.is_autocommit-settled.ensures.value ∙ ap not c.self.invariant.autocommit in
     let clean = clean_still g.S.Store mid last c.told.ensures.stays honest.0 in
-    subst (λ (h : Held _). (t : Tables) → stops_of g.S.Store last t → stops_of g.S.Store h t) same
+    subst (λ (h : Held _). (t : Tables) → stops_of g.S.Store g.O.Origin.IS_OURS last t → stops_of g.S.Store g.O.Origin.IS_OURS h t) same
     (λ t left. stops_read g.S.Store old mid g.O.Origin.IS_OURS c.self.inside.numbers c.self.invariant _ c.find_stored.result (λ was. c.is_autocommit-settled.ensures.settled auto was) (g.met.S.Store.stays old.store) c.find_stored.ensures.serves honest.1 clean t
-    (stops_still g.S.Store mid last c.told.ensures.stays honest.0 t left))
+    (stops_still g.S.Store mid last c.told.ensures.stays g.O.Origin.IS_OURS honest.0 t left))
 
 pub returns-in-Err-clause-tables : goal.returns-in-Err-clause-tables
 returns-in-Err-clause-tables g c honest =
@@ -75,3 +75,10 @@ returns-in-Err-clause-tables g c honest =
     subst (λ (h : Held _). LeavesBy (cause_of c.told.result) (tables_of g.S.Store h) (tables_of g.S.Store last)) same
     (leaves g.S.Store old last (λ is_open. let k = c.told.ensures.stays.kept is_open in let u = c.in-Err.ensures.serves.undone desk k.0 in (u.0, k.1 ∙ u.1)) c.told.result c.told.ensures.sound
     (λ is. c.told.ensures.memory is honest.0))
+
+pub invariant_of-self-in-Err-1 : goal.invariant_of-self-in-Err-1
+invariant_of-self-in-Err-1 g c =
+    let mid = c.find_stored.new.conn in
+    let last = c.told.new.conn in
+    holds_still g.S.Store mid last c.told.ensures.stays g.O.Origin.IS_OURS c.self.inside.numbers c.told.ensures.mode
+    (holds_read g.S.Store c.self.inside.conn mid g.O.Origin.IS_OURS c.self.inside.numbers c.self.invariant _ c.find_stored.result c.find_stored.ensures.mode (λ is_open. clean_if_open (g.S.Store.view mid.store) (g.met.S.Store.shut_if_dirty mid.store) is_open) c.find_stored.ensures.serves)

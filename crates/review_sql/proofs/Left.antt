@@ -1,0 +1,67 @@
+-- What a stop left of a desk of ours is opened as one.
+use Rattle.std.proofs.Common.{◌≡◌, ◌≢◌, ◌⊎◌, inl, inr, List, IsTrue, refl, sym, subst, arith}
+use Rattle.sqlite_trees.specs.declared.store.Store.{Ghosts}
+use Rattle.sqlite.specs.Effect.{Database, IsDatabase}
+use Rattle.sqlite.specs.State.{State, IsLive}
+use Rattle.review_words.specs.History.{Entry}
+use Rattle.review_rows.specs.View.{IsView}
+use Rattle.review_rows.specs.Answer.{IsHistory}
+use Rattle.review_rows.proofs.Readings.{reading_of}
+use Rattle.review_database.specs.Tables.{tables_at}
+use Rattle.review_statements.specs.Desk.{desk_schema, schema_0}
+use Rattle.review_statements.specs.Ran.{IsReady}
+use Rattle.review_statements.proofs.OneSchema.{one_schema}
+use Rattle.review_tables.specs.Made.{IsBlank}
+use Rattle.review_sql.specs.Opened.{IsRefused}
+use Rattle.review_sql.specs.Migrated.{IsUnfit}
+use Rattle.review_sql.specs.Left.{MakesOurs, StopLeavesDesk}
+use Rattle.review_sql.specs.Shelf.{AreLeftOfOurs, AreOurs, no_tables}
+use Rattle.review_sql.specs.declared.faults.DeskFault.{DeskFault}
+use Rattle.review_sql.specs.declared.faults.DeskFault.TheVariants.{NotADesk, WrongVersion, Store, NotEmpty, NotOurs, Memory}
+use Rattle.review_sql.proofs.Again.{cause_left, unfit_left}
+use Rattle.review_sql.proofs.Shown.{ready_ours}
+
+-- a database of trees of a desk of ours is a desk
+ready_again : (db : Database) → IsDatabase db → AreOurs db.trees → IsReady db
+ready_again db sound ours =
+    let same = one_schema db.trees db.schema desk_schema refl sound ours.ready.sound in
+    subst IsReady (λ i. record { schema = sym same i; trees = db.trees }) ours.ready
+
+-- one of the two, where it can't be neither
+either : (fault : DeskFault) → (((fault ≢ Memory) × (fault ≢ Store)) → ⊥) → (fault ≡ Memory) ⊎ (fault ≡ Store)
+either NotADesk not = absurd (not ((λ e. cc), (λ e. cc)))
+either WrongVersion not = absurd (not ((λ e. cc), (λ e. cc)))
+either Store not = inr refl
+either NotEmpty not = absurd (not ((λ e. cc), (λ e. cc)))
+either NotOurs not = absurd (not ((λ e. cc), (λ e. cc)))
+either Memory not = inl refl
+
+module _ (old new : State) (fault : DeskFault) (live : IsLive old) (stays : IsTrue new.is_open → IsTrue old.is_open × (new.now ≡ old.now)) (is_open : IsTrue new.is_open) (left : AreLeftOfOurs old.now.trees) where
+  sound : IsDatabase old.now
+  sound = (live (stays is_open).0).0
+
+  pub refused_left : IsRefused old fault → (fault ≡ Memory) ⊎ (fault ≡ Store)
+  refused_left refused = either fault (λ not. left (λ ours. elim (cause_left old ours.numbers fault (ready_again old.now sound ours) ours.desk refused) [ inl is ↦ not.0 is | inr is ↦ not.1 is ]))
+
+  pub unfit_left_behind : IsUnfit old.now fault → (fault ≡ Memory) ⊎ (fault ≡ Store)
+  unfit_left_behind unfit = either fault (λ not. left (λ ours. elim (unfit_left old.now ours.numbers fault (ready_again old.now sound ours) ours.desk unfit) [ inl is ↦ not.0 is | inr is ↦ not.1 is ]))
+
+-- ---- what a stop leaves
+
+has_no_history : (h : List Entry) → IsHistory h → IsView h no_tables → ⊥
+has_no_history h history view = let read = reading_of h history in let e : 0 ≡ 3 = (view read.0 read.1).version in omega (arith, e)
+
+pub stop_leaves_desk : {S : Type 0} (g : Ghosts S) → StopLeavesDesk g
+stop_leaves_desk g shelf histories db may =
+    let it = histories (tables_at db) (db, may, inl refl) in (
+      (λ none. let no = histories no_tables (db, may, inr (refl, none, refl)) in has_no_history no.0 no.1 no.2),
+      (db, may, inl refl),
+      it.0,
+      it.1,
+      it.2,
+    )
+
+pub makes_ours : MakesOurs
+makes_ours old after none made =
+    let blank : IsBlank schema_0 old = record { schema_is = none; empty = tt } in
+    (ready_ours after (record { requests = 0; least = 0 }) (made.ready blank) (made.desk blank), made.view blank)

@@ -1,0 +1,34 @@
+-- What a stop leaves of a desk of ours.
+use Rattle.std.specs.Prelude.{◌≡◌, [], List, true}
+use Rattle.sqlite_schema.specs.declared.schema.Schema.{Schema}
+use Rattle.sqlite_trees.specs.declared.store.Store.{Ghosts}
+use Rattle.sqlite_trees.specs.Tree.{Trees}
+use Rattle.sqlite_catalog.specs.Listing.{IsSound}
+use Rattle.sqlite.specs.Effect.{Database}
+use Rattle.sqlite.specs.Held.{state}
+use Rattle.review_words.specs.History.{Entry}
+use Rattle.review_rows.specs.Answer.{IsHistory}
+use Rattle.review_rows.specs.Rows.{Tables}
+use Rattle.review_rows.specs.Shelf.{Shown}
+use Rattle.review_rows.specs.View.{IsView}
+use Rattle.review_database.specs.Tables.{tables_at}
+use Rattle.review_statements.specs.Desk.{schema_0}
+use Rattle.review_transactions.specs.First.{MakesDesk}
+use Rattle.review_sql.specs.Shelf.{AreLeftOfOurs, AreOurs, ShelfView, shown}
+
+-- all tables that a stop may leave are those of histories
+abbrev pub StopsAreHistories : Shown → Type 0
+StopsAreHistories s = (t : Tables) → s.stops t → (h : List Entry) × IsHistory h × IsView h t
+
+-- Where all tables that a stop may leave of a shelf of ours are those of histories, all trees that it may leave are those of a desk of ours, with tables of a history that are among them.
+abbrev pub StopLeavesDesk : {S : Type 0} → Ghosts S → Type 0
+StopLeavesDesk {S} g = (shelf : ShelfView S) → StopsAreHistories (shown g true shelf) → (db : Trees) → (state g shelf.conn).may_leave db →
+    AreLeftOfOurs db × (shown g true shelf).stops (tables_at db) × (h : List Entry) × IsHistory h × IsView h (tables_at db)
+
+-- what `create` makes where there was no table is a desk of ours, with the tables of the empty history
+abbrev pub MakesOurs : Type 0
+MakesOurs = (old after : Database) → old.schema ≡ schema_0 → MakesDesk old after → AreOurs after.trees × IsView [] (tables_at after.trees)
+
+-- trees that list and obey a schema with no view list and obey no other
+abbrev pub TreesTellSchema : Type 0
+TreesTellSchema = (db : Trees) (one other : Schema) → other.views ≡ [] → IsSound one db → IsSound other db → one ≡ other

@@ -1,0 +1,87 @@
+"""The paths that a commit changes, read no further than there may be. A module.
+
+A few trees, each of which names the next one ten times, are a push of some hundred bytes with ten million paths, and `git diff-tree` gathers all of them before it says the
+first. So the trees are read here one by one, and reading ends with one path, or one folder, too many.
+"""
+import subprocess
+
+MODES, MOST_FOLDERS, MOST_BYTES = (b"100644", b"100755", b"120000", b"160000", b"40000"), 10_000, 32 << 20  # modes as git writes them; it reads many more
+
+
+class TooLarge(Exception):
+    """A commit changes more than is read: what there is too much of."""
+
+
+def folder_in(entry):
+    """The tree of an entry that git takes for a folder, whatever else its mode says; of another one, or of none, None."""
+    return entry[1] if entry and int(entry[0], 8) & 0o170000 == 0o040000 else None
+
+
+class Trees:
+    """Trees of a repository, each asked for by its name."""
+
+    def __init__(self):
+        self.git, self.count = subprocess.Popen(["git", "cat-file", "--batch"], stdin=subprocess.PIPE, stdout=subprocess.PIPE, stderr=subprocess.DEVNULL), 0
+
+    def __enter__(self):
+        return self
+
+    def __exit__(self, *_):
+        self.git.stdin.close()
+        self.git.kill()
+        self.git.wait()
+        self.git.stdout.close()
+
+    def entries(self, name):
+        """Of each entry of a tree its name, with its mode and its object; None is a tree without any."""
+        if name is None:
+            return {}
+        self.count += 1
+        if self.count > MOST_FOLDERS:
+            raise TooLarge(f"more than {MOST_FOLDERS // 2} folders")
+        self.git.stdin.write(name + b"\n")
+        self.git.stdin.flush()
+        _, kind, size = self.git.stdout.readline().split()
+        if kind != b"tree":
+            raise TooLarge(f"a folder that is a {kind.decode()}")
+        if int(size) > MOST_BYTES:
+            raise TooLarge(f"a folder of more than {MOST_BYTES >> 20} MB")
+        told, found, at = self.git.stdout.read(int(size) + 1)[:-1], {}, 0
+        while at < len(told):
+            end = told.index(b"\0", at)
+            mode, path = told[at:end].split(b" ", 1)
+            if path in found:
+                raise TooLarge("more than one entry of a name in a folder")
+            found[path] = (mode, told[end + 1:end + 21].hex().encode())
+            at = end + 21
+        return found
+
+    def paths(self, old, new, most_bytes, before=b""):
+        """The paths that differ between two trees, of which either may be none."""
+        if len(before) > most_bytes:
+            raise TooLarge(f"a path of more than {most_bytes} bytes")
+        were, are = self.entries(old), self.entries(new)
+        for name in sorted(were.keys() | are.keys()):
+            was, is_now, path = were.get(name), are.get(name), before + name
+            if was == is_now:
+                continue
+            if is_now and is_now[0] not in MODES:
+                raise TooLarge(f"an entry of the mode {is_now[0].decode(errors='replace')[:20]}, which git doesn't write")
+            below = [folder_in(it) for it in (was, is_now)]
+            if any(it and not folder for it, folder in zip((was, is_now), below)):
+                yield path
+            if any(below):
+                yield from self.paths(*below, most_bytes, path + b"/")
+
+
+def paths_of(commit, parent_tree, most_paths, most_bytes):
+    """The paths that a commit changes beside its parent, sorted. Raises TooLarge where there are too many, or one has too many bytes."""
+    found = []
+    with Trees() as trees:
+        for path in trees.paths(parent_tree.encode(), commit.tree.encode(), most_bytes):
+            found.append(path)
+            if len(found) > most_paths:
+                raise TooLarge(f"more than {most_paths} paths")
+            if len(path) > most_bytes:
+                raise TooLarge(f"a path of more than {most_bytes} bytes")
+    return [path.decode(errors="surrogateescape") for path in sorted(found)]

@@ -1,0 +1,103 @@
+// What both pages share: elements whose text stays text, questions to the server, and requests that are kept until their answer came.
+export const at = (id) => document.getElementById(id);
+export const query = new URLSearchParams(location.search);
+export const numberIn = (name) => /^[1-9][0-9]{0,9}$/.exec(query.get(name) ?? "")?.[0] ?? "";
+export const known = {me: "", team: {}};  // who is asking; names and labels, where the proxy has them
+
+// Characters that can't be seen, or can't be told from a space: controls, those that turn the direction of the text around them, those of no width, and spaces but the usual ones.
+// Each is shown by its number. Behind a picture U+FE0F chooses its colours.
+const UNSEEN = /(?![\t\n \u3000])(?!(?<=\p{Extended_Pictographic})\ufe0f)[\p{Cc}\p{Cf}\p{Z}\p{Default_Ignorable_Code_Point}\u2800]/gu;
+const numbered = (character) => `‹U+${character.codePointAt(0).toString(16).toUpperCase().padStart(4, "0")}›`;
+export const plain = (text) => String(text).replace(UNSEEN, numbered);
+function seen(text) {
+  const nodes = [];
+  let from = 0;
+  for (const {0: character, index} of text.matchAll(UNSEEN)) {
+    const mark = document.createElement("span");
+    mark.className = "unseen";
+    mark.textContent = numbered(character);
+    nodes.push(text.slice(from, index), mark);
+    from = index + character.length;
+  }
+  return [...nodes, text.slice(from)];
+}
+// An element. Strings among what is inside become text, whatever they say.
+export function make(tag, attributes, ...inside) {
+  const made = document.createElement(tag);
+  for (const [name, value] of Object.entries(attributes)) made.setAttribute(name, plain(value));
+  made.append(...inside.flatMap((it) => (typeof it === "string" ? seen(it) : [it])));
+  return made;
+}
+// What others wrote, within a line: its direction is its own.
+export const own = (text) => make("bdi", {}, String(text));
+// Puts rows into a list or a table, or one row that says that there are none.
+const NONE = {UL: (text) => make("li", {class: "soft"}, text), TBODY: (text) => make("tr", {}, make("td", {class: "soft"}, text)), DIV: (text) => text};
+export const fill = (id, rows, none) => at(id).replaceChildren(...(rows.length || !none ? rows : [NONE[at(id).tagName](none)]));
+export const tell = (...what) => at("answer").replaceChildren(...what.flatMap((it) => (typeof it === "string" ? seen(it) : [it])));
+export const nameOf = (account) => (known.team.accounts?.[account] ? `${known.team.accounts[account]} (${account})` : `account ${account}`);
+
+const WHY = {NOT_ALLOWED: "none of your groups has this right", CLOSED: "the change is not open", SAME_STATE: "it is so already",
+  WORK_IN_PROGRESS: "the change is work in progress", STALE_PATCH_SET: "there is a newer patch set, so read that one first",
+  NO_LABEL: "the project has no such label", VALUE_OUT: "the label has no such value", VOTE_RESTRICTED: "this value is not yours to give",
+  NO_ACCOUNT: "there is no such account", NO_CHANGE: "there is no such change", NO_PROJECT: "there is no such project",
+  NO_BRANCH: "there is no such branch", NO_CALLER: "your name has no account at the desk", CHAIN_WIP: "it stands on work in progress",
+  CHAIN_OUTDATED: "it stands on a patch set that is not current any more", CHAIN_ABANDONED: "it stands on an abandoned change",
+  REQUIREMENT_UNSATISFIED: "a submit requirement is unsatisfied", TOO_LARGE: "it is too large to be shown here, so fetch it",
+  TOO_SLOW: "it takes too long here, so fetch it", NO_COMMIT: "git doesn't have this patch set's commit", NO_ROUTE: "there is nothing of that name here"};
+export async function ask(method, path, more = {}) {
+  const response = await fetch(path, {method, cache: "no-store", signal: AbortSignal.timeout(60000), ...more});
+  const text = await response.text();
+  return {status: response.status, text, said: text.startsWith(")]}'\n") ? JSON.parse(text.slice(5)) : null};
+}
+export async function question(path) {
+  const {status, said} = await ask("GET", path);
+  if (status !== 200 || !said) throw new Error(refusal(status, said));
+  return said;
+}
+export function refusal(status, said) {
+  if (!said) return `The proxy answered ${status}.`;
+  if (said.not_submitted === "STALE_PATCH_SET") return `There is a newer patch set ${said.current_patch_set}: nothing was submitted.`;
+  if (said.not_submitted === "CONFLICT") return `Nothing was submitted: it conflicts with what the branch has${said.paths.length ? `, in ${said.paths.join(", ")}` : ""}. Rebase it, and push it again.`;
+  if (said.not_submitted === "NOT_MERGEABLE") return `Nothing was submitted: git can't have it, since ${said.why}.`;
+  const word = said.refused ?? said.fault ?? said.not_taken ?? said.not_submitted ?? said.not_shown;
+  const before = said.not_submitted ? "Nothing was submitted" : said.not_shown ? "Not shown" : "Refused";
+  return `${before}: ${word}${WHY[word] ? `, ${WHY[word]}` : ""}${said.requirement ? `: ${said.requirement}` : ""}${said.change ? ` (change ${said.change})` : ""}.`;
+}
+
+// A request is kept with its id from the first press until its answer came. Meanwhile each press sends this one again, so that it acts once.
+const keyOf = (path) => `berthoglu ${known.me} ${path}`;
+export const keptAt = (path) => JSON.parse(localStorage.getItem(keyOf(path)));
+export const forget = (path) => localStorage.removeItem(keyOf(path));
+export const keptPaths = () => Object.keys(localStorage).filter((key) => key.startsWith(keyOf(""))).map((key) => key.slice(keyOf("").length)).sort();
+export function keep(path, body, more = {}) {
+  const id = "page-" + Array.from(crypto.getRandomValues(new Uint8Array(16)), (byte) => byte.toString(16).padStart(2, "0")).join("");
+  localStorage.setItem(keyOf(path), JSON.stringify({id, body: JSON.stringify(body), ...more}));
+}
+// Sends what is kept for a path: its status and answer. Only an answer of the desk, or of the gate before it, tells what became of it. `isWaiting` where it has to be sent again; `isOver` where it was sent twice and the other one had the answer.
+export async function send(path) {
+  const {id, body, named, drafts, written} = keptAt(path), headers = {"Request-Id": id, ...(named ? {"If-Match": `"${named}"`} : {})};
+  const {status, said} = await ask("POST", path, {headers, body}).catch(() => ({status: 0}));
+  const isWaiting = status === 0 || status >= 500 || !said, isKept = keptAt(path)?.id === id;
+  if (!isWaiting && isKept) {
+    forget(path);
+    if (status === 200 && drafts) keepDrafts(drafts, draftsOf(drafts).filter((one) => !written.includes(JSON.stringify(one))));
+  }
+  const came = status ? `Not taken (${said?.not_taken ?? status}).` : "No answer came.", why = `${came} Press the button again: the same request is sent, and acts once.`;
+  return {status, said, body, isWaiting, isOver: !isKept, why};
+}
+// Comments that are written and not sent yet, by where they are kept.
+export const draftsKey = (change, patchSet) => `berthoglu drafts ${known.me} ${change} ${patchSet}`;
+export const draftsOf = (key) => JSON.parse(localStorage.getItem(key) ?? "[]");
+export const keepDrafts = (key, list) => (list.length ? localStorage.setItem(key, JSON.stringify(list)) : localStorage.removeItem(key));
+
+// Asks who is signed in, and for names and labels: whether the proxy has told it.
+export async function begin() {
+  const told = await fetch("team.json", {cache: "no-store"}).catch(() => null);
+  if (!told || told.status >= 500) {
+    tell("The proxy does not answer: load the page again.");
+    return false;
+  }
+  known.me = told.headers.get("X-Account") ?? "";
+  known.team = told.ok ? await told.json().catch(() => ({})) : {};
+  return true;
+}
