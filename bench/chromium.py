@@ -26,6 +26,8 @@ class Browser:
                                         env={**os.environ, "TMPDIR": os.path.dirname(folder)})
         for end in (to_it, from_it, *ends):
             os.close(end)
+        self.readable = select.poll()  # not select, which takes no descriptor above 1,023
+        self.readable.register(self.out, select.POLLIN)
         self.last, self.held, self.pages = 0, b"", {}
 
     def post(self, method, session=None, **words):
@@ -54,7 +56,7 @@ class Browser:
     def next(self, seconds=60):
         until = time.monotonic() + seconds
         while b"\0" not in self.held:
-            if not select.select([self.out], [], [], max(0, until - time.monotonic()))[0]:
+            if not self.readable.poll(max(0, until - time.monotonic()) * 1000):
                 raise RuntimeError(f"Chromium said nothing for {seconds} seconds")
             got = os.read(self.out, 1 << 20)
             if not got:
