@@ -1,18 +1,30 @@
-//! Jobs on a file, which is opened once and closed at the end, when its log is copied into it.
+//! Jobs on a file, which is opened once and closed at the end, when its log is copied into it. `serve` opens it again where a fault has shut it.
 //!
 //! Each is for whatever the file and its log hold when they are opened, and says what it does by that (`F`, which `main` names): what the program does in one run goes on from what the run before
-//! left, or what a stop left of it.
+//! left, or what a stop left of it. Where `serve` opens a file again, that is said of each opening by itself.
 ghost use Rattle.std.specs.Prelude.{◌≡◌, false, IfOk, OnOk};
 ghost use Rattle.sqlite_wal.specs.Files.{image_at};
-ghost use Rattle.review_work.specs.OnFile.{ClosedWell, MadeFrom, MigratedFrom, OpenedFrom, WorkedFrom};
+ghost use Rattle.review_work.specs.OnFile.{ClosedWell, MadeFrom, MigratedFrom, OpenedFrom, ServedFrom, WorkedFrom};
 
 use crate::listening::Listening;
 use crate::notices::StandardError;
 use review_machine::{DeskRules, Outcome};
-use review_work::{Ends, ProgramFault, Task, after_closing, create, work};
+use review_work::{Ends, Openings, ProgramFault, Task, after_closing, create, serve_on, work};
 use sqlite::{Connection, FileFrom, FileStore, Start};
+use std::io::{Stdin, Stdout};
 
 type FileConnection<F> = Connection<FileStore<FileFrom<F>>>;
+
+type ProgramEnds<'a> = Ends<Stdin<'a>, Stdout<'a>, Listening<'a>, StandardError<'a>>;
+
+/// What is supposed of a file, each time that it is opened.
+pub trait Starts: Drop {
+    /// What is supposed of it.
+    type Start: Start;
+
+    /// That of the next time.
+    fn next(&mut self) -> Self::Start;
+}
 
 // What was done on a connection to a file, which is still to be closed.
 type DoneOn<F, T> = (FileConnection<F>, Result<T, ProgramFault>);
@@ -38,6 +50,42 @@ fn close<F: Start>(conn: FileConnection<F>) -> Result<(), ProgramFault>
             drop(store.close());
             Err(ProgramFault::of_store(error))
         }
+    }
+}
+
+// Where a file is opened that is served.
+#[derive(Drop)]
+struct OnFile<'a, T> {
+    rt: &'a HostRuntime,
+    file: &'a str,
+    starts: T,
+}
+
+impl<T: Starts> Openings for OnFile<'_, T> {
+    type Tables = FileStore<FileFrom<T::Start>>;
+
+    ghost opens = { OpenedFrom (image_at T.Start.Start) };
+
+    ghost closes = { ClosedWell };
+
+    fn open(&mut self) -> Result<FileConnection<T::Start>, ProgramFault> {
+        open(self.rt, self.file, self.starts.next())
+    }
+
+    fn close(&mut self, conn: FileConnection<T::Start>) -> Result<(), ProgramFault> {
+        close(conn)
+    }
+}
+
+// The program's own ends.
+fn ends_of(rt: &HostRuntime, port: u16) -> ProgramEnds<'_>
+    ensures { StandardError.is_warned result.notices ≡ false }
+{
+    Ends {
+        input: rt.stdin(),
+        output: rt.stdout(),
+        connections: Listening::at(rt, port),
+        notices: StandardError::new(rt),
     }
 }
 
@@ -79,45 +127,52 @@ fn do_on<F: Start>(
     rt: &HostRuntime,
     file: &str,
     start: F,
-    port: u16,
     task: &Task,
 ) -> Result<DoneOn<F, Outcome>, ProgramFault>
     ensures { IfOk result (λ r. WorkedFrom (image_at F.Start) task.now r.0 r.1) }
 {
     let conn = open(rt, file, start)?;
     let mut rules = DeskRules::new(rt.alloc());
-    let notices = StandardError::new(rt);
-    let mut ends = Ends {
-        input: rt.stdin(),
-        output: rt.stdout(),
-        connections: Listening::at(rt, port),
-        notices,
-    };
+    let mut ends = ends_of(rt, 0);
     Ok(work(rt.alloc(), &mut ends, conn, &mut rules, task))
 }
 
-/// Does a task on the desk in a file: from standard input, to standard output, and over connections on a port where it serves them. Standard error is
-/// warned of tables that are not those of a desk alone.
+/// Does a task on the desk in a file: from standard input, to standard output. Standard error is warned of tables that are not those of a desk alone.
 pub fn work_on<F: Start>(
     rt: &HostRuntime,
     file: &str,
     start: F,
-    port: u16,
     task: &Task,
 ) -> Result<Outcome, ProgramFault> {
-    let (conn, ended) = do_on(rt, file, start, port, task)?;
+    let (conn, ended) = do_on(rt, file, start, task)?;
     after_closing(ended, close(conn))
 }
 
-/// Serves so many connections on a port, and says how many once the file is closed.
-pub fn serve<F: Start>(
+fn serve_from<T: Starts>(
     rt: &HostRuntime,
     file: &str,
-    start: F,
+    starts: T,
+    port: u16,
+    count: u32,
+) -> Result<Outcome, ProgramFault>
+    ensures { ServedFrom (image_at T.Start.Start) count result }
+{
+    let mut rules = DeskRules::new(rt.alloc());
+    let mut ends = ends_of(rt, port);
+    let mut openings = OnFile { rt, file, starts };
+    serve_on(rt.alloc(), &mut openings, &mut ends, &mut rules, count)
+}
+
+/// Serves so many connections on a port, and says how many once the file is closed. Where a fault shuts the file's store it is opened again, as [`serve_on`] says. Standard error is warned of
+/// tables that are not those of a desk alone.
+pub fn serve<T: Starts>(
+    rt: &HostRuntime,
+    file: &str,
+    starts: T,
     port: u16,
     count: u32,
 ) -> Result<Outcome, ProgramFault> {
-    let outcome = work_on(rt, file, start, port, &Task::Serve { count })?;
+    let outcome = serve_from(rt, file, starts, port, count)?;
     match println!(rt; "served {count}") {
         Ok(()) => Ok(outcome),
         Err(_) => Err(ProgramFault::Output),

@@ -40,6 +40,8 @@ pub struct Listening<'a> {
     rt: &'a HostRuntime,
     port: u16,
     listener: Option<TcpListener>,
+    // Whether the connection that was accepted last is closed.
+    is_idle: bool,
 }
 
 impl Listening<'_> {
@@ -49,6 +51,7 @@ impl Listening<'_> {
             rt,
             port,
             listener: None,
+            is_idle: true,
         }
     }
 }
@@ -168,11 +171,17 @@ impl<'a> Connections for Listening<'a> {
 
     ghost told = { λ _. None };
 
+    ghost is_idle = { λ l. l.is_idle };
+
     type Reader = Incoming<'a>;
 
     type Writer = Outgoing<'a>;
 
     fn listen(&mut self) -> Result<(), ConnectionsFault> {
+        self.is_idle = true;
+        if self.listener.is_some() {
+            return Ok(());
+        }
         let Ok(listener) = TcpListener::bind(self.rt, ("127.0.0.1", self.port)) else {
             return Err(ConnectionsFault::Network);
         };
@@ -184,6 +193,7 @@ impl<'a> Connections for Listening<'a> {
     }
 
     fn accept(&mut self) -> Result<(Incoming<'a>, Outgoing<'a>), ConnectionsFault> {
+        self.is_idle = false;
         match self.next() {
             Ok(accepted) => Ok(accepted),
             Err(_) => Err(ConnectionsFault::Network),
@@ -195,5 +205,6 @@ impl<'a> Connections for Listening<'a> {
         let _ = writer.timed.stream.shutdown(Shutdown::Write);
         let mut reader = reader;
         reader.timed.finish();
+        self.is_idle = true;
     }
 }

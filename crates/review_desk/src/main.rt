@@ -11,9 +11,10 @@ mod listening;
 mod notices;
 
 use review_jobs::{Job, Place, WordsFault, job_of};
+use crate::files::Starts;
 use review_machine::Outcome;
 use review_work::{ProgramFault, Task, status_of};
-use sqlite::{Start, Unknown};
+use sqlite::Unknown;
 use std::env;
 use std::io::ErrorKind;
 use std::process::ExitCode;
@@ -36,31 +37,45 @@ fn apply_in_memory(rt: &HostRuntime) -> Result<Outcome, ProgramFault> {
     }
 }
 
+/// That nothing is known of a file when it is opened, and a write that is cut off by a stop is taken to leave each byte old or new (docs/proofs.md, "Premises").
+#[derive(Drop)]
+struct Unknowns;
+
+impl Starts for Unknowns {
+    type Start = Unknown;
+
+    fn next(&mut self) -> Unknown {
+        Unknown
+    }
+}
+
 // Does a job on a file, whatever the file holds.
-fn run_on<F: Start>(
+fn run_on<T: Starts>(
     rt: &HostRuntime,
     file: &str,
-    start: F,
+    mut starts: T,
     job: Job<'_>,
 ) -> Result<Outcome, ProgramFault> {
     match job {
-        Job::Init { .. } => files::init(rt, file, start),
-        Job::Migrate { .. } => files::migrate(rt, file, start),
-        Job::Apply { .. } => files::work_on(rt, file, start, 0, &Task::Apply),
-        Job::Serve { port, count, .. } => files::serve(rt, file, start, port, count),
-        Job::Show { change, .. } => files::work_on(rt, file, start, 0, &Task::Show { change }),
+        Job::Init { .. } => files::init(rt, file, starts.next()),
+        Job::Migrate { .. } => files::migrate(rt, file, starts.next()),
+        Job::Apply { .. } => files::work_on(rt, file, starts.next(), &Task::Apply),
+        Job::Serve { port, count, .. } => files::serve(rt, file, starts, port, count),
+        Job::Show { change, .. } => {
+            files::work_on(rt, file, starts.next(), &Task::Show { change })
+        }
         Job::Joined {
             project,
             branch,
             ..
-        } => files::work_on(rt, file, start, 0, &Task::Joined { project, branch }),
+        } => files::work_on(rt, file, starts.next(), &Task::Joined { project, branch }),
     }
 }
 
-fn run<F: Start>(rt: &HostRuntime, start: F, job: Job<'_>) -> Result<Outcome, ProgramFault> {
+fn run<T: Starts>(rt: &HostRuntime, starts: T, job: Job<'_>) -> Result<Outcome, ProgramFault> {
     match job.place() {
         Place::Memory => apply_in_memory(rt),
-        Place::File(file) => run_on(rt, file, start, job),
+        Place::File(file) => run_on(rt, file, starts, job),
     }
 }
 
@@ -98,8 +113,7 @@ fn main(rt: HostRuntime) -> ExitCode {
         Err(fault) => return refuse_words(&rt, fault),
     };
     match job_of(rt.alloc(), &words) {
-        // What the file holds is not known here, and a write that is cut off by a stop is taken to leave each byte old or new (docs/proofs.md, "Premises").
-        Ok(job) => end_with(&rt, run(&rt, Unknown, job)),
+        Ok(job) => end_with(&rt, run(&rt, Unknowns, job)),
         Err(fault) => refuse_words(&rt, fault),
     }
 }

@@ -30,6 +30,9 @@ impl Notices for StandardError<'_> {
     ghost is_warned = { λ e. e.is_warned };
 
     fn warn(&mut self) {
+        if self.is_warned {
+            return;
+        }
         // Where standard error is closed there is nobody to warn.
         let _ = eprintln!(self.rt; "review_desk: {WARNING}");
         self.is_warned = true;

@@ -1,6 +1,6 @@
 //! Effective files that were read before, so that one is read once as long as the texts of its line stay. What is remembered is held to these texts
 //! byte for byte, so it is right whatever texts a project and its ancestors have by now.
-ghost use Rattle.std.specs.Prelude.{◌≡◌, ◌∷◌, false, IfOk, IfErr, OnOk, OnErr, Some, [], if◌then◌else◌, map};
+ghost use Rattle.std.specs.Prelude.{◌≡◌, ◌∷◌, false, IfOk, IfErr, OnOk, OnErr, Some, None, [], if◌then◌else◌, map};
 ghost use Rattle.std.specs.BTreeMap.{is_at};
 ghost use Rattle.std.specs.List.{All};
 ghost use Rattle.std.specs.Ordering.{nat_cmp};
@@ -8,6 +8,7 @@ ghost use Rattle.std.specs.Cmp.Lexicographic.{slice_cmp};
 ghost use Rattle.review_table.specs.Rows.{row_in, rows_of};
 ghost use Rattle.review_project.specs.Patterns.{HasPattern};
 ghost use Rattle.review_project.specs.Reading.{IsRead, IsReadFault, named_parent};
+ghost use Rattle.review_effective.specs.Kept.{IsKept};
 ghost use Rattle.review_effective.specs.Texts.{IsLineFault};
 
 use crate::lines::{LinePart, ReadLine, is_same};
@@ -67,6 +68,7 @@ impl FileMemo {
         ensures fault { IfErr result (IsReadFault text.now) }
         ensures pattern { IfErr result (λ f. f ≡ ReadFault.Pattern → HasPattern text.now) }
         ensures same { rows_of self.new.lines ≡ rows_of self.old.lines }
+        ensures none { self.new.ahead ≡ None }
     {
         match self.ahead.take() {
             Some(read) if is_same(read.text(), text) => {
@@ -106,6 +108,7 @@ impl FileMemo {
         ensures fault { IfErr result (IsLineFault (own.now.text.now ∷ map (λ p. p.text.now) above.now)) }
         ensures others { (q : _) → is_at (slice_cmp nat_cmp own.now.project.now) q ≡ false → All (λ p. is_at (slice_cmp nat_cmp p.project.now) q ≡ false) above.now →
             row_in (slice_cmp nat_cmp) (rows_of self.new.lines) q ≡ row_in (slice_cmp nat_cmp) (rows_of self.old.lines) q }
+        ensures each { (q : _) → IsKept (own.now ∷ above.now) q (row_in (slice_cmp nat_cmp) (rows_of self.old.lines) q) (row_in (slice_cmp nat_cmp) (rows_of self.new.lines) q) }
     {
         match self.lines.get(own.project) {
             Some(line) if line.is_of(own, above) => Ok(line.copy(alloc)?),
@@ -125,6 +128,7 @@ impl FileMemo {
         ensures fault { IfErr result (IsLineFault (own.now.text.now ∷ map (λ p. p.text.now) above.now)) }
         ensures others { (q : _) → is_at (slice_cmp nat_cmp own.now.project.now) q ≡ false → All (λ p. is_at (slice_cmp nat_cmp p.project.now) q ≡ false) above.now →
             row_in (slice_cmp nat_cmp) (rows_of self.new.lines) q ≡ row_in (slice_cmp nat_cmp) (rows_of self.old.lines) q }
+        ensures each { (q : _) → IsKept (own.now ∷ above.now) q (row_in (slice_cmp nat_cmp) (rows_of self.old.lines) q) (row_in (slice_cmp nat_cmp) (rows_of self.new.lines) q) }
     {
         let read = ReadText::read(alloc, own.text)?;
         let line = self.after(alloc, read, above)?;
@@ -144,6 +148,7 @@ impl FileMemo {
         ensures texts { IfOk result (λ l. l.texts ≡ own.text ∷ map (λ p. p.text.now) above.now) }
         ensures fault { IfErr result (IsLineFault (own.text ∷ map (λ p. p.text.now) above.now)) }
         ensures others { (q : _) → All (λ p. is_at (slice_cmp nat_cmp p.project.now) q ≡ false) above.now → row_in (slice_cmp nat_cmp) (rows_of self.new.lines) q ≡ row_in (slice_cmp nat_cmp) (rows_of self.old.lines) q }
+        ensures each { (q : _) → IsKept above.now q (row_in (slice_cmp nat_cmp) (rows_of self.old.lines) q) (row_in (slice_cmp nat_cmp) (rows_of self.new.lines) q) }
     {
         match above {
             [parent, rest @ ..] => Ok(self.get(alloc, parent, rest)?.inherit_stored(alloc, own)?),

@@ -16,7 +16,7 @@ use Rattle.review_http.specs.declared.serve.Served.TheVariants.{Answered, Empty}
 use Rattle.review_http.specs.declared.serve.ServeFault.{ServeFault}
 use Rattle.review_http.specs.declared.serve.ServeFault.TheVariants.{Read, Reads, Write, Memory}
 use Rattle.review_http.specs.Served.{IsWritten, IsToldOf, IsAnswered, IsServedOnWire, WasServed}
-use Rattle.review_http.specs.Peers.{Exchange, Came, WereTold, TookOf, ServedOne, ServedEach}
+use Rattle.review_http.specs.Peers.{Exchange, Came, WereTold, TookOf, ServedOne, CountsBefore, ServedEach}
 
 -- the first of those to come, and the first of the later ones
 pub came_more : (coming mid later : Option (List (List ℕ))) (inputs more : List (Option (List ℕ))) → Came coming inputs mid → Came mid more later → Came coming (inputs ++ more) later
@@ -130,14 +130,21 @@ module _ {S : Type 0} (state : S → Shown) where
   ran_took bytes ended text taken old new (inr one) =
       subst (λ (l : Taken). WasRun (asked l) (replies l) (state old) (state new)) (sym one.2) (ran_one one.0 one.1 (state old) (state new) one.4)
 
+  -- what was counted before the one more
+  counts_more : (faults : ℕ) (exchanges : List Exchange) (exchange : Exchange) (taken : Taken) (between mid : S) → CountsBefore state faults exchanges between → ServedEach state faults exchanges taken between mid → (state mid).faults ≡ faults
+      → CountsBefore state faults (exchanges ++ exchange ∷ []) between
+  counts_more faults [] exchange taken between mid counts each same = subst (λ (s : S). (state s).faults ≡ faults) each.1 same
+  counts_more faults (first ∷ exchanges) exchange taken between mid counts each same = counts
+
   -- one connection more
-  pub each_more : (exchanges : List Exchange) (exchange : Exchange) (taken more : Taken) (old mid new : S) → ServedEach state exchanges taken old mid → ServedOne state exchange more mid new → ServedEach state (exchanges ++ exchange ∷ []) (taken ++ more) old new
-  each_more [] exchange taken more old mid new each one =
+  pub each_more : (faults : ℕ) (exchanges : List Exchange) (exchange : Exchange) (taken more : Taken) (old mid new : S) → ServedEach state faults exchanges taken old mid → (state mid).faults ≡ faults → ServedOne state exchange more mid new
+      → ServedEach state faults (exchanges ++ exchange ∷ []) (taken ++ more) old new
+  each_more faults [] exchange taken more old mid new each counted one =
       let same : taken ++ more ≡ more ++ [] = ap (λ (l : Taken). l ++ more) each.0 ∙ sym (append-nil more) in
-      (more, [], new, same, subst (λ (s : S). ServedOne state exchange more s new) each.1 one, (refl, refl))
-  each_more (first ∷ exchanges) exchange taken more old mid new each one =
+      (more, [], new, same, subst (λ (s : S). ServedOne state exchange more s new) each.1 one, tt, (refl, refl))
+  each_more faults (first ∷ exchanges) exchange taken more old mid new each counted one =
       let same : taken ++ more ≡ each.0 ++ (each.1 ++ more) = ap (λ (l : Taken). l ++ more) each.3 ∙ append_assoc each.0 each.1 more in
-      (each.0, each.1 ++ more, each.2, same, each.4, each_more exchanges exchange each.1 more each.2 mid new each.5 one)
+      (each.0, each.1 ++ more, each.2, same, each.4, counts_more faults exchanges exchange each.1 each.2 mid each.5 each.6 counted, each_more faults exchanges exchange each.1 more each.2 mid new each.6 counted one)
 
   pub ran_more : (exchange : Exchange) (taken more : Taken) (old mid new : S) → WasRun (asked taken) (replies taken) (state old) (state mid) → ServedOne state exchange more mid new → WasRun (asked (taken ++ more)) (replies (taken ++ more)) (state old) (state new)
   ran_more exchange taken more old mid new ran one =

@@ -1,5 +1,5 @@
 -- What serving connections does, one after the other.
-use Rattle.std.specs.Prelude.{◌≡◌, ◌≤◌, ◌⊎◌, ℕ, List, [], ◌∷◌, ◌++◌, Bool, Option, Some, None, Result, Ok, OnOk, length, map}
+use Rattle.std.specs.Prelude.{◌≡◌, ◌≢◌, ◌≤◌, ◌<◌, ◌+◌, ◌⊎◌, ℕ, List, [], ◌∷◌, ◌++◌, Bool, Option, Some, None, Result, Ok, IfOk, OnOk, length, map}
 use Rattle.review_words.specs.declared.command.Delivery.{Delivery}
 use Rattle.review_words.specs.declared.reply.Reply.{Reply}
 use Rattle.review_rows.specs.Shelf.{Shown}
@@ -47,22 +47,29 @@ module _ {S : Type 0} (state : S → Shown) where
     pub served : WasServed state exchange.input left (Some []) (Some exchange.text) ending old new
     pub took : TookOf served.bytes served.ended exchange.text taken old new
 
-  -- connections were served one after the other, over which these were exchanged; and this was taken, in their order
-  abbrev pub ServedEach : List Exchange → List (Delivery × Reply) → S → S → Type 0
-  ServedEach [] taken old new = (taken ≡ []) × (new ≡ old)
-  ServedEach (exchange ∷ exchanges) taken old new =
-      (front back : List (Delivery × Reply)) × (between : S) × (taken ≡ front ++ back) × ServedOne exchange front old between × ServedEach exchanges back between new
+  -- where another connection follows, so many faults of the store were counted
+  abbrev pub CountsBefore : ℕ → List Exchange → S → Type 0
+  CountsBefore faults [] between = Unit {0}
+  CountsBefore faults (exchange ∷ exchanges) between = (state between).faults ≡ faults
 
-  -- So many connections were served, or fewer where one could not be accepted: the first of those to come, each of whose peers was told what was written
-  -- to it, and no other connection was accepted where all were. What was taken of them was a run.
-  pub record ServedAll (before after : Peers) (count : ℕ) {X E : Type 0} (ended : Result X E) (old new : S) : Type 0 where
+  -- Connections were served one after the other, over which these were exchanged; and this was taken, in their order. Up to the last of them so many faults of the store were counted.
+  abbrev pub ServedEach : ℕ → List Exchange → List (Delivery × Reply) → S → S → Type 0
+  ServedEach faults [] taken old new = (taken ≡ []) × (new ≡ old)
+  ServedEach faults (exchange ∷ exchanges) taken old new =
+      (front back : List (Delivery × Reply)) × (between : S) × (taken ≡ front ++ back) × ServedOne exchange front old between × CountsBefore faults exchanges between
+      × ServedEach faults exchanges back between new
+
+  -- Connections were served: the first of those to come, each of whose peers was told what was written to it, and no other was accepted. They were so many, or fewer where one could not be
+  -- accepted, or where a fault of the store was counted for the last of them: then it is told how many are left. What was taken of them was a run.
+  pub record ServedAll (before after : Peers) (count : ℕ) {E : Type 0} (ended : Result ℕ E) (old new : S) : Type 0 where
     pub exchanges : List Exchange
     pub later : Option (List (List ℕ))
     pub came : Came before.coming (map (λ e. e.input) exchanges) later
     pub left : OnOk ended (after.coming ≡ later)
     pub told : WereTold before.told (map (λ e. e.text) exchanges) after.told
     pub few : length exchanges ≤ count
-    pub all : OnOk ended (length exchanges ≡ count)
+    pub all : IfOk ended (λ rest. length exchanges + rest ≡ count)
+    pub stopped : IfOk ended (λ rest. 0 < rest → (state new).faults ≢ (state old).faults)
     pub taken : List (Delivery × Reply)
-    pub each : ServedEach exchanges taken old new
+    pub each : ServedEach (state old).faults exchanges taken old new
     pub ran : WasRun (map (λ t. t.0) taken) (map (λ t. t.1) taken) (state old) (state new)

@@ -14,7 +14,7 @@ use std::io::{Read, Write};
 
 /// Where connections come from, one after the other: each with a reader of what its peer sends and a writer of what the peer is sent.
 pub trait Connections {
-    ghost use Rattle.std.specs.Prelude.{◌≡◌, ℕ, List, [], ◌∷◌, Option, Some, IfOk, IfSome, OnOk};
+    ghost use Rattle.std.specs.Prelude.{◌≡◌, ℕ, Bool, true, false, List, [], ◌∷◌, Option, Some, IfOk, IfSome, OnOk};
     ghost use Rattle.review_http.specs.Peers.{Came, WereTold};
 
     /// What the peers of the connections to come send, in order, where that is known. Of sockets it isn't.
@@ -23,25 +23,32 @@ pub trait Connections {
     /// What the peers of the connections that were closed have been sent, in order, where that is known. Of sockets it isn't.
     ghost told: { Self → Option (List (List ℕ)) };
 
+    /// Whether no connection is open: each that was accepted is closed.
+    ghost is_idle: { Self → Bool };
+
     /// What the peer sends.
     type Reader: Read + Drop;
 
     /// What the peer is sent.
     type Writer: Write + Drop;
 
-    /// Begins to listen, before the first connection, and says so to whoever waits for it.
+    /// Begins to listen, where it doesn't yet, and says so to whoever waits for it. Of what was accepted before nothing is open any more.
     fn listen(&mut self) -> Result<(), ConnectionsFault>
         ensures coming { OnOk result (coming self.new ≡ coming self.old) }
-        ensures told { told self.new ≡ told self.old };
+        ensures told { told self.new ≡ told self.old }
+        ensures idle { OnOk result (is_idle self.new ≡ true) };
 
-    /// The next connection. Its writer holds nothing yet.
+    /// The next connection, once the one before is closed. Its writer holds nothing yet.
     fn accept(&mut self) -> Result<(Self::Reader, Self::Writer), ConnectionsFault>
+        requires idle { is_idle self.old ≡ true }
+        ensures busy { OnOk result (is_idle self.new ≡ false) }
         ensures coming { IfOk result (λ accepted. Came (coming self.old) (Self.Reader.remaining accepted.0 ∷ []) (coming self.new)) }
         ensures told { told self.new ≡ told self.old }
         ensures empty { IfOk result (λ accepted. IfSome (told self.old) (λ before. Self.Writer.contents accepted.1 ≡ Some [])) };
 
     /// Ends a connection: its peer has been sent what the writer holds, and is sent no more.
     fn close(&mut self, reader: Self::Reader, writer: Self::Writer)
+        ensures idle { is_idle self.new ≡ true }
         ensures coming { coming self.new ≡ coming self.old }
         ensures told { IfSome (Self.Writer.contents writer) (λ text. WereTold (told self.old) (text ∷ []) (told self.new)) };
 }
@@ -66,6 +73,7 @@ fn serve<C: Connections, S: Shelf, D: Rules>(
     rules: &mut D,
 )
     requires empty { IfSome (C.told connections.old) (λ before. C.Writer.contents writer ≡ Some []) }
+    ensures idle { C.is_idle connections.new ≡ true }
     ensures coming { C.coming connections.new ≡ C.coming connections.old }
     ensures served { (text : List ℕ) × (taken : List (Delivery × Reply))
         × ServedOne S.state (record { input = C.Reader.remaining reader; text = text }) taken shelf.old shelf.new
@@ -77,7 +85,8 @@ fn serve<C: Connections, S: Shelf, D: Rules>(
     connections.close(reader.into_inner(), writer.into_inner());
 }
 
-/// Serves so many connections, one after the other, each as [`serve_request`] does; it goes on after one that wasn't served to its end.
+/// Serves so many connections, one after the other, each as [`serve_request`] does; it goes on after one that wasn't served to its end. No connection is accepted before the one before
+/// is closed. Once the shelf has counted a fault of its store no more is accepted: the result is how many of them are left, which is 0 where all were served.
 ///
 /// Whatever the peers send, repeated, cut short or reordered: what is done to the shelf is a run of the deliveries that the accepted connections' bytes
 /// call for, at most one of each and in their order, so from the tables of any history each request of an open epoch acts once. Each peer is sent the response to what it asked
@@ -92,14 +101,18 @@ pub fn serve_connections<C: Connections, S: Shelf, D: Rules>(
     count: u32,
     shelf: &mut S,
     rules: &mut D,
-) -> Result<(), ConnectionsFault>
+) -> Result<u32, ConnectionsFault>
     ensures { ServedAll S.state (record { coming = C.coming connections.old; told = C.told connections.old })
         (record { coming = C.coming connections.new; told = C.told connections.new }) count result shelf.old shelf.new }
 {
     connections.listen()?;
-    for _ in 0..count {
+    let faults = shelf.faults();
+    for served in 0..count {
+        if shelf.faults() != faults {
+            return Ok(count - served);
+        }
         let (reader, writer) = connections.accept()?;
         serve(alloc, routes, connections, reader, writer, shelf, rules);
     }
-    Ok(())
+    Ok(0)
 }

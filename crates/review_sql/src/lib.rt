@@ -14,3 +14,5 @@ mod serving;
 pub mod shelf;
 mod there;
 pub mod versions;
+
+pub use there::is_shut;

@@ -44,6 +44,16 @@ pub fn seen<S: Alter>(conn: &mut Connection<S>, error: Error) -> Error
     }
 }
 
+/// Whether no more can be asked of a connection, since a fault has shut its store. It is taken to be so where there is no memory to look.
+pub fn is_shut<S: Alter>(conn: &mut Connection<S>) -> bool
+    requires mode { conn.old.in_transaction ≡ false }
+    ensures mode { conn.new.in_transaction ≡ false }
+    ensures stays { Stays (state S.Store conn.old) (state S.Store conn.new) }
+    ensures open { result ≡ false → HasCleanDisk (state S.Store conn.new) → IsTrue (state S.Store conn.new).is_open }
+{
+    is_understood(conn, texts::FIND_DESK).is_err()
+}
+
 // A text that reads no column of a table of one of the names that tables of a desk have.
 fn any_row(at: usize) -> &'static str
     requires { at < 15 }

@@ -1,5 +1,5 @@
 -- The faults of the program, from those of its parts.
-use Rattle.std.specs.Prelude.{ℕ, List, Result, Ok, Err, codes}
+use Rattle.std.specs.Prelude.{ℕ, ◌==◌, if◌then◌else◌, List, Result, Ok, Err, codes}
 use Rattle.review_lines.specs.declared.fault.Fault.{Fault}
 use Rattle.review_lines.specs.declared.fault.Fault.TheVariants as line
 use Rattle.review_lines.specs.declared.fault.Outcome.{Outcome}
@@ -11,7 +11,7 @@ use Rattle.review_showing.specs.declared.fault.ShowFault.TheVariants as shown
 use Rattle.review_sql.specs.declared.faults.DeskFault.{DeskFault}
 use Rattle.review_sql.specs.declared.faults.DeskFault.TheVariants as desk
 use Rattle.review_work.specs.declared.fault.ProgramFault.{ProgramFault}
-use Rattle.review_work.specs.declared.fault.ProgramFault.TheVariants.{NotADesk, WrongVersion, Store, NotEmpty, Memory, Input, Output, Network, Damaged, Pattern, NoChange, NoProject, NoBranch}
+use Rattle.review_work.specs.declared.fault.ProgramFault.TheVariants.{NotADesk, WrongVersion, Store, ServedInPart, NotEmpty, Memory, Input, Output, Network, Damaged, Pattern, NoChange, NoProject, NoBranch}
 
 -- why a desk is not made or opened
 abbrev pub desk_fault : DeskFault → ProgramFault
@@ -49,9 +49,9 @@ abbrev pub lines_outcome : Result Outcome Fault → Result Outcome ProgramFault
 lines_outcome (Ok outcome) = Ok outcome
 lines_outcome (Err fault) = Err (line_fault fault)
 
--- how `serve` ends
-abbrev pub serve_outcome : {X : Type 0} → Result X ConnectionsFault → Result Outcome ProgramFault
-serve_outcome (Ok done) = Ok Complete
+-- how serving ends, by how many connections are left
+abbrev pub serve_outcome : Result ℕ ConnectionsFault → Result Outcome ProgramFault
+serve_outcome (Ok left) = if left == 0 then Ok Complete else Err (ServedInPart left)
 serve_outcome (Err fault) = Err (connections_fault fault)
 
 -- how `show` and `joined` end
@@ -64,6 +64,7 @@ abbrev pub fault_text : ProgramFault → List ℕ
 fault_text NotADesk = codes "not a desk"
 fault_text WrongVersion = codes "wrong version"
 fault_text Store = codes "store fault"
+fault_text (ServedInPart left) = codes "store fault"
 fault_text NotEmpty = codes "not empty"
 fault_text Memory = codes "out of memory"
 fault_text Input = codes "input fault"

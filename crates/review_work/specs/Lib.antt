@@ -1,3 +1,4 @@
 pub mod Faults
 pub mod Worked
+pub mod Turns
 pub mod OnFile

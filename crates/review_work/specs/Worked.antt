@@ -46,9 +46,9 @@ pub record EndsShown (questions : List Delivery) (page : List Reply → Result (
   pub ends : ended ≡ shown_outcome told
   pub showed : Showed questions page before after told s t
 
--- so many connections were served, as `serve_connections` says
+-- so many connections were served, or fewer, as `serve_connections` says
 pub record EndsServed {X : Type 0} (state : X → Shown) (count : ℕ) (before after : Peers) (ended : Result Outcome ProgramFault) (old new : X) : Type 0 where
-  pub told : Result (Unit {0}) ConnectionsFault
+  pub told : Result ℕ ConnectionsFault
   pub ends : ended ≡ serve_outcome told
   pub served : ServedAll state before after count told old new
 

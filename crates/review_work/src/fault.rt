@@ -19,6 +19,10 @@ pub enum ProgramFault {
     WrongVersion,
     /// The file doesn't open, or the store refused a call.
     Store,
+    /// The store refused a call while connections were served, of which so many are left.
+    ServedInPart {
+        left: u32,
+    },
     /// A desk is to be made where tables of one are.
     NotEmpty,
     /// There was no memory for it.
@@ -51,7 +55,7 @@ impl ProgramFault {
         match self {
             ProgramFault::NotADesk => "not a desk",
             ProgramFault::WrongVersion => "wrong version",
-            ProgramFault::Store => "store fault",
+            ProgramFault::Store | ProgramFault::ServedInPart { .. } => "store fault",
             ProgramFault::NotEmpty => "not empty",
             ProgramFault::Memory => "out of memory",
             ProgramFault::Input => "input fault",

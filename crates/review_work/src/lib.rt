@@ -9,11 +9,13 @@
 mod ending;
 mod fault;
 mod notices;
+mod serving;
 mod task;
 mod working;
 
 pub use ending::{after_closing, status_of};
 pub use fault::ProgramFault;
 pub use notices::Notices;
+pub use serving::{Openings, serve_on};
 pub use task::{Ends, Task};
 pub use working::{create, migrate, work};

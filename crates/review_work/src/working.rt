@@ -223,11 +223,12 @@ fn serve<C: Connections, S: Shelf, D: Rules>(
     serve_outcome(serve_connections(alloc, &routes, connections, count, shelf, rules))
 }
 
-fn serve_outcome(served: Result<(), ConnectionsFault>) -> Result<Outcome, ProgramFault>
+fn serve_outcome(served: Result<u32, ConnectionsFault>) -> Result<Outcome, ProgramFault>
     ensures { result ≡ serve_outcome served }
 {
     match served {
-        Ok(()) => Ok(Outcome::Complete),
+        Ok(0) => Ok(Outcome::Complete),
+        Ok(left) => Err(ProgramFault::ServedInPart { left }),
         Err(fault) => Err(ProgramFault::from(fault)),
     }
 }

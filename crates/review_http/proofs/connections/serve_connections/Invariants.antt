@@ -1,4 +1,4 @@
-use Rattle.std.proofs.Common.{◌≡◌, List, length}
+use Rattle.std.proofs.Common.{◌≡◌, List, length, true}
 use Rattle.review_deliveries.specs.Delivered.{WasRun}
 use Rattle.review_http.specs.Peers.{Exchange, Came, WereTold, ServedEach}
 use Rattle.review_http.proofs.Connected.{Taken, asked, replies, inputs_of, texts_of}
@@ -11,6 +11,7 @@ invariant-loop g l = record {
       × Came (g.C.Connections.coming l.fn.connections) (inputs_of exchanges) (g.C.Connections.coming l.connections)
       × WereTold (g.C.Connections.told l.fn.connections) (texts_of exchanges) (g.C.Connections.told l.connections)
       × (length exchanges ≡ l.counter)
-      × ServedEach g.S.Shelf.state exchanges taken l.fn.shelf l.shelf
+      × ServedEach g.S.Shelf.state (g.S.Shelf.state l.fn.shelf).faults exchanges taken l.fn.shelf l.shelf
       × WasRun (asked taken) (replies taken) (g.S.Shelf.state l.fn.shelf) (g.S.Shelf.state l.shelf);
+  idle : g.C.Connections.is_idle l.connections ≡ true;
 }
