@@ -5,13 +5,12 @@ use Rattle.review_http.proofs.Connected.{Taken, asked, replies, inputs_of, texts
 use Rattle.review_http.proofs.connections.serve_connections.Given as goal
 
 -- the connections so far were served and closed, and what was taken of them was a run
-abbrev pub invariant-loop : goal.invariant-loop
-invariant-loop g l = record {
-  so_far : (exchanges : List Exchange) × (taken : Taken)
-      × Came (g.C.Connections.coming l.fn.connections) (inputs_of exchanges) (g.C.Connections.coming l.connections)
-      × WereTold (g.C.Connections.told l.fn.connections) (texts_of exchanges) (g.C.Connections.told l.connections)
-      × (length exchanges ≡ l.counter)
-      × ServedEach g.S.Shelf.state (g.S.Shelf.state l.fn.shelf).faults exchanges taken l.fn.shelf l.shelf
-      × WasRun (asked taken) (replies taken) (g.S.Shelf.state l.fn.shelf) (g.S.Shelf.state l.shelf);
-  idle : g.C.Connections.is_idle l.connections ≡ true;
-}
+abbrev pub invariant-loop-served : goal.invariant-loop-served
+invariant-loop-served g l =
+    ((exchanges : List Exchange) × (taken : Taken)
+    × Came (g.C.Connections.coming l.fn.connections) (inputs_of exchanges) (g.C.Connections.coming l.connections)
+    × WereTold (g.C.Connections.told l.fn.connections) (texts_of exchanges) (g.C.Connections.told l.connections)
+    × (length exchanges ≡ l.served)
+    × ServedEach g.S.Shelf.state (g.S.Shelf.state l.fn.shelf).faults exchanges taken l.fn.shelf l.shelf
+    × WasRun (asked taken) (replies taken) (g.S.Shelf.state l.fn.shelf) (g.S.Shelf.state l.shelf))
+    × (g.C.Connections.is_idle l.connections ≡ true)
