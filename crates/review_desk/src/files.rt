@@ -4,7 +4,8 @@
 //! left, or what a stop left of it. Where `serve` opens a file again, that is said of each opening by itself.
 ghost use Rattle.std.specs.Prelude.{◌≡◌, false, IfOk, OnOk};
 ghost use Rattle.sqlite_wal.specs.Files.{image_at};
-ghost use Rattle.review_work.specs.OnFile.{ClosedWell, MadeFrom, MigratedFrom, OpenedFrom, ServedFrom, WorkedFrom};
+ghost use Rattle.review_work.specs.OnFile.{ClosedWell, MadeFrom, MigratedFrom, OpenedFrom, WorkedFrom};
+ghost use Rattle.review_work.specs.Turns.{ServedBy};
 
 use crate::listening::Listening;
 use crate::notices::StandardError;
@@ -148,19 +149,17 @@ pub fn work_on<F: Start>(
     after_closing(ended, close(conn))
 }
 
-fn serve_from<T: Starts>(
+fn serve_at<O: Openings>(
     rt: &HostRuntime,
-    file: &str,
-    starts: T,
+    openings: &mut O,
     port: u16,
     count: u32,
 ) -> Result<Outcome, ProgramFault>
-    ensures { ServedFrom (image_at T.Start.Start) count result }
+    ensures { ServedBy O.Tables.Store O.opens O.closes count result }
 {
     let mut rules = DeskRules::new(rt.alloc());
     let mut ends = ends_of(rt, port);
-    let mut openings = OnFile { rt, file, starts };
-    serve_on(rt.alloc(), &mut openings, &mut ends, &mut rules, count)
+    serve_on(rt.alloc(), openings, &mut ends, &mut rules, count)
 }
 
 /// Serves so many connections on a port, and says how many once the file is closed. Where a fault shuts the file's store it is opened again, as [`serve_on`] says. Standard error is warned of
@@ -172,7 +171,8 @@ pub fn serve<T: Starts>(
     port: u16,
     count: u32,
 ) -> Result<Outcome, ProgramFault> {
-    let outcome = serve_from(rt, file, starts, port, count)?;
+    let mut openings = OnFile { rt, file, starts };
+    let outcome = serve_at(rt, &mut openings, port, count)?;
     match println!(rt; "served {count}") {
         Ok(()) => Ok(outcome),
         Err(_) => Err(ProgramFault::Output),

@@ -10,8 +10,8 @@ mod files;
 mod listening;
 mod notices;
 
-use review_jobs::{Job, Place, WordsFault, job_of};
 use crate::files::Starts;
+use review_jobs::{Job, Place, WordsFault, job_of};
 use review_machine::Outcome;
 use review_work::{ProgramFault, Task, status_of};
 use sqlite::Unknown;

@@ -1,1 +1,3 @@
 pub mod Warned
+pub mod Fewer
+pub mod Turning

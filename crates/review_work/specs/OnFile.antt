@@ -1,5 +1,5 @@
 -- What a task did on the desk in a file, by what the file and its log held when they were opened.
-use Rattle.std.specs.Prelude.{◌≡◌, ℕ, Bool, false, IsTrue, Result}
+use Rattle.std.specs.Prelude.{◌≡◌, Bool, false, IsTrue, Result}
 use Rattle.sqlite_disk.specs.declared.Disk.{Ghosts}
 use Rattle.sqlite_wal.specs.Recovery.{Image}
 use Rattle.sqlite_store.specs.declared.store.FileStore.{FileStore}
@@ -11,7 +11,6 @@ use Rattle.sqlite.specs.Files.{file_state, over_files, IsClosed, IsOpened}
 use Rattle.sqlite.specs.Start.{FindsIn}
 use Rattle.review_lines.specs.declared.fault.Outcome.{Outcome}
 use Rattle.review_work.specs.Worked.{Known, WasMade, WasMigrated, Worked}
-use Rattle.review_work.specs.Turns.{ServedInTurns}
 use Rattle.review_work.specs.declared.fault.ProgramFault.{ProgramFault}
 use Rattle.review_work.specs.declared.task.Task.{Task}
 
@@ -33,13 +32,6 @@ module _ {D : Type 0} {g : Ghosts D} where
     pub after : Known
     pub unwarned : before.is_warned ≡ false
     pub worked : Worked over_files task before after ended conn last
-
-  -- so many connections were served on a desk each of whose openings was so
-  pub record ServedFrom (image : Image) (count : ℕ) (ended : Result Outcome ProgramFault) : Type 0 where
-    pub before : Known
-    pub after : Known
-    pub unwarned : before.is_warned ≡ false
-    pub served : ServedInTurns (over_files {D} {g}) (OpenedFrom image) ClosedWell count before after ended
 
   -- a desk was to be made over a connection that was opened so
   pub record MadeFrom {X : Type 0} (image : Image) (last : Held (FileStore D g)) (ended : Result X ProgramFault) : Type 0 where

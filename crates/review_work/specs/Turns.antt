@@ -1,5 +1,5 @@
 -- Serving on a desk that is opened again where a fault has shut its store.
-use Rattle.std.specs.Prelude.{◌≡◌, ◌≢◌, ◌⊎◌, ◌+◌, ◌≤◌, ◌==◌, ℕ, Bool, true, false, if◌then◌else◌, List, [], ◌∷◌, Result, Err, IsTrue, OnOk}
+use Rattle.std.specs.Prelude.{◌≡◌, ◌⊎◌, ◌+◌, ◌≤◌, ◌==◌, ℕ, Bool, true, false, if◌then◌else◌, List, [], ◌∷◌, Option, Some, None, Result, Err, IsTrue, OnOk}
 use Rattle.sqlite_trees.specs.declared.store.Store.{Ghosts}
 use Rattle.sqlite.specs.State.{HasCleanDisk}
 use Rattle.sqlite.specs.Held.{Held, state}
@@ -10,6 +10,11 @@ use Rattle.review_work.specs.Worked.{Known, Worked}
 use Rattle.review_work.specs.declared.fault.ProgramFault.{ProgramFault}
 use Rattle.review_work.specs.declared.fault.ProgramFault.TheVariants.{ServedInPart}
 use Rattle.review_work.specs.declared.task.Task.TheVariants.{Serve}
+
+-- how many connections are left, where serving ended behind a fault of the store
+abbrev pub left_by : Result Outcome ProgramFault → Option ℕ
+left_by (Err (ServedInPart left)) = Some left
+left_by _ = None
 
 -- A turn: so many connections were to be served on a desk, that was opened for it or is the one of the turn before; and how that ended.
 pub record Turn (S : Type 0) : Type 0 where
@@ -25,6 +30,16 @@ pub record Turn (S : Type 0) : Type 0 where
 abbrev pub most_in_row : ℕ
 most_in_row = 8
 
+-- How many turns in a row, up to one that comes behind these and has so many connections left, are on a desk that was opened again after a single connection. The last turn stands first.
+abbrev pub row_behind : {S : Type 0} → List (Turn S) → Bool → ℕ → ℕ
+row_behind [] is_anew left = 0
+row_behind (was ∷ more) is_anew left = if is_anew then (if left + 1 == was.count then row_behind more was.is_anew was.count + 1 else 1) else 0
+
+-- the same, up to the last
+abbrev pub in_row : {S : Type 0} → List (Turn S) → ℕ
+in_row [] = 0
+in_row (t ∷ turns) = row_behind turns t.is_anew t.count
+
 module _ {S : Type 0} (g : Ghosts S) (opens closes : Held S → Type 0) where
   -- what a turn did
   abbrev pub IsTurn : Turn S → Type 0
@@ -35,26 +50,24 @@ module _ {S : Type 0} (g : Ghosts S) (opens closes : Held S → Type 0) where
   Begins true was old = opens old
   Begins false was old = Stays (state g was) (state g old) × (HasCleanDisk (state g old) → IsTrue (state g old).is_open)
 
-  -- Turns, the last one first: the first one is to serve so many connections on a desk that was opened, and each other those that are left by the one before.
+  -- A turn begins behind these: the first is to serve all connections on a desk that was opened, and each other those that the one before has left.
+  abbrev pub BeginsBehind : ℕ → Known → List (Turn S) → Bool → ℕ → Known → Held S → Type 0
+  BeginsBehind count before [] is_anew left now old = (left ≡ count) × (now ≡ before) × (is_anew ≡ true) × opens old
+  BeginsBehind count before (was ∷ more) is_anew left now old = (left_by was.ended ≡ Some left) × (now ≡ was.after) × Begins is_anew was.new old
+
+  -- turns, the last one first
   abbrev pub AreTurns : ℕ → Known → List (Turn S) → Type 0
   AreTurns count before [] = Unit {0}
-  AreTurns count before (t ∷ []) = (t.count ≡ count) × (t.before ≡ before) × (t.is_anew ≡ true) × opens t.old × IsTurn t
-  AreTurns count before (t ∷ (was ∷ more)) = (was.ended ≡ Err (ServedInPart t.count)) × (t.before ≡ was.after) × Begins t.is_anew was.new t.old × IsTurn t × AreTurns count before (was ∷ more)
+  AreTurns count before (t ∷ turns) = BeginsBehind count before turns t.is_anew t.count t.before t.old × IsTurn t × AreTurns count before turns
 
-  -- how many of them in a row, up to the last, were on a desk that was opened again after a single connection
-  abbrev pub in_row : List (Turn S) → ℕ
-  in_row [] = 0
-  in_row (t ∷ []) = 0
-  in_row (t ∷ (was ∷ more)) = if t.is_anew then (if t.count + 1 == was.count then in_row (was ∷ more) + 1 else 1) else 0
-
-  -- How it ended: all was done, or something else than a fault of the store came, and the desk was closed; or it was opened again too many times in a row; or it didn't open.
+  -- It ended with the last turn, and the desk was closed; or the desk was opened again too many times in a row; or it didn't open.
   abbrev pub EndsTurns : Known → List (Turn S) → Known → Result Outcome ProgramFault → Type 0
   EndsTurns before [] after result = (after ≡ before) × ((fault : ProgramFault) × (result ≡ Err fault))
-  EndsTurns before (t ∷ more) after result =
+  EndsTurns before (t ∷ turns) after result =
       (after ≡ t.after)
-      × ((((rest : ℕ) → t.ended ≢ Err (ServedInPart rest)) × ((closed : Result (Unit {0}) ProgramFault) × OnOk closed (closes t.new) × (result ≡ after_closing t.ended closed)))
-      ⊎ ((rest : ℕ) × (t.ended ≡ Err (ServedInPart rest))
-      × (((result ≡ t.ended) × (rest + 1 ≡ t.count) × (in_row (t ∷ more) ≡ most_in_row)) ⊎ ((fault : ProgramFault) × (result ≡ Err fault)))))
+      × (((left_by t.ended ≡ None) × ((closed : Result (Unit {0}) ProgramFault) × OnOk closed (closes t.new) × (result ≡ after_closing t.ended closed)))
+      ⊎ ((rest : ℕ) × (left_by t.ended ≡ Some rest)
+      × (((result ≡ t.ended) × (rest + 1 ≡ t.count) × (in_row (t ∷ turns) ≡ most_in_row)) ⊎ ((fault : ProgramFault) × (result ≡ Err fault)))))
 
   -- so many connections were served on a desk that was opened, in turns
   pub record ServedInTurns (count : ℕ) (before after : Known) (result : Result Outcome ProgramFault) : Type 0 where
@@ -62,3 +75,10 @@ module _ {S : Type 0} (g : Ghosts S) (opens closes : Held S → Type 0) where
     pub are : AreTurns count before turns
     pub few : in_row turns ≤ most_in_row
     pub ends : EndsTurns before turns after result
+
+  -- the same, where nothing was told of the tables before
+  pub record ServedBy (count : ℕ) (result : Result Outcome ProgramFault) : Type 0 where
+    pub before : Known
+    pub after : Known
+    pub unwarned : before.is_warned ≡ false
+    pub served : ServedInTurns count before after result

@@ -20,9 +20,7 @@ pub enum ProgramFault {
     /// The file doesn't open, or the store refused a call.
     Store,
     /// The store refused a call while connections were served, of which so many are left.
-    ServedInPart {
-        left: u32,
-    },
+    ServedInPart { left: u32 },
     /// A desk is to be made where tables of one are.
     NotEmpty,
     /// There was no memory for it.

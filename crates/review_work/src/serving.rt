@@ -1,7 +1,7 @@
 //! Serving on a desk that is opened again where a fault has shut its store.
-ghost use Rattle.std.specs.Prelude.{◌≡◌};
+ghost use Rattle.std.specs.Prelude.{◌≡◌, ◌<◌, ◌≤◌, ◌+◌, ◌==◌, if◌then◌else◌};
 ghost use Rattle.review_work.specs.Worked.{known};
-ghost use Rattle.review_work.specs.Turns.{ServedInTurns};
+ghost use Rattle.review_work.specs.Turns.{ServedInTurns, left_by};
 
 use crate::ending::after_closing;
 use crate::fault::ProgramFault;
@@ -43,6 +43,25 @@ pub trait Openings {
         ensures closes { OnOk result (closes conn) };
 }
 
+// How many connections are left, where serving ended behind a fault of the store.
+fn left_by(ended: Result<Outcome, ProgramFault>) -> Option<u32>
+    ensures { result ≡ left_by ended }
+{
+    match ended {
+        Err(ProgramFault::ServedInPart { left }) => Some(left),
+        _ => None,
+    }
+}
+
+// How many times in a row a desk is opened again, with the time that follows a turn which had so many connections and has left so many.
+fn row_with(in_row: u32, had: u32, left: u32) -> u32
+    requires few { in_row ≤ 8 }
+    requires fewer { left < had }
+    ensures { result ≡ (if left + 1 == had then in_row + 1 else 1) }
+{
+    if left + 1 == had { in_row + 1 } else { 1 }
+}
+
 /// Serves so many connections on a desk. Where the store refuses a call and can still be asked, it goes on with the next connection. Where a fault has shut it, the desk is closed, and opened
 /// again before the next connection: up to eight times in a row, where each time only one connection is served until it is shut again.
 ///
@@ -61,11 +80,11 @@ pub fn serve_on<O: Openings, R: Read, W: Write, C: Connections, N: Notices, D: R
     let mut in_row = 0;
     loop {
         let (mut worked, ended) = work(alloc, ends, conn, rules, &Task::Serve { count: left });
-        let Err(ProgramFault::ServedInPart { left: rest }) = ended else {
+        let Some(rest) = left_by(ended) else {
             return after_closing(ended, openings.close(worked));
         };
         if is_shut(&mut worked) {
-            in_row = if rest + 1 == left { in_row + 1 } else { 1 };
+            in_row = row_with(in_row, left, rest);
             // Nothing can be copied into the file any more. What the log holds is found when it is opened.
             let _ = openings.close(worked);
             if in_row > MOST_IN_ROW {

@@ -1,0 +1,41 @@
+-- Turns of serving: how they end.
+use Rattle.std.proofs.Common.{◌≡◌, ◌≤◌, ◌<◌, ◌+◌, ◌==◌, ◌∷◌, ℕ, Bool, true, false, List, [], Some, None, Result, Ok, Err, IsErr, OnOk, inl, inr, refl, arith, if◌then◌else◌}
+use Rattle.std.proofs.lemmas.Bool.Decides.{nat_tests}
+use Rattle.sqlite_trees.specs.declared.store.Store.{Ghosts}
+use Rattle.sqlite.specs.Held.{Held}
+use Rattle.review_lines.specs.declared.fault.Outcome.{Outcome}
+use Rattle.review_work.specs.Faults.{after_closing}
+use Rattle.review_work.specs.Worked.{Known}
+use Rattle.review_work.specs.Turns.{Turn, AreTurns, ServedInTurns, in_row, left_by}
+use Rattle.review_work.specs.declared.fault.ProgramFault.{ProgramFault}
+
+-- an error has a fault
+pub fault_of : (result : Result Outcome ProgramFault) → IsErr result → (fault : ProgramFault) × (result ≡ Err fault)
+fault_of (Ok done) is = let none : false ≡ true = is in cc
+fault_of (Err fault) is = (fault, refl)
+
+-- it was opened again too many times in a row only where each of them served one connection
+pub too_many : (left had row now : ℕ) → now ≡ (if left + 1 == had then row + 1 else 1) → 8 < now → row ≤ 8 → (left + 1 ≡ had) × (row ≡ 8)
+too_many left had row now is many few = by (left + 1 == had) refl is
+  where
+    by : (b : Bool) → (left + 1 == had) ≡ b → now ≡ (if b then row + 1 else 1) → (left + 1 ≡ had) × (row ≡ 8)
+    by true same last = (grind (arith, nat_tests), omega (arith, last))
+    by false same last = absurd (omega (arith, last))
+
+module _ {S : Type 0} (g : Ghosts S) (opens closes : Held S → Type 0) (count : ℕ) (before : Known) where
+  -- no turn began
+  pub unopened : (result : Result Outcome ProgramFault) → IsErr result → ServedInTurns g opens closes count before before result
+  unopened result is = record { turns = []; are = tt; few = omega arith; ends = (refl, fault_of result is) }
+
+  module _ (turns : List (Turn S)) (t : Turn S) (are : AreTurns g opens closes count before (t ∷ turns)) (few : in_row (t ∷ turns) ≤ 8) where
+    -- the last turn ended otherwise than behind a fault of the store
+    pub ended : (closed : Result (Unit {0}) ProgramFault) (result : Result Outcome ProgramFault) → left_by t.ended ≡ None → OnOk closed (closes t.new) → result ≡ after_closing t.ended closed → ServedInTurns g opens closes count before t.after result
+    ended closed result none closes_it is = record { turns = t ∷ turns; are = are; few = few; ends = (refl, inl (none, (closed, closes_it, is))) }
+
+    -- it was opened again too often
+    pub given_up : (rest : ℕ) → left_by t.ended ≡ Some rest → rest + 1 ≡ t.count → in_row (t ∷ turns) ≡ 8 → ServedInTurns g opens closes count before t.after t.ended
+    given_up rest is single row = record { turns = t ∷ turns; are = are; few = few; ends = (refl, inr (rest, is, inl (refl, single, row))) }
+
+    -- it didn't open again
+    pub shut : (rest : ℕ) (result : Result Outcome ProgramFault) → left_by t.ended ≡ Some rest → IsErr result → ServedInTurns g opens closes count before t.after result
+    shut rest result is failed = record { turns = t ∷ turns; are = are; few = few; ends = (refl, inr (rest, is, inr (fault_of result failed))) }
