@@ -16,7 +16,7 @@ use std::io::{Stdin, Stdout};
 
 type FileConnection<F> = Connection<FileStore<FileFrom<F>>>;
 
-type ProgramEnds<'a> = Ends<Stdin<'a>, Stdout<'a>, Listening<'a>, StandardError<'a>>;
+type ProgramEnds<'a> = Ends<Stdin, Stdout, Listening<'a>, StandardError<'a>>;
 
 /// What is supposed of a file, each time that it is opened.
 pub trait Starts: Drop {
@@ -69,11 +69,16 @@ impl<T: Starts> Openings for OnFile<'_, T> {
 
     ghost closes = { ClosedWell };
 
-    fn open(&mut self) -> Result<FileConnection<T::Start>, ProgramFault> {
+    fn open(&mut self) -> Result<FileConnection<T::Start>, ProgramFault>
+        ensures mode { IfOk result (λ conn. conn.in_transaction ≡ false) }
+        ensures opens { IfOk result (OpenedFrom (image_at T.Start.Start)) }
+    {
         open(self.rt, self.file, self.starts.next())
     }
 
-    fn close(&mut self, conn: FileConnection<T::Start>) -> Result<(), ProgramFault> {
+    fn close(&mut self, conn: FileConnection<T::Start>) -> Result<(), ProgramFault>
+        ensures closes { OnOk result (ClosedWell conn) }
+    {
         close(conn)
     }
 }
