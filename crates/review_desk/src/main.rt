@@ -79,12 +79,12 @@ fn run<T: Starts>(rt: &HostRuntime, starts: T, job: Job<'_>) -> Result<Outcome, 
     }
 }
 
-/// The words after the program's name. A word that isn't UTF-8 asks for nothing.
+/// The words after the program's name, where each is UTF-8.
 fn words(rt: &HostRuntime) -> Result<Vec<String>, WordsFault> {
     match env::args(rt) {
         Ok(words) => Ok(words.skip(1).collect(rt.alloc())?),
         Err(error) if error.kind() == ErrorKind::OutOfMemory => Err(WordsFault::Memory),
-        Err(_) => Err(WordsFault::Usage),
+        Err(_) => Err(WordsFault::NotUtf8),
     }
 }
 
@@ -96,11 +96,14 @@ fn end_with(rt: &HostRuntime, ended: Result<Outcome, ProgramFault>) -> ExitCode 
     ExitCode::from(status_of(ended))
 }
 
-/// What words that ask for no job end with.
+/// Says what is wrong with words that ask for no job, unless they ask for help, and then what can be asked for.
 fn refuse_words(rt: &HostRuntime, fault: WordsFault) -> ExitCode {
     match fault {
         WordsFault::Memory => end_with(rt, Err(ProgramFault::Memory)),
-        WordsFault::Usage => {
+        _ => {
+            if let Some(text) = fault.text() {
+                let _ = eprintln!(rt; "review_desk: {text}");
+            }
             let _ = eprintln!(rt; "{USAGE}");
             ExitCode::from(2)
         }

@@ -1,2 +1,3 @@
-pub mod Usage
 pub mod Numbers
+pub mod Refusals
+pub mod Usage

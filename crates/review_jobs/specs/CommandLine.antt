@@ -1,4 +1,4 @@
--- The command line of the program, as `clap` takes it.
+-- The command line of the program, as `clap` takes it: each argument may be given once, and which are wanted is for the job to say.
 use Rattle.std.specs.Prelude.{◌≡◌, true, false, Some, Result, IfOk, codes}
 use Rattle.std.specs.declared.alloc.AllocError.{AllocError}
 use Rattle.clap.specs.Words.{App, Rule, app_of, new_app, new_rule, with_rule, with_subcommand}
@@ -8,27 +8,27 @@ use Rattle.clap.specs.declared.builder.command.Command.TheViews.{out-Command}
 
 -- FILE
 abbrev pub file : Rule
-file = record (new_rule (codes "file")) { required = true; action = Some Set }
+file = record (new_rule (codes "file")) { action = Some Set }
 
 -- --change N
 abbrev pub change : Rule
-change = record (new_rule (codes "change")) { long = Some (codes "change"); required = true; action = Some Set }
+change = record (new_rule (codes "change")) { long = Some (codes "change"); action = Some Set }
 
 -- --project P
 abbrev pub project : Rule
-project = record (new_rule (codes "project")) { long = Some (codes "project"); required = true; action = Some Set }
+project = record (new_rule (codes "project")) { long = Some (codes "project"); action = Some Set }
 
 -- --branch B
 abbrev pub branch : Rule
-branch = record (new_rule (codes "branch")) { long = Some (codes "branch"); required = true; action = Some Set }
+branch = record (new_rule (codes "branch")) { long = Some (codes "branch"); action = Some Set }
 
 -- --port P
 abbrev pub port : Rule
-port = record (new_rule (codes "port")) { long = Some (codes "port"); required = true; action = Some Set }
+port = record (new_rule (codes "port")) { long = Some (codes "port"); action = Some Set }
 
 -- --count N
 abbrev pub count : Rule
-count = record (new_rule (codes "count")) { long = Some (codes "count"); required = true; action = Some Set }
+count = record (new_rule (codes "count")) { long = Some (codes "count"); action = Some Set }
 
 -- init FILE
 abbrev pub init : App
@@ -54,9 +54,9 @@ show = with_rule (with_rule (new_app (codes "show")) file) change
 abbrev pub joined : App
 joined = with_rule (with_rule (with_rule (new_app (codes "joined")) file) project) branch
 
--- the program's own words: it wants a command
+-- the program's own words: it wants a command, and `help` is none
 abbrev pub top : App
-top = record (new_app (codes "review_desk")) { top = record (new_app (codes "review_desk")).top { no_binary_name = true; subcommand_required = true } }
+top = record (new_app (codes "review_desk")) { top = record (new_app (codes "review_desk")).top { no_binary_name = true; subcommand_required = true; disable_help_subcommand = true } }
 
 -- the program with the commands that make a desk, or make it one of version 3
 abbrev pub making : App

@@ -1,16 +1,17 @@
 -- Which words ask for which job.
-use Rattle.std.specs.Prelude.{◌≡◌, ◌&&◌, ℕ, nat_le, List, [], ◌∷◌, Option, Some, None, option_map, option_and_then, codes, if◌then◌else◌, Result, Ok, Err}
+use Rattle.std.specs.Prelude.{◌≡◌, ◌⊎◌, ◌&&◌, ℕ, nat_le, List, Option, Some, None, ok_or, option_and_then, codes, if◌then◌else◌, Result, Ok, Err}
 use Rattle.std.specs.Str.{bytes_eq}
-use Rattle.clap.specs.Words.{Row, Text, Kinds, first_of, subcommand_of, fault_of}
+use Rattle.clap.specs.Words.{Row, Text, first_of, subcommand_of, fault_of}
 use Rattle.review_names.specs.Forms.{is_slashed_name, is_within, most_changes}
 use Rattle.review_names.specs.Numerals.{number_of}
 use Rattle.review_jobs.specs.declared.job.Job.{Job}
 use Rattle.review_jobs.specs.declared.job.Job.TheVariants.{Init, Migrate, Apply, Serve, Show, Joined}
 use Rattle.review_jobs.specs.declared.job.Place.{Place}
 use Rattle.review_jobs.specs.declared.job.Place.TheVariants as place
-use Rattle.review_jobs.specs.declared.job.WordsFault.{WordsFault}
-use Rattle.review_jobs.specs.declared.job.WordsFault.TheVariants.{Usage, Memory}
+use Rattle.review_jobs.specs.declared.fault.WordsFault.{WordsFault}
+use Rattle.review_jobs.specs.declared.fault.WordsFault.TheVariants as fault
 use Rattle.review_jobs.specs.CommandLine.{desk}
+use Rattle.review_jobs.specs.Faults.{command_fault, refusal, unless}
 
 -- a job with its values, where a file is its text
 pub data Spelled : Type 0 where
@@ -72,54 +73,75 @@ count_of text = option_and_then count_numbered (number_of text)
 abbrev pub name_of : Text → Option Text
 name_of text = if is_slashed_name text then Some text else None
 
--- the job of `serve` on a file, for a port and a count
-abbrev pub serve_from : Text → Text → Text → Option Spelled
-serve_from file port count = option_and_then (λ p. option_map (to_serve file p) (count_of count)) (port_of port)
+-- the next step with what was read, or the fault of reading it
+abbrev pub and_then : {X Y : Type 0} → (X → Result Y WordsFault) → Result X WordsFault → Result Y WordsFault
+and_then next (Ok x) = next x
+and_then next (Err fault) = Err fault
 
--- the job of `serve` on a file, from the values of its words
-abbrev pub serve_in : Text → List Row → Option Spelled
-serve_in file rows =
-    option_and_then (λ port. option_and_then (serve_from file port) (first_of (codes "count") rows)) (first_of (codes "port") rows)
+-- the file that the words name
+abbrev pub file_in : List Row → Result Text WordsFault
+file_in rows = ok_or (first_of (codes "file") rows) fault.File
 
--- the job of `show` on a file, from the values of its words
-abbrev pub show_from : Text → List Row → Option Spelled
-show_from file rows = option_map (to_show file) (option_and_then change_of (first_of (codes "change") rows))
+-- the port that the words give
+abbrev pub port_in : List Row → Result ℕ WordsFault
+port_in rows = ok_or (option_and_then port_of (first_of (codes "port") rows)) fault.Port
 
--- the job of `joined` on a file, for a project and a branch
-abbrev pub joined_from : Text → Text → Text → Option Spelled
-joined_from file project branch = option_and_then (λ p. option_map (to_join file p) (name_of branch)) (name_of project)
+-- the count that the words give
+abbrev pub count_in : List Row → Result ℕ WordsFault
+count_in rows = ok_or (option_and_then count_of (first_of (codes "count") rows)) fault.Count
 
--- the job of `joined` on a file, from the values of its words
-abbrev pub joined_in : Text → List Row → Option Spelled
-joined_in file rows =
-    option_and_then (λ project. option_and_then (joined_from file project) (first_of (codes "branch") rows)) (first_of (codes "project") rows)
+-- the change that the words give
+abbrev pub change_in : List Row → Result ℕ WordsFault
+change_in rows = ok_or (option_and_then change_of (first_of (codes "change") rows)) fault.Change
+
+-- the project that the words name
+abbrev pub project_in : List Row → Result Text WordsFault
+project_in rows = ok_or (option_and_then name_of (first_of (codes "project") rows)) fault.Project
+
+-- the branch that the words name
+abbrev pub branch_in : List Row → Result Text WordsFault
+branch_in rows = ok_or (option_and_then name_of (first_of (codes "branch") rows)) fault.Branch
+
+-- the job of `serve` on a file: a fault of the port comes before one of the count
+abbrev pub serve_in : Text → List Row → Result Spelled WordsFault
+serve_in file rows = and_then (λ port. and_then (λ count. Ok (to_serve file port count)) (count_in rows)) (port_in rows)
+
+-- the job of `show` on a file
+abbrev pub show_in : Text → List Row → Result Spelled WordsFault
+show_in file rows = and_then (λ change. Ok (to_show file change)) (change_in rows)
+
+-- the job of `joined` on a file: a fault of the project comes before one of the branch
+abbrev pub joined_in : Text → List Row → Result Spelled WordsFault
+joined_in file rows = and_then (λ project. and_then (λ branch. Ok (to_join file project branch)) (branch_in rows)) (project_in rows)
 
 -- the job of a command on a file, from the values of its words
-abbrev pub job_on : Text → List Row → Text → Option Spelled
+abbrev pub job_on : Text → List Row → Text → Result Spelled WordsFault
 job_on name rows file =
-    if bytes_eq name (codes "init") then Some (to_init file)
-    else if bytes_eq name (codes "migrate") then Some (to_migrate file)
-    else if bytes_eq name (codes "apply") then Some (to_apply file)
+    if bytes_eq name (codes "init") then Ok (to_init file)
+    else if bytes_eq name (codes "migrate") then Ok (to_migrate file)
+    else if bytes_eq name (codes "apply") then Ok (to_apply file)
     else if bytes_eq name (codes "serve") then serve_in file rows
-    else if bytes_eq name (codes "show") then show_from file rows
+    else if bytes_eq name (codes "show") then show_in file rows
     else if bytes_eq name (codes "joined") then joined_in file rows
-    else None
+    else Err fault.UnknownCommand
 
 -- the job of a command with the values of its words
-abbrev pub job_from : Text × List Row → Option Spelled
-job_from p = option_and_then (job_on p.0 p.1) (first_of (codes "file") p.1)
+abbrev pub job_from : Text × List Row → Result Spelled WordsFault
+job_from p = and_then (job_on p.0 p.1) (file_in p.1)
 
--- what was found, unless the words have a fault
-abbrev pub unless_fault : {X : Type 0} → Kinds → Option X → Option X
-unless_fault [] found = found
-unless_fault (k ∷ ks) found = None
+-- the job of the command that was found, if one was
+abbrev pub job_found : Option (Text × List Row) → Result Spelled WordsFault
+job_found found = and_then job_from (ok_or found fault.NoCommand)
 
--- the job that words spell by the command line
-unfoldable pub job_spelled : List Text → Option Spelled
-job_spelled words = unless_fault (fault_of desk words) (option_and_then job_from (subcommand_of desk words))
+-- the job of words whose first is a command, where the command line takes them
+unfoldable pub job_taken : List Text → Result Spelled WordsFault
+job_taken words = unless (refusal (fault_of desk words)) (job_found (subcommand_of desk words))
 
--- what was read of words, or that they spell nothing of it; memory may lack for either
-abbrev pub Gives : {X Y : Type 0} → (X → Y) → Result X WordsFault → Option Y → Type 0
-Gives view (Ok x) found = found ≡ Some (view x)
-Gives view (Err Usage) found = found ≡ None
-Gives view (Err Memory) found = Unit {0}
+-- the job that words spell by the command line, or their first fault: of the first word, of what the command line refuses, of the file, of a value
+abbrev pub job_spelled : List Text → Result Spelled WordsFault
+job_spelled words = unless (command_fault words) (job_taken words)
+
+-- what was read of words is what they spell; memory may lack for it
+abbrev pub Gives : {X Y : Type 0} → (X → Y) → Result X WordsFault → Result Y WordsFault → Type 0
+Gives view (Ok x) spells = spells ≡ Ok (view x)
+Gives view (Err f) spells = (f ≡ fault.Memory) ⊎ (spells ≡ Err f)

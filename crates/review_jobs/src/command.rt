@@ -10,9 +10,7 @@ fn file_arg<'a>(alloc: Global) -> Arg<'a>
     ensures rule { rule_of result ≡ file }
     ensures local { result.global ≡ false }
 {
-    Arg::new(alloc, "file")
-        .required(true)
-        .action(ArgAction::Set)
+    Arg::new(alloc, "file").action(ArgAction::Set)
 }
 
 fn change_arg<'a>(alloc: Global) -> Arg<'a>
@@ -21,7 +19,6 @@ fn change_arg<'a>(alloc: Global) -> Arg<'a>
 {
     Arg::new(alloc, "change")
         .long("change")
-        .required(true)
         .action(ArgAction::Set)
 }
 
@@ -31,7 +28,6 @@ fn project_arg<'a>(alloc: Global) -> Arg<'a>
 {
     Arg::new(alloc, "project")
         .long("project")
-        .required(true)
         .action(ArgAction::Set)
 }
 
@@ -41,7 +37,6 @@ fn branch_arg<'a>(alloc: Global) -> Arg<'a>
 {
     Arg::new(alloc, "branch")
         .long("branch")
-        .required(true)
         .action(ArgAction::Set)
 }
 
@@ -49,10 +44,7 @@ fn port_arg<'a>(alloc: Global) -> Arg<'a>
     ensures rule { rule_of result ≡ port }
     ensures local { result.global ≡ false }
 {
-    Arg::new(alloc, "port")
-        .long("port")
-        .required(true)
-        .action(ArgAction::Set)
+    Arg::new(alloc, "port").long("port").action(ArgAction::Set)
 }
 
 fn count_arg<'a>(alloc: Global) -> Arg<'a>
@@ -61,7 +53,6 @@ fn count_arg<'a>(alloc: Global) -> Arg<'a>
 {
     Arg::new(alloc, "count")
         .long("count")
-        .required(true)
         .action(ArgAction::Set)
 }
 
@@ -123,6 +114,7 @@ fn top_command<'a>(alloc: Global) -> Command<'a>
     Command::new(alloc, "review_desk")
         .no_binary_name(true)
         .subcommand_required(true)
+        .disable_help_subcommand(true)
 }
 
 /// The program with the commands that make a desk, or make it one of version 3.

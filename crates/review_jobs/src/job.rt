@@ -3,7 +3,6 @@ ghost use Rattle.std.specs.Prelude.{◌≡◌};
 ghost use Rattle.review_jobs.specs.Jobs.{place_of, placed, spelled};
 
 use review_names::{BranchName, ChangeNo, ProjectName};
-use std::alloc::AllocError;
 
 /// What the program is to do, on the desk in a file.
 #[derive(Drop)]
@@ -62,25 +61,5 @@ impl<'a> Job<'a> {
             | Job::Show { file, .. }
             | Job::Joined { file, .. } => Place::File(file),
         }
-    }
-}
-
-/// Why words give no job.
-#[derive(Clone, Copy, PartialEq, Eq)]
-pub enum WordsFault {
-    /// They ask for no job, or for help.
-    Usage,
-    /// There was no memory to read them.
-    Memory,
-}
-
-impl From<AllocError> for WordsFault {
-    ghost use Rattle.std.specs.Prelude.{◌≡◌};
-    ghost use Rattle.review_jobs.specs.declared.job.WordsFault.TheVariants.{Memory};
-
-    ghost from_gives = { λ _ e. e ≡ Memory };
-
-    fn from(_error: AllocError) -> WordsFault {
-        WordsFault::Memory
     }
 }

@@ -5,8 +5,10 @@
 #![tactic(auto)]
 
 mod command;
+mod fault;
 mod job;
 mod reading;
 
-pub use job::{Job, Place, WordsFault};
+pub use fault::WordsFault;
+pub use job::{Job, Place};
 pub use reading::job_of;

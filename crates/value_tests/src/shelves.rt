@@ -114,7 +114,11 @@ fn loaded_word<S: Shelf>(
 }
 
 /// The account of a name, or what else the look-up answers.
-fn account_of<S: Shelf>(alloc: Global, shelf: &mut S, name: &str) -> Result<&'static str, Fault> {
+pub fn account_of<S: Shelf>(
+    alloc: Global,
+    shelf: &mut S,
+    name: &str,
+) -> Result<&'static str, Fault> {
     let name = account_name(alloc, name)?;
     let need = need_of(alloc, &name)?;
     Ok(loaded_word(alloc, shelf, &need, &name))
@@ -137,7 +141,7 @@ fn recall_in<S: Shelf>(
 }
 
 /// Whether a request of account 1 that names no epoch is recalled.
-fn recall<S: Shelf>(alloc: Global, shelf: &mut S, id: &str) -> Result<&'static str, Fault> {
+pub fn recall<S: Shelf>(alloc: Global, shelf: &mut S, id: &str) -> Result<&'static str, Fault> {
     recall_in(alloc, shelf, Epoch::first(), id)
 }
 

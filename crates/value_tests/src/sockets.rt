@@ -10,10 +10,10 @@ use std::io::{Read, Write};
 use std::net::{TcpListener, TcpStream};
 use std::test::Fail;
 
-const REQUEST: &str =
+pub const REQUEST: &str =
     "POST /accounts HTTP/1.1\r\nX-Account: 1\r\nRequest-Id: a1\r\nContent-Length: 14\r\n\r\n{\"name\":\"ann\"}";
 
-const RESPONSE: &str =
+pub const RESPONSE: &str =
     "HTTP/1.1 200 OK\r\nContent-Type: application/json; charset=UTF-8\r\nContent-Length: 19\r\nConnection: close\r\n\r\n)]}'\n{\"account\":2}\n";
 
 /// Both ends of a connection on a free port of 127.0.0.1.

@@ -1,10 +1,11 @@
-use Rattle.std.proofs.Common.{◌∙◌, subst}
+use Rattle.std.proofs.Common.{◌∙◌, ap, subst}
+use Rattle.review_jobs.specs.Faults.{fault_of_kind}
 use Rattle.review_jobs.specs.Jobs.{Gives, spelled}
 use Rattle.review_jobs.proofs.Usage.{found_job, no_job}
-use Rattle.review_jobs.proofs.reading.job_of.Goals as goal
+use Rattle.review_jobs.proofs.reading.job_taken.Goals as goal
 
-pub returns : goal.returns
-returns c = no_job _ _ c.in-Err.error c.in-Ok.ensures.0 c.in-Err.ensures.kinds (λ h. c.in_default-kind.not-OutOfMemory (c.kind.ensures ∙ h))
+pub returns-in-Err : goal.returns-in-Err
+returns-in-Err c = no_job _ _ c.in-Err.error c.from.result c.in-Ok.ensures.0 c.in-Err.ensures.kinds (c.from.ensures ∙ ap fault_of_kind c.kind.ensures)
 
 pub returns-in-Ok-try_get_matches_from : goal.returns-in-Ok-try_get_matches_from
 returns-in-Ok-try_get_matches_from c =
