@@ -23,7 +23,8 @@ os.umask(0o077)
 HERE = os.path.dirname(os.path.realpath(__file__))
 EXAMPLES = os.path.dirname(HERE)
 CHECKOUT = os.path.dirname(EXAMPLES)
-sys.path.insert(0, os.path.join(EXAMPLES, "client"))
+sys.path[:0] = [os.path.join(EXAMPLES, "client"), os.path.join(EXAMPLES, "index")]
+import hints  # noqa: E402
 from retry import Desk, Kept, NoAnswer, NotOfTheDesk, new_id, path_of, write_whole  # noqa: E402
 
 USUAL = {"port": 8443, "desk_port": 8473, "host": "", "project": "tools", "branches": ["main"], "push_megabytes": 200, "hung_after": 90,
@@ -85,6 +86,7 @@ class Team:
         kept = json.loads(read(self.folder, "settings.json", otherwise="{}"))
         self.settings = {**USUAL, **kept, **{name: value for name, value in settings.items() if value is not None}}
         self.desk = Desk(f"http://127.0.0.1:{self.settings['desk_port']}", account=1, seconds=30)
+        self.seen, self.labels_seen = None, {}
 
     def path(self, *parts):
         return os.path.join(self.folder, *parts)
@@ -175,12 +177,28 @@ class Team:
         self.do(f"group {group}", "PUT", path_of("groups", group), {"members": members})
         self.write(json.dumps({**self.groups(), group: members}) + "\n", "groups.json")
 
+    def stat(self, *path):
+        """What changes when a file does, or nothing where there is none."""
+        with contextlib.suppress(FileNotFoundError):
+            status = os.stat(self.path(*path))
+            return status.st_mtime_ns, status.st_ino
+        return None
+
+    def labels(self):
+        """The values of each label of the project, least first, by the project's file as it was set last."""
+        if (status := self.stat("project.toml")) != self.seen:
+            file = tomllib.loads(read(self.folder, "project.toml", otherwise=""))
+            labels = {label: sorted(int(value) for value in said.get("values", {})) for label, said in file.get("label", {}).items()}
+            self.seen, self.labels_seen = status, {self.settings["project"]: labels} if labels else {}
+        return self.labels_seen
+
+    def has_index(self):
+        return os.path.exists(self.path("examples", "index", "desk_index"))
+
     def write_page(self):
-        """Names, labels, and where the repository is, for the page."""
-        file = tomllib.loads(read(self.folder, "project.toml", otherwise=""))
-        labels = {label: sorted(int(value) for value in said.get("values", {})) for label, said in file.get("label", {}).items()}
+        """Names, labels, where the repository is, and whether there is an index, for the page."""
         project, accounts = self.settings["project"], {number: name for name, number, _ in self.account_lines()}
-        said = {"accounts": accounts, "labels": {project: labels} if labels else {}, "git": {project: f"{self.address}/git/{project}.git"}}
+        said = {"accounts": accounts, "labels": self.labels(), "git": {project: f"{self.address}/git/{project}.git"}, "index": self.has_index()}
         self.write(json.dumps(said, indent=1) + "\n", "page", "team.json", for_nginx=True)
 
     def reload_nginx(self, how=signal.SIGHUP):
@@ -205,6 +223,7 @@ class Team:
         request = found if found and {**wanted, "id": found["id"]} == found else kept.write({**wanted, "id": new_id()})
         status, told = self.ask(**request)
         kept.remove()  # A refusal, too, is the answer to this id alone: the same again asks under a new one.
+        hints.send(self.path("hints.socket"), method, path)
         if status != 200:
             fail(f"{name}: the desk says {json.dumps(told)}")
         return told
