@@ -99,7 +99,8 @@ class World:
     def __init__(self, program=PROGRAM, engines=3):
         self.program, self.parts, self.is_open, self.ports, self.peers = os.path.abspath(program), {}, True, {}, {}
         threading.Thread(target=self.watch, daemon=True).start()
-        self.engines(engines)
+        if engines:
+            self.engines(engines)
 
     def __enter__(self):
         return self
