@@ -51,8 +51,9 @@ function row(it, labels) {
     make("td", {class: "aside"}, where), make("td", {class: "aside"}, make("span", {class: "good"}, `+${it.insertions}`), " ", make("span", {class: "bad"}, `−${it.deletions}`)),
     make("td", {class: "aside", title: `${it.updated.slice(0, 16)} UTC`}, since(it.updated)), ...labels.map((label) => make("td", {}, votes(it, label))), make("td", {}, state(it)));
 }
-function table(name, found) {
-  const labels = [...new Set(found.flatMap((it) => Object.keys(it.labels)))].sort(), short = (label) => label.split("-").map((part) => part[0]).join("");
+const labelsOf = (found) => [...new Set(found.flatMap((it) => Object.keys(it.labels)))].sort();
+function table(name, found, labels = labelsOf(found)) {
+  const short = (label) => label.split("-").map((part) => part[0]).join("");
   const head = [["Change", "subject"], ["Owner", "name"], ["Reviewers", "name aside"], ["Branch", "name aside"], ["Lines", "aside"], ["Seen", "aside"]].map(([text, kind]) => make("th", {scope: "col", class: kind}, text));
   return make("table", {class: "changes", "aria-label": name},
     make("thead", {}, make("tr", {}, ...head, ...labels.map((label) => make("th", {scope: "col", class: "vote", title: label, "aria-label": label}, short(label))), make("th", {scope: "col", class: "state"}, "State"))),
@@ -60,10 +61,11 @@ function table(name, found) {
 }
 async function showLists() {
   const lists = await question(`/changes/?${LISTS.map(([, text, count]) => `q=${encodeURIComponent(`${text} limit:${count}`)}`).join("&")}`);
+  const labels = labelsOf(lists.flat());
   at("sections").replaceChildren(...LISTS.flatMap(([title, text, , none], place) => {
     const found = lists[place];
     if (!found.length && !none) return [];
-    return [make("h2", {}, make("a", {href: here(text)}, title), ` (${found.length}${found.at(-1)?._more_changes ? " or more" : ""})`), found.length ? table(title, found) : make("p", {class: "soft"}, none)];
+    return [make("h2", {}, make("a", {href: here(text)}, title), ` (${found.length}${found.at(-1)?._more_changes ? " or more" : ""})`), found.length ? table(title, found, labels) : make("p", {class: "soft"}, none)];
   }));
 }
 async function showFound() {
@@ -74,11 +76,11 @@ async function showFound() {
 }
 // What the index is behind the desk: nothing to speak of, or why the lists may not be what the desk says.
 async function showBehind() {
-  const it = await question("/index/state"), old = it.open_asked_seconds_ago ?? 0;
-  const why = it.heard_seconds_ago === null || it.heard_seconds_ago > 10 ? `The desk hasn't answered the index for ${it.heard_seconds_ago === null ? "as long as it runs" : `${Math.round(it.heard_seconds_ago)} seconds`}`
+  const it = await question("/index/state"), old = Math.max(1, Math.ceil(it.open_asked_seconds_ago ?? 0));
+  const why = it.heard_seconds_ago === null || it.heard_seconds_ago > 5 ? `The desk hasn't answered the index for ${it.heard_seconds_ago === null ? "as long as it runs" : `${Math.round(it.heard_seconds_ago)} seconds`}`
     : !it.has_all_changes ? `The index is being filled: it has the changes up to ${it.last}` : it.waiting > 50 ? `The index asks the desk for ${it.waiting} changes again` : "";
   at("behind").className = why ? "call" : "soft";
-  at("behind").textContent = why ? `${why}, so these lists may be behind.` : `As the desk said within the last ${Math.max(1, Math.round(old))} seconds; what is changed from here shows at once.`;
+  at("behind").textContent = why ? `${why}, so these lists may be behind.` : `What the desk said within the last ${old === 1 ? "second" : `${old} seconds`}.`;
 }
 async function show() {
   at("answer").textContent = await (asked ? showFound() : showLists()).then(() => "", (error) => plain(error.message));
