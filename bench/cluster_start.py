@@ -9,6 +9,7 @@ import socket
 import ssl
 import subprocess
 import sys
+import threading
 import time
 
 from cluster_world import EXAMPLE, MANAGE, Log, NoLog, check, free_port, run, tables, until
@@ -51,8 +52,8 @@ class Started:
         """The answer of a node, by its nginx, again until it is a desk's."""
         return until(lambda: self.once(n, id, path, body, **fields), n, id, path, seconds=seconds)
 
-    def once(self, n, id, path, body=None, **fields):
-        peer = http.client.HTTPConnection("127.0.0.1", self.first + 10 * n, timeout=60)
+    def once(self, n, id, path, body=None, port=0, **fields):
+        peer = http.client.HTTPConnection("127.0.0.1", self.first + 10 * n + port, timeout=60)
         try:
             peer.request("GET" if id is None else "POST", path, None if body is None else json.dumps(body), {"X-Account": "1", **({"Request-Id": id} if id else {}), **fields})
             answer = peer.getresponse()
@@ -111,27 +112,27 @@ def each_killed(started):
 
 
 def goes_on_elsewhere(started):
-    """A node whose front and feeder stand still: nginx goes on to another node by itself, with what is long and with what is coded in a path."""
-    for program in ("front", "feeder"):
-        started.kill(1, program, signal.SIGSTOP)
+    """A node whose feeder stands still, while all of another one is killed again and again: nginx goes on to the third by itself, and so it does from a front that was killed."""
+    until(lambda: started.once(1, None, "/changes/1", port=2), "the node's own front answers")
+    started.kill(1, "feeder", signal.SIGSTOP)
+    found = []
+    asking = threading.Thread(target=lambda: found.append(started.once(1, "f1", "/accounts", {"name": "flo"})))
     begun = time.monotonic()
-    check(started.once(1, "f1", "/accounts", {"name": "flo"}) == (200, {"account": 8}), "another node answers")
-    took = time.monotonic() - begun
-    check(started.once(1, None, "/projects/tools/branches/release%2F1.0")[1]["refused"] == "NO_PROJECT", "a path as it came")
-    large = started.once(1, "f2", "/accounts", {"name": "x" * 300_000})
-    check(large == (413, {"fault": "TOO_LARGE"}), "a body that is too large", large)
-    for program in ("front", "feeder"):
-        started.kill(1, program, signal.SIGCONT)
-    return took
-
-
-def a_node_away(started):
-    """All of the third node killed again and again: the other two answer all the while."""
+    asking.start()
     for at in range(3):
         for program in PROGRAMS:
             started.kill(3, program)
-        told = started.ask(1 + at % 2, f"w{at}", "/accounts", {"name": f"w{at}"})
-        check(told == (200, {"account": 9 + at}), told)
+        check(started.ask(2, None, f"/changes/{at + 1}")[0] == 404, "a question while a node is away")
+    asking.join()
+    took = time.monotonic() - begun
+    check(found == [(200, {"account": 8})], "another node answers", found)
+    started.kill(1, "feeder", signal.SIGCONT)
+    started.kill(1, "front")
+    check(started.ask(1, None, "/projects/tools/branches/release%2F1.0")[1]["refused"] == "NO_PROJECT", "a path as it came")
+    started.kill(1, "front")
+    large = started.ask(1, "f2", "/accounts", {"name": "x" * 300_000})
+    check(large == (413, {"fault": "TOO_LARGE"}), "a body that is too large", large)
+    return took
 
 
 def settled(started, nodes):
@@ -152,10 +153,10 @@ def a_fourth(started):
     started.end()
     started.start()
     check([n for n, _ in started.nodes] == list("1234"), started.nodes)
-    check(started.ask(4, "v1", "/accounts", {"name": "vic"}) == (200, {"account": 12}), "asked at the fourth")
+    check(started.ask(4, "v1", "/accounts", {"name": "vic"}) == (200, {"account": 9}), "asked at the fourth")
     settled(started, (1, 2, 3, 4))
     for n in (1, 2, 3, 4):
-        check(started.ask(n, "v1", "/accounts", {"name": "vic"}) == (200, {"account": 12}), "a repeat at each", n)
+        check(started.ask(n, "v1", "/accounts", {"name": "vic"}) == (200, {"account": 9}), "a repeat at each", n)
     settled(started, (1, 2, 3, 4))
 
 
@@ -187,7 +188,6 @@ def main(said):
         without_certificate(started)
         each_killed(started)
         took = goes_on_elsewhere(started)
-        a_node_away(started)
         a_fourth(started)
     finally:
         started.end()

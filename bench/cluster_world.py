@@ -20,7 +20,7 @@ import etcd_log  # noqa: E402
 from etcd_log import Log, NoLog  # noqa: E402
 
 FEEDER, FRONT, MANAGE = (os.path.join(EXAMPLE, name) for name in ("feeder", "front", "manage"))
-LONG = 30
+LONG = 40
 PROJECT = """[access]
 create = ["Registered-Users"]
 submit = ["Registered-Users"]
