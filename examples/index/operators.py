@@ -9,11 +9,9 @@ take without end.
 import re
 import time
 
+from amounts import age, compared, moment
 from grammar import ALWAYS, NEVER, BadQuery, Reader, joined
 
-SECONDS = {"s": 1, "m": 60, "h": 3600, "d": 86400, "w": 604800, "mon": 2592000, "y": 31536000}
-UNITS = {"s": "s sec second seconds", "m": "m min minute minutes", "h": "h hr hour hours", "d": "d day days", "w": "w week weeks", "mon": "mon month months", "y": "y year years"}
-SECONDS_OF = {word: SECONDS[unit] for unit, words in UNITS.items() for word in words.split()}
 STATUS = {"open": "NEW", "new": "NEW", "pending": "NEW", "merged": "MERGED", "abandoned": "ABANDONED"}
 VOTE = re.compile(r"(?P<label>[A-Za-z][A-Za-z0-9-]*?)(?P<how>>=|<=|>|<|=|(?=[+-][0-9]))(?P<value>[+-]?[0-9]{1,2}|MAX|MIN|ANY)")
 CHANGE = re.compile(r"(?:[^~\s]+~){0,2}(?:\d{1,10}|[iI][0-9a-f]{4,40})")
@@ -36,40 +34,31 @@ def each(table, test, values):
     return f"EXISTS (SELECT 1 FROM {table} WHERE change = c.number AND ({test}))", values
 
 
-def words(columns, text):
-    """Words of a text, next to each other. FTS5 takes what stands in double quotes as words and as nothing else."""
-    if not re.search(r"\w", text):
+def words(columns, text, is_begin=False):
+    """Words of a text, next to each other, of which the last one may be a beginning. FTS5 takes what stands in double quotes as words and as nothing else."""
+    if not re.search(r"[^\W_]", text):
         raise BadQuery(f"there is no word in {text!r}")
-    return "c.number IN (SELECT rowid FROM words WHERE words MATCH ?)", ["{" + columns + '} : "' + text.replace('"', '""').replace("\0", " ") + '"']
+    return "c.number IN (SELECT rowid FROM words WHERE words MATCH ?)", ["{" + columns + '} : "' + text.replace('"', '""').replace("\0", " ") + '"' + "*" * is_begin]
+
+
+def beginning(text):
+    """What stands behind a ^, and whether more may follow."""
+    found = re.fullmatch(r"\^((?:[\w/ @:,=~-]|\\.)+)(\.\*)?\$?", text)
+    if not found:
+        raise BadQuery(f"of regular expressions only ^BEGINNING.* is taken, and not {text}")
+    return re.sub(r"\\(.)", r"\1", found[1]), bool(found[2])
 
 
 def named(column, text):
     """A name, or where it is ^BEGINNING.* all that begin so."""
-    if not text.startswith("^"):
-        return f"{column} = ?", [text]
-    found = re.fullmatch(r"\^((?:[\w/ @:,=~-]|\\.)+)(\.\*)?\$?", text)
-    if not found:
-        raise BadQuery(f"of regular expressions only ^BEGINNING.* is taken, and not {text}")
-    plain = re.sub(r"\\(.)", r"\1", found[1])
-    return (f"substr({column}, 1, ?) = ?", [len(plain), plain]) if found[2] else (f"{column} = ?", [plain])
+    plain, has_more = beginning(text) if text.startswith("^") else (text, False)
+    return (f"substr({column}, 1, ?) = ?", [len(plain), plain]) if has_more else (f"{column} = ?", [plain])
 
 
-def compared(column, text):
-    """A number that is compared, as >=10."""
-    found = re.fullmatch(r"(>=|<=|>|<|=)?(\d{1,9})", text)
-    if not found:
-        raise BadQuery(f"{text} is no number")
-    return f"{column} {found[1] or '='} ?", [int(found[2])]
-
-
-def moment(text):
-    """The seconds of a day, with or without a time."""
-    for form in ("%Y-%m-%d", "%Y-%m-%d %H:%M:%S", "%Y-%m-%d %H:%M"):
-        try:
-            return int(time.mktime(time.strptime(text, form)))
-        except (ValueError, OverflowError):
-            continue
-    raise BadQuery(f"{text} is no day, as 2026-01-31")
+def of_path(text, test, values):
+    """A condition for the paths of a change, each of which has the words of a text: so only changes are asked that have these next to each other."""
+    met = each("paths", test, values)
+    return joined("AND", [words("paths", text, is_begin=True), met]) if re.search(r"[^\W_]", text) else met
 
 
 class Query:
@@ -158,19 +147,17 @@ class Query:
         return named("'refs/heads/' || c.branch", text)
 
     def by_path(self, text):
-        return each("paths", *named("path", text))
+        return of_path(beginning(text)[0] if text.startswith("^") else text, *named("path", text))
 
     def by_file(self, text):
-        if text.startswith("^"):
-            return self.by_path(text)
-        return each("paths", "path = ? OR instr('/' || path || '/', ?)", [text, f"/{text}/"])
+        return self.by_path(text) if text.startswith("^") else of_path(text, "instr('/' || path || '/', ?)", [f"/{text}/"])
 
     def by_directory(self, text):
-        return each("paths", "instr('/' || lower(path), ?)", [f"/{text.strip('/').lower()}/"]) if text.strip("/") else ALWAYS
+        return of_path(text, "instr('/' || lower(path), ?)", [f"/{text.strip('/').lower()}/"]) if text.strip("/") else ALWAYS
 
     def by_extension(self, text):
         end = "." + text.lstrip(".").lower()
-        return each("paths", "lower(substr(path, ?)) = ?", [-len(end), end])
+        return of_path(end, "lower(substr(path, ?)) = ?", [-len(end), end])
 
     def by_message(self, text):
         return words("subject message", text)
@@ -273,10 +260,7 @@ class Query:
         return compared("c.unresolved", text)
 
     def by_age(self, text):
-        found = re.fullmatch(r"(\d{1,6})\s*([a-z]+)", text)
-        if not found or found[2] not in SECONDS_OF:
-            raise BadQuery(f"{text} is no age")
-        return "c.updated_at <= ?", [int(time.time()) - int(found[1]) * SECONDS_OF[found[2]]]
+        return "c.updated_at <= ?", [int(time.time()) - age(text)]
 
     def by_after(self, text):
         return "c.updated_at >= ?", [moment(text)]

@@ -27,7 +27,7 @@ CREATE TABLE votes (label TEXT NOT NULL, value INTEGER NOT NULL, account INTEGER
 CREATE TABLE paths (path TEXT NOT NULL, change INTEGER NOT NULL, PRIMARY KEY (change, path)) WITHOUT ROWID;
 CREATE TABLE commits (name TEXT NOT NULL, change INTEGER NOT NULL, patch_set INTEGER NOT NULL, PRIMARY KEY (name, change)) WITHOUT ROWID;
 CREATE INDEX commits_of ON commits (change);
-CREATE VIRTUAL TABLE words USING fts5 (subject, message, comments, author, committer);
+CREATE VIRTUAL TABLE words USING fts5 (subject, message, comments, author, committer, paths);
 CREATE TABLE events (place INTEGER PRIMARY KEY AUTOINCREMENT, change INTEGER NOT NULL, type TEXT NOT NULL, at INTEGER NOT NULL, what TEXT NOT NULL);
 """
 PARTS = ("people", "votes", "paths", "commits")
@@ -119,6 +119,6 @@ def put(kept, told, git, now, events=()):
         kept.executemany("INSERT INTO votes VALUES (?, ?, ?, ?)", [(one["label"], one["value"], one["account"], number) for one in it["votes"]])
         kept.executemany("INSERT OR IGNORE INTO paths VALUES (?, ?)", [(path, number) for path in git["paths"]])
         kept.executemany("INSERT INTO commits VALUES (?, ?, ?)", [(name, number, patch_set) for name, patch_set in names.items()])
-        kept.execute("INSERT INTO words (rowid, subject, message, comments, author, committer) VALUES (?, ?, ?, ?, ?, ?)",
-                     (number, it["subject"], git["message"], "\n".join(said["message"] for said in comments), git["author"], git["committer"]))
+        kept.execute("INSERT INTO words (rowid, subject, message, comments, author, committer, paths) VALUES (?, ?, ?, ?, ?, ?, ?)",
+                     (number, it["subject"], git["message"], "\n".join(said["message"] for said in comments), git["author"], git["committer"], "\n".join(git["paths"])))
         tell(kept, number, events, int(now))
