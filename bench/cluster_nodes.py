@@ -147,7 +147,6 @@ def copies(world, log):
     world.parts["feeder2"].end()
     shutil.copy("2.desk.position", "new.position")
     shutil.copy("old.position", "2.desk.position")
-    world.parts["feeder2"].is_wanted = True
     check(world.parts["feeder2"].status() == 3 and "the log goes on at" in world.parts["feeder2"].said(), "behind the log's beginning", world.parts["feeder2"].said()[-300:])
     shutil.copy("new.position", "2.desk.position")
     world.parts["feeder2"].is_wanted = True
@@ -156,7 +155,7 @@ def copies(world, log):
     sly = {"X-Account": "1", "Request-Id": "sly", "Request-Epoch": "49"}
     until(lambda: is_taken(world, sly), "told past the log")
     world.ask(1, "after", "POST", "/accounts", {"name": "after"}, epoch=49)
-    check(world.parts["feeder3"].status() == 3 and "differ from another node's" in world.parts["feeder3"].said(), "a desk that was told something past the log", world.parts["feeder3"].said()[-300:])
+    check(world.parts["feeder3"].status() == 3 and "differ from those of node1, node2" in world.parts["feeder3"].said(), "a desk that was told something past the log", world.parts["feeder3"].said()[-300:])
     world.settled([1, 2])
 
 

@@ -146,16 +146,16 @@ def refuses_to_start(fed):
     good = fed.kept()
     for wrong, word in (({"log": "another"}, "fed from another log"), ({"position": last + 5}, "has lost what it had"), ({"version": 2}, "--version 0")):
         write_kept({**good, **wrong})
-        fed.feeder.is_wanted = True
         status = fed.feeder.status()
         check(status == (4 if "version" in wrong else 3) and word in fed.feeder.said().splitlines()[-1], wrong, status, fed.feeder.said()[-300:])
-    write_kept({**good, "position": last - 1, "chain": "other"})
-    fed.log.put(key_of("check", last), good["chain"])
-    fed.feeder.is_wanted = True
-    check(fed.feeder.status() == 3 and "differ from another node's" in fed.feeder.said().splitlines()[-1], fed.feeder.said()[-300:])
+    write_kept({**good, "position": last - 1, "sum": "other"})
+    fed.log.put(f"{key_of('check', last)}/other", good["sum"])
+    fed.log.put("node/other", str(last))
+    check(fed.feeder.status() == 3 and "differ from those of other" in fed.feeder.said().splitlines()[-1], fed.feeder.said()[-300:])
+    fed.log.delete("node/other")
     fed.log.delete_to(last - 1)
+    fed.log.delete("check/", "check0")
     write_kept({**good, "position": 1})
-    fed.feeder.is_wanted = True
     check(fed.feeder.status() == 3 and "put a copy of another node's desk here" in fed.feeder.said().splitlines()[-1], fed.feeder.said()[-300:])
     write_kept(good)
     fed.feeder.is_wanted = True

@@ -141,7 +141,7 @@ def settled(started, nodes):
         for n in nodes:
             with contextlib.suppress(OSError, ValueError), open(f"cluster/{n}/tools.desk.position", encoding="utf-8") as file:
                 kept.append(json.load(file))
-        return len(kept) == len(nodes) and len({(it["position"], it["chain"]) for it in kept}) == 1 and kept[0]["position"] == started.log().head()
+        return len(kept) == len(nodes) and len({(it["position"], it["sum"]) for it in kept}) == 1 and kept[0]["position"] == started.log().head()
     until(are_equal, "nodes at one place", nodes)
 
 

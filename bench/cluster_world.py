@@ -88,8 +88,13 @@ class Part:
             time.sleep(0.01)
 
     def status(self, seconds=LONG):
-        """The status with which it ends by itself; it isn't started again."""
-        self.is_wanted, process = False, until(lambda: self.process, self.name, "starts")
+        """The status with which it ends by itself, started anew where it was ended; it isn't started again."""
+        if not self.is_wanted:
+            until(lambda: not self.process, self.name, "has ended")
+            starts, self.is_wanted = self.starts, True
+            until(lambda: self.starts > starts, self.name, "starts")
+        process = until(lambda: self.process, self.name, "runs")
+        self.is_wanted = False
         return process.wait(seconds)
 
 
@@ -170,7 +175,7 @@ class World:
             with open(desk_file + ".position", encoding="utf-8") as file:
                 return json.load(file)
         except (FileNotFoundError, ValueError):
-            return {"position": 0, "chain": "none"}
+            return {"position": 0, "sum": "none"}
 
     def settled(self, nodes):
         """Waits until nodes have come to the end of the log, with the same answers: what they keep."""
@@ -179,7 +184,7 @@ class World:
         def are_equal():
             with contextlib.suppress(NoLog):
                 kept = [self.position(n) for n in nodes]
-                return len({(it["position"], it["chain"]) for it in kept}) == 1 and kept[0]["position"] == log.head() and kept[0]
+                return len({(it["position"], it["sum"]) for it in kept}) == 1 and kept[0]["position"] == log.head() and kept[0]
         return until(are_equal, "nodes at one place", nodes)
 
     def tables(self, n):

@@ -2,7 +2,7 @@
 
 The entry at position N is the key `log/N` of 15 digits, and the key `tail` says the last position. Positions are 1, 2, 3 and so on without a gap. An append is a transaction
 that goes on from the tail it knows, so no two entries get one position. etcd confirms it once a majority of its nodes has it on the disk. Other keys: `name`, which log
-this is; `check/N`, the chain of answers up to N; `node/NAME`, how far a node is; `out/N`, the answer of an entry that all nodes leave out.
+this is; `check/N/NAME`, the sum of a node's answers up to N; `node/NAME`, how far a node is; `out/N`, the answer of an entry that all nodes leave out.
 
 Nothing here is proved. What is asked of etcd twice may be done twice: then an entry stands in the log twice, and each desk takes the second as a repeat.
 """
@@ -39,9 +39,13 @@ def key_of(kind, position):
     return f"{kind}/{position:015}"
 
 
+def text_in(told):
+    """The value of the first key found, or None."""
+    return base64.b64decode(told["kvs"][0].get("value", "")).decode() if told.get("kvs") else None
+
+
 def number_in(told):
-    """The number that the value of the first key found is, or 0."""
-    return int(base64.b64decode(told["kvs"][0]["value"])) if told.get("kvs") else 0
+    return int(text_in(told) or 0)
 
 
 def add_log_words(parser):
@@ -54,7 +58,7 @@ class Log:
     """The log, by the addresses of etcd's nodes, the nearest first."""
 
     def __init__(self, addresses, certificates=None):
-        self.addresses, self.tail, self.tls = addresses, 0, None
+        self.addresses, self.tail, self.tls, self.name = addresses, 0, None, None
         self.idle = {address: queue.LifoQueue() for address in addresses}
         if certificates:
             self.tls = ssl.create_default_context(cafile=os.path.join(certificates, "ca.crt"))
@@ -113,13 +117,12 @@ class Log:
 
     def get(self, key, seconds=30):
         """The text of a key, or None."""
-        found = self.call("/v3/kv/range", {"key": coded(key)}, seconds).get("kvs")
-        return base64.b64decode(found[0].get("value", "")).decode() if found else None
+        return text_in(self.call("/v3/kv/range", {"key": coded(key)}, seconds))
 
-    def get_all(self, kind):
+    def get_all(self, kind, seconds=30):
         """The text of each key of a kind, by what stands behind the stroke."""
-        found = self.call("/v3/kv/range", {"key": coded(kind + "/"), "range_end": coded(kind + "0")}).get("kvs", [])
-        return {base64.b64decode(it["key"]).decode().partition("/")[2]: base64.b64decode(it.get("value", "")).decode() for it in found}
+        found = self.call("/v3/kv/range", {"key": coded(kind + "/"), "range_end": coded(kind + "0")}, seconds).get("kvs", [])
+        return {base64.b64decode(it["key"]).decode()[len(kind) + 1:]: base64.b64decode(it.get("value", "")).decode() for it in found}
 
     def put(self, key, text, seconds=30):
         self.call("/v3/kv/put", {"key": coded(key), "value": coded(text)}, seconds)
@@ -132,28 +135,31 @@ class Log:
         is_new = {"key": coded(key), "target": "CREATE", "create_revision": "0"}
         told = self.call("/v3/kv/txn", {"compare": [is_new], "success": [{"request_put": {"key": coded(key), "value": coded(text)}}],
                                         "failure": [{"request_range": {"key": coded(key)}}]}, seconds)
-        return text if told.get("succeeded") else base64.b64decode(told["responses"][0]["response_range"]["kvs"][0]["value"]).decode()
+        return text if told.get("succeeded") else text_in(told["responses"][0]["response_range"])
 
     # ---- entries
 
     def append(self, requests, seconds=30):
-        """Appends some requests behind one another, as many as one transaction takes: the position of the first, and how many."""
+        """Appends some requests behind one another, as many as one transaction takes: the position of the first, and how many. Where the log's name is known it has to be that one."""
         some, size = 0, 0
         while some < len(requests) and some < OPERATIONS and (some == 0 or size + len(requests[some]) <= BYTES):
             size += len(requests[some])
             some += 1
-        end = time.monotonic() + seconds
+        end, is_named = time.monotonic() + seconds, [{"key": coded("name"), "target": "VALUE", "value": coded(self.name)}] if self.name else []
         while True:
             last = self.tail + some
             puts = [(key_of("log", self.tail + 1 + at), base64.b64encode(requests[at]).decode()) for at in range(some)] + [("tail", coded(str(last)))]
             is_tail = {"target": "VALUE", "value": coded(str(self.tail))} if self.tail else {"target": "CREATE", "create_revision": "0"}
-            told = self.call("/v3/kv/txn", {"compare": [{"key": coded("tail"), **is_tail}], "success": [{"request_put": {"key": coded(key), "value": value}} for key, value in puts],
-                                            "failure": [{"request_range": {"key": coded("tail")}}]}, end - time.monotonic())
+            told = self.call("/v3/kv/txn", {"compare": [{"key": coded("tail"), **is_tail}, *is_named], "success": [{"request_put": {"key": coded(key), "value": value}} for key, value in puts],
+                                            "failure": [{"request_range": {"key": coded(key)}} for key in ("tail", "name")]}, end - time.monotonic())
             if told.get("succeeded"):
                 self.tail = last
                 return last - some + 1, some
+            tail, name = (it["response_range"] for it in told["responses"])
+            if self.name and text_in(name) != self.name:
+                raise NoLog(f"the log isn't {self.name} any more")
             # Another front was quicker, or this is a second try of what was done.
-            self.tail = number_in(told["responses"][0]["response_range"])
+            self.tail = number_in(tail)
 
     def head(self, seconds=30):
         """The position of the last entry, as a majority says now."""
