@@ -1,12 +1,11 @@
 """Requests a second and milliseconds, by one desk alone and by a cluster of three beside it, in one run. A module of bench/cluster, by its name alone."""
 import http.client
 import json
-import os
 import statistics
 import threading
 import time
 
-from cluster_world import BASE, PROJECT, Log, World, check, until
+from cluster_world import BASE, PROJECT, Log, World, check, run, until
 
 SET_UP = (("accounts", "POST", "/accounts", {"name": "ann"}), ("p", "PUT", "/projects/tools", {"file": PROJECT}), ("b", "PUT", "/projects/tools/branches/main", {"commit": BASE}),
           ("c", "POST", "/changes/", {"project": "tools", "branch": "main", "subject": "Fix", "commit": "2" * 40, "parent": BASE, "paths": ["a"]}))
@@ -98,7 +97,7 @@ def main(said):
     with World(said.program) as world:
         for n in (1, 2, 3):
             world.node(n)
-        check(os.system(f"{world.program} init alone.desk > init") == 0, "init")
+        check(run("init", "alone.desk", program=world.program)[0] == 0, "init")
         world.add("alone", world.program, "serve", "alone.desk", "--port", world.port("alone"), "--count", 4294967295)
         fronts, alone = [world.port(f"front{n}") for n in (1, 2, 3)], [world.port("alone")]
         set_up(world, alone[0])

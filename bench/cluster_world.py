@@ -8,6 +8,7 @@ import signal
 import socket
 import subprocess
 import sys
+import tempfile
 import threading
 import time
 
@@ -20,7 +21,7 @@ import etcd_log  # noqa: E402
 from etcd_log import Log, NoLog  # noqa: E402
 
 FEEDER, FRONT, MANAGE = (os.path.join(EXAMPLE, name) for name in ("feeder", "front", "manage"))
-LONG = 40
+LONG, ROOM = 240, 3 << 30
 PROJECT = """[access]
 create = ["Registered-Users"]
 submit = ["Registered-Users"]
@@ -60,7 +61,7 @@ class Part:
     """A program that is started again whenever it ends, a moment later, while it is wanted. Its words may be changed meanwhile."""
 
     def __init__(self, name, words, pause):
-        self.name, self.words, self.pause, self.is_wanted, self.starts, self.process, self.due = name, words, pause, True, 0, None, 0
+        self.name, self.words, self.pause, self.is_wanted, self.starts, self.process, self.due = name, list(words), pause, True, 0, None, 0
 
     def look(self):
         if self.process and self.process.poll() is not None:
@@ -230,8 +231,9 @@ def exchange(port, method, path, fields, body=None, seconds=30):
 
 @contextlib.contextmanager
 def own_folder():
-    """A temporary folder in which this process works; no file stays."""
-    with work_folder(runs_programs=True) as folder:
+    """A temporary folder in which this process works, in memory where there is room for what etcd sets aside, 128 MB for each of its nodes; no file stays."""
+    places = [it for it in ("/dev/shm", tempfile.gettempdir()) if os.access(it, os.W_OK) and not os.statvfs(it).f_flag & os.ST_NOEXEC]
+    with tempfile.TemporaryDirectory(dir=max(places, key=lambda it: min(os.statvfs(it).f_bavail * os.statvfs(it).f_frsize, ROOM))) as folder:
         os.chdir(folder)
         try:
             yield folder

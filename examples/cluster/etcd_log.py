@@ -150,7 +150,8 @@ class Log:
             last = self.tail + some
             puts = [(key_of("log", self.tail + 1 + at), base64.b64encode(requests[at]).decode()) for at in range(some)] + [("tail", coded(str(last)))]
             is_tail = {"target": "VALUE", "value": coded(str(self.tail))} if self.tail else {"target": "CREATE", "create_revision": "0"}
-            told = self.call("/v3/kv/txn", {"compare": [{"key": coded("tail"), **is_tail}, *is_named], "success": [{"request_put": {"key": coded(key), "value": value}} for key, value in puts],
+            told = self.call("/v3/kv/txn", {"compare": [{"key": coded("tail"), **is_tail}, *is_named],
+                                            "success": [{"request_put": {"key": coded(key), "value": value}} for key, value in puts],
                                             "failure": [{"request_range": {"key": coded(key)}} for key in ("tail", "name")]}, end - time.monotonic())
             if told.get("succeeded"):
                 self.tail = last
