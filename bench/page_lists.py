@@ -1,8 +1,11 @@
 """The parts of bench/page that look at lists of changes: what waits for who is signed in, searches, names, and what is shown where the index is behind or down."""
+import os
 import time
 
 from desk_file import check
-from paged_desk import MARKUP
+from desk_proxied import TOP
+from page_reading import Reading
+from paged_desk import ACCOUNTS, FILE, MARKUP, Paged
 
 
 def lists(page):
@@ -76,6 +79,50 @@ def do_without_index(reading):
     desk.serving.kill()
     page.until("document.getElementById('behind').textContent.startsWith(\"The desk hasn't answered the index for\")", seconds=60, is_reloaded=True)
     reading.end(page)
+
+
+WORK = [("ann", "Read the settings before the first request", 40), ("bob", "Cache what was read", 12), ("cal", "Say which file is wrong, and where", 3), ("ann", "Close the file where reading fails", 8),
+        ("bob", "Name the field in each message", 120), ("ann", "Count lines from one", 5), ("cal", "Take paths with blanks", 31), ("bob", "Drop the old parser", 2)]
+
+
+def fill(desk):
+    """Changes of three users as a team has them on a usual day."""
+    for name in ACCOUNTS:
+        desk.do("admin", "POST", "/accounts", name=name)
+    desk.do("admin", "PUT", "/groups/Core", members=list(ACCOUNTS.values()))
+    desk.do("admin", "PUT", "/projects/tools", file=FILE)
+    base = desk.commit(None, {"README": "A project.\n"}, "Begin\n")
+    desk.git("update-ref", "refs/heads/main", base)
+    desk.do("admin", "PUT", "/projects/tools/branches/main", commit=base)
+    for number, (owner, subject, lines) in enumerate(WORK):
+        desk.made(base, {f"src/part{number}.rs": "line\n" * lines}, f"{subject}\n", ACCOUNTS[owner])
+    desk.do("ann", "POST", "/changes/6/wip")
+    for change, user, account, state in ((1, "ann", 3, "REVIEWER"), (2, "bob", 2, "REVIEWER"), (3, "cal", 2, "REVIEWER"), (3, "cal", 3, "REVIEWER"), (4, "ann", 4, "REVIEWER"), (5, "bob", 4, "REVIEWER"), (7, "cal", 2, "CC")):
+        desk.do(user, "POST", f"/changes/{change}/reviewers", reviewer=account, state=state)
+    question = {"src/part0.rs": [{"line": 3, "message": "Why twice?", "unresolved": True}]}
+    for change, user, body in ((1, "bob", {"comments": question, "labels": {"Code-Review": -1}}), (4, "cal", {"labels": {"Code-Review": 2, "Verified": 1}}), (8, "ann", {"labels": {"Code-Review": 2, "Verified": 1}}),
+                               (3, "bob", {"labels": {"Code-Review": 1}}), (3, "ann", {"labels": {"Verified": 1}, "message": "It builds."})):
+        desk.do(user, "POST", f"/changes/{change}/revisions/1/review", **body)
+
+
+def take_pictures(program, folder, browser):
+    """Pictures of a dashboard, for docs/search.md and the README."""
+    desk = Paged(program, folder)
+    try:
+        fill(desk)
+        desk.serve_index()
+        while desk.ask("GET", "/changes/8/detail", "ann")[0] != 200:
+            time.sleep(0.1)
+        desk.do("bob", "POST", "/changes/8/submit")
+        for name, width, height in (("search-dashboard", 1400, 900), ("search-narrow", 360, 900)):
+            page = Reading(desk, browser).open("ann", "changes.html", "#sections table", width, height)
+            page.until("document.getElementById('sections').innerText.includes('Merged') && document.getElementById('behind').textContent.startsWith('What the desk said')", is_reloaded=True)
+            picture = page.picture()
+            with open(os.path.join(TOP, "docs", f"{name}.png"), "wb") as file:
+                file.write(picture)
+            print(f"docs/{name}.png: {len(picture):,} bytes")
+    finally:
+        desk.end()
 
 
 PARTS = [look_at_lists, search, do_without_index]

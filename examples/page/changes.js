@@ -49,11 +49,11 @@ function row(it, labels) {
     make("td", {}, make("a", {href: `./?change=${it._number}`}, `${it._number}: `, own(it.subject)), ...unresolved, ...(mine ? [make("small", {class: "why call"}, own(mine.reason))] : [])),
     make("td", {}, person(it.owner)), make("td", {class: "aside"}, ...others.flatMap((account, place) => [...(place ? [", "] : []), person(account)])),
     make("td", {class: "aside"}, where), make("td", {class: "aside"}, make("span", {class: "good"}, `+${it.insertions}`), " ", make("span", {class: "bad"}, `−${it.deletions}`)),
-    make("td", {class: "aside", title: `${it.updated.slice(0, 16)} UTC`}, since(it.updated)), ...labels.map((label) => make("td", {}, votes(it, label))), make("td", {}, state(it)));
+    make("td", {class: "aside", title: `${it.updated.slice(0, 16)} UTC`}, since(it.updated)), ...labels.map((label) => make("td", {"data-label": short(label)}, votes(it, label))), make("td", {}, state(it)));
 }
+const short = (label) => label.split("-").map((part) => part[0]).join("");
 const labelsOf = (found) => [...new Set(found.flatMap((it) => Object.keys(it.labels)))].sort();
 function table(name, found, labels = labelsOf(found)) {
-  const short = (label) => label.split("-").map((part) => part[0]).join("");
   const head = [["Change", "subject"], ["Owner", "name"], ["Reviewers", "name aside"], ["Branch", "name aside"], ["Lines", "aside"], ["Seen", "aside"]].map(([text, kind]) => make("th", {scope: "col", class: kind}, text));
   return make("table", {class: "changes", "aria-label": name},
     make("thead", {}, make("tr", {}, ...head, ...labels.map((label) => make("th", {scope: "col", class: "vote", title: label, "aria-label": label}, short(label))), make("th", {scope: "col", class: "state"}, "State"))),
