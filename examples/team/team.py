@@ -27,7 +27,7 @@ sys.path[:0] = [os.path.join(EXAMPLES, "client"), os.path.join(EXAMPLES, "index"
 import hints  # noqa: E402
 from retry import Desk, Kept, NoAnswer, NotOfTheDesk, new_id, path_of, write_whole  # noqa: E402
 
-USUAL = {"port": 8443, "desk_port": 8473, "host": "", "project": "tools", "branches": ["main"], "push_megabytes": 200, "hung_after": 90,
+USUAL = {"port": 8443, "desk_port": 8473, "host": "", "projects": ["tools"], "branches": ["main"], "push_megabytes": 200, "hung_after": 90,
          "program": os.path.join(CHECKOUT, "crates", "review_desk", "out", "review_desk")}
 NAME, ADMINS = re.compile(r"[A-Za-z0-9._-]{1,64}"), "Administrators"
 ACCOUNT_LINE = re.compile(r"^(# )?~\^(\S+)\$ ([0-9]+);$", re.M)
@@ -76,7 +76,7 @@ def check_place(folder):
 
 
 class Team:
-    """A folder with all that a team has: its desk, its users, its repository, and what nginx reads."""
+    """A folder with all that a team has: its desk, its users, its projects with their repositories, and what nginx reads. Projects that are said are added to those it has."""
 
     def __init__(self, folder, **settings):
         self.folder = os.path.abspath(folder)
@@ -85,6 +85,9 @@ class Team:
             fail(f"{self.folder} is no team's folder: examples/team/start makes one", 2)
         kept = json.loads(read(self.folder, "settings.json", otherwise="{}"))
         self.settings = {**USUAL, **kept, **{name: value for name, value in settings.items() if value is not None}}
+        had = kept.get("projects") or ([kept["project"]] if "project" in kept else [])
+        self.projects = self.settings["projects"] = [*dict.fromkeys([*had, *(settings.get("projects") or ([] if had else USUAL["projects"]))])]
+        self.settings["project"] = self.projects[0]
         self.desk = Desk(f"http://127.0.0.1:{self.settings['desk_port']}", account=1, seconds=30)
         self.seen, self.labels_seen = None, {}
 
@@ -95,9 +98,12 @@ class Team:
     def address(self):
         return f"https://{self.settings['host'] or '127.0.0.1'}:{self.settings['port']}"
 
-    @property
-    def repository(self):
-        return self.path("git", self.settings["project"] + ".git")
+    def repository(self, project):
+        return self.path("git", project + ".git")
+
+    def project_file(self, project):
+        """The name of the project's file as it was set last: that of the first project is project.toml."""
+        return "project.toml" if project == self.projects[0] else f"project.{project.replace('/', '%')}.toml"
 
     def write(self, text, *path, for_nginx=False, is_program=False):
         """Writes a file of the folder whole, so that nginx's workers can read it where it is for them, and nobody else ever."""
@@ -185,20 +191,21 @@ class Team:
         return None
 
     def labels(self):
-        """The values of each label of the project, least first, by the project's file as it was set last."""
-        if (status := self.stat("project.toml")) != self.seen:
-            file = tomllib.loads(read(self.folder, "project.toml", otherwise=""))
-            labels = {label: sorted(int(value) for value in said.get("values", {})) for label, said in file.get("label", {}).items()}
-            self.seen, self.labels_seen = status, {self.settings["project"]: labels} if labels else {}
+        """The values of each label of each project, least first, by the projects' files as they were set last."""
+        status = [self.stat(self.project_file(project)) for project in self.projects]
+        if status != self.seen:
+            files = {project: tomllib.loads(read(self.folder, self.project_file(project), otherwise="")).get("label") for project in self.projects}
+            found = {project: {label: sorted(int(value) for value in said.get("values", {})) for label, said in labels.items()} for project, labels in files.items() if labels}
+            self.seen, self.labels_seen = status, found
         return self.labels_seen
 
     def has_index(self):
         return os.path.exists(self.path("examples", "index", "desk_index"))
 
     def write_page(self):
-        """Names, labels, where the repository is, and whether there is an index, for the page."""
-        project, accounts = self.settings["project"], {number: name for name, number, _ in self.account_lines()}
-        said = {"accounts": accounts, "labels": self.labels(), "git": {project: f"{self.address}/git/{project}.git"}, "index": self.has_index()}
+        """Names, labels, where the repositories are, and whether there is an index, for the page."""
+        accounts, places = {number: name for name, number, _ in self.account_lines()}, {project: f"{self.address}/git/{project}.git" for project in self.projects}
+        said = {"accounts": accounts, "labels": self.labels(), "git": places, "index": self.has_index()}
         self.write(json.dumps(said, indent=1) + "\n", "page", "team.json", for_nginx=True)
 
     def reload_nginx(self, how=signal.SIGHUP):

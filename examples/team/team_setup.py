@@ -87,9 +87,9 @@ def git(*words, **more):
     return ran.stdout.strip()
 
 
-def make_repository(team, source):
-    """The bare repository: what is imported, or one whose branches begin with an empty commit. Then the hook, where the desk is, and what is looked at in what is pushed."""
-    place, branches = team.repository, team.settings["branches"]
+def make_repository(team, project, source):
+    """A project's bare repository: what is imported, or one whose branches begin with an empty commit. Then the hook, where the desk is, and what is looked at in what is pushed."""
+    place, branches = team.repository(project), team.settings["branches"]
     if not os.path.exists(place):
         os.makedirs(os.path.dirname(place), exist_ok=True)
         shutil.rmtree(place + ".new", ignore_errors=True)
@@ -105,7 +105,7 @@ def make_repository(team, source):
         os.rename(place + ".new", place)
     own = team.settings
     settings = {"receive.procReceiveRefs": "refs", "transfer.hideRefs": "refs/desk", "transfer.fsckObjects": "true", "core.fsync": "all",
-                "receive.maxInputSize": str(own["push_megabytes"] << 20), "desk.project": own["project"], "desk.url": f"http://127.0.0.1:{own['desk_port']}",
+                "receive.maxInputSize": str(own["push_megabytes"] << 20), "desk.project": project, "desk.url": f"http://127.0.0.1:{own['desk_port']}",
                 "desk.accounts": team.path("accounts.conf"), "desk.page": f"{team.address}/page/?change=", "desk.hints": team.path("hints.socket"), "desk.mails": team.path("mails"), "desk.seconds": "20", "receive.autogc": "false", "gc.auto": "0",
                 "core.packedGitWindowSize": "64m", "core.packedGitLimit": "512m", "core.bigFileThreshold": "64m"}
     for name, value in settings.items():
@@ -126,7 +126,7 @@ def write_nginx(team):
         conf = conf.replace(usual, word)
     team.write("# Written anew at each start: lines of your own belong into files of more.d, whose names end with .conf and stay.\n" + conf, "nginx.conf")
     words = {"FOLDER": team.folder, "BACKEND": os.path.join(git("--exec-path"), "git-http-backend"), "MEGABYTES": str(own["push_megabytes"]),
-             "REPOSITORIES": re.escape(own["project"] + ".git") if own["project"].split("/")[0] not in OF_THE_DESK else "(?!)"}
+             "REPOSITORIES": "|".join(re.escape(project + ".git") for project in team.projects if project.split("/")[0] not in OF_THE_DESK) or "(?!)"}
     for part, name, *place in (("team", "git.params"), ("team", "git.conf", "more.d"), ("team", "people.conf", "more.d"), ("code", "code.conf", "more.d"), ("index", "index.conf", "more.d"),
                                ("index", "around.conf", "http.d")):
         text = read(examples, part, name, otherwise="")
@@ -154,7 +154,8 @@ def set_up(team, source):
     make_desk(team)
     make_certificate(team)
     make_admin(team)
-    make_repository(team, source)
+    for project in team.projects:
+        make_repository(team, project, source if project == team.projects[-1] else None)
     write_nginx(team)
 
 
