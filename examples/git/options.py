@@ -4,7 +4,6 @@ An option asks for a state, and not for a step: whoever pushes the same again as
 anywhere can be pushed again.
 """
 import collections
-import re
 import urllib.parse
 
 from checks import Refused, accounts, mails
