@@ -35,6 +35,8 @@ def look_at_lists(reading):
     check("‹U+202E›eert" in turn["8"][0] and MARKUP[4] in turn["8"][0] and turn["8"][1].endswith("bob"), "text and names", turn["8"])
     check(page.run("document.querySelectorAll('main img, main svg, main script, main a[href^=javascript]').length") == 0, "markup")
     check([row[-1] for row in found["Recently closed"]] == ["Abandoned"], "what was closed", found)
+    nodes = [node for node in page.call("Accessibility.getFullAXTree")["nodes"] if not node["ignored"] and node["role"]["value"] in ("searchbox", "textbox", "button", "link", "table", "columnheader")]
+    check(len(nodes) > 20 and all(node.get("name", {}).get("value") for node in nodes), "names", [node["role"] for node in nodes if not node.get("name", {}).get("value")])
     narrow = "[...document.querySelectorAll('th')].filter((it) => it.checkVisibility()).length"
     before = page.run(narrow)
     page.resize(360, 800)
