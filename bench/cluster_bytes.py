@@ -1,4 +1,7 @@
-"""What a front tells is what a desk tells, byte for byte but for the field Log-Position: each request of scripts/http.txt, through one. A module of bench/cluster."""
+"""What a front tells is what a desk tells, byte for byte but for the field Log-Position: each request of scripts/http.txt, through one. A module of bench/cluster.
+
+A head that is refused for itself is answered by a desk before its body came, and by a front behind it. So who sends no body says here that nothing more comes.
+"""
 import importlib.machinery
 import importlib.util
 import os
@@ -9,6 +12,7 @@ import sys
 
 from cluster_world import TOP, Log, World, check, copy, until
 
+LENGTH = re.compile(rb"(?im)^content-length: (\d{1,6})\r?$")
 POSITION = re.compile(rb"\r\nLog-Position: \d+")
 
 
@@ -27,6 +31,11 @@ def is_served(port):
         return True
     except OSError:
         return False
+
+
+def lacks_body(sent):
+    head, _, body = sent.partition(b"\r\n\r\n")
+    return any(len(body) < int(it) for it in LENGTH.findall(head))
 
 
 def begin(world, n, session, numbers):
@@ -52,6 +61,7 @@ def main(said):
             numbers[session.name] = n
             begin(world, n, session, numbers)
             for request in session.requests:
+                request.is_cut |= lacks_body(request.sent())
                 got, wanted = requests.exchange(world.port(f"front{n}"), request), request.must_get()
                 count += 1
                 if POSITION.sub(b"", got, 1) != wanted:

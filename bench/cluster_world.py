@@ -21,7 +21,7 @@ import etcd_log  # noqa: E402
 from etcd_log import Log, NoLog  # noqa: E402
 
 FEEDER, FRONT, MANAGE = (os.path.join(EXAMPLE, name) for name in ("feeder", "front", "manage"))
-LONG, ROOM = 240, 3 << 30
+LONG, ROOM = 40, 3 << 30
 PROJECT = """[access]
 create = ["Registered-Users"]
 submit = ["Registered-Users"]
