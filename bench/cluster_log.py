@@ -5,7 +5,7 @@ import signal
 import socket
 import threading
 
-from cluster_world import Log, NoLog, World, check, etcd_log, free_port, until
+from cluster_world import Log, NoLog, World, check, etcd_log, free_port, has_log, until
 from etcd_log import Truncated
 
 
@@ -117,11 +117,9 @@ def watched(world, address):
     until(lambda: found[-1].request == b"three", "a watch over a compaction")
     check([it.position for it in found] == list(range(head + 1, head + 1 + len(found))), "no gap", found)
     world.parts["engine1"].kill(signal.SIGSTOP)
-    try:
-        writer.head(1)
-        check(False, "an answer of an etcd that stands still")
-    except NoLog:
-        world.parts["engine1"].kill(signal.SIGCONT)
+    until(lambda: not has_log(writer), "no answer of an etcd that stands still")
+    world.parts["engine1"].kill(signal.SIGCONT)
+    until(lambda: has_log(writer), "etcd goes on")
 
 
 def appends(log, request):

@@ -1,6 +1,7 @@
 """Requests a second and milliseconds, by one desk alone and by a cluster of three beside it, in one run. A module of bench/cluster, by its name alone."""
 import http.client
 import json
+import os
 import statistics
 import threading
 import time
@@ -54,6 +55,18 @@ def resident(world, name):
         return next(int(line.split()[1]) for line in file if line.startswith("VmRSS")) / 1000
 
 
+def sync():
+    """Milliseconds that the disk takes to sync what is written behind a file, half of the times."""
+    found = []
+    with open("synced", "wb", buffering=0) as file:
+        for _ in range(200):
+            file.write(b"x" * 4096)
+            begun = time.perf_counter()
+            os.fdatasync(file.fileno())
+            found.append(time.perf_counter() - begun)
+    return 1000 * statistics.median(found)
+
+
 def set_up(world, port):
     for id, method, path, body in SET_UP:
         until(lambda: accepted(port, method, path, {"X-Account": "1", "Request-Id": id}, json.dumps(body)), id)
@@ -105,6 +118,7 @@ def main(said):
         cases = [("vote, desk alone", alone, False, {}, (1, 8)), ("vote, a front", fronts[:1], False, {}, (1, 8, 32)), ("vote, three fronts", fronts, False, {}, (24,)),
                  ("GET, desk alone", alone, True, {}, (1, 8, 24)), ("GET, a front", fronts[:1], True, {}, (1, 8)), ("GET, three fronts", fronts, True, {}, (24,)),
                  ("GET, a front, waits for nothing", fronts[:1], True, {"Log-Position": "0"}, (1, 8)), ("GET, three fronts, waits for nothing", fronts, True, {"Log-Position": "0"}, (24,))]
+        print(f"a sync takes {sync():.2f} ms, all at rest")
         found = {}
         for at in range(rounds):
             for name, ports, is_get, fields, clients in cases:

@@ -21,7 +21,7 @@ import etcd_log  # noqa: E402
 from etcd_log import Log, NoLog  # noqa: E402
 
 FEEDER, FRONT, MANAGE = (os.path.join(EXAMPLE, name) for name in ("feeder", "front", "manage"))
-LONG, ROOM = 40, 3 << 30
+LONG, ROOM = 240, 3 << 30
 PROJECT = """[access]
 create = ["Registered-Users"]
 submit = ["Registered-Users"]
@@ -212,7 +212,8 @@ class World:
 
 def has_log(log):
     with contextlib.suppress(NoLog):
-        return log.head(3) >= 0
+        return log.head(2) >= 0
+    return False
 
 
 def exchange(port, method, path, fields, body=None, seconds=30):
@@ -230,9 +231,9 @@ def exchange(port, method, path, fields, body=None, seconds=30):
 
 
 @contextlib.contextmanager
-def own_folder():
+def own_folder(is_on_disk=False):
     """A temporary folder in which this process works, in memory where there is room for what etcd sets aside, 128 MB for each of its nodes; no file stays."""
-    places = [it for it in ("/dev/shm", tempfile.gettempdir()) if os.access(it, os.W_OK) and not os.statvfs(it).f_flag & os.ST_NOEXEC]
+    places = [it for it in (() if is_on_disk else ("/dev/shm",)) + (tempfile.gettempdir(),) if os.access(it, os.W_OK) and not os.statvfs(it).f_flag & os.ST_NOEXEC]
     with tempfile.TemporaryDirectory(dir=max(places, key=lambda it: min(os.statvfs(it).f_bavail * os.statvfs(it).f_frsize, ROOM))) as folder:
         os.chdir(folder)
         try:
@@ -241,5 +242,5 @@ def own_folder():
             os.chdir(TOP)
 
 
-__all__ = ["BASE", "EXAMPLE", "FEEDER", "FRONT", "LARGE", "LONG", "PROGRAM", "PROJECT", "TOP", "Log", "NoLog", "Part", "World", "check", "copy", "etcd_log", "exchange", "free_port", "own_folder",
+__all__ = ["BASE", "EXAMPLE", "FEEDER", "FRONT", "LARGE", "LONG", "PROGRAM", "PROJECT", "TOP", "Log", "NoLog", "Part", "World", "check", "copy", "etcd_log", "exchange", "free_port", "has_log", "own_folder",
            "run", "tables", "until"]
