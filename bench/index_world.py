@@ -2,9 +2,11 @@
 
 Hints go through the test, which loses some. ann, bob and cal are accounts 2 to 4 of the group Core, and admin is account 1.
 """
+import contextlib
 import json
 import os
 import random
+import signal
 import socket
 import sqlite3
 import subprocess
@@ -64,6 +66,7 @@ class Indexed(Proxied):
 
     def set_up(self, accounts):
         super().set_up(accounts)
+        write("".join(f"{name}:{{PLAIN}}{word}\n" for name, word in PASSWORDS.items()), self.folder, "users")  # which are looked at faster
         for place, part, name in (("more.d", "index", "index.conf"), ("http.d", "index", "around.conf")):
             os.makedirs(os.path.join(self.folder, place), exist_ok=True)
             write(read(EXAMPLES, part, name).replace("FOLDER", self.folder), self.folder, place, name)
@@ -101,8 +104,15 @@ class Indexed(Proxied):
 
     def proxy(self):
         user = " user www-data;" if os.geteuid() == 0 else ""
-        self.nginx = subprocess.Popen(["nginx", "-p", self.folder, "-c", "nginx.conf", "-g", f"daemon off;{user}"], stderr=subprocess.DEVNULL, start_new_session=True)
+        self.nginx = subprocess.Popen(["nginx", "-p", self.folder, "-c", "nginx.conf", "-g", f"daemon off;{user}"], stderr=subprocess.DEVNULL)
         self.wait()
+
+    def kill_nginx(self):
+        """Kills nginx with its workers, which hold its port."""
+        with open(f"/proc/{self.nginx.pid}/task/{self.nginx.pid}/children", encoding="utf-8") as file:
+            for number in [self.nginx.pid, *map(int, file.read().split())]:
+                with contextlib.suppress(ProcessLookupError):
+                    os.kill(number, signal.SIGKILL)
 
     def begin_index(self):
         with open(os.path.join(self.folder, "index.log"), "ab") as log:
@@ -112,7 +122,7 @@ class Indexed(Proxied):
         """Kills a program at once, with nginx its workers, and starts it again."""
         process = getattr(self, what)
         if what == "nginx":
-            os.killpg(process.pid, 9)
+            self.kill_nginx()
         process.kill()
         process.wait()
         if what == "serving":
@@ -129,8 +139,8 @@ class Indexed(Proxied):
     def end(self):
         for process in (self.index, self.nginx, self.serving):
             if process:
-                if process is self.nginx:
-                    os.killpg(process.pid, 9)
+                if process is self.nginx and process.poll() is None:
+                    self.kill_nginx()
                 process.kill()
                 process.wait()
 
@@ -196,6 +206,8 @@ class Indexed(Proxied):
 
 
 def folder():
+    """A temporary folder; this script ends by itself where it is told to end, so that it leaves nothing."""
+    signal.signal(signal.SIGTERM, lambda *_: sys.exit(1))
     return tempfile.TemporaryDirectory(prefix="desk", ignore_cleanup_errors=True)
 
 

@@ -61,8 +61,7 @@ class Follower:
             self.is_set_back()
             row = (row[0], AT_ONCE, *row[2:])
         if before and row[0] == it["updated"] and row[1] != AT_ONCE and not is_hinted and (row[3] or not self.git.has(it)):
-            requirements = before["requirements"] if it["status"] != "NEW" else self.question("changes", number, "requirements")
-            if requirements == before["requirements"]:
+            if self.question("changes", number, "requirements") == before["requirements"]:
                 self.kept.execute("UPDATE changes SET asked = ? WHERE number = ?", (time.time(), number))
                 return True
         told = {"change": it, **{part: self.question("changes", number, part) for part in ("requirements", "threads", "attention")}}
