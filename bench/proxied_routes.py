@@ -14,6 +14,7 @@ USERS = {f"user{number}": "pear" for number in range(12)}  # all are account 2: 
 PLACES = {"group": ["Core"], "project": ["tools", "a%2Fb"], "branch": ["main", "release%2F1.0"], "change": ["1", "99"], "patch_set": ["current"], "account": ["2"]}
 MORE = ["/", "/nothing", "/changes", "/changes/", "/changes/x", "/changes/1/", "/changes//1", "/changes/%31", "/changes/1?x=1", "/changes/1/detail/x", "/projects", "/projects/", "/groups/", "/tools.git", "/accounts/",
         "/accounts/self", "/index", "/index/state", "/config", "/config/server/version", "/changes/1/detail", "/%61/changes/1", "/a/a/changes/1"]
+FILE = '[access]\ncreate = ["Administrators"]\nsubmit = ["Administrators"]\n[label.Code-Review]\nvalues = {0 = "None", 1 = "Good"}\ngrant.Administrators = [0, 1]\n'
 OF_THE_INDEX = re.compile(r"(/a)?/(changes/|projects/|accounts/.+|index/.+|config/server/.+|changes/[^/]+/detail)")
 
 
@@ -21,11 +22,12 @@ def routes():
     """The paths of docs/http.md, with something in each of their places, and some that are none."""
     found = []
     for path in re.findall(r"^\| (?:GET|POST|PUT) `(/[^`]*)` \|", read(TOP, "docs", "http.md"), re.M):
-        ways = [path]
-        for name, words in PLACES.items():
-            ways = [way.replace("{" + name + "}", word) for way in ways for word in words[:1 if ways.index(way) else 2]]
-        found += [way for way in ways if way not in found]
-    return found + MORE
+        for at in (0, -1):
+            way = path
+            for name, words in PLACES.items():
+                way = way.replace("{" + name + "}", words[at])
+            found.append(way)
+    return [*dict.fromkeys(found + MORE)]
 
 
 class Compared(Proxied):
@@ -34,6 +36,10 @@ class Compared(Proxied):
     def __init__(self, program, folder):
         super().__init__(program, folder, 100000, {"admin": "root", **USERS}, dict.fromkeys(USERS, 2), are_trusted=True)
         self.count, self.index = 0, None
+
+    def set_up(self, accounts):
+        super().set_up(accounts)
+        write("".join(f"{name}:{{PLAIN}}{word}\n" for name, word in self.passwords.items()), self.folder, "users")  # which are looked at faster
 
     def add_index(self):
         for place, name in (("more.d", "index.conf"), ("http.d", "around.conf")):
@@ -72,8 +78,8 @@ class Compared(Proxied):
 def compare(it, must, with_index, is_whole):
     """Compares all routes by all methods, as they are and behind /a."""
     for path in routes():
-        for method, body in (("GET", None), ("POST", {}), ("PUT", {"commit": "x"}), ("DELETE", None)):
-            for prefix in ("", "/a") if is_whole or method in ("GET", "POST") else ("",):
+        for method, body in (("GET", None), ("POST", {}), ("PUT", {"commit": "x"}), ("DELETE", None))[:4 if is_whole else 2]:
+            for prefix in ("", "/a") if is_whole or with_index != "a stopped index" else ("",):
                 if path == "/" or (method != "GET" and path == "/%61/changes/1"):
                     continue  # That is the page; and of code, of which nginx tells itself.
                 got, told = it.twice(method, path, body, prefix)
@@ -88,7 +94,9 @@ def look_at_routes(program, must, is_whole):
     with tempfile.TemporaryDirectory() as folder:
         it = Compared(program, folder)
         try:
-            must("an account", it.ask("POST", "/accounts", "admin", "a1", {"name": "ann"}), (200, {"account": 2}))
+            body = {"project": "tools", "branch": "main", "subject": "One", "commit": "a" * 40, "parent": "0" * 40, "paths": []}
+            for method, path, said in (("POST", "/accounts", {"name": "ann"}), ("PUT", "/projects/tools", {"file": FILE}), ("PUT", "/projects/tools/branches/main", {"commit": "0" * 40}), ("POST", "/changes/", body)):
+                must(f"{method} {path}", it.ask(method, path, "admin", f"first{path}".replace("/", "."), said)[0], 200)
             compare(it, must, "", is_whole)
             it.add_index()
             compare(it, must, "an index", is_whole)
