@@ -144,7 +144,7 @@ class World:
             client, peer = f"http://127.0.0.1:{self.port(f'engine{n}')}", f"http://127.0.0.1:{self.port(f'peer{n}')}"
             self.add(f"engine{n}", "etcd", "--name", f"n{n}", "--data-dir", f"engine{n}", "--listen-client-urls", client, "--advertise-client-urls", client, "--listen-peer-urls", peer,
                      "--initial-advertise-peer-urls", f"http://127.0.0.1:{known[n]}", "--initial-cluster", cluster, "--initial-cluster-token", "bench", "--auto-compaction-mode", "revision",
-                     "--auto-compaction-retention", "1000", "--heartbeat-interval", "200", "--election-timeout", "2000", "--logger", "zap", "--log-outputs", "stderr", pause=0.5)
+                     "--auto-compaction-retention", "1000", "--heartbeat-interval", "200", "--election-timeout", "2000", "--pre-vote", "--logger", "zap", "--log-outputs", "stderr", pause=0.5)
         self.addresses = [f"127.0.0.1:{self.port(f'engine{n}')}" for n in numbers]
         log = Log(self.addresses)
         until(lambda: has_log(log), "a log")

@@ -18,8 +18,9 @@ import time
 Entry = collections.namedtuple("Entry", "position request")
 # etcd takes at most 128 operations and 1.5 MB in one transaction.
 PAGE, OPERATIONS, BYTES = 200, 100, 800_000
-# First each node of etcd gets a short time: of what was on its way to a leader that died nothing is heard. In reading, silence of so long has the next node asked.
-PATIENCE, SILENCE = (2, 8), 5
+# First each node of etcd gets a short time: of what was on its way to a leader that died nothing is heard. In reading, after a silence of so long a majority is asked whether there is
+# more. Who gave no answer is asked after the others for so long.
+PATIENCE, SILENCE, LATELY = (2, 8), 5, 20
 IS_WRONG_EVERYWHERE = (3, 11)
 
 
@@ -59,7 +60,7 @@ class Log:
 
     def __init__(self, addresses, certificates=None):
         self.addresses, self.tail, self.tls, self.name = addresses, 0, None, None
-        self.idle = {address: queue.LifoQueue() for address in addresses}
+        self.idle, self.failed = {address: queue.LifoQueue() for address in addresses}, {}
         if certificates:
             self.tls = ssl.create_default_context(cafile=os.path.join(certificates, "ca.crt"))
             self.tls.load_cert_chain(os.path.join(certificates, "node.crt"), os.path.join(certificates, "node.key"))
@@ -70,6 +71,11 @@ class Log:
         if self.tls:
             return http.client.HTTPSConnection(address, timeout=seconds, context=self.tls)
         return http.client.HTTPConnection(address, timeout=seconds)
+
+    def order(self):
+        """The addresses as they were given, but last those that gave no answer lately."""
+        now = time.monotonic()
+        return sorted(self.addresses, key=lambda it: it in self.failed and now - self.failed[it] < LATELY)
 
     def ask(self, address, path, asked, seconds):
         """The status and the answer of one node of etcd, over a connection that is kept."""
@@ -99,14 +105,14 @@ class Log:
         """The answer of the first node of etcd that gives one. What is asked twice may be done twice."""
         end, why = time.monotonic() + seconds, "no time"
         for patience in PATIENCE:
-            for address in self.addresses:
+            for address in self.order():
                 left = min(patience, end - time.monotonic())
                 if left <= 0:
                     raise NoLog(str(why))
                 try:
                     status, told = self.ask(address, path, asked, left)
                 except (OSError, http.client.HTTPException, ValueError) as error:
-                    why = error
+                    why, self.failed[address] = error, time.monotonic()
                     continue
                 if status == 200:
                     return told
@@ -174,19 +180,28 @@ class Log:
     def read(self, after):
         """Each entry behind a position, in order, and then those to come; None where nothing came for a while. Never ends."""
         while True:
-            for address in self.addresses:
-                peer = self.connection(address, SILENCE)
-                try:
-                    for entry in entries_at(peer, after):
-                        after = entry.position
-                        yield entry
-                except TimeoutError:
-                    yield None
-                except (OSError, http.client.HTTPException, ValueError, KeyError):
-                    pass
-                finally:
-                    peer.close()
-                time.sleep(0.05)
+            address = self.order()[0]
+            peer = self.connection(address, PATIENCE[0])
+            try:
+                for entry in entries_at(peer, after):
+                    after = entry.position
+                    yield entry
+            except TimeoutError:
+                yield None
+                if self.is_behind(after):
+                    self.failed[address] = time.monotonic()
+            except (OSError, http.client.HTTPException, ValueError, KeyError):
+                self.failed[address] = time.monotonic()
+            finally:
+                peer.close()
+            time.sleep(0.05)
+
+    def is_behind(self, after):
+        """Whether the log has more than a node of etcd that says nothing has told, as one that is cut off from the others; so it is also where nobody knows."""
+        try:
+            return self.head(PATIENCE[0]) > after
+        except NoLog:
+            return True
 
     def delete_to(self, last):
         """Gives up all entries up to a position, and what is kept of them."""
@@ -209,6 +224,8 @@ def follows(found, after):
 
 def entries_at(peer, after):
     """The entries behind a position by one node of etcd: pages of what is there, and then a watch from where they end. That node may be behind others: it has a beginning of the log."""
+    peer.connect()
+    peer.sock.settimeout(SILENCE)
     while True:
         peer.request("POST", "/v3/kv/range", json.dumps({"key": coded(key_of("log", after + 1)), "range_end": coded("log0"), "limit": str(PAGE), "serializable": True}))
         told = json.loads(peer.getresponse().read())
