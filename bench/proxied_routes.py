@@ -83,7 +83,7 @@ def compare(it, must, with_index, is_whole):
                 if path == "/" or (method != "GET" and path == "/%61/changes/1"):
                     continue  # That is the page; and of code, of which nginx tells itself.
                 got, told = it.twice(method, path, body, prefix)
-                if method == "GET" and with_index and OF_THE_INDEX.fullmatch(path.removeprefix("/a")):
+                if method == "GET" and with_index and OF_THE_INDEX.fullmatch(path):
                     must(f"{with_index}: {method} {prefix}{path}", got[0] in ((502,) if with_index == "a stopped index" else (200, 404)), True)
                 else:
                     must(f"{with_index or 'no index'}: {method} {prefix}{path}", got, told)
