@@ -36,7 +36,7 @@ class Started:
         self.program, self.first, self.process = program, first, None
 
     def start(self):
-        self.process = subprocess.Popen([sys.executable, START, "cluster", "--port", str(self.first), "--program", self.program], stdout=subprocess.PIPE, text=True)
+        self.process = subprocess.Popen(["setpriv", "--pdeathsig", "TERM", sys.executable, START, "cluster", "--port", str(self.first), "--program", self.program], stdout=subprocess.PIPE, text=True)
         self.nodes = []
         while "Ctrl-C" not in (line := self.process.stdout.readline()):
             check(line, "start ends", self.process.poll())
