@@ -12,7 +12,8 @@ class Told:
     """What all clients were told, by request, and what they counted."""
 
     def __init__(self):
-        self.lock, self.answers, self.times, self.counts, self.changes, self.is_over = threading.Lock(), collections.defaultdict(list), [], collections.Counter(), [], False
+        self.lock, self.answers, self.requests, self.times = threading.Lock(), collections.defaultdict(list), {}, []
+        self.counts, self.changes, self.is_over = collections.Counter(), [], False
 
     def unequal(self):
         return [(key, set(answers)) for key, answers in self.answers.items() if len(set(answers)) > 1]
@@ -43,6 +44,7 @@ class Client(threading.Thread):
         with self.told.lock:
             self.told.times.append(time.monotonic() - begun)
             self.told.answers[key].append(answer[:2])
+            self.told.requests[key] = (method, path, fields, body)
             if answer[0] == 503 and b"PATTERN" not in answer[1]:
                 self.fault = (key, answer)
         return answer

@@ -13,7 +13,7 @@ import time
 
 from cluster_clients import Client, Told
 from cluster_links import Links
-from cluster_world import BASE, MANAGE, PROJECT, Log, World, check, run, until
+from cluster_world import BASE, MANAGE, PROJECT, Log, World, check, exchange, run, until
 from losing import NOT_TAKEN
 
 KINDS = ("engine", "desk", "feeder", "front")
@@ -160,6 +160,14 @@ class Kills:
             check(not client.is_alive() and not client.fault, "a client", client.account, client.fault)
 
 
+def told_again(kills):
+    """Sends each request that was taken once more, to a front by chance: its answer is there still."""
+    told = kills.told
+    for key in told.taken():
+        again = until(lambda key=key: exchange(kills.world.port(f"front{kills.random.choice(kills.fronts)}"), *told.requests[key]), "an answer", key)
+        check(again[:2] == told.answers[key][0], "an answer that was given", key, again, told.answers[key][0])
+
+
 def same_events(world, position, count):
     """What is told of the accepted requests is the same at nodes of each kind, and as many as were accepted."""
     events = [world.manage("tail", f"{n}.desk", "--after", 0, "--until", position).splitlines() for n in (1, 4, 5)]
@@ -169,6 +177,7 @@ def same_events(world, position, count):
 def compare(kills):
     """All desks, and all that was told, after the last answer."""
     world, told = kills.world, kills.told
+    told_again(kills)
     at = world.settled([1, 2, 3, 4])
     world.node(5)
     world.settled([1, 2, 3, 4, 5])
@@ -186,7 +195,8 @@ def compare(kills):
     check(all(it == rows[0] for it in rows), "tables", [[name for name in rows[0] if it[name] != rows[0][name]] for it in rows])
     made = sorted(it["change"] for it in accepted if it.get("patch_set") == 1)
     check(made == list(range(1, len(rows[0]["changes"]) + 1)), "each change was made once", made)
-    check(len(taken) == len(rows[0]["answers_3"]) == rows[0]["desk"][0][1], "each request acted once", len(taken), len(rows[0]["answers_3"]))
+    stored = {(row[0], row[2].decode()) for row in rows[0]["answers_3"]}
+    check(stored == set(taken) and len(stored) == rows[0]["desk"][0][1], "each request acted once", stored ^ set(taken))
     check(sum(len(it.get("comments", ())) for it in accepted) == len(rows[0]["comments"]), "comments")
     check(sum(len(it.get("joined", ())) for it in accepted) == sum(b"MERGED" in row for row in rows[0]["changes"]), "merges")
     check(told.counts["stale, waits"] == 0 and told.counts["read, waits"], "reads that wait are never stale", told.counts)

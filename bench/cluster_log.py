@@ -151,6 +151,13 @@ def truncated(address):
     except Truncated:
         pass
     check(log.claim("name", "one") == "one" and log.claim("name", "two") == "one" and log.get("name") == "one", "claims")
+    log.tail, log.name = log.head(), "one"
+    log.append([b"to this log"])
+    log.put("name", "two")
+    try:
+        check(False, "an append to a log that was made anew", log.append([b"to the old one"]))
+    except NoLog as why:
+        check("isn't one any more" in str(why), why)
     log.put("node/a", "5")
     check(log.get_all("node") == {"a": "5"}, log.get_all("node"))
 

@@ -183,6 +183,12 @@ def upgraded(fed):
     check(list(fed.answers(place)) == [last], fed.answers(place))
 
 
+def made_anew(fed):
+    """A feeder whose log was made anew under it stands still."""
+    fed.log.put("name", "another")
+    check(fed.feeder.status() == 3 and "made anew" in fed.feeder.said().splitlines()[-1], fed.feeder.said()[-300:])
+
+
 def main(_):
     with World(engines=1) as world:
         fed = Fed(world)
@@ -192,4 +198,5 @@ def main(_):
             stands_still(fed, word)
         refuses_to_start(fed)
         upgraded(fed)
+        made_anew(fed)
     print("the feeder's table: each row goes on, is told again, is left out or stands still as it should")
