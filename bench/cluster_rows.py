@@ -119,9 +119,10 @@ def left_out_elsewhere(fed):
     fed.script("poison", "dies")
     last = fed.append("poison", "behind that")
     until(lambda: fed.log.get("node/one") == str(last - 2), "it tells where it stands", fed.feeder.said()[-500:])
-    fed.log.put("node/other", str(last))
-    refused = fed.world.manage("leave-out", last - 1, "--log", *fed.world.addresses, status=1)
-    check("taken by other" in refused, refused)
+    for elsewhere in (last, last - 3):
+        fed.log.put("node/other", str(elsewhere))
+        refused = fed.world.manage("leave-out", last - 1, "--log", *fed.world.addresses, status=1)
+        check(f"other at {elsewhere}" in refused, refused)
     fed.world.manage("forget", "other", "--log", *fed.world.addresses)
     check("LEFT_OUT" in fed.world.manage("leave-out", last - 1, "--log", *fed.world.addresses), "left out")
     fed.reaches(last)
