@@ -134,6 +134,7 @@ def copies(world, log):
     for at in range(110, 230):
         world.ask(1 + at % 2, f"n{at}", "POST", "/accounts", {"name": f"n{at}"}, epoch=49)
     world.settled([1, 2])
+    goes_back(world, "old.position")
     until(lambda: len(log.get_all("node")) == 2 and min(map(int, log.get_all("node").values())) > old["position"], "each node says how far it is")
     made = json.loads(world.manage("copy", "2.desk", "3.desk"))
     check("is there already" in world.manage("copy", "2.desk", "3.desk", status=1), "a copy over a desk")
@@ -157,6 +158,15 @@ def copies(world, log):
     world.ask(1, "after", "POST", "/accounts", {"name": "after"}, epoch=49)
     check(world.parts["feeder3"].status() == 3 and "differ from those of node1, node2" in world.parts["feeder3"].said(), "a desk that was told something past the log", world.parts["feeder3"].said()[-300:])
     world.settled([1, 2])
+
+
+def goes_back(world, older):
+    """A feeder whose kept position is older, as a stop of its machine may leave it, tells its desk entries again: nothing changes by it."""
+    world.parts["feeder2"].end()
+    shutil.copy(older, "2.desk.position")
+    world.parts["feeder2"].is_wanted = True
+    world.settled([1, 2])
+    check(world.tables(1) == world.tables(2), "tables behind a position that was older")
 
 
 def is_taken(world, fields):
