@@ -1,6 +1,7 @@
 """Has the words of the desk's program, and serves by a cluster of one node: so tests of a desk over HTTP try a front. A module, and python3 cluster_program.py PROGRAM WORDS ..
 
-`serve FILE --port P ..` starts etcd, the desk, a feeder and a front at P, over a log that is new each time, and says what the program says. All other words are the program's own.
+`serve FILE --port P ..` starts etcd, the desk, a feeder, a front, and nginx by failover.conf at P, over a log that is new each time, and says what the program says. All other words
+are the program's own.
 """
 import os
 import shutil
@@ -10,7 +11,7 @@ import subprocess
 import sys
 import time
 
-from cluster_world import FEEDER, FRONT, Log, free_port, has_log, until
+from cluster_world import EXAMPLE, FEEDER, FRONT, Log, free_port, has_log, until
 
 
 def start(*words):
@@ -37,8 +38,21 @@ def accepts(port):
         return False
 
 
+def start_failover(folder, port, front):
+    """nginx as before a front, in one process, so that nothing of it is left when it is killed."""
+    subprocess.run([os.path.join(EXAMPLE, "certificates"), os.path.join(folder, "keys"), "one", "127.0.0.1"], check=True)
+    shutil.copytree(os.path.join(folder, "keys", "one"), os.path.join(folder, "certificates"))
+    with open(os.path.join(EXAMPLE, "failover.conf"), encoding="utf-8") as file:
+        conf = file.read().replace("127.0.0.1:8473", f"127.0.0.1:{port}").replace("127.0.0.1:8484", f"127.0.0.1:{front}").replace("listen 8485", f"listen 127.0.0.1:{free_port()}")
+    for word in ("FIRST-OTHER:8485", "SECOND-OTHER:8485"):
+        conf = conf.replace(word, f"127.0.0.1:{free_port()}")
+    with open(os.path.join(folder, "failover.conf"), "w", encoding="utf-8") as file:
+        file.write(conf)
+    start("nginx", "-p", folder, "-c", "failover.conf", "-g", f"daemon off; master_process off;{' user root;' if os.geteuid() == 0 else ''}")
+
+
 def serve(program, file, port):
-    folder, engine, peer, desk = file + ".cluster", free_port(), free_port(), free_port()
+    folder, engine, peer, desk, front = file + ".cluster", *(free_port() for _ in range(4))
     shutil.rmtree(folder, ignore_errors=True)
     os.mkdir(folder)
     if os.path.exists(file + ".position"):
@@ -50,8 +64,9 @@ def serve(program, file, port):
     log = Log([f"127.0.0.1:{engine}"])
     until(lambda: has_log(log) and accepts(desk), "etcd and the desk")
     start(FEEDER, file, "--port", desk, "--name", "one", "--log", *log.addresses)
-    start(FRONT, file, "--port", port, "--desk", desk, "--log", *log.addresses)
-    until(lambda: accepts(port), "a front")
+    start(FRONT, file, "--port", front, "--desk", desk, "--log", *log.addresses)
+    start_failover(folder, port, front)
+    until(lambda: accepts(front) and accepts(port), "a front and nginx")
     print(f"listening on 127.0.0.1:{port}", flush=True)
     signal.pause()
 

@@ -1,4 +1,4 @@
-"""bench/clients, bench/git_pushes and bench/page as they are, through a front in the desk's place. A module of bench/cluster, by its name alone."""
+"""bench/clients, bench/git_pushes and bench/page as they are, through nginx and a front in the desk's place. A module of bench/cluster, by its name alone."""
 import os
 import subprocess
 import sys
