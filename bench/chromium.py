@@ -166,6 +166,12 @@ class Page:
         self.call("Page.navigate", url=address)
         self.until(f"document.readyState === 'complete' && ({condition})")
 
+    def reload(self, condition):
+        """Loads the page anew. What is there before it has gone says nothing."""
+        self.run("document.body.dataset.old = 1")
+        self.call("Page.reload")
+        self.until(f"document.body && !document.body.dataset.old && document.readyState === 'complete' && ({condition})")
+
     def click(self, chosen, times=1, before=0):
         """Presses what a selector chooses, in its middle, so many times as one who presses twice does, and has pressed so often before."""
         place = self.run(f"(() => {{ const it = document.querySelector({json.dumps(chosen)}); it.scrollIntoView({{block: 'center'}});"

@@ -88,6 +88,11 @@ class Paged(Proxied):
         self.index = self.begin("index.socket", "index", "desk_index")
         write(json.dumps({**TEAM, "index": True}), self.folder, "page", "team.json")
 
+    def forget_index(self):
+        """Ends the index, and has the pages know nothing of it."""
+        self.end_index()
+        write(json.dumps(TEAM), self.folder, "page", "team.json")
+
     def begin(self, name, *program):
         """Starts a program of examples that listens at a socket of the folder."""
         place = os.path.join(self.folder, name)
