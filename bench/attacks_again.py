@@ -152,7 +152,8 @@ def what_no_git_writes(team):
     check("shallow update not allowed" in said, "a shallow push was taken", said)
     commit = commit_of(name, tip)
     objects, commit_name = [whole("commit", commit), whole("tree", tree), whole("blob", EVIL)], name_of("commit", commit)
-    for ref in (f"refs/replace/{tip}", "refs/heads/main", "refs/heads/new", "HEAD", "refs/changes/01/1/1", "refs/notes/commits", "refs/tags/v1", "refs/desk/push", "refs/for/main%wip", "refs/for/.", "refs/for/b", "x"):
+    for ref in (f"refs/replace/{tip}", "refs/heads/main", "refs/heads/new", "HEAD", "refs/changes/01/1/1", "refs/notes/commits", "refs/tags/v1", "refs/desk/push", "refs/for/main%wip,ready",
+                "refs/for/main%r=../../users", "refs/for/main%topic", "refs/for/main%%", "refs/for/main%r=bob%2C", "refs/for/main%wip%wip", "refs/for/%wip", "refs/for/.", "refs/for/b", "x"):
         said = pushed(team, objects, (commit_name, ref))
         check(f"ng {ref}" in said, "a ref", ref, said)
     for old, ref in ((tip, "refs/heads/main"), (NONE, "refs/changes/01/1/1"), (NONE, "refs/for/main")):

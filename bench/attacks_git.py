@@ -256,13 +256,14 @@ def a_push_that_waits(team):
 
 
 def names_of_refs(team):
-    """A name that isn't UTF-8, or isn't refs/for/BRANCH, is refused in words, and nothing moves."""
+    """A name that isn't UTF-8, isn't refs/for/BRANCH, or asks for what isn't taken, is refused in words, and nothing moves."""
     clone, before = team.clone("mallory"), team.in_repository("for-each-ref", "refs/heads")
     team.commit("mallory", clone, {"name": "name"}, "Name")
-    for ref in (b"refs/for/\xff\xfe", b"refs/for/main\xc3", "refs/for/mäin".encode(), b"refs/for/main%ready", b"refs/heads/main", b"refs/changes/01/1/9", b"refs/replace/" + b"1" * 40):
+    for ref in (b"refs/for/\xff\xfe", b"refs/for/main\xc3", "refs/for/mäin".encode(), b"refs/for/main%submit", b"refs/for/main%r=\xff", b"refs/for/main%r=%00", b"refs/for/main%m=x", b"refs/heads/main",
+                b"refs/changes/01/1/9", b"refs/replace/" + b"1" * 40):
         words = ["push", "origin", os.fsdecode(b"HEAD:" + ref)]
         said = team.git("mallory", *words, cwd=clone, status=1)
-        check("Traceback" not in said and "proc-receive" not in said and "not refs/for/BRANCH" in said, "a name", ref, said)
+        check("Traceback" not in said and "proc-receive" not in said and any(word in said for word in ("not refs/for/BRANCH", "isn't taken", "nobody here is")), "a name", ref, said)
     check(team.in_repository("for-each-ref", "refs/heads") == before, "a branch moved")
 
 

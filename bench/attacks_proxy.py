@@ -19,7 +19,8 @@ SPELLINGS = r"""
     /./changes/{}/revisions /changes/./{}/revisions /changes/{}/./revisions /changes/x/../{}/revisions /page/../changes/{}/revisions /changes/%3{}/revisions
     /changes/%3{}/revisions?a=/page/ /%63hanges/{}/revisions /changes/{}/revi%73ions /changes%2F{}/revisions /changes/{}%2Frevisions /changes/{}/revisions%2F
     /changes/{}/revisions%00 /changes/{}/revisions%0A /changes/{}/revisions%20 /changes/{}/revisions#x /Changes/{}/Revisions /changes/0{}/revisions /changes/{}/revisions;x=1
-    /changes/%0A{}/revisions /a/changes/{}/revisions https://127.0.0.1/changes/{}/revisions https://127.0.0.1/changes/%3{}/revisions /changes/{}/revisions%3Fx
+    /changes/%0A{}/revisions /a/changes/{}/revisions /a/changes/%3{}/revisions?x /a//changes/{}/revisions //a/changes/{}/revisions /%61/changes/{}/revisions
+    /a/a/changes/{}/revisions /a/../changes/{}/revisions /a/changes/ /a/changes/?x //a//changes/ /a%2Fchanges/{}/revisions /a/%63hanges/{}/revisions https://127.0.0.1/changes/{}/revisions https://127.0.0.1/changes/%3{}/revisions /changes/{}/revisions%3Fx
     /changes/{}%20/revisions \changes\{}\revisions /changes/{}/revisions\ /git/../changes/{}/revisions /health/../changes/{}/revisions /changes/ /changes/?x /changes//
     /changes/. /changes/x/.. //changes/ /%63hanges/ /changes/%2E /changes/#x https://127.0.0.1/changes/ /changes /changes/%20 /page/../changes/
 """.split()

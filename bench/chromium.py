@@ -142,12 +142,15 @@ class Page:
             raise RuntimeError(f"{text}: {told['exceptionDetails']}")
         return told["result"].get("value")
 
-    def until(self, condition, seconds=30):
-        """Waits until an expression holds, which is looked at twenty times a second. Of a page that isn't there yet none holds."""
-        until = time.monotonic() + seconds
+    def until(self, condition, seconds=30, is_reloaded=False):
+        """Waits until an expression holds, which is looked at twenty times a second. Of a page that isn't there yet none holds. With `is_reloaded` it is loaded anew each second."""
+        until, reloaded = time.monotonic() + seconds, time.monotonic()
         while not self.call("Runtime.evaluate", expression=f"Boolean({condition})", returnByValue=True)["result"].get("value") is True:
             if time.monotonic() > until:
                 raise RuntimeError(f"{condition} doesn't hold after {seconds} seconds; the page says {self.run('document.body.innerText')}")
+            if is_reloaded and time.monotonic() > reloaded + 1:
+                self.call("Page.reload")
+                reloaded = time.monotonic()
             time.sleep(0.05)
 
     def until_sent(self, count, seconds=10):
@@ -162,6 +165,12 @@ class Page:
     def load(self, address, condition):
         self.call("Page.navigate", url=address)
         self.until(f"document.readyState === 'complete' && ({condition})")
+
+    def reload(self, condition):
+        """Loads the page anew. What is there before it has gone says nothing."""
+        self.run("document.body.dataset.old = 1")
+        self.call("Page.reload")
+        self.until(f"document.body && !document.body.dataset.old && document.readyState === 'complete' && ({condition})")
 
     def click(self, chosen, times=1, before=0):
         """Presses what a selector chooses, in its middle, so many times as one who presses twice does, and has pressed so often before."""

@@ -89,7 +89,7 @@ class Proxied:
 
     def connect(self, seconds=100):
         """A connection to nginx, whose certificate nobody has signed."""
-        context = ssl.create_default_context()
+        context = ssl.SSLContext(ssl.PROTOCOL_TLS_CLIENT)  # A default one reads all that the system trusts, each time.
         context.check_hostname, context.verify_mode = False, ssl.CERT_NONE
         return http.client.HTTPSConnection("127.0.0.1", self.port, timeout=seconds, context=context)
 

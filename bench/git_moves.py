@@ -71,17 +71,23 @@ def settle(world, change, *words, status=0, program=SETTLE, **more):
 def merges(world, folder, every):
     """With `--merge-if-necessary` it makes merge commits, which are bases, and is killed at its steps. It stops where two conflict, and where a commit isn't there."""
     killed, option = write_killed(FOLLOW, os.path.join(folder, "follow")), "--merge-if-necessary"
+    world.git("config", "desk.page", "https://desk/page/?change=", folder=world.bare)
     for counted, at in enumerate(itertools.count(1, every)):
         begin = tip_of(world)
-        (_, one), (_, two) = beside(world, begin, f"one {at}", f"two {at}")
+        (_, one), (number, two) = beside(world, begin, f"one {at}", f"two {at}")
         count = len(world.branch()["bases"])
         said = world.follow(option, status=None, program=killed, KILL_AT=str(at))
+        with open(os.path.join(world.bare, "mails"), "w", encoding="utf-8") as file:  # What is said of who reviewed is another then; a merge that was recorded stays the one.
+            file.write(f"ann ann@example\nbob bob{at}@example\n")
         world.follow(option)
         parents = world.git("log", "-1", "--format=%P", "main", folder=world.bare).split()
         check(parents == [one, two] and tip_of(world) == world.branch()["bases"][-1], at, said, parents)
         check(len(world.branch()["bases"]) == count + 1 and world.git("log", "-1", "--format=%s", "main", folder=world.bare) == f'Merge "two {at}"', at, world.branch())
+        footers = world.git("log", "-1", "--format=%(trailers:unfold)", "main", folder=world.bare).splitlines()
+        check(footers[1:] == [f"Reviewed-on: https://desk/page/?change={number}", f"Change-Id: {Commit(f'two {at}', {}).change_id}"] and footers[0].startswith("Reviewed-by: bob"), "footers", footers)
         if "steps left" in said:
             break
+    os.remove(os.path.join(world.bare, "mails"))
     passes_over(world, option)
     refused_bases(world, option)
     settled(world, folder, option, every)

@@ -64,7 +64,7 @@ class Paged(Proxied):
     """The whole. `do` asks as a user through nginx; `made` and `amended` make changes and patch sets as the hook does."""
 
     def __init__(self, program, folder):
-        self.asked, self.repository, self.code = 0, os.path.join(folder, "git", "tools.git"), None
+        self.asked, self.repository, self.code, self.index = 0, os.path.join(folder, "git", "tools.git"), None, None
         super().__init__(program, folder, 100000, PASSWORDS, ACCOUNTS)
         write(json.dumps(TEAM), folder, "page", "team.json")
 
@@ -72,23 +72,46 @@ class Paged(Proxied):
         super().set_up(accounts)
         for name in os.listdir(os.path.join(self.folder, "page")):
             os.chmod(os.path.join(self.folder, "page", name), 0o644)
-        os.makedirs(os.path.join(self.folder, "more.d"))
-        write(read(EXAMPLES, "code", "code.conf").replace("FOLDER", self.folder), self.folder, "more.d", "code.conf")
+        for place, part, name in (("more.d", "code", "code.conf"), ("more.d", "index", "index.conf"), ("http.d", "index", "around.conf")):
+            os.makedirs(os.path.join(self.folder, place), exist_ok=True)
+            write(read(EXAMPLES, part, name).replace("FOLDER", self.folder), self.folder, place, name)
         write(json.dumps({"desk_port": self.desk_port, "project": "tools"}), self.folder, "settings.json")
         subprocess.run(["git", "init", "--quiet", "--bare", "--initial-branch=main", self.repository], check=True)
         self.serve_code()
 
     def serve_code(self):
         """Starts the code server, which may have been ended."""
-        place = os.path.join(self.folder, "code.socket")
+        self.code = self.begin("code.socket", "code", "serve_code")
+
+    def serve_index(self):
+        """Starts the index, which may have been ended, and has the pages know of it."""
+        self.index = self.begin("index.socket", "index", "desk_index")
+        write(json.dumps({**TEAM, "index": True}), self.folder, "page", "team.json")
+
+    def forget_index(self):
+        """Ends the index, and has the pages know nothing of it."""
+        self.end_index()
+        write(json.dumps(TEAM), self.folder, "page", "team.json")
+
+    def begin(self, name, *program):
+        """Starts a program of examples that listens at a socket of the folder."""
+        place = os.path.join(self.folder, name)
         with contextlib.suppress(FileNotFoundError):
             os.remove(place)
-        self.code = subprocess.Popen([os.path.join(EXAMPLES, "code", "serve_code"), self.folder])
+        begun = subprocess.Popen([os.path.join(EXAMPLES, *program), self.folder], stdin=subprocess.DEVNULL)
         for _ in range(200):
             if os.path.exists(place):
                 break
             time.sleep(0.05)
-        os.chmod(place, 0o666)  # where root starts nginx its workers are another user here than that of a team's folder
+        for it in (place, os.path.join(self.folder, "hints.socket")):
+            with contextlib.suppress(FileNotFoundError):
+                os.chmod(it, 0o666)  # where root starts nginx its workers are another user here than that of a team's folder
+        return begun
+
+    def end_index(self):
+        if self.index:
+            self.index.kill()
+            self.index.wait()
 
     def end_code(self):
         self.code.kill()
@@ -96,6 +119,7 @@ class Paged(Proxied):
 
     def end(self):
         self.end_code()
+        self.end_index()
         super().end()
 
     # ---- git

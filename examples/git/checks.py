@@ -33,14 +33,19 @@ def user_name():
         raise Refused(f"the user of number {os.getuid()} has no name here") from error
 
 
-def account_of(user):
-    """The account of a user, by lines such as `ann 2` or, as the proxy's, `~^ann$ 2;`."""
+def accounts():
+    """The account of each user, by lines such as `ann 2` or, as the proxy's, `~^ann$ 2;`."""
     with open(setting("desk.accounts", "accounts"), encoding="utf-8") as file:
-        for line in file:
-            found = re.fullmatch(r"(?:~\^)?([^\s$]+)\$?\s+(\d+);?", line.strip())
-            if found and found[1].replace("\\.", ".") == user:
-                return int(found[2])
-    raise Refused(f"desk.accounts has no account for the user {user}")
+        found = (re.fullmatch(r"(?:~\^)?([^\s$]+)\$?\s+(\d+);?", line.strip()) for line in file)
+        return {it[1].replace("\\.", "."): int(it[2]) for it in reversed([*found]) if it}  # the first line of a name counts
+
+
+def account_of(user):
+    """The account of a user."""
+    known = accounts()
+    if user not in known:
+        raise Refused(f"desk.accounts has no account for the user {user}")
+    return known[user]
 
 
 def mails():

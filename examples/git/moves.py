@@ -33,6 +33,7 @@ class Graph:
         is_pushed = {it["commit"] for it in self.missing if (it["change"], it["commit"]) in refs and it["change"] not in self.settled}
         self.taken = is_pushed | self.below(*bases)
         self.changes = {it["commit"]: it["change"] for it in self.missing}
+        self.merges = {tuple(self.parents[name]): name for name in bases if len(self.parents.get(name, ())) == 2}
 
     def refs(self):
         """The changes that are missing, with the commits of the patch sets that were pushed."""
@@ -70,12 +71,12 @@ def settled_of(branch):
     return {it["change"] for it in noted_in(file_of("settled", branch), [])}
 
 
-def steps(tip, told, merges=True, settled=(), tried=None):
+def steps(tip, told, merges=True, settled=(), tried=None, footers=None):
     """What there is to do, in order, so that a branch at a tip gets what has joined it in the desk: of each change that has to come itself (the change, how, what).
 
     `told` is the desk's answer about the branch. How is "forward" or "merge" where the branch is to be moved to the commit `what`, and "over" where the change is passed over:
-    `what` says why then. A merge is a commit object, and made again it is the same; no ref is moved here. `tried` keeps what conflicted, by tip and commit.
-    Changes that were `settled` don't come, and aren't told; nor does what stands on them.
+    `what` says why then. A merge is a commit object; one that was recorded as a base, before a stop, is taken again. No ref is moved here. `tried` keeps what conflicted, by tip and
+    commit. `footers` has the last lines of a merge's message, by the changes that it brings. Changes that were `settled` don't come, and aren't told; nor does what stands on them.
     """
     graph, tried, over = Graph(tip, told, settled), {} if tried is None else tried, set()
     left = [it for it in graph.missing if it["change"] not in graph.settled]
@@ -102,7 +103,8 @@ def steps(tip, told, merges=True, settled=(), tried=None):
         for top in reversed(run):  # One merge brings a stack; what conflicts in it leaves those below.
             found = trial(tip, top["commit"], tried)
             if not isinstance(found, str):
-                tip = merge_of(tip, top["commit"], *found)
+                brought = [it for it in graph.missing if it["commit"] in graph.below(top["commit"])]
+                tip = graph.merges.get((tip, top["commit"])) or merge_of(tip, top["commit"], *found, footers(brought) if footers else "")
                 yield top, "merge", tip
                 graph.came |= graph.below(top["commit"])
                 break
@@ -128,12 +130,12 @@ def trial(tip, commit, tried):
     return tried[tip, commit]
 
 
-def merge_of(tip, commit, tree):
-    """A merge commit, which is the same when it is made again: so a stop in between does no harm."""
+def merge_of(tip, commit, tree, footers):
+    """A merge commit, whose message ends with lines such as `Reviewed-by: ann`."""
     date = max(int(git("log", "-1", "--format=%ct", name)) for name in (tip, commit))
     subject = git("log", "-1", "--format=%s", commit).strip()
     people = "".join(f"{role} follow <follow@localhost> {date} +0000\n" for role in ("author", "committer"))
-    text = f"tree {tree}\nparent {tip}\nparent {commit}\n{people}\nMerge \"{subject}\"\n"
+    text = f"tree {tree}\nparent {tip}\nparent {commit}\n{people}\nMerge \"{subject}\"\n" + (f"\n{footers}" if footers else "")
     return git("hash-object", "-t", "commit", "-w", "--stdin", sent=text).strip()
 
 

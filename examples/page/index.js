@@ -208,6 +208,7 @@ function addPerson(event, state) {
 async function main() {
   for (const field of document.querySelectorAll("header input")) field.value = query.get(field.name);
   if (!await begin()) return;
+  if (known.team.index && !change && !query.get("project")) location.replace("changes.html");
   at("who").textContent = known.me ? `Signed in as ${nameOf(known.me)}` : "";
   for (const button of document.querySelectorAll("[data-do]")) {
     const named = () => (button.dataset.do === "submit" ? {named: shown.current_patch_set} : {});

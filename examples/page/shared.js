@@ -1,4 +1,4 @@
-// What both pages share: elements whose text stays text, questions to the server, and requests that are kept until their answer came.
+// What the pages share: elements whose text stays text, questions to the server, and requests that are kept until their answer came.
 export const at = (id) => document.getElementById(id);
 export const query = new URLSearchParams(location.search);
 export const numberIn = (name) => /^[1-9][0-9]{0,9}$/.exec(query.get(name) ?? "")?.[0] ?? "";
@@ -99,5 +99,6 @@ export async function begin() {
   }
   known.me = told.headers.get("X-Account") ?? "";
   known.team = told.ok ? await told.json().catch(() => ({})) : {};
+  for (const it of document.querySelectorAll("[data-index]")) it.hidden = (it.dataset.index === "yes") !== Boolean(known.team.index);
   return true;
 }

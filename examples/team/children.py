@@ -22,12 +22,13 @@ LOOK_EVERY = 10
 class Child:
     """A program that is started again when it ends: a second later, or longer where it ended soon. One that rests begins after ten minutes, and again so many seconds after it
     ended well. It is ended where this one is. One that has a port isn't started where another user's program listens there: what that says would be believed, so
-    all ends. One that listens at a socket is given that as its standard input: it is there before the program and stays where that ends, so who comes meanwhile waits."""
+    all ends. One that listens at a socket is given that as its standard input: it is there before the program and stays where that ends, so who comes meanwhile waits, and what
+    was said meanwhile to one that takes datagrams is heard."""
 
-    def __init__(self, team, name, words, socket_file=None, rests=None, port=None):
+    def __init__(self, team, name, words, socket_file=None, rests=None, port=None, kind=socket.SOCK_STREAM):
         self.team, self.name, self.words, self.pause, self.rests, self.port = team, name, words, 1, rests, port
         self.process, self.due, self.begun, self.log = None, time.monotonic() + 600 if rests else 0, 0, team.path("log", name + ".log")
-        self.listening = listening_at(team, socket_file) if socket_file else None
+        self.listening = listening_at(team, socket_file, kind) if socket_file else None
 
     def check_port(self):
         if self.port and is_listened_at(self.port) and not is_own(self.port):
@@ -58,7 +59,7 @@ class Child:
         if status == 0 and self.rests:
             self.due = time.monotonic() + self.rests
             return
-        self.pause = 60 if self.name == "follow" and status == 3 else 0 if time.monotonic() - self.begun > 10 else min(max(1, 2 * self.pause), 30)
+        self.pause = 60 if self.name.startswith("follow") and status == 3 else 0 if time.monotonic() - self.begun > 10 else min(max(1, 2 * self.pause), 30)
         self.due = time.monotonic() + self.pause
         print(f"{self.name} ended with status {status}, and is started again in {self.pause} s; {self.log} says:\n{self.last_words()}", flush=True)
 
@@ -80,13 +81,14 @@ class Child:
             os.killpg(self.process.pid, signal.SIGKILL)
 
 
-def listening_at(team, name):
+def listening_at(team, name, kind):
     """A socket of the folder that nginx's workers may use, in place of one that was left."""
-    listening = socket.socket(socket.AF_UNIX)
+    listening = socket.socket(socket.AF_UNIX, kind)
     with contextlib.suppress(FileNotFoundError):
         os.remove(team.path(name + ".new"))
     listening.bind(team.path(name + ".new"))
-    listening.listen(512)
+    if kind == socket.SOCK_STREAM:
+        listening.listen(512)
     team.let_nginx_read(name + ".new")
     os.rename(team.path(name + ".new"), team.path(name))
     return listening
@@ -167,12 +169,14 @@ class Health:
 def watch(running):
     """Starts again whatever ends, until this program is told to end."""
     while True:
-        watched = {child.watched: child for child in running if child.process}
+        ended, watched = select.poll(), {child.watched: child for child in running if child.process}
+        for number in watched:
+            ended.register(number, select.POLLIN)
         for child in running:
             if not child.process:
                 child.check_port()  # While it is down nobody else may be taken for it.
         due = [time.monotonic() + 0.1 if child.port else child.due for child in running if not child.process]
-        for found in select.select(list(watched), [], [], max(0, min(due) - time.monotonic()) if due else None)[0]:
+        for found, _ in ended.poll(1000 * max(0, min(due) - time.monotonic()) if due else None):
             watched[found].ended()
         for child in running:
             if not child.process and child.due <= time.monotonic():

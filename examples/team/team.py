@@ -23,10 +23,11 @@ os.umask(0o077)
 HERE = os.path.dirname(os.path.realpath(__file__))
 EXAMPLES = os.path.dirname(HERE)
 CHECKOUT = os.path.dirname(EXAMPLES)
-sys.path.insert(0, os.path.join(EXAMPLES, "client"))
+sys.path[:0] = [os.path.join(EXAMPLES, "client"), os.path.join(EXAMPLES, "index")]
+import hints  # noqa: E402
 from retry import Desk, Kept, NoAnswer, NotOfTheDesk, new_id, path_of, write_whole  # noqa: E402
 
-USUAL = {"port": 8443, "desk_port": 8473, "host": "", "project": "tools", "branches": ["main"], "push_megabytes": 200, "hung_after": 90,
+USUAL = {"port": 8443, "desk_port": 8473, "host": "", "projects": ["tools"], "branches": ["main"], "push_megabytes": 200, "hung_after": 90,
          "program": os.path.join(CHECKOUT, "crates", "review_desk", "out", "review_desk")}
 NAME, ADMINS = re.compile(r"[A-Za-z0-9._-]{1,64}"), "Administrators"
 ACCOUNT_LINE = re.compile(r"^(# )?~\^(\S+)\$ ([0-9]+);$", re.M)
@@ -75,7 +76,7 @@ def check_place(folder):
 
 
 class Team:
-    """A folder with all that a team has: its desk, its users, its repository, and what nginx reads."""
+    """A folder with all that a team has: its desk, its users, its projects with their repositories, and what nginx reads. Projects that are said are added to those it has."""
 
     def __init__(self, folder, **settings):
         self.folder = os.path.abspath(folder)
@@ -84,7 +85,11 @@ class Team:
             fail(f"{self.folder} is no team's folder: examples/team/start makes one", 2)
         kept = json.loads(read(self.folder, "settings.json", otherwise="{}"))
         self.settings = {**USUAL, **kept, **{name: value for name, value in settings.items() if value is not None}}
+        had = kept.get("projects") or ([kept["project"]] if "project" in kept else [])
+        self.projects = self.settings["projects"] = [*dict.fromkeys([*had, *(settings.get("projects") or ([] if had else USUAL["projects"]))])]
+        self.settings["project"] = self.projects[0]
         self.desk = Desk(f"http://127.0.0.1:{self.settings['desk_port']}", account=1, seconds=30)
+        self.seen, self.labels_seen = None, {}
 
     def path(self, *parts):
         return os.path.join(self.folder, *parts)
@@ -93,9 +98,12 @@ class Team:
     def address(self):
         return f"https://{self.settings['host'] or '127.0.0.1'}:{self.settings['port']}"
 
-    @property
-    def repository(self):
-        return self.path("git", self.settings["project"] + ".git")
+    def repository(self, project):
+        return self.path("git", project + ".git")
+
+    def project_file(self, project):
+        """The name of the project's file as it was set last: that of the first project is project.toml."""
+        return "project.toml" if project == self.projects[0] else f"project.{project.replace('/', '%')}.toml"
 
     def write(self, text, *path, for_nginx=False, is_program=False):
         """Writes a file of the folder whole, so that nginx's workers can read it where it is for them, and nobody else ever."""
@@ -175,12 +183,29 @@ class Team:
         self.do(f"group {group}", "PUT", path_of("groups", group), {"members": members})
         self.write(json.dumps({**self.groups(), group: members}) + "\n", "groups.json")
 
+    def stat(self, *path):
+        """What changes when a file does, or nothing where there is none."""
+        with contextlib.suppress(FileNotFoundError):
+            status = os.stat(self.path(*path))
+            return status.st_mtime_ns, status.st_ino
+        return None
+
+    def labels(self):
+        """The values of each label of each project, least first, by the projects' files as they were set last."""
+        status = [self.stat(self.project_file(project)) for project in self.projects]
+        if status != self.seen:
+            files = {project: tomllib.loads(read(self.folder, self.project_file(project), otherwise="")).get("label") for project in self.projects}
+            found = {project: {label: sorted(int(value) for value in said.get("values", {})) for label, said in labels.items()} for project, labels in files.items() if labels}
+            self.seen, self.labels_seen = status, found
+        return self.labels_seen
+
+    def has_index(self):
+        return os.path.exists(self.path("examples", "index", "desk_index"))
+
     def write_page(self):
-        """Names, labels, and where the repository is, for the page."""
-        file = tomllib.loads(read(self.folder, "project.toml", otherwise=""))
-        labels = {label: sorted(int(value) for value in said.get("values", {})) for label, said in file.get("label", {}).items()}
-        project, accounts = self.settings["project"], {number: name for name, number, _ in self.account_lines()}
-        said = {"accounts": accounts, "labels": {project: labels} if labels else {}, "git": {project: f"{self.address}/git/{project}.git"}}
+        """Names, labels, where the repositories are, and whether there is an index, for the page."""
+        accounts, places = {number: name for name, number, _ in self.account_lines()}, {project: f"{self.address}/git/{project}.git" for project in self.projects}
+        said = {"accounts": accounts, "labels": self.labels(), "git": places, "index": self.has_index()}
         self.write(json.dumps(said, indent=1) + "\n", "page", "team.json", for_nginx=True)
 
     def reload_nginx(self, how=signal.SIGHUP):
@@ -205,6 +230,7 @@ class Team:
         request = found if found and {**wanted, "id": found["id"]} == found else kept.write({**wanted, "id": new_id()})
         status, told = self.ask(**request)
         kept.remove()  # A refusal, too, is the answer to this id alone: the same again asks under a new one.
+        hints.send(self.path("hints.socket"), method, path)
         if status != 200:
             fail(f"{name}: the desk says {json.dumps(told)}")
         return told

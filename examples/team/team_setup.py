@@ -5,12 +5,14 @@ What is made once stays as it is; what comes from examples/ is copied anew, so t
 import contextlib
 import json
 import os
+import re
 import shutil
 import subprocess
 
 from team import EXAMPLES, fail, new_password, read
 
-PARTS = ("client", "code", "git", "page", "proxy", "team")
+PARTS = ("client", "code", "git", "index", "page", "proxy", "team")
+OF_THE_DESK = ("accounts", "changes", "epochs", "groups", "projects", "git", "page")  # A project of such a name has its repository at /git/PROJECT.git alone.
 
 
 def copy_programs(team):
@@ -85,9 +87,9 @@ def git(*words, **more):
     return ran.stdout.strip()
 
 
-def make_repository(team, source):
-    """The bare repository: what is imported, or one whose branches begin with an empty commit. Then the hook, where the desk is, and what is looked at in what is pushed."""
-    place, branches = team.repository, team.settings["branches"]
+def make_repository(team, project, source):
+    """A project's bare repository: what is imported, or one whose branches begin with an empty commit. Then the hook, where the desk is, and what is looked at in what is pushed."""
+    place, branches = team.repository(project), team.settings["branches"]
     if not os.path.exists(place):
         os.makedirs(os.path.dirname(place), exist_ok=True)
         shutil.rmtree(place + ".new", ignore_errors=True)
@@ -103,8 +105,8 @@ def make_repository(team, source):
         os.rename(place + ".new", place)
     own = team.settings
     settings = {"receive.procReceiveRefs": "refs", "transfer.hideRefs": "refs/desk", "transfer.fsckObjects": "true", "core.fsync": "all",
-                "receive.maxInputSize": str(own["push_megabytes"] << 20), "desk.project": own["project"], "desk.url": f"http://127.0.0.1:{own['desk_port']}",
-                "desk.accounts": team.path("accounts.conf"), "desk.page": f"{team.address}/page/?change=", "desk.mails": team.path("mails"), "desk.seconds": "20", "receive.autogc": "false", "gc.auto": "0",
+                "receive.maxInputSize": str(own["push_megabytes"] << 20), "desk.project": project, "desk.url": f"http://127.0.0.1:{own['desk_port']}",
+                "desk.accounts": team.path("accounts.conf"), "desk.page": f"{team.address}/page/?change=", "desk.hints": team.path("hints.socket"), "desk.mails": team.path("mails"), "desk.seconds": "20", "receive.autogc": "false", "gc.auto": "0",
                 "core.packedGitWindowSize": "64m", "core.packedGitLimit": "512m", "core.bigFileThreshold": "64m"}
     for name, value in settings.items():
         git("-C", place, "config", "--replace-all", name, value)
@@ -123,11 +125,15 @@ def write_nginx(team):
     for usual, word in words.items():
         conf = conf.replace(usual, word)
     team.write("# Written anew at each start: lines of your own belong into files of more.d, whose names end with .conf and stay.\n" + conf, "nginx.conf")
-    backend = os.path.join(git("--exec-path"), "git-http-backend")
-    for part, name, *place in (("team", "git.params"), ("team", "git.conf", "more.d"), ("team", "people.conf", "more.d"), ("code", "code.conf", "more.d")):
+    words = {"FOLDER": team.folder, "BACKEND": os.path.join(git("--exec-path"), "git-http-backend"), "MEGABYTES": str(own["push_megabytes"]),
+             "REPOSITORIES": "|".join(re.escape(project + ".git") for project in team.projects if project.split("/")[0] not in OF_THE_DESK) or "(?!)"}
+    for part, name, *place in (("team", "git.params"), ("team", "git.conf", "more.d"), ("team", "people.conf", "more.d"), ("code", "code.conf", "more.d"), ("index", "index.conf", "more.d"),
+                               ("index", "around.conf", "http.d")):
         text = read(examples, part, name, otherwise="")
-        team.write(text.replace("FOLDER", team.folder).replace("BACKEND", backend).replace("MEGABYTES", str(own["push_megabytes"])), *place, name)
-    for it in os.scandir(os.path.join(examples, "page")):
+        for usual, word in words.items():
+            text = text.replace(usual, word)
+        team.write(text, *place, name)
+    for it in [*os.scandir(os.path.join(examples, "page")), *(it for it in os.scandir(os.path.join(examples, "git")) if it.name == "commit-msg")]:
         team.write(read(it.path), "page", it.name, for_nginx=True)
     team.write_page()
 
@@ -136,7 +142,7 @@ def set_up(team, source):
     """All of it; whatever was stopped before goes on."""
     os.chmod(team.folder, 0o700)
     team.write(json.dumps(team.settings, indent=1) + "\n", "settings.json")
-    for part in ("git", "log", "kept", "more.d", "page"):
+    for part in ("git", "http.d", "log", "kept", "more.d", "page"):
         os.makedirs(team.path(part), exist_ok=True)
     if os.geteuid() == 0:
         print("started as root: so git runs as root, and whatever runs as www-data here is as good as root")
@@ -148,7 +154,8 @@ def set_up(team, source):
     make_desk(team)
     make_certificate(team)
     make_admin(team)
-    make_repository(team, source)
+    for project in team.projects:
+        make_repository(team, project, source if project == team.projects[-1] else None)
     write_nginx(team)
 
 

@@ -1,0 +1,52 @@
+"""What front, feeder and tools say to a desk and to a feeder. A module; standard library only."""
+import json
+import re
+import socket
+
+LENGTH = re.compile(rb"(?i)\r\ncontent-length: *(\d+)")
+# The only entry that is no request. No front appends it: what a front appends has an empty line, or is far longer.
+UPGRADE = re.compile(rb"UPGRADE (\d{1,9})")
+
+
+def tell(port, request, seconds=40):
+    """The whole answer of the desk at a port, or None where there was none: then the request was taken, or it wasn't."""
+    try:
+        with socket.create_connection(("127.0.0.1", port), timeout=seconds) as peer:
+            peer.sendall(request)
+            # So that the desk waits for nothing more, whatever stands in the request.
+            peer.shutdown(socket.SHUT_WR)
+            answer = b""
+            while more := peer.recv(65536):
+                answer += more
+                head, end, body = answer.partition(b"\r\n\r\n")
+                length = LENGTH.search(head)
+                if end and length and len(body) >= int(length[1]):
+                    return answer if is_of_desk(answer) else None
+    except OSError:
+        pass
+    return None
+
+
+def is_of_desk(answer):
+    """Whether an answer has the form of a desk's."""
+    try:
+        return told(answer) is not None
+    except (ValueError, IndexError):
+        return False
+
+
+def told(answer):
+    """The status and the JSON of an answer."""
+    body = answer.partition(b"\r\n\r\n")[2]
+    if not body.startswith(b")]}'\n"):
+        raise ValueError("no answer of a desk")
+    return int(answer[9:12]), json.loads(body[5:])
+
+
+def subscribe(desk_file, asked):
+    """The lines that the feeder of a desk tells at its socket."""
+    with socket.socket(socket.AF_UNIX) as peer:
+        peer.connect(desk_file + ".socket")
+        peer.sendall(json.dumps(asked).encode() + b"\n")
+        for line in peer.makefile("rb"):
+            yield json.loads(line)
