@@ -5,33 +5,30 @@
 ghost use Rattle.std.specs.Prelude.{◌≡◌, false, IfOk, OnOk};
 ghost use Rattle.sqlite_wal.specs.Files.{image_at};
 ghost use Rattle.review_work.specs.OnFile.{ClosedWell, MadeFrom, MigratedFrom, OpenedFrom, WorkedFrom};
-ghost use Rattle.review_work.specs.Turns.{ServedBy};
 
 use crate::listening::Listening;
 use crate::notices::StandardError;
+use crate::serving::serve_on;
 use review_machine::{DeskRules, Outcome};
-use review_work::{Ends, Openings, ProgramFault, Task, after_closing, create, serve_on, work};
+use review_work::{Ends, ProgramFault, Task, after_closing, create, work};
 use sqlite::{Connection, FileFrom, FileStore, Start};
 use std::io::{Stdin, Stdout};
 
-type FileConnection<F> = Connection<FileStore<FileFrom<F>>>;
+pub type FileConnection<F> = Connection<FileStore<FileFrom<F>>>;
 
 type ProgramEnds<'a> = Ends<Stdin, Stdout, Listening<'a>, StandardError<'a>>;
 
 /// What is supposed of a file, each time that it is opened.
-pub trait Starts: Drop {
-    /// What is supposed of it.
-    type Start: Start;
-
+pub trait Starts<F>: Drop {
     /// That of the next time.
-    fn next(&mut self) -> Self::Start;
+    fn next(&mut self) -> F;
 }
 
 // What was done on a connection to a file, which is still to be closed.
 type DoneOn<F, T> = (FileConnection<F>, Result<T, ProgramFault>);
 
-// A connection that finds what the file and its log hold.
-fn open<F: Start>(rt: &HostRuntime, file: &str, start: F) -> Result<FileConnection<F>, ProgramFault>
+/// A connection that finds what the file and its log hold.
+pub fn open<F: Start>(rt: &HostRuntime, file: &str, start: F) -> Result<FileConnection<F>, ProgramFault>
     ensures mode { IfOk result (λ conn. conn.in_transaction ≡ false) }
     ensures from { IfOk result (OpenedFrom (image_at F.Start)) }
 {
@@ -42,7 +39,7 @@ fn open<F: Start>(rt: &HostRuntime, file: &str, start: F) -> Result<FileConnecti
 }
 
 /// Copies the log into the file, and closes both.
-fn close<F: Start>(conn: FileConnection<F>) -> Result<(), ProgramFault>
+pub fn close<F: Start>(conn: FileConnection<F>) -> Result<(), ProgramFault>
     ensures { OnOk result (ClosedWell conn) }
 {
     match conn.close_files() {
@@ -51,35 +48,6 @@ fn close<F: Start>(conn: FileConnection<F>) -> Result<(), ProgramFault>
             drop(store.close());
             Err(ProgramFault::of_store(error))
         }
-    }
-}
-
-// Where a file is opened that is served.
-#[derive(Drop)]
-struct OnFile<'a, T> {
-    rt: &'a HostRuntime,
-    file: &'a str,
-    starts: T,
-}
-
-impl<T: Starts> Openings for OnFile<'_, T> {
-    type Tables = FileStore<FileFrom<T::Start>>;
-
-    ghost opens = { OpenedFrom (image_at T.Start.Start) };
-
-    ghost closes = { ClosedWell };
-
-    fn open(&mut self) -> Result<FileConnection<T::Start>, ProgramFault>
-        ensures mode { IfOk result (λ conn. conn.in_transaction ≡ false) }
-        ensures opens { IfOk result (OpenedFrom (image_at T.Start.Start)) }
-    {
-        open(self.rt, self.file, self.starts.next())
-    }
-
-    fn close(&mut self, conn: FileConnection<T::Start>) -> Result<(), ProgramFault>
-        ensures closes { OnOk result (ClosedWell conn) }
-    {
-        close(conn)
     }
 }
 
@@ -154,30 +122,19 @@ pub fn work_on<F: Start>(
     after_closing(ended, close(conn))
 }
 
-fn serve_at<O: Openings>(
-    rt: &HostRuntime,
-    openings: &mut O,
-    port: u16,
-    count: u32,
-) -> Result<Outcome, ProgramFault>
-    ensures { ServedBy O.Tables.Store O.opens O.closes count result }
-{
-    let mut rules = DeskRules::new(rt.alloc());
-    let mut ends = ends_of(rt, port);
-    serve_on(rt.alloc(), openings, &mut ends, &mut rules, count)
-}
-
-/// Serves so many connections on a port, and says how many once the file is closed. Where a fault shuts the file's store it is opened again, as [`serve_on`] says. Standard error is warned of
+/// Serves so many connections on a port, and says how many once the file is closed. Where a fault shuts the file's store it is opened again, as `serve_on` says. Standard error is warned of
 /// tables that are not those of a desk alone.
-pub fn serve<T: Starts>(
+pub fn serve<F: Start, T: Starts<F>>(
     rt: &HostRuntime,
     file: &str,
-    starts: T,
+    mut starts: T,
     port: u16,
     count: u32,
 ) -> Result<Outcome, ProgramFault> {
-    let mut openings = OnFile { rt, file, starts };
-    let outcome = serve_at(rt, &mut openings, port, count)?;
+    let first = open(rt, file, starts.next())?;
+    let mut rules = DeskRules::new(rt.alloc());
+    let mut ends = ends_of(rt, port);
+    let outcome = serve_on(rt, file, &mut starts, first, &mut ends, &mut rules, count)?;
     match println!(rt; "served {count}") {
         Ok(()) => Ok(outcome),
         Err(_) => Err(ProgramFault::Output),

@@ -9,12 +9,13 @@
 mod files;
 mod listening;
 mod notices;
+mod serving;
 
 use crate::files::Starts;
 use review_jobs::{Job, Place, WordsFault, job_of};
 use review_machine::Outcome;
 use review_work::{ProgramFault, Task, status_of};
-use sqlite::Unknown;
+use sqlite::{Start, Unknown};
 use std::env;
 use std::io::ErrorKind;
 use std::process::ExitCode;
@@ -41,16 +42,14 @@ fn apply_in_memory(rt: &HostRuntime) -> Result<Outcome, ProgramFault> {
 #[derive(Drop)]
 struct Unknowns;
 
-impl Starts for Unknowns {
-    type Start = Unknown;
-
+impl Starts<Unknown> for Unknowns {
     fn next(&mut self) -> Unknown {
         Unknown
     }
 }
 
 // Does a job on a file, whatever the file holds.
-fn run_on<T: Starts>(
+fn run_on<F: Start, T: Starts<F>>(
     rt: &HostRuntime,
     file: &str,
     mut starts: T,
@@ -72,7 +71,11 @@ fn run_on<T: Starts>(
     }
 }
 
-fn run<T: Starts>(rt: &HostRuntime, starts: T, job: Job<'_>) -> Result<Outcome, ProgramFault> {
+fn run<F: Start, T: Starts<F>>(
+    rt: &HostRuntime,
+    starts: T,
+    job: Job<'_>,
+) -> Result<Outcome, ProgramFault> {
     match job.place() {
         Place::Memory => apply_in_memory(rt),
         Place::File(file) => run_on(rt, file, starts, job),

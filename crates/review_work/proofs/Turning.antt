@@ -22,20 +22,16 @@ too_many left had row now is many few = by (left + 1 == had) refl is
     by true same last = (grind (arith, nat_tests), omega (arith, last))
     by false same last = absurd (omega (arith, last))
 
-module _ {S : Type 0} (g : Ghosts S) (opens closes : Held S → Type 0) (count : ℕ) (before : Known) where
-  -- no turn began
-  pub unopened : (result : Result Outcome ProgramFault) → IsErr result → ServedInTurns g opens closes count before before result
-  unopened result is = record { turns = []; are = tt; few = omega arith; ends = (refl, fault_of result is) }
-
-  module _ (turns : List (Turn S)) (t : Turn S) (are : AreTurns g opens closes count before (t ∷ turns)) (few : in_row (t ∷ turns) ≤ 8) where
+module _ {S : Type 0} (g : Ghosts S) (first : Held S) (opens closes : Held S → Type 0) (count : ℕ) (before : Known) where
+  module _ (turns : List (Turn S)) (t : Turn S) (are : AreTurns g first opens closes count before (t ∷ turns)) (few : in_row (t ∷ turns) ≤ 8) where
     -- the last turn ended otherwise than behind a fault of the store
-    pub ended : (closed : Result (Unit {0}) ProgramFault) (result : Result Outcome ProgramFault) → left_by t.ended ≡ None → OnOk closed (closes t.new) → result ≡ after_closing t.ended closed → ServedInTurns g opens closes count before t.after result
+    pub ended : (closed : Result (Unit {0}) ProgramFault) (result : Result Outcome ProgramFault) → left_by t.ended ≡ None → OnOk closed (closes t.new) → result ≡ after_closing t.ended closed → ServedInTurns g first opens closes count before t.after result
     ended closed result none closes_it is = record { turns = t ∷ turns; are = are; few = few; ends = (refl, inl (none, (closed, closes_it, is))) }
 
     -- it was opened again too often
-    pub given_up : (rest : ℕ) → left_by t.ended ≡ Some rest → rest + 1 ≡ t.count → in_row (t ∷ turns) ≡ 8 → ServedInTurns g opens closes count before t.after t.ended
+    pub given_up : (rest : ℕ) → left_by t.ended ≡ Some rest → rest + 1 ≡ t.count → in_row (t ∷ turns) ≡ 8 → ServedInTurns g first opens closes count before t.after t.ended
     given_up rest is single row = record { turns = t ∷ turns; are = are; few = few; ends = (refl, inr (rest, is, inl (refl, single, row))) }
 
     -- it didn't open again
-    pub shut : (rest : ℕ) (result : Result Outcome ProgramFault) → left_by t.ended ≡ Some rest → IsErr result → ServedInTurns g opens closes count before t.after result
+    pub shut : (rest : ℕ) (result : Result Outcome ProgramFault) → left_by t.ended ≡ Some rest → IsErr result → ServedInTurns g first opens closes count before t.after result
     shut rest result is failed = record { turns = t ∷ turns; are = are; few = few; ends = (refl, inr (rest, is, inr (fault_of result failed))) }

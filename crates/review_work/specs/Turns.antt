@@ -40,7 +40,7 @@ abbrev pub in_row : {S : Type 0} → List (Turn S) → ℕ
 in_row [] = 0
 in_row (t ∷ turns) = row_behind turns t.is_anew t.count
 
-module _ {S : Type 0} (g : Ghosts S) (opens closes : Held S → Type 0) where
+module _ {S : Type 0} (g : Ghosts S) (first : Held S) (opens closes : Held S → Type 0) where
   -- what a turn did
   abbrev pub IsTurn : Turn S → Type 0
   IsTurn t = Worked g (Serve t.count) t.before t.after t.ended t.old t.new
@@ -50,9 +50,9 @@ module _ {S : Type 0} (g : Ghosts S) (opens closes : Held S → Type 0) where
   Begins true was old = opens old
   Begins false was old = Stays (state g was) (state g old) × (HasCleanDisk (state g old) → IsTrue (state g old).is_open)
 
-  -- A turn begins behind these: the first is to serve all connections on a desk that was opened, and each other those that the one before has left.
+  -- A turn begins behind these: the first is to serve all connections on the desk that was opened first, and each other those that the one before has left.
   abbrev pub BeginsBehind : ℕ → Known → List (Turn S) → Bool → ℕ → Known → Held S → Type 0
-  BeginsBehind count before [] is_anew left now old = (left ≡ count) × (now ≡ before) × (is_anew ≡ true) × opens old
+  BeginsBehind count before [] is_anew left now old = (left ≡ count) × (now ≡ before) × (is_anew ≡ true) × (old ≡ first)
   BeginsBehind count before (was ∷ more) is_anew left now old = (left_by was.ended ≡ Some left) × (now ≡ was.after) × Begins is_anew was.new old
 
   -- turns, the last one first
@@ -61,24 +61,17 @@ module _ {S : Type 0} (g : Ghosts S) (opens closes : Held S → Type 0) where
   AreTurns count before (t ∷ turns) = BeginsBehind count before turns t.is_anew t.count t.before t.old × IsTurn t × AreTurns count before turns
 
   -- It ended with the last turn, and the desk was closed; or the desk was opened again too many times in a row; or it didn't open.
-  abbrev pub EndsTurns : Known → List (Turn S) → Known → Result Outcome ProgramFault → Type 0
-  EndsTurns before [] after result = (after ≡ before) × ((fault : ProgramFault) × (result ≡ Err fault))
-  EndsTurns before (t ∷ turns) after result =
+  abbrev pub EndsTurns : List (Turn S) → Known → Result Outcome ProgramFault → Type 0
+  EndsTurns [] after result = ⊥
+  EndsTurns (t ∷ turns) after result =
       (after ≡ t.after)
       × (((left_by t.ended ≡ None) × ((closed : Result (Unit {0}) ProgramFault) × OnOk closed (closes t.new) × (result ≡ after_closing t.ended closed)))
       ⊎ ((rest : ℕ) × (left_by t.ended ≡ Some rest)
       × (((result ≡ t.ended) × (rest + 1 ≡ t.count) × (in_row (t ∷ turns) ≡ most_in_row)) ⊎ ((fault : ProgramFault) × (result ≡ Err fault)))))
 
-  -- so many connections were served on a desk that was opened, in turns
+  -- so many connections were served in turns, on a desk that was opened first and each other time that a fault had shut it
   pub record ServedInTurns (count : ℕ) (before after : Known) (result : Result Outcome ProgramFault) : Type 0 where
     pub turns : List (Turn S)
     pub are : AreTurns count before turns
     pub few : in_row turns ≤ most_in_row
-    pub ends : EndsTurns before turns after result
-
-  -- the same, where nothing was told of the tables before
-  pub record ServedBy (count : ℕ) (result : Result Outcome ProgramFault) : Type 0 where
-    pub before : Known
-    pub after : Known
-    pub unwarned : before.is_warned ≡ false
-    pub served : ServedInTurns count before after result
+    pub ends : EndsTurns turns after result

@@ -16,6 +16,7 @@ mod working;
 pub use ending::{after_closing, status_of};
 pub use fault::ProgramFault;
 pub use notices::Notices;
-pub use serving::{Openings, serve_on};
+pub use review_sql::is_shut;
+pub use serving::{MOST_IN_ROW, left_by, row_with};
 pub use task::{Ends, Task};
 pub use working::{create, migrate, work};
