@@ -28,7 +28,11 @@ pub trait Starts<F>: Drop {
 type DoneOn<F, T> = (FileConnection<F>, Result<T, ProgramFault>);
 
 /// A connection that finds what the file and its log hold.
-pub fn open<F: Start>(rt: &HostRuntime, file: &str, start: F) -> Result<FileConnection<F>, ProgramFault>
+pub fn open<F: Start>(
+    rt: &HostRuntime,
+    file: &str,
+    start: F,
+) -> Result<FileConnection<F>, ProgramFault>
     ensures mode { IfOk result (λ conn. conn.in_transaction ≡ false) }
     ensures from { IfOk result (OpenedFrom (image_at F.Start)) }
 {

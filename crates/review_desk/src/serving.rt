@@ -9,7 +9,9 @@ ghost use Rattle.review_work.specs.Worked.{known};
 use crate::files::{FileConnection, Starts, close, open};
 use review_http::Connections;
 use review_machine::{DeskRules, Outcome};
-use review_work::{Ends, MOST_IN_ROW, Notices, ProgramFault, Task, after_closing, is_shut, left_by, row_with, work};
+use review_work::{
+    Ends, MOST_IN_ROW, Notices, ProgramFault, Task, after_closing, is_shut, left_by, row_with, work,
+};
 use sqlite::Start;
 use std::io::{Read, Write};
 
@@ -17,14 +19,7 @@ use std::io::{Read, Write};
 /// closed, and opened again before the next connection: up to eight times in a row, where each time only one connection is served until it is shut again.
 ///
 /// Errors: what ends serving, as `work` says; what opening the desk again says; `ServedInPart` where it was opened again eight times in a row, and is shut again; a fault of closing it at the end.
-pub fn serve_on<
-    F: Start,
-    T: Starts<F>,
-    R: Read,
-    W: Write,
-    C: Connections,
-    N: Notices,
->(
+pub fn serve_on<F: Start, T: Starts<F>, R: Read, W: Write, C: Connections, N: Notices>(
     rt: &HostRuntime,
     file: &str,
     starts: &mut T,

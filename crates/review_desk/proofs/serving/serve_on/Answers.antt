@@ -24,9 +24,12 @@ returns-in_default g c =
 
 pub row_with-in_row-requires : goal.row_with-in_row-requires
 row_with-in_row-requires g c =
-    record { few = c.loop-rest.invariant.5; fewer = (
-    let now = known g.R.Read.remaining g.W.Write.contents g.C.Connections.coming g.C.Connections.told g.N.Notices.is_warned in
-    fewer_left over_files c.loop-rest.left c.in-Some.rest (now c.loop-rest.ends) (now c.work-worked.new.ends) c.work-worked.result.1 (sym c.left_by.ensures ∙ c.in-Some.is) c.loop-rest.conn c.work-worked.result.0 c.work-worked.ensures.done) }
+    record {
+      few = c.loop-rest.invariant.5;
+      fewer = (
+          let now = known g.R.Read.remaining g.W.Write.contents g.C.Connections.coming g.C.Connections.told g.N.Notices.is_warned in
+          fewer_left over_files c.loop-rest.left c.in-Some.rest (now c.loop-rest.ends) (now c.work-worked.new.ends) c.work-worked.result.1 (sym c.left_by.ensures ∙ c.in-Some.is) c.loop-rest.conn c.work-worked.result.0 c.work-worked.ensures.done);
+    }
 
 pub returns-then-in_row-gt-MOST_IN_ROW : goal.returns-then-in_row-gt-MOST_IN_ROW
 returns-then-in_row-gt-MOST_IN_ROW g c =
@@ -57,9 +60,8 @@ loop-rest-preserved-in_ok-conn g c =
     let t : Turn _ = record { is_anew = was.1; count = c.loop-rest.left; before = now c.loop-rest.ends; after = now c.work-worked.new.ends; old = c.loop-rest.conn; new = c.work-worked.result.0; ended = c.work-worked.result.1 } in
     let few : row_behind was.0 was.1 c.loop-rest.left ≤ 8 = omega (arith, was.4, was.5) in
     let fewer : c.in-Some.rest < c.loop-rest.left =
-        let now = known g.R.Read.remaining g.W.Write.contents g.C.Connections.coming g.C.Connections.told g.N.Notices.is_warned in
-        fewer_left over_files c.loop-rest.left c.in-Some.rest (now c.loop-rest.ends) (now c.work-worked.new.ends) c.work-worked.result.1 (sym c.left_by.ensures ∙ c.in-Some.is) c.loop-rest.conn c.work-worked.result.0 c.work-worked.ensures.done in
-    (
+    let now = known g.R.Read.remaining g.W.Write.contents g.C.Connections.coming g.C.Connections.told g.N.Notices.is_warned in
+    fewer_left over_files c.loop-rest.left c.in-Some.rest (now c.loop-rest.ends) (now c.work-worked.new.ends) c.work-worked.result.1 (sym c.left_by.ensures ∙ c.in-Some.is) c.loop-rest.conn c.work-worked.result.0 c.work-worked.ensures.done in (
       t ∷ was.0,
       true,
       (was.3, c.work-worked.ensures.done, was.2),
@@ -82,9 +84,8 @@ loop-rest-preserved g c =
     let t : Turn _ = record { is_anew = was.1; count = c.loop-rest.left; before = now c.loop-rest.ends; after = now c.work-worked.new.ends; old = c.loop-rest.conn; new = c.work-worked.result.0; ended = c.work-worked.result.1 } in
     let few : row_behind was.0 was.1 c.loop-rest.left ≤ 8 = omega (arith, was.4, was.5) in
     let fewer : c.in-Some.rest < c.loop-rest.left =
-        let now = known g.R.Read.remaining g.W.Write.contents g.C.Connections.coming g.C.Connections.told g.N.Notices.is_warned in
-        fewer_left over_files c.loop-rest.left c.in-Some.rest (now c.loop-rest.ends) (now c.work-worked.new.ends) c.work-worked.result.1 (sym c.left_by.ensures ∙ c.in-Some.is) c.loop-rest.conn c.work-worked.result.0 c.work-worked.ensures.done in
-    (
+    let now = known g.R.Read.remaining g.W.Write.contents g.C.Connections.coming g.C.Connections.told g.N.Notices.is_warned in
+    fewer_left over_files c.loop-rest.left c.in-Some.rest (now c.loop-rest.ends) (now c.work-worked.new.ends) c.work-worked.result.1 (sym c.left_by.ensures ∙ c.in-Some.is) c.loop-rest.conn c.work-worked.result.0 c.work-worked.ensures.done in (
       t ∷ was.0,
       false,
       (was.3, c.work-worked.ensures.done, was.2),
