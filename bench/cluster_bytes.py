@@ -68,5 +68,6 @@ def main(said):
                     wrong.append((request.number, got, wanted))
             for kind in ("front", "feeder", "desk"):
                 world.parts[f"{kind}{n}"].end()
+        world.check_logs()
     check(not wrong, "answered otherwise", len(wrong), wrong[:5])
     print(f"bytes: {count} requests through a front, each answered as by a desk")

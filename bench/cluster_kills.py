@@ -215,6 +215,7 @@ def main(said):
         kills.end()
         took = time.monotonic() - begun
         at = compare(kills)
+        world.check_logs()
     told = kills.told
     told.times.sort()
     print(json.dumps({"seconds": round(took), "done": kills.counts, "requests": len(told.answers), "deliveries": len(told.times), "sent again": told.counts["no answer"], "entries": at["position"],

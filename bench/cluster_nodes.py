@@ -207,4 +207,5 @@ def main(said):
         epochs(world)
         copies(world, log)
         ends_in_time(world)
+        world.check_logs()
     print("nodes: lost answers, odd entries, patterns, standing still, closed epochs, copies, truncation and new nodes are as they should be")

@@ -200,4 +200,5 @@ def main(_):
         refuses_to_start(fed)
         upgraded(fed)
         made_anew(fed)
+        world.check_logs()
     print("the feeder's table: each row goes on, is told again, is left out or stands still as it should")

@@ -193,6 +193,11 @@ class World:
         with work_folder() as folder:
             return tables(copy(f"{n}.desk", os.path.join(folder, "copy")))
 
+    def check_logs(self):
+        """No front and no feeder has failed otherwise than it may."""
+        for name, part in self.parts.items():
+            check(not name.startswith(("front", "feeder")) or "Traceback" not in part.said(), name, part.said()[-1500:])
+
     # ---- requests
 
     def ask(self, n, id, method, path, body=None, account=1, epoch=0, seconds=LONG):

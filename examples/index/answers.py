@@ -6,7 +6,7 @@ import sqlite3
 import time
 import urllib.parse
 
-from events import lines_of
+from events import lines_of, named
 from grammar import BadQuery
 from operators import Query
 from store import name_of, reader
@@ -104,12 +104,13 @@ class Answers:
         told, info = json.loads(row["told"]), self.names.info
         it = told["change"]
         said = {
-            "id": f"{urllib.parse.quote(it['project'], safe='')}~{it['change']}", "project": it["project"], "branch": it["branch"], "change_id": row["change_id"] or f"I{it['change']:040x}",
-            "subject": it["subject"], "status": it["status"], "created": moment(row["created_at"]), "updated": moment(row["updated_at"]), "submittable": bool(row["submittable"]),
-            "insertions": row["insertions"], "deletions": row["deletions"], "total_comment_count": row["comments"], "unresolved_comment_count": row["unresolved"],
-            "has_review_started": not it["work_in_progress"], "hashtags": [], "_number": it["change"], "owner": info(it["owner"]), "current_revision_number": it["current_patch_set"],
-            "updated_request": it["updated"], "labels": self.labels_of(it), "reviewers": {role: [info(account) for account in it[name]] for role, name in ROLES.items() if it[name]},
-            "attention_set": {str(one["account"]): {"account": info(one["account"]), "reason": self.named(one["reason"]), "last_update": moment(row["updated_at"])} for one in told["attention"]},
+            "id": f"{urllib.parse.quote(it['project'], safe='')}~{it['change']}", "project": it["project"], "branch": it["branch"], "subject": it["subject"], "status": it["status"],
+            "change_id": row["change_id"] or f"I{it['change']:040x}", "created": moment(row["created_at"]), "updated": moment(row["updated_at"]), "hashtags": [],
+            "submittable": bool(row["submittable"]), "insertions": row["insertions"], "deletions": row["deletions"], "total_comment_count": row["comments"],
+            "unresolved_comment_count": row["unresolved"], "has_review_started": not it["work_in_progress"], "_number": it["change"], "owner": info(it["owner"]),
+            "current_revision_number": it["current_patch_set"], "updated_request": it["updated"], "labels": self.labels_of(it),
+            "reviewers": {role: [info(account) for account in it[name]] for role, name in ROLES.items() if it[name]},
+            "attention_set": {str(one["account"]): {"account": info(one["account"]), "reason": named(one["reason"], info), "last_update": moment(row["updated_at"])} for one in told["attention"]},
             "submit_requirements": [{**one, "is_legacy": False} for one in told["requirements"]]}
         if it["work_in_progress"]:
             said["work_in_progress"] = True
@@ -131,10 +132,6 @@ class Answers:
             word = "rejected" if values and value == values[0] else "approved" if values and value == values[-1] else "recommended" if value > 0 else "disliked"
             label[word] = info(vote["account"])
         return labels
-
-    def named(self, reason):
-        """A reason of the attention set, with the user's name in place of the account's number, where the desk begins it so."""
-        return re.sub(r"^account (\d{1,9})(?= )", lambda found: self.names.info(int(found[1]))["name"], reason)
 
     def revision(self, it, number):
         ref, url = f"refs/changes/{it['change'] % 100:02}/{it['change']}/{number}", f"{self.team.address}/{it['project']}.git"
@@ -173,12 +170,12 @@ class Answers:
     # ---- the index itself
 
     def index_state(self, *_):
-        """How far behind the index is: when it last heard of the desk, whether it has all changes, which ones it will ask for again soon, and how long ago each open one was asked for."""
+        """How far behind the index is: when it last heard of the desk, whether it has all changes, how many it will ask for soon, and how long ago each open one was asked for."""
         now, state = time.time(), self.state()
-        (row,) = self.rows("SELECT coalesce(sum(status = 'NEW'), 0) AS open, coalesce(max(number), 0) AS last, coalesce(sum(asked <= 1), 0) AS waiting, "
-                           "coalesce(min(CASE WHEN status = 'NEW' AND asked > 1 THEN asked END), 0) AS oldest, (SELECT coalesce(max(place), 0) FROM events) AS place FROM changes")
+        (row,) = self.rows("SELECT (SELECT count(*) FROM changes WHERE status = 'NEW') AS open, (SELECT max(number) FROM changes) AS last, (SELECT max(place) FROM events) AS place, "
+                           "(SELECT count(*) FROM changes WHERE asked <= 1) AS waiting, (SELECT min(asked) FROM changes WHERE status = 'NEW' AND asked > 1) AS oldest")
         return {"heard_seconds_ago": round(now - state["heard"], 1) if state["heard"] else None, "has_all_changes": state["is_filled"], "waiting": row["waiting"], "open": row["open"],
-                "last": row["last"], "open_asked_seconds_ago": round(now - row["oldest"], 1) if row["oldest"] else None, "place": f"{name_of(self.kept)}.{row['place']}"}
+                "last": row["last"] or 0, "open_asked_seconds_ago": round(now - row["oldest"], 1) if row["oldest"] else None, "place": f"{name_of(self.kept)}.{row['place'] or 0}"}
 
     def events(self, _, said):
         """What has happened behind a place, as lines of JSON; behind a place of another index file, or of none, from the beginning."""
@@ -187,8 +184,8 @@ class Answers:
         if (one_of(said, "after", "") and not found) or not re.fullmatch(r"[1-9]\d{0,5}", count):
             raise Told(400, "after is a place that an event had, and n a number above 0")
         name = name_of(self.kept)
-        rows = self.rows("SELECT e.place, e.change, e.type, e.at, e.what, c.told, c.change_id FROM events e LEFT JOIN changes c ON c.number = e.change WHERE e.place > ? ORDER BY e.place LIMIT ?",
-                         [int(found[2]) if found and found[1] == name else 0, min(int(count), MOST)])
+        rows = self.rows("SELECT e.place, e.change, e.type, e.at, e.what, c.told, c.change_id FROM events e LEFT JOIN changes c ON c.number = e.change "
+                         "WHERE e.place > ? ORDER BY e.place LIMIT ?", [int(found[2]) if found and found[1] == name else 0, min(int(count), MOST)])
         return lines_of(rows, name, self.names.info, f"{self.team.address}/page/?change=")
 
     ROUTES = ((r"/changes/", changes), (r"/changes/(?:[^/~]+~)?(\d{1,10})/detail", change), (r"/accounts/", accounts), (r"/accounts/([^/]+)(?:/detail)?", account),

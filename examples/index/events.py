@@ -5,6 +5,7 @@ and filled again, when all is told once more.
 """
 import hashlib
 import json
+import re
 
 KEPT = ("patchset-created", "change-merged", "attention-added")
 PEOPLE = {"comment-added": "author", "reviewer-added": "reviewer", "reviewer-deleted": "reviewer", "vote-deleted": "reviewer"}  # whom an event is about, in Gerrit's word
@@ -15,17 +16,24 @@ def account_of(info):
     return {"name": info["name"], "username": info.get("username", ""), "account": info["_account_id"]}
 
 
+def named(reason, info):
+    """A reason of the attention set, with the user's name in place of the account's number, where the desk begins it so."""
+    return re.sub(r"^account (\d{1,9})(?= )", lambda found: info(int(found[1]))["name"], reason)
+
+
 def change_of(told, change_id, info, page):
+    """Gerrit's change attribute."""
     it = told["change"]
-    return {"project": it["project"], "branch": it["branch"], "id": change_id or f"I{it['change']:040x}", "number": it["change"], "subject": it["subject"], "owner": account_of(info(it["owner"])),
-            "url": f"{page}{it['change']}", "status": it["status"], **({"wip": True} if it["work_in_progress"] else {})}
+    return {"project": it["project"], "branch": it["branch"], "id": change_id or f"I{it['change']:040x}", "number": it["change"], "subject": it["subject"],
+            "owner": account_of(info(it["owner"])), "url": f"{page}{it['change']}", "status": it["status"], **({"wip": True} if it["work_in_progress"] else {})}
 
 
 def patch_set_of(told, number, commit, info):
     """Gerrit's patchSet attribute; who uploaded an earlier one the desk doesn't tell."""
     it = told["change"]
     is_current = number == it["current_patch_set"]
-    return {"number": number, "revision": commit or told["revisions"].get(str(number), it["commit"] if is_current else ""), "ref": f"refs/changes/{it['change'] % 100:02}/{it['change']}/{number}",
+    revision = commit or told["revisions"].get(str(number), it["commit"] if is_current else "")
+    return {"number": number, "revision": revision, "ref": f"refs/changes/{it['change'] % 100:02}/{it['change']}/{number}",
             **({"uploader": account_of(info(it["uploader"])), "parents": told["parents"]} if is_current else {})}
 
 
@@ -54,7 +62,7 @@ def event_of(row, name, info, page):
         said.update(comment=what.get("message", ""), **({"path": what["path"], "line": what["line"]} if what.get("line") or what.get("path", "/")[0] != "/" else {}))
     if "votes" in what:
         said["approvals"] = [{"type": vote["label"], "description": vote["label"], "value": str(vote["value"]), "oldValue": str(vote["was"])} for vote in what["votes"]]
-    return {**said, **{word: what[word] for word in ("reason", "role") if word in what}}
+    return {**said, **({"reason": named(what["reason"], info)} if "reason" in what else {}), **({"role": what["role"]} if "role" in what else {})}
 
 
 def lines_of(rows, name, info, page):

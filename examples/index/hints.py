@@ -8,9 +8,10 @@ import contextlib
 import os
 import re
 import socket
+import threading
 
 HINT = re.compile(rb"\b(POST|PUT) (/\S*)$")
-MOST = 1000  # hints that are taken at once
+MOST = 10_000  # hints that wait
 
 
 def send(place, method, path):
@@ -31,12 +32,30 @@ def listening_at(place):
     return ear
 
 
-def heard(ear):
-    """What was said since, each once, in order: methods with paths."""
-    found = {}
-    with contextlib.suppress(BlockingIOError):
-        for _ in range(MOST):
-            said = HINT.search(ear.recv(4096, socket.MSG_DONTWAIT).rstrip())
+class Ear:
+    """Hears hints as they come, since a socket keeps only a few; each is waiting once, until it is taken."""
+
+    def __init__(self, ear):
+        self.ear, self.waiting, self.has_come = ear, {}, threading.Condition()
+        threading.Thread(target=self.hear, daemon=True).start()
+
+    def hear(self):
+        while True:
+            said = HINT.search(self.ear.recv(4096).rstrip())
             if said:
-                found[said[1].decode(), said[2].decode(errors="replace")] = True
-    return list(found)
+                self.add((said[1].decode(), said[2].decode(errors="replace")))
+
+    def add(self, hint):
+        with self.has_come:
+            if len(self.waiting) < MOST:
+                self.waiting[hint] = True
+            self.has_come.notify()
+
+    def next(self, seconds):
+        """The hint that has waited longest, a method and a path; None where none comes in so long."""
+        with self.has_come:
+            if not self.waiting:
+                self.has_come.wait(seconds)
+            hint = next(iter(self.waiting), None)
+            self.waiting.pop(hint, None)
+            return hint

@@ -70,7 +70,8 @@ def events(index, place_file, is_from_now=False, is_once=False):
         try:
             if place is None:
                 place = start(index, place_file, is_from_now)
-            lines, why = index.ask(f"/index/events?{urllib.parse.urlencode({'after': place, 'n': COUNT})}").splitlines(), None
+            text, why = index.ask(f"/index/events?{urllib.parse.urlencode({'after': place, 'n': COUNT})}"), None
+            lines = text.split("\n")[:-1]  # not splitlines, which ends a line also where a comment has U+2028
         except NotAnswered as error:
             lines, why = [], str(error)
         if why != said:
