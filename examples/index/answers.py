@@ -12,6 +12,7 @@ from operators import Query
 from store import name_of, reader
 
 MOST, MOST_START, MOST_QUERIES, SECONDS = 500, 1_000_000, 12, 5
+LAST_SECOND = 253402300799  # of the year 9999
 WITH_REVISIONS = {"CURRENT_REVISION", "ALL_REVISIONS", "CURRENT_COMMIT", "CURRENT_FILES", "DOWNLOAD_COMMANDS"}
 ROLES = {"REVIEWER": "reviewers", "CC": "ccs"}
 
@@ -48,7 +49,8 @@ class Names:
 
 
 def moment(seconds):
-    return datetime.datetime.fromtimestamp(seconds, datetime.timezone.utc).strftime("%Y-%m-%d %H:%M:%S.000000000")
+    """Gerrit's form of a time. What an author says of a commit's may be beyond the last one that has such a form."""
+    return datetime.datetime.fromtimestamp(min(seconds, LAST_SECOND), datetime.timezone.utc).strftime("%Y-%m-%d %H:%M:%S.000000000")
 
 
 def one_of(said, name, otherwise):
