@@ -12,6 +12,7 @@ from operators import Query
 from store import name_of, reader
 
 MOST, MOST_START, MOST_QUERIES, SECONDS = 500, 1_000_000, 12, 5
+LAST_SECOND = 253402300799  # of the year 9999
 WITH_REVISIONS = {"CURRENT_REVISION", "ALL_REVISIONS", "CURRENT_COMMIT", "CURRENT_FILES", "DOWNLOAD_COMMANDS"}
 ROLES = {"REVIEWER": "reviewers", "CC": "ccs"}
 
@@ -48,7 +49,8 @@ class Names:
 
 
 def moment(seconds):
-    return datetime.datetime.fromtimestamp(seconds, datetime.timezone.utc).strftime("%Y-%m-%d %H:%M:%S.000000000")
+    """Gerrit's form of a time. What an author says of a commit's may be beyond the last one that has such a form."""
+    return datetime.datetime.fromtimestamp(min(seconds, LAST_SECOND), datetime.timezone.utc).strftime("%Y-%m-%d %H:%M:%S.000000000")
 
 
 def one_of(said, name, otherwise):
@@ -86,13 +88,12 @@ class Answers:
     def search(self, caller, text, said):
         try:
             asked = Query(text, self.names, caller, self.team.labels())
-            count = int(one_of(said, "n", one_of(said, "limit", str(MOST))))
-            start = int(one_of(said, "S", one_of(said, "start", "0")))
         except (BadQuery, ValueError) as error:
             raise Told(400, str(error)) from error
-        count = min(count, asked.limit or MOST, MOST)
-        if count < 1 or not 0 <= start < MOST_START:
+        count, start = one_of(said, "n", one_of(said, "limit", str(MOST))), one_of(said, "S", one_of(said, "start", "0"))
+        if not re.fullmatch(r"[1-9][0-9]{0,8}", count) or not re.fullmatch(r"[0-9]{1,9}", start) or int(start) >= MOST_START:
             raise Told(400, f"n is 1 or more, and S is 0 to {MOST_START - 1}")
+        count, start = min(int(count), asked.limit or MOST, MOST), int(start)
         found = self.rows(f"SELECT * FROM changes c WHERE {asked.condition} ORDER BY c.updated DESC, c.number DESC LIMIT ? OFFSET ?", [*asked.values, count + 1, start])
         shown = [self.change_info(row, set(said.get("o", []))) for row in found[:count]]
         if len(found) > count:

@@ -1,6 +1,7 @@
 """What git tells of a change that a desk doesn't: message, footer, people, paths, sizes, dates and the commits of earlier patch sets. A module; git 2.39."""
 import os
 import re
+import time
 
 from patch_sets import NotShown, PatchSets, text_of
 
@@ -42,7 +43,7 @@ class Commits:
         except NotShown:
             return found
         _, parents, date, author, committer, footers, message, _ = text_of(said).split("\0", 7)
-        found.update(at=int(date), author=author, committer=committer, change_id=footers.split(" ")[-1], message=message, parents=parents.split())
+        found.update(at=min(int(date or 0), int(time.time())), author=author, committer=committer, change_id=footers.split(" ")[-1], message=message, parents=parents.split())
         try:
             found.update(self.sizes(repository, found["parents"], it["commit"]))
         except NotShown:
@@ -58,7 +59,7 @@ class Commits:
             patch_set = ref.rsplit("/", 1)[1]
             if patch_set.isdigit():
                 found[patch_set] = name
-                created = int(date or 0) if patch_set == "1" else created
+                created = min(int(date or 0), int(time.time())) if patch_set == "1" else created  # Nothing was made later than now, whatever it says.
         return found, created
 
     @staticmethod

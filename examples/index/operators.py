@@ -70,6 +70,8 @@ class Query:
         self.condition, self.values = Reader(text, self.term).read()
 
     def term(self, field, text):
+        if text.startswith("^") and ALSO.get(field, field) in (None, "message", "subject", "directory"):  # Gerrit takes regular expressions there.
+            raise BadQuery(f"^BEGINNING.* is taken behind project:, branch:, ref:, path: and file:, and not here: {text}")
         if field is None:
             return self.bare(text)
         meaning = getattr(self, "by_" + ALSO.get(field, field), None)
@@ -83,7 +85,7 @@ class Query:
             return joined("OR", [self.by_change(text), *([self.by_commit(text)] if re.fullmatch(r"\d{6,10}", text) else [])])
         if text.startswith("refs/"):
             return self.by_ref(text)
-        found = [words("subject message comments", text), self.by_file(text) if not text.startswith("^") else NEVER, self.by_projects(text), ("c.branch = ?", [text])]
+        found = [words("subject message comments", text), self.by_file(text), self.by_projects(text), ("c.branch = ?", [text])]
         if re.fullmatch(r"[0-9a-f]{6,40}", text):
             found.append(self.by_commit(text))
         if self.names.number(text) is not None:
