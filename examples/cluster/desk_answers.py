@@ -4,7 +4,7 @@ import re
 import socket
 
 LENGTH = re.compile(rb"(?i)\r\ncontent-length: *(\d+)")
-# The only entry that is no request. No front appends it: what a front appends has an empty line, or is far longer.
+# The only entry that is no request. No front appends it: who sends it is told by the desk that it is none.
 UPGRADE = re.compile(rb"UPGRADE (\d{1,9})")
 
 
