@@ -1,6 +1,9 @@
 """What front, feeder and tools say to a desk and to a feeder. A module; standard library only."""
+import contextlib
 import json
+import os
 import re
+import signal
 import socket
 
 LENGTH = re.compile(rb"(?i)\r\ncontent-length: *(\d+)")
@@ -50,3 +53,13 @@ def subscribe(desk_file, asked):
         peer.sendall(json.dumps(asked).encode() + b"\n")
         for line in peer.makefile("rb"):
             yield json.loads(line)
+
+
+def end_listener(port):
+    """Kills the program that listens at a port of this machine, so that its supervisor starts it again."""
+    with open("/proc/net/tcp", encoding="utf-8") as lines:
+        found = {f"socket:[{words[9]}]" for words in map(str.split, lines) if words[1].endswith(f":{port:04X}") and words[3] == "0A"}
+    for number in filter(str.isdigit, os.listdir("/proc")):
+        with contextlib.suppress(OSError):
+            if any(os.readlink(f"/proc/{number}/fd/{it}") in found for it in os.listdir(f"/proc/{number}/fd")):
+                os.kill(int(number), signal.SIGKILL)
