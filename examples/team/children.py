@@ -31,7 +31,8 @@ class Child:
         self.listening = listening_at(team, socket_file, kind) if socket_file else None
 
     def check_port(self):
-        if self.port and is_listened_at(self.port) and not is_own(self.port):
+        # Asked once more at the end: a program that is just ending may be heard, and be gone when it is looked whose it is.
+        if self.port and is_listened_at(self.port) and not is_own(self.port) and is_listened_at(self.port):
             fail(f"another user's program listens at port {self.port}, which {self.name} is for: all ends, so that nobody believes it; end that program")
 
     def start(self):
