@@ -2,8 +2,9 @@
 //!
 //! Each is for whatever the file and its log hold when they are opened, and says what it does by that (`F`, which `main` names): what the program does in one run goes on from what the run before
 //! left, or what a stop left of it. Where `serve` opens a file again, that is said of each opening by itself.
-ghost use Rattle.std.specs.Prelude.{◌≡◌, false, IfOk, OnOk};
+ghost use Rattle.std.specs.Prelude.{◌≡◌, false, IfOk, IfErr, OnOk};
 ghost use Rattle.sqlite_wal.specs.Files.{image_at};
+ghost use Rattle.review_work.specs.Faults.{IsDeskFault};
 ghost use Rattle.review_work.specs.OnFile.{ClosedWell, MadeFrom, MigratedFrom, OpenedFrom, WorkedFrom};
 
 use crate::listening::Listening;
@@ -35,6 +36,7 @@ pub fn open<F: Start>(
 ) -> Result<FileConnection<F>, ProgramFault>
     ensures mode { IfOk result (λ conn. conn.in_transaction ≡ false) }
     ensures from { IfOk result (OpenedFrom (image_at F.Start)) }
+    ensures cause { IfErr result IsDeskFault }
 {
     match Connection::open_from(rt, file, false, start) {
         Ok(conn) => Ok(conn),

@@ -1,18 +1,18 @@
 -- Turns of serving: how they end.
-use Rattle.std.proofs.Common.{◌≡◌, ◌≤◌, ◌<◌, ◌+◌, ◌==◌, ◌∷◌, ℕ, Bool, true, false, List, Some, None, Result, Ok, Err, IsErr, OnOk, inl, inr, refl, arith, if◌then◌else◌}
+use Rattle.std.proofs.Common.{◌≡◌, ◌≤◌, ◌<◌, ◌+◌, ◌==◌, ◌∷◌, ℕ, Bool, true, false, List, Some, None, Result, Ok, Err, IsErrAnd, OnOk, ap, inl, inr, refl, arith, if◌then◌else◌}
 use Rattle.std.proofs.lemmas.Bool.Decides.{nat_tests}
 use Rattle.sqlite_trees.specs.declared.store.Store.{Ghosts}
 use Rattle.sqlite.specs.Held.{Held}
 use Rattle.review_lines.specs.declared.fault.Outcome.{Outcome}
-use Rattle.review_work.specs.Faults.{after_closing}
+use Rattle.review_work.specs.Faults.{after_closing, IsDeskFault}
 use Rattle.review_work.specs.Worked.{Known}
 use Rattle.review_work.specs.Turns.{Turn, AreTurns, ServedInTurns, in_row, left_by}
 use Rattle.review_work.specs.declared.fault.ProgramFault.{ProgramFault}
 
--- an error has a fault
-pub fault_of : (result : Result Outcome ProgramFault) → IsErr result → (fault : ProgramFault) × (result ≡ Err fault)
-fault_of (Ok done) is = let none : false ≡ true = is in cc
-fault_of (Err fault) is = (fault, refl)
+-- an error that another one was told as is that one
+pub is_error : (result : Result Outcome ProgramFault) (fault : ProgramFault) → IsErrAnd result (λ (f : ProgramFault). f ≡ fault) → result ≡ Err fault
+is_error (Ok done) fault is = absurd is
+is_error (Err f) fault is = ap Err is
 
 -- it was opened again too many times in a row only where each of them served one connection
 pub too_many : (left had row now : ℕ) → now ≡ (if left + 1 == had then row + 1 else 1) → 8 < now → row ≤ 8 → (left + 1 ≡ had) × (row ≡ 8)
@@ -33,5 +33,5 @@ module _ {S : Type 0} (g : Ghosts S) (first : Held S) (opens closes : Held S →
     given_up rest is single row = record { turns = t ∷ turns; are = are; few = few; ends = (refl, inr (rest, is, inl (refl, single, row))) }
 
     -- it didn't open again
-    pub shut : (rest : ℕ) (result : Result Outcome ProgramFault) → left_by t.ended ≡ Some rest → IsErr result → ServedInTurns g first opens closes count before t.after result
-    shut rest result is failed = record { turns = t ∷ turns; are = are; few = few; ends = (refl, inr (rest, is, inr (fault_of result failed))) }
+    pub shut : (rest : ℕ) (fault : ProgramFault) (result : Result Outcome ProgramFault) → left_by t.ended ≡ Some rest → IsDeskFault fault → result ≡ Err fault → ServedInTurns g first opens closes count before t.after result
+    shut rest fault result is cause failed = record { turns = t ∷ turns; are = are; few = few; ends = (refl, inr (rest, is, inr (fault, cause, failed))) }

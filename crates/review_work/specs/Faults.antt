@@ -1,5 +1,5 @@
 -- The faults of the program, from those of its parts.
-use Rattle.std.specs.Prelude.{ℕ, ◌==◌, if◌then◌else◌, List, Result, Ok, Err, codes}
+use Rattle.std.specs.Prelude.{ℕ, ◌≡◌, ◌==◌, if◌then◌else◌, List, Result, Ok, Err, codes}
 use Rattle.review_lines.specs.declared.fault.Fault.{Fault}
 use Rattle.review_lines.specs.declared.fault.Fault.TheVariants as line
 use Rattle.review_lines.specs.declared.fault.Outcome.{Outcome}
@@ -21,6 +21,10 @@ desk_fault desk.WrongVersion = WrongVersion
 desk_fault desk.Store = Store
 desk_fault desk.NotEmpty = NotEmpty
 desk_fault desk.Memory = Memory
+
+-- a fault of making or opening a desk
+abbrev pub IsDeskFault : ProgramFault → Type 0
+IsDeskFault fault = (cause : DeskFault) × (fault ≡ desk_fault cause)
 
 -- why lines are not all taken
 abbrev pub line_fault : Fault → ProgramFault

@@ -5,7 +5,7 @@ use Rattle.sqlite.specs.State.{HasCleanDisk}
 use Rattle.sqlite.specs.Held.{Held, state}
 use Rattle.review_lines.specs.declared.fault.Outcome.{Outcome}
 use Rattle.review_sql.specs.Shelf.{Stays}
-use Rattle.review_work.specs.Faults.{after_closing}
+use Rattle.review_work.specs.Faults.{after_closing, IsDeskFault}
 use Rattle.review_work.specs.Worked.{Known, Worked}
 use Rattle.review_work.specs.declared.fault.ProgramFault.{ProgramFault}
 use Rattle.review_work.specs.declared.fault.ProgramFault.TheVariants.{ServedInPart}
@@ -67,7 +67,7 @@ module _ {S : Type 0} (g : Ghosts S) (first : Held S) (opens closes : Held S →
       (after ≡ t.after)
       × (((left_by t.ended ≡ None) × ((closed : Result (Unit {0}) ProgramFault) × OnOk closed (closes t.new) × (result ≡ after_closing t.ended closed)))
       ⊎ ((rest : ℕ) × (left_by t.ended ≡ Some rest)
-      × (((result ≡ t.ended) × (rest + 1 ≡ t.count) × (in_row (t ∷ turns) ≡ most_in_row)) ⊎ ((fault : ProgramFault) × (result ≡ Err fault)))))
+      × (((result ≡ t.ended) × (rest + 1 ≡ t.count) × (in_row (t ∷ turns) ≡ most_in_row)) ⊎ ((fault : ProgramFault) × IsDeskFault fault × (result ≡ Err fault)))))
 
   -- so many connections were served in turns, on a desk that was opened first and each other time that a fault had shut it
   pub record ServedInTurns (count : ℕ) (before after : Known) (result : Result Outcome ProgramFault) : Type 0 where

@@ -1,6 +1,6 @@
 //! Why the program ends with status 1.
 ghost use Rattle.std.specs.Prelude.{◌≡◌};
-ghost use Rattle.review_work.specs.Faults.{fault_text};
+ghost use Rattle.review_work.specs.Faults.{IsDeskFault, fault_text};
 
 use review_http::ConnectionsFault;
 use review_lines::Fault;
@@ -42,7 +42,9 @@ pub enum ProgramFault {
 
 impl ProgramFault {
     /// The fault of an error of the store.
-    pub fn of_store(error: Error) -> ProgramFault {
+    pub fn of_store(error: Error) -> ProgramFault
+        ensures { IsDeskFault result }
+    {
         ProgramFault::from(DeskFault::of(error))
     }
 

@@ -5,7 +5,7 @@ use Rattle.review_work.specs.OnFile.{ClosedWell, OpenedFrom}
 use Rattle.review_work.specs.Worked.{known}
 use Rattle.review_work.specs.Turns.{Turn, row_behind}
 use Rattle.review_work.proofs.Fewer.{fewer_left}
-use Rattle.review_work.proofs.Turning.{ended, given_up, shut, too_many}
+use Rattle.review_work.proofs.Turning.{ended, given_up, is_error, shut, too_many}
 use Rattle.review_desk.proofs.serving.serve_on.Goals as goal
 
 pub loop-rest-init : goal.loop-rest-init
@@ -46,7 +46,8 @@ returns-in_err-conn g c =
     let was = c.loop-rest.invariant in
     let t : Turn _ = record { is_anew = was.1; count = c.loop-rest.left; before = now c.loop-rest.ends; after = now c.work-worked.new.ends; old = c.loop-rest.conn; new = c.work-worked.result.0; ended = c.work-worked.result.1 } in
     let few : row_behind was.0 was.1 c.loop-rest.left ≤ 8 = omega (arith, was.4, was.5) in
-    shut over_files c.args.first (OpenedFrom (image_at g.F.Start)) ClosedWell c.args.count (now c.args.ends.now) was.0 t (was.3, c.work-worked.ensures.done, was.2) few c.in-Some.rest c.from_residual.result (sym c.left_by.ensures ∙ c.in-Some.is) c.from_residual.ensures.0
+    shut over_files c.args.first (OpenedFrom (image_at g.F.Start)) ClosedWell c.args.count (now c.args.ends.now) was.0 t (was.3, c.work-worked.ensures.done, was.2) few c.in-Some.rest c.in_err-conn.field-0.0 c.from_residual.result (sym c.left_by.ensures ∙ c.in-Some.is) c.in_err-conn.ensures.cause
+    (is_error c.from_residual.result c.in_err-conn.field-0.0 c.from_residual.ensures.1)
 
 pub loop-rest-smaller-in_ok-conn : goal.loop-rest-smaller-in_ok-conn
 loop-rest-smaller-in_ok-conn g c =
