@@ -59,7 +59,7 @@ module _ {S : Type 0} (state : S → Shown) where
       (front back : List (Delivery × Reply)) × (between : S) × (taken ≡ front ++ back) × ServedOne exchange front old between × CountsBefore faults exchanges between
       × ServedEach faults exchanges back between new
 
-  -- Connections were served: the first of those to come, each of whose peers was told what was written to it, and no other was accepted. They were so many, or fewer where one could not be
+  -- Connections were served: the first of those to come, each of whose peers was told what was written to it; where it ended well no other was accepted. They were so many, or fewer where one could not be
   -- accepted, or where a fault of the store was counted for the last of them: then it is told how many are left. What was taken of them was a run.
   pub record ServedAll (before after : Peers) (count : ℕ) {E : Type 0} (ended : Result ℕ E) (old new : S) : Type 0 where
     pub exchanges : List Exchange

@@ -96,7 +96,7 @@ pub record IsNotOurs {S : Type 0} (g : Ghosts S) (old new : Held S) : Type 0 whe
   pub cause : IsTrue (state g new).is_open → IsRefused (state g old) NotOurs
   pub left : IsTrue (state g new).is_open → AreLeftOfOurs (state g old).now.trees → ⊥
 
--- No desk was opened, for no other reason than that the tables aren't ours: they are as they were, and nothing was written or told. Where a stop of a desk of ours left them, there was no memory or
+-- No desk was opened, for another reason than that the tables aren't ours: they are as they were, and nothing was written or told. Where a stop of a desk of ours left them, there was no memory or
 -- the store had a fault.
 pub record IsRefusedDesk {S : Type 0} (g : Ghosts S) (before after : Known) (old new : Held S) (ended : Result Outcome ProgramFault) : Type 0 where
   pub fault : DeskFault
@@ -157,7 +157,7 @@ pub record WasMade {S X : Type 0} (g : Ghosts S) (old new : Held S) (made : Resu
 abbrev pub Migrated : {S : Type 0} → Ghosts S → Bool → Held S → Held S → Type 0
 Migrated {S} g is_ours old new = (shelf : ShelfView S) × (IsUpgraded g is_ours old shelf ⊎ IsOpenedAsIs g is_ours old shelf) × IsHandedBack g is_ours shelf new
 
--- No desk was migrated, for no other reason than that the tables aren't ours; where a stop of a desk of ours left them, there was no memory or the store had a fault.
+-- No desk was migrated, for another reason than that the tables aren't ours; where a stop of a desk of ours left them, there was no memory or the store had a fault.
 pub record IsUnmigrated {S X : Type 0} (g : Ghosts S) (is_ours : Bool) (ended : Result X ProgramFault) (old new : Held S) : Type 0 where
   pub fault : DeskFault
   pub ends : ended ≡ Err (desk_fault fault)
