@@ -1,5 +1,5 @@
 -- What is found of a change in its tables.
-use Rattle.std.specs.Prelude.{ℕ, ◌+◌, ℤ, ◌≡◌, ◌⊎◌, List, Option, Some, None, IsSome, if◌then◌else◌, option_map}
+use Rattle.std.specs.Prelude.{ℕ, ◌+◌, ℤ, ◌≡◌, ◌⊎◌, List, Option, Some, None, IsSome, IfSome, if◌then◌else◌, option_map}
 use Rattle.std.specs.declared.cmp.Ordering.{Ordering}
 use Rattle.std.specs.Ordering.{nat_cmp}
 use Rattle.sqlite_trees.specs.Tree.{Trees}
@@ -15,15 +15,20 @@ use Rattle.review_changes.specs.Seen.{vote_cmp}
 use Rattle.review_change_rows.specs.declared.tables.ChangeTables.{ChangeTables}
 use Rattle.review_change_rows.specs.Tables as tables
 use Rattle.review_rows.specs.Rows.{APart}
+use Rattle.review_rows.specs.Known.{HasChange}
+use Rattle.review_changes.specs.Change.{Change}
 use Rattle.review_rows.specs.Shelf.{IsDamaged}
 use Rattle.review_tables.specs.Fronts.{AreParts}
 use Rattle.review_statements.specs.Search.{row_at}
-use Rattle.review_change_records.specs.Forms.{headers, patches, votes, roles, comments, calls, change_patches, change_votes, change_roles, change_comments, change_calls}
+use Rattle.review_statements.specs.Greatest.{HasGreatest}
+use Rattle.review_records.specs.Keyed.{is_small, where_is}
+use Rattle.review_change_records.specs.Forms.{change_numbers, headers, patches, votes, roles, comments, calls, change_patches, change_votes, change_roles, change_comments, change_calls}
 use Rattle.review_database.specs.declared.sights.Sight.{Sight}
 use Rattle.review_database.specs.declared.sights.Sight.TheVariants.{Learnt, NoMemory, Damaged}
 use Rattle.review_change_lookups.specs.declared.reviews.FoundRows.{FoundRows}
 use Rattle.review_change_lookups.specs.declared.reviews.FoundSets.{FoundSets}
 use Rattle.review_change_lookups.specs.declared.reviews.FoundTalk.{FoundTalk}
+use Rattle.review_database.specs.Loads.{last_of}
 use Rattle.review_database.specs.Tables.{part_in, tables_at}
 
 -- what was sent of a change, and the votes on it, as its tables have them
@@ -66,3 +71,7 @@ HaveSome patches votes roles comments attention = HasRow nat_cmp patches ⊎ (Ha
 abbrev pub number_after : Option ℕ → Option ℕ
 number_after None = None
 number_after (Some n) = if is_within most_changes (n + 1) then Some (n + 1) else None
+
+-- what stands of the change after the last one, where one may come, is a whole change or nothing
+abbrev pub NothingStays : Trees → Type 0
+NothingStays db = (found : Option (Option ℕ)) × HasGreatest change_numbers 0 tt db found × IfSome (number_after (where_is is_small (last_of found))) (λ n. (c : Option Change) × HasChange (tables_at db).row n c)

@@ -9,7 +9,7 @@ ghost use Rattle.review_statements.specs.Ran.{Looks};
 ghost use Rattle.review_change_records.specs.Forms.{change_numbers};
 ghost use Rattle.review_database.specs.Loads.{HasLearnt, Sees, last_of};
 ghost use Rattle.review_records.specs.Keyed.{is_small, where_is};
-ghost use Rattle.review_change_lookups.specs.Reviews.{AreFoundRows, AreFoundSets, AreFoundTalk, HasRow, HaveSome, HaveTables, IsWhyNone, number_after};
+ghost use Rattle.review_change_lookups.specs.Reviews.{AreFoundRows, AreFoundSets, AreFoundTalk, HasRow, HaveSome, HaveTables, IsWhyNone, NothingStays, number_after};
 
 use review_change_records::calls::Calls;
 use review_change_records::comments::Comments;
@@ -257,6 +257,7 @@ fn find_last_beside<S: Alter>(
     ensures same_reference { tx.new.conn.ghost_name ≡ tx.old.conn.ghost_name }
     ensures looks { Looks (Sees want.LastChange rows.old rows.new) (state S.Store tx.old.conn.now) (state S.Store tx.new.conn.now) result }
     ensures learnt { IfOk result (λ s. s ≡ Sight.Learnt → HasLearnt want.LastChange rows.old rows.new) }
+    ensures fresh { Looks (λ db s. s ≡ Sight.Learnt → NothingStays db) (state S.Store tx.old.conn.now) (state S.Store tx.new.conn.now) result }
 {
     let found = find_greatest::<LastChange, S>(tx, alloc, &())?;
     let Some(next) = next_change(found) else {
@@ -279,6 +280,7 @@ pub fn find_last_change<S: Alter>(
     ensures same_reference { tx.new.conn.ghost_name ≡ tx.old.conn.ghost_name }
     ensures looks { Looks (Sees want.LastChange rows.old rows.new) (state S.Store tx.old.conn.now) (state S.Store tx.new.conn.now) result }
     ensures learnt { IfOk result (λ s. s ≡ Sight.Learnt → HasLearnt want.LastChange rows.old rows.new) }
+    ensures fresh { Looks (λ db s. s ≡ Sight.Learnt → NothingStays db) (state S.Store tx.old.conn.now) (state S.Store tx.new.conn.now) result }
 {
     let mut stayed = Rows::new(alloc);
     find_last_beside(tx, alloc, rows, &mut stayed)

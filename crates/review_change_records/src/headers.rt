@@ -75,7 +75,7 @@ impl Lookup for Headers {
 
 impl Table for Headers {
     ghost use Rattle.review_change_records.specs.Forms.{state_name, flag_number};
-    ghost use Rattle.std.specs.Prelude.{pos};
+    ghost use Rattle.std.specs.Prelude.{◌≡◌, ◌≤◌, ◌^◌, true, pos, IfErr, IfOk, OnOk};
     ghost use Rattle.review_statements.specs.declared.texts.TheConstants.{INSERT_CHANGE, DELETE_CHANGE};
     ghost use Rattle.review_statements.proofs.TextsOfChanges.{insert_change, delete_change};
     ghost use Rattle.review_change_records.specs.Forms.{headers, header_form};
@@ -110,10 +110,14 @@ impl Table for Headers {
         key: &'a ChangeNo,
         row: &'a Header,
         _buffer: &'a mut String,
-    ) -> Result<Bound<'a>, Error> {
+    ) -> Result<Bound<'a>, Error>
+        ensures values { IfOk result (λ values. values ≡ header_form.values key.now row.now) }
+        ensures good { OnOk result (header_form.is_good row.now ≡ true) }
+        ensures large { IfErr result (λ e. 2 ^ 63 ≤ row.now.updated) }
+    {
         let state: &'a str = state_name(row.state);
-        let values = Headers::bind(key)?;
-        let named = values
+        let named = Bound::new()
+            .number(change_number(*key))
             .text(row.project.as_str())
             .text(row.branch.as_str())
             .text(row.subject.as_str());

@@ -10,6 +10,7 @@ use Rattle.review_words.specs.declared.reply.Reply.{Reply}
 use Rattle.review_words.specs.declared.reply.Reply.TheVariants.{Done, Refused, IdentityReused, EpochClosed, NotTaken}
 use Rattle.review_words.specs.History.{Entry, Identity, stored, is_same, entry_of, is_closed}
 use Rattle.review_rows.specs.Answer.{IsHistory}
+use Rattle.review_deliveries.specs.Formed.{IsFormed}
 use Rattle.review_deliveries.specs.Replies.{taken, with_taken, with_write, StopGoesOnFrom, first_arrivals as first, arrivals_after as first_after, has_identity, history_after, with_entries as hist, IsRight, AreRight, CountsFollow, IsServed, IsRun, StopsWithin, HasEffect}
 use Rattle.review_rows.specs.Shelf.{Shown, Views}
 use Rattle.review_rows.specs.Rows.{Tables}
@@ -254,15 +255,15 @@ run_none h s history view = record {
 }
 
 -- one delivery is a run
-pub run_one : (h : List Entry) (d : Delivery) (r : Reply) (old new : Shown) → IsHistory h → IsServed h d r old new → IsRun h (d ∷ []) (r ∷ []) old new
-run_one h d r old new history served = record {
+pub run_one : (h : List Entry) (d : Delivery) (r : Reply) (old new : Shown) → IsFormed d → IsHistory h → IsServed h d r old new → IsRun h (d ∷ []) (r ∷ []) old new
+run_one h d r old new form history served = record {
   history = served.history;
   view = served.view;
   counts = (old.faults, new.faults) ∷ [];
   right = record { replies = refl; counted = refl; each = only };
   follow = (refl, refl);
   stops = λ t x. ⊎_elim (λ (y : old.stops t). inl y) (λ (e : HasEffect h d t). inr (0, d, omega arith, e)) (served.stops t x);
-  since = leaves_since h d r old new history served;
+  since = leaves_since h d r old new form history served;
 }
   where
     only : (i : ℕ) (c : Delivery) (s : Reply) (n : ℕ × ℕ) → i < length (d ∷ []) →

@@ -10,16 +10,20 @@ use Rattle.review_branch_laws.proofs.Sound.{sound_branches}
 use Rattle.review_ancestors.proofs.Sound.{sound_projects}
 use Rattle.review_statuses.proofs.Counting.{accounts_counted}
 use Rattle.review_deliveries.specs.Delivered.{IsDelivered, WasRun}
+use Rattle.review_deliveries.specs.Formed.{AllFormed}
+use Rattle.review_deliveries.proofs.Formed.{all_formed-append, history_formed}
 use Rattle.review_deliveries.specs.Replies.{AreSteps, CountsReplies, IsRun, history_after}
 use Rattle.review_deliveries.proofs.Going.{run_none, run_one, run-append}
 use Rattle.review_deliveries.proofs.OneFile.{spelled_once}
 
 -- the branches and the projects are sound in the history of a run
-was_run : (ds : List Delivery) (rs : List Reply) (old new : Shown) → length rs ≡ length ds → (new.is_honest → old.is_honest)
+was_run : (ds : List Delivery) (rs : List Reply) (old new : Shown) → length rs ≡ length ds → AllFormed ds → (new.is_honest → old.is_honest)
     → (new.is_honest → (h : List Entry) → IsHistory h → Views h old.tables → IsRun h ds rs old new)
     → (new.is_honest → AreSteps ds rs old.tables new.tables) → CountsReplies rs old.faults new.faults → WasRun ds rs old new
-was_run ds rs old new each honest run steps counted = record {
+was_run ds rs old new each formed honest run steps counted = record {
   each = each;
+  formed = formed;
+  goes_on = λ h before. history_formed ds rs h formed before;
   honest = honest;
   acts_once = run;
   branches = λ fair h hist v. sound_branches (history_after h ds rs) (run fair h hist v).history;
@@ -30,12 +34,12 @@ was_run ds rs old new each honest run steps counted = record {
 }
 
 pub ran_none : (s : Shown) → WasRun [] [] s s
-ran_none s = was_run [] [] s s refl (λ fair. fair) (λ fair h hist v. run_none h s hist v) (λ fair. refl) refl
+ran_none s = was_run [] [] s s refl tt (λ fair. fair) (λ fair h hist v. run_none h s hist v) (λ fair. refl) refl
 
 pub ran_one : (d : Delivery) (r : Reply) (old new : Shown) → IsDelivered d r old new → WasRun (d ∷ []) (r ∷ []) old new
 ran_one d r old new did =
-    was_run (d ∷ []) (r ∷ []) old new refl did.honest
-    (λ fair h hist v. run_one h d r old new hist (did.served fair h hist v))
+    was_run (d ∷ []) (r ∷ []) old new refl (did.formed, tt) did.honest
+    (λ fair h hist v. run_one h d r old new did.formed hist (did.served fair h hist v))
     (λ fair. (new.tables, did.unchanged fair, did.once fair, refl)) (new.faults, did.counted, refl)
 
 steps-append : (ds es : List Delivery) (rs ss : List Reply) (old mid new : Option Tables) → AreSteps ds rs old mid → AreSteps es ss mid new → AreSteps (ds ++ es) (rs ++ ss) old new
@@ -51,7 +55,7 @@ counts-append (r ∷ rs) ss old mid new one two = (one.0, one.1, counts-append r
 -- one run and then another
 pub ran-append : (ds es : List Delivery) (rs ss : List Reply) (old mid new : Shown) → WasRun ds rs old mid → WasRun es ss mid new → WasRun (ds ++ es) (rs ++ ss) old new
 ran-append ds es rs ss old mid new one two =
-    was_run (ds ++ es) (rs ++ ss) old new (omega (arith, one.each, two.each, length-append rs ss, length-append ds es)) (λ fair. one.honest (two.honest fair))
+    was_run (ds ++ es) (rs ++ ss) old new (omega (arith, one.each, two.each, length-append rs ss, length-append ds es)) (all_formed-append ds es one.formed two.formed) (λ fair. one.honest (two.honest fair))
     (λ fair h hist v.
     let first = one.acts_once (two.honest fair) h hist v in
     run-append h ds es rs ss old mid new first (two.acts_once fair (history_after h ds rs) first.history first.view))

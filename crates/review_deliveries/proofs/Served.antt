@@ -32,6 +32,8 @@ use Rattle.review_rows.specs.Files.{File}
 use Rattle.review_rows.specs.Known.{Agrees}
 use Rattle.review_rows.proofs.Readings.{reading_of}
 use Rattle.review_deliveries.specs.Gathered.{IsAllAsked, IsUngathered}
+use Rattle.review_deliveries.specs.Formed.{IsFormed}
+use Rattle.review_deliveries.proofs.Formed.{formed_entry}
 use Rattle.review_deliveries.specs.Replies.{history_after, has_identity, with_entries as hist, IsRight, IsTold, IsToldOfStored, IsServed, IsToldAgain, IsLawful, reply_of, IsNew, HasEffect, StopGoesOnFrom, StopHasEntry, IsEntered, GoesOn, KeepsUntaken, CountsReply}
 use Rattle.review_deliveries.proofs.Resting.{rests_on}
 use Rattle.review_deliveries.proofs.Histories.{answers_are, passed_over, told_where, where_told, latest_follows, recalled, not_recalled, view_grows, answer_given, stored_given, enough_shown, stored_stays, stored_here, same_to}
@@ -250,18 +252,18 @@ grows_or_stays h (Write caller epoch id command) reply before after history righ
     at false None opened none EpochClosed right =
         absurd (answer_given h caller epoch command EpochClosed history (told_where h caller epoch id command EpochClosed false None opened none right.0))
 
-effect_goes_on : (h : List Entry) (d : Delivery) (t : Tables) → HasEffect h d t → GoesOn h t
-effect_goes_on h (Read caller query) t e = absurd e
-effect_goes_on h (Write caller epoch id command) t e = (entry_of caller epoch id command e.0 ∷ [], e.1, e.2)
+effect_goes_on : (h : List Entry) (d : Delivery) (t : Tables) → IsFormed d → HasEffect h d t → GoesOn h t
+effect_goes_on h (Read caller query) t form e = absurd e
+effect_goes_on h (Write caller epoch id command) t form e = (entry_of caller epoch id command e.0 ∷ [], formed_entry caller epoch id command e.0 [] form tt, e.1, e.2)
 
 -- what a stop leaves goes on from the history after the delivery
-pub leaves_since : (h : List Entry) (d : Delivery) (reply : Reply) (old new : Shown) → IsHistory h → IsServed h d reply old new → StopGoesOnFrom h old →
+pub leaves_since : (h : List Entry) (d : Delivery) (reply : Reply) (old new : Shown) → IsFormed d → IsHistory h → IsServed h d reply old new → StopGoesOnFrom h old →
     StopGoesOnFrom (history_after h (d ∷ []) (reply ∷ [])) new
-leaves_since h d reply old new history s since t x =
+leaves_since h d reply old new form history s since t x =
     ⊎_elim
-    (λ (grew : IsNew h d × IsDoneOrRefused reply). ([], s.history, alone_is (s.alone grew.0 grew.1 t x)))
+    (λ (grew : IsNew h d × IsDoneOrRefused reply). ([], tt, s.history, alone_is (s.alone grew.0 grew.1 t x)))
     (λ (stays : history_after h (d ∷ []) (reply ∷ []) ≡ h).
-    subst (λ g. GoesOn g t) (sym stays) (⊎_elim (λ (y : old.stops t). since t y) (λ (e : HasEffect h d t). effect_goes_on h d t e) (s.stops t x)))
+    subst (λ g. GoesOn g t) (sym stays) (⊎_elim (λ (y : old.stops t). since t y) (λ (e : HasEffect h d t). effect_goes_on h d t form e) (s.stops t x)))
     (grows_or_stays h d reply old.faults new.faults history s.right)
   where
     alone_is : new.tables ≡ Some t → IsView (history_after h (d ∷ []) (reply ∷ [])) t
@@ -314,10 +316,10 @@ entered_stays : (more h : List Entry) (d : Delivery) (reply : Reply) → IsHisto
 entered_stays more h (Read caller query) reply hist e = tt
 entered_stays more h (Write caller epoch id command) reply hist is = (is.0, stored_stays more h (record { caller = caller; epoch = epoch; id = id }) is.0 hist is.1, is.2, is.3)
 
-pub leaves_entered : (h : List Entry) (d : Delivery) (reply : Reply) (old new : Shown) → IsHistory h → IsServed h d reply old new → StopGoesOnFrom h old → StopHasEntry d reply new
-leaves_entered h d reply old new history s since r t x =
-    let g = leaves_since h d reply old new history s since t x in
-    (g.0 ++ history_after h (d ∷ []) (reply ∷ []), g.1, g.2, entered_stays g.0 (history_after h (d ∷ []) (reply ∷ [])) d reply g.1 (entered h d reply old new s r))
+pub leaves_entered : (h : List Entry) (d : Delivery) (reply : Reply) (old new : Shown) → IsFormed d → IsHistory h → IsServed h d reply old new → StopGoesOnFrom h old → StopHasEntry d reply new
+leaves_entered h d reply old new form history s since r t x =
+    let g = leaves_since h d reply old new form history s since t x in
+    (g.0 ++ history_after h (d ∷ []) (reply ∷ []), g.2, g.3, entered_stays g.0 (history_after h (d ∷ []) (reply ∷ [])) d reply g.2 (entered h d reply old new s r))
 
 -- an identity with no stored row whose epoch is open is new
 pub unrecalled : (h : List Entry) (tables : Option Tables) (i : Identity) → IsHistory h → Views h tables →
@@ -334,13 +336,13 @@ err_reply (Ok x) c e = let f = e.0 in absurd (cc)
 err_reply (Err d) c e = ap NotTaken (sym e.1)
 
 -- both that are said of stops
-pub stopped : (h : List Entry) (d : Delivery) (reply : Reply) (old new : Shown) → IsHistory h → IsServed h d reply old new → StopGoesOnFrom h old →
+pub stopped : (h : List Entry) (d : Delivery) (reply : Reply) (old new : Shown) → IsFormed d → IsHistory h → IsServed h d reply old new → StopGoesOnFrom h old →
     StopGoesOnFrom (history_after h (d ∷ []) (reply ∷ [])) new × StopHasEntry d reply new
-stopped h d reply old new history s since = (leaves_since h d reply old new history s since, leaves_entered h d reply old new history s since)
+stopped h d reply old new form history s since = (leaves_since h d reply old new form history s since, leaves_entered h d reply old new form history s since)
 
 -- a shelf that shows the tables of a history, and leaves them alone at a stop, leaves only those
 pub alone_since : (h : List Entry) (s : Shown) → IsHistory h → Views h s.tables → StopLeavesOwnTables s → StopGoesOnFrom h s
-alone_since h s hist v alone t x = ([], hist, subst (Views h) (alone t x) v)
+alone_since h s hist v alone t x = ([], tt, hist, subst (Views h) (alone t x) v)
 
 -- it is lawful not to answer a question for which not all was gathered
 unread_lawful : (h : List Entry) (caller : ℕ) (query : Query) (tables : Option Tables) (cause : Cause) (before after : ℕ) → IsHistory h → Views h tables →

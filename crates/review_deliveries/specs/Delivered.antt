@@ -10,10 +10,14 @@ use Rattle.review_rows.specs.Changes.{Reading, Reads, change, setting_of}
 use Rattle.review_rows.specs.Shelf.{Shown, Views}
 use Rattle.review_branch_laws.specs.Sound.{AreSoundBranches}
 use Rattle.review_ancestors.specs.Sound.{AreSoundProjects}
+use Rattle.review_deliveries.specs.Formed.{AllFormed, AreFormed, IsFormed}
 use Rattle.review_deliveries.specs.Replies.{IsServed, IsRun, AreSteps, KeepsUntaken, StoresOnce, CountsReply, CountsReplies, StopGoesOnFrom, StopHasEntry, history_after}
 
 -- One delivery got this reply. What is said of tables is said where the store returned what was written to it.
 pub record IsDelivered (d : Delivery) (reply : Reply) (old new : Shown) : Type 0 where
+  -- the identity of a request has its forms, so from a history in which each has them comes one in which each has them
+  pub formed : IsFormed d
+  pub goes_on : (h : List Entry) → AreFormed h → AreFormed (history_after h (d ∷ []) (reply ∷ []))
   pub honest : new.is_honest → old.is_honest
   -- from the tables of a history, the right reply and the tables of the history after it
   pub served : new.is_honest → (h : List Entry) → IsHistory h → Views h old.tables → IsServed h d reply old new
@@ -32,6 +36,9 @@ CountsVotesOnce h = (reading : Reading) → Reads reading h → (n : ℕ) (c : C
 -- Deliveries, one after the other, got these replies.
 pub record WasRun (ds : List Delivery) (replies : List Reply) (old new : Shown) : Type 0 where
   pub each : length replies ≡ length ds
+  -- the identity of each request has its forms, so from a history in which each has them comes one in which each has them
+  pub formed : AllFormed ds
+  pub goes_on : (h : List Entry) → AreFormed h → AreFormed (history_after h ds replies)
   pub honest : new.is_honest → old.is_honest
   -- from the tables of any history, right replies and the tables of the history in which each request stands once, at the first arrival that is taken while its epoch is open
   pub acts_once : new.is_honest → (h : List Entry) → IsHistory h → Views h old.tables → IsRun h ds replies old new

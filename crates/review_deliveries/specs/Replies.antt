@@ -9,6 +9,7 @@ use Rattle.review_words.specs.declared.reply.NotTaken.{NotTaken as Cause}
 use Rattle.review_words.specs.declared.reply.NotTaken.TheVariants.{Memory, Store, Damaged, Pattern, Full}
 use Rattle.review_words.specs.History.{Entry, Identity, IsFirst, entry_of, stored, is_same, latest, is_closed, if_done}
 use Rattle.review_words.specs.Texts.{content_text, reply_text, IsStored}
+use Rattle.review_deliveries.specs.Formed.{AreFormed}
 use Rattle.review_rows.specs.Answer.{IsHistory, IsAnswer, most_requests}
 use Rattle.review_rows.specs.Questions.{IsQueryAnswer}
 use Rattle.review_rows.specs.Rows.{Key, Count, ClosedEpochs, Tables, AnswerRow, Answered, is_above, is_below, new_least}
@@ -126,9 +127,9 @@ pub record IsServed (h : List Entry) (d : Delivery) (reply : Reply) (old new : S
   pub stops : (t : Tables) → new.stops t → old.stops t ⊎ HasEffect h d t
   pub alone : IsNew h d → IsDoneOrRefused reply → StopLeavesOwnTables new
 
--- the tables of a history that goes on from this one
+-- the tables of a history that goes on from this one, by requests of their forms
 abbrev pub GoesOn : List Entry → Tables → Type 0
-GoesOn h t = (more : List Entry) × IsHistory (more ++ h) × IsView (more ++ h) t
+GoesOn h t = (more : List Entry) × AreFormed more × IsHistory (more ++ h) × IsView (more ++ h) t
 
 -- a stop leaves only such tables
 abbrev pub StopGoesOnFrom : List Entry → Shown → Type 0

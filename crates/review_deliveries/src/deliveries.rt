@@ -14,6 +14,7 @@ ghost use Rattle.review_rows.specs.Shelf.{AddsNoStop, Answers, BlamesTables, Cou
 ghost use Rattle.review_rows.specs.Steps.{OfCommand};
 ghost use Rattle.review_rows.specs.View.{AreEnough, IsDecidedAt};
 ghost use Rattle.review_deliveries.specs.Delivered.{IsDelivered};
+ghost use Rattle.review_deliveries.specs.Formed.{IsFormed};
 ghost use Rattle.review_deliveries.specs.Deciding.{IsDecidedBy, IsUndecidedBy, WasDecided, WasUndecided};
 ghost use Rattle.review_deliveries.specs.Gathered.{CountsCause, LeavesTables};
 ghost use Rattle.review_deliveries.specs.Kept.{row_for};
@@ -58,7 +59,22 @@ pub fn deliver<S: Shelf, R: Rules>(
 ) -> Reply
     ensures { IsDelivered delivery.now result (S.state shelf.old) (S.state shelf.new) }
 {
+    are_forms(delivery);
     serve(alloc, shelf, rules, delivery)
+}
+
+// That the parts of a request's identity have their forms.
+fn are_forms(delivery: &Delivery)
+    ensures { IsFormed delivery.now }
+{
+    if let Delivery::Write {
+        caller, epoch, id, ..
+    } = delivery
+    {
+        let _caller = caller.get();
+        let _epoch = epoch.get();
+        let _id = id.as_str();
+    }
 }
 
 fn serve<S: Shelf, R: Rules>(

@@ -2,10 +2,10 @@
 //!
 //! Each is for whatever the file and its log hold when they are opened, and says what it does by that (`F`, which `main` names): what the program does in one run goes on from what the run before
 //! left, or what a stop left of it. Where `serve` opens a file again, that is said of each opening by itself.
-ghost use Rattle.std.specs.Prelude.{◌≡◌, false, IfOk, IfErr, OnOk};
+ghost use Rattle.std.specs.Prelude.{◌≡◌, ◌⊎◌, true, false, Result, Ok, Err, IfOk, IfErr, OnOk};
 ghost use Rattle.sqlite_wal.specs.Files.{image_at};
 ghost use Rattle.review_work.specs.Faults.{IsDeskFault};
-ghost use Rattle.review_work.specs.OnFile.{ClosedWell, MadeFrom, MigratedFrom, OpenedFrom, WorkedFrom};
+ghost use Rattle.review_work.specs.OnFile.{ClosedWell, IsTold, MadeFrom, MigratedFrom, OpenedFrom, WasDone, WasServed, WorkedFrom};
 
 use crate::listening::Listening;
 use crate::notices::StandardError;
@@ -59,7 +59,8 @@ pub fn close<F: Start>(conn: FileConnection<F>) -> Result<(), ProgramFault>
 
 // The program's own ends.
 fn ends_of(rt: &HostRuntime, port: u16) -> ProgramEnds<'_>
-    ensures { StandardError.is_warned result.notices ≡ false }
+    ensures unwarned { StandardError.is_warned result.notices ≡ false }
+    ensures idle { Listening.is_idle result.connections ≡ true }
 {
     Ends {
         input: rt.stdin(),
@@ -70,14 +71,17 @@ fn ends_of(rt: &HostRuntime, port: u16) -> ProgramEnds<'_>
 }
 
 fn make_on<F: Start>(rt: &HostRuntime, file: &str, start: F) -> Result<DoneOn<F, ()>, ProgramFault>
-    ensures { IfOk result (λ r. MadeFrom (image_at F.Start) r.0 r.1) }
+    ensures done { IfOk result (λ r. MadeFrom (image_at F.Start) r.0 r.1) }
+    ensures cause { IfErr result IsDeskFault }
 {
     let conn = open(rt, file, start)?;
     Ok(create(rt.alloc(), conn))
 }
 
 /// Makes an empty desk in a new file, and says so once the file is closed.
-pub fn init<F: Start>(rt: &HostRuntime, file: &str, start: F) -> Result<Outcome, ProgramFault> {
+pub fn init<F: Start>(rt: &HostRuntime, file: &str, start: F) -> Result<Outcome, ProgramFault>
+    ensures { (job : Result (Unit {0}) ProgramFault) × WasDone (MadeFrom (image_at F.Start)) job × IsTold job result }
+{
     let (conn, made) = make_on(rt, file, start)?;
     after_closing(made, close(conn))?;
     tell(rt, "desk created")
@@ -88,7 +92,8 @@ fn migrate_on<F: Start>(
     file: &str,
     start: F,
 ) -> Result<DoneOn<F, ()>, ProgramFault>
-    ensures { IfOk result (λ r. MigratedFrom (image_at F.Start) r.0 r.1) }
+    ensures done { IfOk result (λ r. MigratedFrom (image_at F.Start) r.0 r.1) }
+    ensures cause { IfErr result IsDeskFault }
 {
     let conn = open(rt, file, start)?;
     let mut notices = StandardError::new(rt);
@@ -97,7 +102,9 @@ fn migrate_on<F: Start>(
 
 /// Makes the tables of the desk in a file those of the latest version, and says so once the file is closed. Standard error is warned of tables that are not those of
 /// a desk alone.
-pub fn migrate<F: Start>(rt: &HostRuntime, file: &str, start: F) -> Result<Outcome, ProgramFault> {
+pub fn migrate<F: Start>(rt: &HostRuntime, file: &str, start: F) -> Result<Outcome, ProgramFault>
+    ensures { (job : Result (Unit {0}) ProgramFault) × WasDone (MigratedFrom (image_at F.Start)) job × IsTold job result }
+{
     let (conn, migrated) = migrate_on(rt, file, start)?;
     after_closing(migrated, close(conn))?;
     tell(rt, "desk migrated")
@@ -109,7 +116,8 @@ fn do_on<F: Start>(
     start: F,
     task: &Task,
 ) -> Result<DoneOn<F, Outcome>, ProgramFault>
-    ensures { IfOk result (λ r. WorkedFrom (image_at F.Start) task.now r.0 r.1) }
+    ensures done { IfOk result (λ r. WorkedFrom (image_at F.Start) task.now r.0 r.1) }
+    ensures cause { IfErr result IsDeskFault }
 {
     let conn = open(rt, file, start)?;
     let mut rules = DeskRules::new(rt.alloc());
@@ -123,7 +131,9 @@ pub fn work_on<F: Start>(
     file: &str,
     start: F,
     task: &Task,
-) -> Result<Outcome, ProgramFault> {
+) -> Result<Outcome, ProgramFault>
+    ensures { WasDone (WorkedFrom (image_at F.Start) task.now) result }
+{
     let (conn, ended) = do_on(rt, file, start, task)?;
     after_closing(ended, close(conn))
 }
@@ -136,19 +146,23 @@ pub fn serve<F: Start, T: Starts<F>>(
     mut starts: T,
     port: u16,
     count: u32,
-) -> Result<Outcome, ProgramFault> {
+) -> Result<Outcome, ProgramFault>
+    ensures { (job : Result Outcome ProgramFault) × WasServed (image_at F.Start) count job × IsTold job result }
+{
     let first = open(rt, file, starts.next())?;
     let mut rules = DeskRules::new(rt.alloc());
     let mut ends = ends_of(rt, port);
-    let outcome = serve_on(rt, file, &mut starts, first, &mut ends, &mut rules, count)?;
+    serve_on(rt, file, &mut starts, first, &mut ends, &mut rules, count)?;
     match println!(rt; "served {count}") {
-        Ok(()) => Ok(outcome),
+        Ok(()) => Ok(Outcome::Complete),
         Err(_) => Err(ProgramFault::Output),
     }
 }
 
 // Tells that a job on a file is done.
-fn tell(rt: &HostRuntime, text: &str) -> Result<Outcome, ProgramFault> {
+fn tell(rt: &HostRuntime, text: &str) -> Result<Outcome, ProgramFault>
+    ensures { (result ≡ Ok Outcome.Complete) ⊎ (result ≡ Err ProgramFault.Output) }
+{
     match println!(rt; "{text}") {
         Ok(()) => Ok(Outcome::Complete),
         Err(_) => Err(ProgramFault::Output),

@@ -46,7 +46,9 @@ pub struct Listening<'a> {
 
 impl Listening<'_> {
     /// A place that nothing listens at yet.
-    pub fn at(rt: &HostRuntime, port: u16) -> Listening<'_> {
+    pub fn at(rt: &HostRuntime, port: u16) -> Listening<'_>
+        ensures { result.is_idle ≡ true }
+    {
         Listening {
             rt,
             port,
@@ -178,7 +180,6 @@ impl<'a> Connections for Listening<'a> {
     type Writer = Outgoing<'a>;
 
     fn listen(&mut self) -> Result<(), ConnectionsFault> {
-        self.is_idle = true;
         if self.listener.is_some() {
             return Ok(());
         }
@@ -193,9 +194,11 @@ impl<'a> Connections for Listening<'a> {
     }
 
     fn accept(&mut self) -> Result<(Incoming<'a>, Outgoing<'a>), ConnectionsFault> {
-        self.is_idle = false;
         match self.next() {
-            Ok(accepted) => Ok(accepted),
+            Ok(accepted) => {
+                self.is_idle = false;
+                Ok(accepted)
+            }
             Err(_) => Err(ConnectionsFault::Network),
         }
     }

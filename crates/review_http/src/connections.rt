@@ -14,7 +14,7 @@ use std::io::{Read, Write};
 
 /// Where connections come from, one after the other: each with a reader of what its peer sends and a writer of what the peer is sent.
 pub trait Connections {
-    ghost use Rattle.std.specs.Prelude.{◌≡◌, ℕ, Bool, true, false, List, [], ◌∷◌, Option, Some, IfOk, IfSome, OnOk};
+    ghost use Rattle.std.specs.Prelude.{◌≡◌, ℕ, Bool, true, false, List, [], ◌∷◌, Option, Some, IfOk, IfErr, IfSome, OnOk};
     ghost use Rattle.review_http.specs.Peers.{Came, WereTold};
 
     /// What the peers of the connections to come send, in order, where that is known. Of sockets it isn't.
@@ -32,16 +32,18 @@ pub trait Connections {
     /// What the peer is sent.
     type Writer: Write + Drop;
 
-    /// Begins to listen, where it doesn't yet, and says so to whoever waits for it. Of what was accepted before nothing is open any more.
+    /// Begins to listen, where it doesn't yet, and says so to whoever waits for it.
     fn listen(&mut self) -> Result<(), ConnectionsFault>
+        requires idle { is_idle self.old ≡ true }
         ensures coming { OnOk result (coming self.new ≡ coming self.old) }
         ensures told { told self.new ≡ told self.old }
-        ensures idle { OnOk result (is_idle self.new ≡ true) };
+        ensures idle { is_idle self.new ≡ true };
 
     /// The next connection, once the one before is closed. Its writer holds nothing yet.
     fn accept(&mut self) -> Result<(Self::Reader, Self::Writer), ConnectionsFault>
         requires idle { is_idle self.old ≡ true }
-        ensures busy { OnOk result (is_idle self.new ≡ false) }
+        ensures busy { IfOk result (λ accepted. is_idle self.new ≡ false) }
+        ensures none { IfErr result (λ fault. is_idle self.new ≡ true) }
         ensures coming { IfOk result (λ accepted. Came (coming self.old) (Self.Reader.remaining accepted.0 ∷ []) (coming self.new)) }
         ensures told { told self.new ≡ told self.old }
         ensures empty { IfOk result (λ accepted. IfSome (told self.old) (λ before. Self.Writer.contents accepted.1 ≡ Some [])) };
@@ -102,7 +104,9 @@ pub fn serve_connections<C: Connections, S: Shelf, D: Rules>(
     shelf: &mut S,
     rules: &mut D,
 ) -> Result<u32, ConnectionsFault>
-    ensures { ServedAll S.state (record { coming = C.coming connections.old; told = C.told connections.old })
+    requires idle { C.is_idle connections.old ≡ true }
+    ensures idle { C.is_idle connections.new ≡ true }
+    ensures served { ServedAll S.state (record { coming = C.coming connections.old; told = C.told connections.old })
         (record { coming = C.coming connections.new; told = C.told connections.new }) count result shelf.old shelf.new }
 {
     connections.listen()?;

@@ -115,6 +115,11 @@ module _ (sql : List ℕ) (bare : IsBare sql) (old new : State) where
   asked_rows view (Ok x) h = let it = (shown_so (view x) h).1 in record { query = it.0; is = it.1; shown = it.2 }
   asked_rows view (Err e) h = tt
 
+  -- where it showed rows, the store is open
+  pub asked_open : {X : Type 0} (view : X → List Row) (r : Result X Error) → IfOk r (λ x. Shown sql [] old new (view x)) → IfOk r (λ x. IsTrue new.is_open)
+  asked_open view (Ok x) h = (shown_so (view x) h).0.0.is_open
+  asked_open view (Err e) h = tt
+
   pub asked_stays : {X : Type 0} (view : X → List Row) (r : Result X Error) (settled : IsTrue old.is_open → old.now ≡ old.committed) → (IsTrue new.is_open → HasCleanDisk new)
       → (HasCleanDisk new → IfOk r (λ x. Shown sql [] old new (view x))) → (HasCleanDisk new → IfErr r (FailsToQuery sql [] old new))
       → Survives old new (CommitsShowing sql [] old) → Stays old new

@@ -1,5 +1,5 @@
 -- What is seen of tables before a desk is opened, what opening gives, and why it is refused.
-use Rattle.std.specs.Prelude.{◌≡◌, ◌≢◌, true, Result, IsTrue, IfOk}
+use Rattle.std.specs.Prelude.{◌≡◌, ◌≢◌, ◌⊎◌, true, Result, IsTrue, IfOk}
 use Rattle.std.specs.List.{AllByRecursion}
 use Rattle.sqlite_trees.specs.Tree.{Trees}
 use Rattle.sqlite_trees.specs.declared.store.Store.{Ghosts}
@@ -14,7 +14,7 @@ use Rattle.review_tables.specs.declared.versions.TablesVersion.{TablesVersion}
 use Rattle.review_tables.specs.declared.versions.TablesVersion.TheVariants.{Third}
 use Rattle.review_sql.specs.declared.seen.Seen.{Seen}
 use Rattle.review_sql.specs.declared.faults.DeskFault.{DeskFault}
-use Rattle.review_sql.specs.declared.faults.DeskFault.TheVariants.{NotADesk, WrongVersion, NotEmpty, NotOurs}
+use Rattle.review_sql.specs.declared.faults.DeskFault.TheVariants.{NotADesk, WrongVersion, NotEmpty, NotOurs, Memory, Store}
 use Rattle.review_transactions.specs.Numbers.{IsDesk}
 use Rattle.review_transactions.specs.declared.numbers.Numbers.{Numbers}
 use Rattle.review_sql.specs.Said.{IsDeskThere, IsNoDesk, IsNone, IsOtherVersion}
@@ -43,6 +43,10 @@ pub record IsSeen (s : State) (seen : Seen) : Type 0 where
   pub ready : seen.is_ours ≡ true → IsReady s.now × IsDesk seen.numbers s.now.trees
   pub ours : s.now.schema ≡ desk_schema → AreAllApart s.now.trees → seen.is_ours ≡ true
   pub there : IsDeskThere s.now seen.numbers
+
+-- where the store was shut meanwhile, it is told only that there was no memory or that the store had a fault
+abbrev pub TellsShut : State → DeskFault → Type 0
+TellsShut new fault = HasCleanDisk new → IsTrue new.is_open ⊎ ((fault ≡ Memory) ⊎ (fault ≡ Store))
 
 -- Why tables are refused, of whatever form: as no desk or another version only where they are, and as not ours only where a desk is there whose tables are of another form or have two rows with one rowid.
 pub record IsRefused (s : State) (fault : DeskFault) : Type 0 where

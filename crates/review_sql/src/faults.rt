@@ -1,5 +1,5 @@
 //! Why a desk is not made or opened.
-ghost use Rattle.std.specs.Prelude.{◌≡◌, ◌≢◌};
+ghost use Rattle.std.specs.Prelude.{◌≡◌, ◌≢◌, ◌⊎◌};
 
 use sqlite::{Error, ErrorCode};
 
@@ -25,6 +25,7 @@ impl DeskFault {
     pub fn of(error: Error) -> DeskFault
         ensures memory { error ≡ Error.SqliteFailure ErrorCode.OutOfMemory → result ≡ DeskFault.Memory }
         ensures store { error ≢ Error.SqliteFailure ErrorCode.OutOfMemory → result ≡ DeskFault.Store }
+        ensures kinds { (result ≡ DeskFault.Memory) ⊎ (result ≡ DeskFault.Store) }
         ensures plain { (result ≢ DeskFault.NotADesk) × (result ≢ DeskFault.WrongVersion) × (result ≢ DeskFault.NotEmpty) × (result ≢ DeskFault.NotOurs) }
     {
         match error {

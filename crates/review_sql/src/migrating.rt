@@ -1,12 +1,13 @@
 //! Tables of an earlier version become those of a desk, in one transaction.
-ghost use Rattle.std.specs.Prelude.{◌≡◌, ◌≢◌, true, false, IsTrue, IfOk, IfErr};
+ghost use Rattle.std.specs.Prelude.{◌≡◌, ◌≢◌, ◌⊎◌, true, false, IsTrue, IfOk, IfErr};
 ghost use Rattle.sqlite.specs.Held.{state};
+ghost use Rattle.sqlite.specs.State.{HasCleanDisk};
 ghost use Rattle.review_statements.specs.Content.{Then};
 ghost use Rattle.review_statements.specs.Ran.{Inside, Within, Opens, Transacts};
 ghost use Rattle.review_tables.specs.Versions.{schema_at, version_of};
 ghost use Rattle.review_transactions.specs.Changes.{SetsDesk, SetsLeast};
 ghost use Rattle.review_sql.specs.Migrated.{IsBrought, IsHindered, IsKept, IsNotMigrated, IsRaised, IsUnfit, Upgrades, if_whole};
-ghost use Rattle.review_sql.specs.Opened.{AreApartIn};
+ghost use Rattle.review_sql.specs.Opened.{AreApartIn, TellsShut};
 ghost use Rattle.review_sql.specs.Said.{SaysVersion};
 ghost use Rattle.review_sql.specs.Shelf.{Stays};
 
@@ -132,12 +133,14 @@ fn upgrade<S: Alter>(
     said: Said,
 ) -> Result<Numbers, DeskFault>
     requires mode { conn.old.in_transaction ≡ false }
+    requires open { HasCleanDisk (state S.Store conn.old) → IsTrue (state S.Store conn.old).is_open }
     requires says { IsTrue (state S.Store conn.old).is_open → SaysVersion (version_of version) (state S.Store conn.old).now said }
     ensures mode { conn.new.in_transaction ≡ false }
     ensures raised { IfOk result (IsRaised S.Store version is_ours conn.old conn.new) }
     ensures refused { IfErr result (λ e. IsNotMigrated is_ours e (state S.Store conn.old) (state S.Store conn.new)) }
     ensures unfit { IsTrue (state S.Store conn.new).is_open → IfErr result (IsUnfit (state S.Store conn.old).now) }
     ensures ours { IfErr result (λ e. e ≡ DeskFault.NotOurs → IsTrue is_ours) }
+    ensures shut { IfErr result (λ e. (e ≡ DeskFault.NotOurs) ⊎ TellsShut (state S.Store conn.new) e) }
 {
     let seen = see_tables(conn, alloc, version.version(), said)?;
     if is_ours && !seen.is_ours {
@@ -158,12 +161,14 @@ fn keep<S: Alter>(
     said: Said,
 ) -> Result<Numbers, DeskFault>
     requires mode { conn.old.in_transaction ≡ false }
+    requires open { HasCleanDisk (state S.Store conn.old) → IsTrue (state S.Store conn.old).is_open }
     requires says { IsTrue (state S.Store conn.old).is_open → SaysVersion TablesVersion.Third (state S.Store conn.old).now said }
     ensures mode { conn.new.in_transaction ≡ false }
     ensures stays { Stays (state S.Store conn.old) (state S.Store conn.new) }
     ensures kept { IfOk result (IsKept is_ours (state S.Store conn.old) (state S.Store conn.new)) }
     ensures unfit { IsTrue (state S.Store conn.new).is_open → IfErr result (IsUnfit (state S.Store conn.old).now) }
     ensures ours { IfErr result (λ e. e ≡ DeskFault.NotOurs → IsTrue is_ours) }
+    ensures shut { IfErr result (λ e. (e ≡ DeskFault.NotOurs) ⊎ TellsShut (state S.Store conn.new) e) }
 {
     let seen = see_desk(conn, alloc, said)?;
     if is_ours && !seen.is_ours {
@@ -184,6 +189,7 @@ pub fn bring<S: Alter>(
     ensures refused { IfErr result (λ e. IsNotMigrated is_ours e (state S.Store conn.old) (state S.Store conn.new)) }
     ensures unfit { IsTrue (state S.Store conn.new).is_open → IfErr result (IsUnfit (state S.Store conn.old).now) }
     ensures ours { IfErr result (λ e. e ≡ DeskFault.NotOurs → IsTrue is_ours) }
+    ensures shut { IfErr result (λ e. (e ≡ DeskFault.NotOurs) ⊎ TellsShut (state S.Store conn.new) e) }
 {
     let said = ask(conn)?;
     match version_of(said)?.earlier() {

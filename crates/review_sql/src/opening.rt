@@ -5,7 +5,7 @@ ghost use Rattle.sqlite.specs.Held.{state};
 ghost use Rattle.sqlite.specs.State.{HasCleanDisk, IsLive};
 ghost use Rattle.review_sql.specs.Shelf.{AreAllRead, Stays};
 ghost use Rattle.review_sql.specs.Said.{LacksLeast, least_shown, SaysLeast, ShowsDesk, ShowsEpochs, number_of_one, version_shown, requests_shown, IsSaid, IsThere, SaysVersion};
-ghost use Rattle.review_sql.specs.Opened.{AreAllApart, Peeks, IsLacking, IsSeen, IsRefused};
+ghost use Rattle.review_sql.specs.Opened.{AreAllApart, Peeks, IsLacking, IsSeen, IsRefused, TellsShut};
 ghost use Rattle.review_tables.specs.Versions.{schema_at, version_number};
 
 use crate::faults::DeskFault;
@@ -48,6 +48,7 @@ fn desk_rows<S: Alter>(conn: &mut Connection<S>) -> Result<Vec<Row>, Error>
     ensures mode { conn.new.in_transaction ≡ false }
     ensures stays { Stays (state S.Store conn.old) (state S.Store conn.new) }
     ensures shown { HasCleanDisk (state S.Store conn.new) → IfOk result (λ rows. ShowsDesk (state S.Store conn.old).now rows.items) }
+    ensures opens { HasCleanDisk (state S.Store conn.new) → IfOk result (λ found. IsTrue (state S.Store conn.new).is_open) }
 {
     let _settled = conn.is_autocommit();
     conn.query_all(texts::FIND_DESK, &[])
@@ -59,6 +60,7 @@ fn epochs_rows<S: Alter>(conn: &mut Connection<S>) -> Result<Vec<Row>, Error>
     ensures mode { conn.new.in_transaction ≡ false }
     ensures stays { Stays (state S.Store conn.old) (state S.Store conn.new) }
     ensures shown { HasCleanDisk (state S.Store conn.new) → IfOk result (λ rows. ShowsEpochs (state S.Store conn.old).now rows.items) }
+    ensures opens { HasCleanDisk (state S.Store conn.new) → IfOk result (λ found. IsTrue (state S.Store conn.new).is_open) }
 {
     let _settled = conn.is_autocommit();
     conn.query_all(texts::FIND_EPOCHS, &[])
@@ -72,6 +74,8 @@ pub fn ask<S: Alter>(conn: &mut Connection<S>) -> Result<Said, DeskFault>
     ensures said { IsTrue (state S.Store conn.new).is_open → IfOk result (IsSaid (state S.Store conn.old).now) }
     ensures lacking { IsTrue (state S.Store conn.new).is_open → IfErr result (IsLacking TablesVersion.Third (state S.Store conn.old)) }
     ensures not_ours { IfErr result (λ fault. fault ≢ DeskFault.NotOurs) }
+    ensures opens { HasCleanDisk (state S.Store conn.new) → IfOk result (λ found. IsTrue (state S.Store conn.new).is_open) }
+    ensures shut { IfErr result (TellsShut (state S.Store conn.new)) }
 {
     match is_understood(conn, texts::FIND_DESK) {
         Ok(true) => {}
@@ -112,10 +116,12 @@ fn least_said<S: Alter>(
     version: TablesVersion,
 ) -> Result<Option<Epoch>, Error>
     requires mode { conn.old.in_transaction ≡ false }
+    requires open { HasCleanDisk (state S.Store conn.old) → IsTrue (state S.Store conn.old).is_open }
     ensures mode { conn.new.in_transaction ≡ false }
     ensures stays { Stays (state S.Store conn.old) (state S.Store conn.new) }
     ensures is { IsTrue (state S.Store conn.new).is_open → IfOk result (λ said. IfSome said (SaysLeast version (state S.Store conn.old).now)) }
     ensures none { IsTrue (state S.Store conn.new).is_open → IfOk result (λ said. said ≡ None → LacksLeast version (state S.Store conn.old).now) }
+    ensures opens { HasCleanDisk (state S.Store conn.new) → IfOk result (λ found. IsTrue (state S.Store conn.new).is_open) }
 {
     match version {
         TablesVersion::First | TablesVersion::Second => Ok(Some(Epoch::first())),
@@ -132,10 +138,12 @@ fn least_of_whole<S: Alter>(
     version: TablesVersion,
 ) -> Result<Option<Epoch>, Error>
     requires mode { conn.old.in_transaction ≡ false }
+    requires open { HasCleanDisk (state S.Store conn.old) → IsTrue (state S.Store conn.old).is_open }
     ensures mode { conn.new.in_transaction ≡ false }
     ensures stays { Stays (state S.Store conn.old) (state S.Store conn.new) }
     ensures whole { IsTrue (state S.Store conn.new).is_open → IfOk result (λ said. IfSome said (λ least. AreAllRead version (state S.Store conn.old).now.schema × SaysLeast version (state S.Store conn.old).now least)) }
     ensures part { IsTrue (state S.Store conn.new).is_open → IfOk result (λ said. said ≡ None → (AreAllRead version (state S.Store conn.old).now.schema → ⊥) ⊎ LacksLeast version (state S.Store conn.old).now) }
+    ensures opens { HasCleanDisk (state S.Store conn.new) → IfOk result (λ found. IsTrue (state S.Store conn.new).is_open) }
 {
     if !are_all_there(conn, version)? {
         return Ok(None);
@@ -150,12 +158,15 @@ fn find_tables<S: Alter>(
     said: Said,
 ) -> Result<Numbers, DeskFault>
     requires mode { conn.old.in_transaction ≡ false }
+    requires open { HasCleanDisk (state S.Store conn.old) → IsTrue (state S.Store conn.old).is_open }
     requires says { IsTrue (state S.Store conn.old).is_open → SaysVersion version (state S.Store conn.old).now said }
     ensures mode { conn.new.in_transaction ≡ false }
     ensures stays { Stays (state S.Store conn.old) (state S.Store conn.new) }
     ensures there { IsTrue (state S.Store conn.new).is_open → IfOk result (IsThere version (state S.Store conn.old).now) }
     ensures lacking { IsTrue (state S.Store conn.new).is_open → IfErr result (IsLacking version (state S.Store conn.old)) }
     ensures not_ours { IfErr result (λ fault. fault ≢ DeskFault.NotOurs) }
+    ensures opens { HasCleanDisk (state S.Store conn.new) → IfOk result (λ found. IsTrue (state S.Store conn.new).is_open) }
+    ensures shut { IfErr result (TellsShut (state S.Store conn.new)) }
 {
     let Some(requests) = said.requests else {
         return Err(DeskFault::NotADesk);
@@ -175,6 +186,7 @@ pub fn see_tables<S: Alter>(
     said: Said,
 ) -> Result<Seen, DeskFault>
     requires mode { conn.old.in_transaction ≡ false }
+    requires open { HasCleanDisk (state S.Store conn.old) → IsTrue (state S.Store conn.old).is_open }
     requires says { IsTrue (state S.Store conn.old).is_open → SaysVersion version (state S.Store conn.old).now said }
     ensures mode { conn.new.in_transaction ≡ false }
     ensures stays { Stays (state S.Store conn.old) (state S.Store conn.new) }
@@ -183,6 +195,8 @@ pub fn see_tables<S: Alter>(
     ensures there { IsTrue (state S.Store conn.new).is_open → IfOk result (λ seen. IsThere version (state S.Store conn.old).now seen.numbers) }
     ensures lacking { IsTrue (state S.Store conn.new).is_open → IfErr result (IsLacking version (state S.Store conn.old)) }
     ensures not_ours { IfErr result (λ fault. fault ≢ DeskFault.NotOurs) }
+    ensures opens { HasCleanDisk (state S.Store conn.new) → IfOk result (λ found. IsTrue (state S.Store conn.new).is_open) }
+    ensures shut { IfErr result (TellsShut (state S.Store conn.new)) }
 {
     let is_ours = match is_desk(alloc, conn.schema(), version) {
         Ok(has_form) => has_form,
@@ -212,12 +226,14 @@ pub fn see_desk<S: Alter>(
     said: Said,
 ) -> Result<Seen, DeskFault>
     requires mode { conn.old.in_transaction ≡ false }
+    requires open { HasCleanDisk (state S.Store conn.old) → IsTrue (state S.Store conn.old).is_open }
     requires says { IsTrue (state S.Store conn.old).is_open → SaysVersion TablesVersion.Third (state S.Store conn.old).now said }
     ensures mode { conn.new.in_transaction ≡ false }
     ensures stays { Stays (state S.Store conn.old) (state S.Store conn.new) }
     ensures seen { IsTrue (state S.Store conn.new).is_open → IfOk result (IsSeen (state S.Store conn.old)) }
     ensures lacking { IsTrue (state S.Store conn.new).is_open → IfErr result (IsLacking TablesVersion.Third (state S.Store conn.old)) }
     ensures not_ours { IfErr result (λ fault. fault ≢ DeskFault.NotOurs) }
+    ensures shut { IfErr result (TellsShut (state S.Store conn.new)) }
 {
     let seen = see_tables(conn, alloc, TablesVersion::Third, said)?;
     if !seen.is_ours {
@@ -240,6 +256,7 @@ pub fn see<S: Alter>(conn: &mut Connection<S>, alloc: Global) -> Result<Seen, De
     ensures seen { IsTrue (state S.Store conn.new).is_open → IfOk result (IsSeen (state S.Store conn.old)) }
     ensures refused { IsTrue (state S.Store conn.new).is_open → IfErr result (IsRefused (state S.Store conn.old)) }
     ensures not_ours { IfErr result (λ fault. fault ≢ DeskFault.NotOurs) }
+    ensures shut { IfErr result (TellsShut (state S.Store conn.new)) }
 {
     let said = ask(conn)?;
     match version_of(said)? {

@@ -110,7 +110,7 @@ impl<S: Alter + Drop, O: Origin> SqlShelf<S, O> {
     ghost use Rattle.review_sql.specs.Shelf.{AreLeftOfOurs, IsAnyThere, IsHandedBack, IsUnmade};
     ghost use Rattle.review_sql.specs.Said.{IsDeskThere};
     ghost use Rattle.review_sql.specs.Created.{IsCreated};
-    ghost use Rattle.review_sql.specs.Opened.{IsOpened, IsRefused};
+    ghost use Rattle.review_sql.specs.Opened.{IsOpened, IsRefused, TellsShut};
     ghost use Rattle.review_sql.specs.Reopened.{ReopensLast, IsRefusedAgain};
     ghost use Rattle.review_sql.specs.Migrated.{IsNotMigrated, IsOpenedAsIs, IsUnfit, IsUpgraded};
 
@@ -132,6 +132,7 @@ impl<S: Alter + Drop, O: Origin> SqlShelf<S, O> {
         ensures beside { IfErr result (λ e. e.1 ≡ DeskFault.NotOurs → IsTrue (state S.Store e.0).is_open → IsAnyThere conn.schema → ⊥) }
         ensures ours { IfErr result (λ e. e.1 ≡ DeskFault.NotOurs → IsTrue O.IS_OURS) }
         ensures kinds { IfErr result (λ e. (e.1 ≢ DeskFault.NotADesk) × (e.1 ≢ DeskFault.WrongVersion)) }
+        ensures shut { IfErr result (λ e. TellsShut (state S.Store e.0) e.1) }
     {
         let mut conn = conn;
         match is_any_there(&mut conn) {
@@ -182,6 +183,7 @@ impl<S: Alter + Drop, O: Origin> SqlShelf<S, O> {
         ensures ours { IfErr result (λ e. e.1 ≡ DeskFault.NotOurs → IsTrue O.IS_OURS) }
         ensures again { IfErr result (λ e. IsRefusedAgain S.Store O.IS_OURS conn e.0 e.1) }
         ensures left { IfErr result (λ e. IsTrue (state S.Store e.0).is_open → AreLeftOfOurs (state S.Store conn).now.trees → (e.1 ≡ DeskFault.Memory) ⊎ (e.1 ≡ DeskFault.Store)) }
+        ensures shut { IfErr result (λ e. (e.1 ≡ DeskFault.NotOurs) ⊎ TellsShut (state S.Store e.0) e.1) }
         ensures no_table { IfOk result (λ s. IsTrue (state S.Store s.conn).is_open → conn.schema ≡ schema_0 → ⊥) }
         ensures empty { IfErr result (λ e. IsTrue (state S.Store e.0).is_open → conn.schema ≡ schema_0 → (e.1 ≡ DeskFault.NotADesk) ⊎ ((e.1 ≡ DeskFault.Memory) ⊎ (e.1 ≡ DeskFault.Store))) }
     {
@@ -223,6 +225,7 @@ impl<S: Alter + Drop, O: Origin> SqlShelf<S, O> {
         ensures ours { IfErr result (λ e. e.1 ≡ DeskFault.NotOurs → IsTrue O.IS_OURS) }
         ensures again { IfErr result (λ e. IsRefusedAgain S.Store O.IS_OURS conn e.0 e.1) }
         ensures left { IfErr result (λ e. IsTrue (state S.Store e.0).is_open → AreLeftOfOurs (state S.Store conn).now.trees → (e.1 ≡ DeskFault.Memory) ⊎ (e.1 ≡ DeskFault.Store)) }
+        ensures shut { IfErr result (λ e. (e.1 ≡ DeskFault.NotOurs) ⊎ TellsShut (state S.Store e.0) e.1) }
     {
         let mut conn = conn;
         let _live = conn.schema();

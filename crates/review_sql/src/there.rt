@@ -69,6 +69,7 @@ pub fn is_any_there<S: Alter>(conn: &mut Connection<S>) -> Result<bool, Error>
     ensures stays { Stays (state S.Store conn.old) (state S.Store conn.new) }
     ensures is { HasCleanDisk (state S.Store conn.new) → IfOk result (λ is. is ≡ true → IsTrue (state S.Store conn.new).is_open → IsAnyThere (state S.Store conn.old).now.schema) }
     ensures none { HasCleanDisk (state S.Store conn.new) → IfOk result (λ is. is ≡ false → IsAnyThere (state S.Store conn.old).now.schema → ⊥) }
+    ensures opens { HasCleanDisk (state S.Store conn.new) → IfOk result (λ found. IsTrue (state S.Store conn.new).is_open) }
 {
     for at in 0..15 {
         if is_understood(conn, any_row(at))? {
@@ -107,10 +108,12 @@ pub fn are_all_there<S: Alter>(
     version: TablesVersion,
 ) -> Result<bool, Error>
     requires mode { conn.old.in_transaction ≡ false }
+    requires open { HasCleanDisk (state S.Store conn.old) → IsTrue (state S.Store conn.old).is_open }
     ensures mode { conn.new.in_transaction ≡ false }
     ensures stays { Stays (state S.Store conn.old) (state S.Store conn.new) }
     ensures all { HasCleanDisk (state S.Store conn.new) → IfOk result (λ is. is ≡ true → IsTrue (state S.Store conn.new).is_open → AreAllRead version (state S.Store conn.old).now.schema) }
     ensures missing { HasCleanDisk (state S.Store conn.new) → IfOk result (λ is. is ≡ false → AreAllRead version (state S.Store conn.old).now.schema → ⊥) }
+    ensures opens { HasCleanDisk (state S.Store conn.new) → IfOk result (λ found. IsTrue (state S.Store conn.new).is_open) }
 {
     let count = count_of(version);
     for at in 0..count {

@@ -21,7 +21,7 @@ use Rattle.review_sql.specs.Shelf.{AreLeftOfOurs, ShelfView, Stays, shown, IsAny
 use Rattle.review_sql.specs.Left.{MakesOurs, StopLeavesDesk, TreesTellSchema}
 use Rattle.review_sql.specs.Reopened.{ReopensLast}
 use Rattle.review_sql.specs.Said.{IsDeskThere}
-use Rattle.review_sql.specs.Opened.{IsOpened, IsRefused}
+use Rattle.review_sql.specs.Opened.{IsOpened, IsRefused, TellsShut}
 use Rattle.review_sql.specs.Created.{IsCreated}
 use Rattle.review_sql.specs.Migrated.{IsNotMigrated, IsOpenedAsIs, IsUnfit, IsUpgraded}
 use Rattle.review_sql.specs.declared.faults.DeskFault.{DeskFault}
@@ -96,7 +96,7 @@ pub record IsNotOurs {S : Type 0} (g : Ghosts S) (old new : Held S) : Type 0 whe
   pub cause : IsTrue (state g new).is_open → IsRefused (state g old) NotOurs
   pub left : IsTrue (state g new).is_open → AreLeftOfOurs (state g old).now.trees → ⊥
 
--- No desk was opened, for another reason than that the tables aren't ours: they are as they were, and nothing was written or told. Where a stop of a desk of ours left them, there was no memory or
+-- No desk was opened, for another reason than that the tables aren't ours: they are as they were, and nothing was read, written or told, nor any connection touched. Where a stop of a desk of ours left them, there was no memory or
 -- the store had a fault.
 pub record IsRefusedDesk {S : Type 0} (g : Ghosts S) (before after : Known) (old new : Held S) (ended : Result Outcome ProgramFault) : Type 0 where
   pub fault : DeskFault
@@ -105,8 +105,8 @@ pub record IsRefusedDesk {S : Type 0} (g : Ghosts S) (before after : Known) (old
   pub stays : Stays (state g old) (state g new)
   pub cause : IsTrue (state g new).is_open → IsRefused (state g old) fault
   pub left : IsTrue (state g new).is_open → AreLeftOfOurs (state g old).now.trees → (fault ≡ desk.Memory) ⊎ (fault ≡ desk.Store)
-  pub written : Appends before.output after.output []
-  pub unwarned : after.is_warned ≡ before.is_warned
+  pub shut : TellsShut (state g new) fault
+  pub same : after ≡ before
 
 -- This was done on a shelf of ours, or no desk was opened; where the tables are not ours, it was done on a shelf over them, or no desk was opened.
 abbrev pub IsDoneOn : {S : Type 0} → Ghosts S → (Bool → (ShelfView S → Shown) → ShelfView S → ShelfView S → Type 0) → (Held S → Held S → Type 0) → Held S → Held S → Type 0
@@ -138,7 +138,7 @@ pub record RunsAreOne {S : Type 0} (g : Ghosts S) : Type 0 where
 abbrev pub IsCauseOf : {S : Type 0} → Ghosts S → Bool → Held S → Held S → DeskFault → Type 0
 IsCauseOf g is_ours old new cause =
     (cause ≢ NotADesk) × (cause ≢ WrongVersion) × (cause ≡ NotEmpty → Stays (state g old) (state g new) × (IsTrue (state g new).is_open → IsAnyThere old.schema))
-    × (cause ≡ NotOurs → IsTrue is_ours × (IsTrue (state g new).is_open → old.schema ≡ schema_0 → ⊥))
+    × (cause ≡ NotOurs → IsTrue is_ours × (IsTrue (state g new).is_open → old.schema ≡ schema_0 → ⊥)) × TellsShut (state g new) cause
 
 -- A desk was made as `create` says, and closed, or refused with the tables as they were.
 abbrev pub Made : {S X : Type 0} → Ghosts S → Bool → Held S → Held S → Result X ProgramFault → Type 0
@@ -165,6 +165,7 @@ pub record IsUnmigrated {S X : Type 0} (g : Ghosts S) (is_ours : Bool) (ended : 
   pub unmade : IsNotMigrated is_ours fault (state g old) (state g new)
   pub cause : IsTrue (state g new).is_open → IsUnfit (state g old).now fault
   pub left : IsTrue (state g new).is_open → AreLeftOfOurs (state g old).now.trees → (fault ≡ desk.Memory) ⊎ (fault ≡ desk.Store)
+  pub shut : TellsShut (state g new) fault
 
 -- Tables were migrated as ours or not, or none were. It was told that they are not ours where they were migrated so, and only there.
 abbrev pub IsMigratedOrNot : {S : Type 0} → Ghosts S → Bool → Bool → Bool → Result (Unit {0}) ProgramFault → Held S → Held S → Type 0

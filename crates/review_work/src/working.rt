@@ -104,10 +104,12 @@ pub fn work<R: Read, W: Write, C: Connections, N: Notices, S: Alter + Drop, D: R
     rules: &mut D,
     task: &Task,
 ) -> (Connection<S>, Result<Outcome, ProgramFault>)
+    requires idle { C.is_idle ends.old.connections ≡ true }
     requires mode { conn.in_transaction ≡ false }
     ensures mode { result.0.in_transaction ≡ false }
     ensures done { Worked S.Store task.now (known R.remaining W.contents C.coming C.told N.is_warned ends.old) (known R.remaining W.contents C.coming C.told N.is_warned ends.new) result.1 conn result.0 }
     ensures restarts { RunsAreOne S.Store }
+    ensures idle { C.is_idle ends.new.connections ≡ true }
 {
     runs_are_one::<S>();
     match SqlShelf::<S, Ours>::open(alloc, conn) {
@@ -134,10 +136,12 @@ fn work_on_others<R: Read, W: Write, C: Connections, N: Notices, S: Alter + Drop
     rules: &mut D,
     task: &Task,
 ) -> (Connection<S>, Result<Outcome, ProgramFault>)
+    requires idle { C.is_idle ends.old.connections ≡ true }
     requires mode { conn.in_transaction ≡ false }
     ensures mode { result.0.in_transaction ≡ false }
     ensures done { OnShelf S.Store false (Does task.now (known R.remaining W.contents C.coming C.told N.is_warned ends.old) (known R.remaining W.contents C.coming C.told N.is_warned ends.new) result.1) conn result.0
         ⊎ IsRefusedDesk S.Store (known R.remaining W.contents C.coming C.told N.is_warned ends.old) (known R.remaining W.contents C.coming C.told N.is_warned ends.new) conn result.0 result.1 }
+    ensures idle { C.is_idle ends.new.connections ≡ true }
 {
     match SqlShelf::<S, Others>::open(alloc, conn) {
         Ok(shelf) => work_on_shelf(alloc, ends, shelf, rules, task),
@@ -160,10 +164,12 @@ fn work_on_shelf<
     rules: &mut D,
     task: &Task,
 ) -> (Connection<S>, Result<Outcome, ProgramFault>)
+    requires idle { C.is_idle ends.old.connections ≡ true }
     ensures mode { result.0.in_transaction ≡ false }
     ensures done { (left : ShelfView S)
         × Does task.now (known R.remaining W.contents C.coming C.told N.is_warned ends.old) (known R.remaining W.contents C.coming C.told N.is_warned ends.new) result.1 O.IS_OURS (shown S.Store O.IS_OURS) shelf left
         × IsHandedBack S.Store O.IS_OURS left result.0 }
+    ensures idle { C.is_idle ends.new.connections ≡ true }
 {
     warn_of::<O, N>(&mut ends.notices);
     let mut shelf = shelf;
@@ -188,9 +194,11 @@ fn do_task<R: Read, W: Write, C: Connections, N: Notices, S: Shelf, O: Origin, D
     rules: &mut D,
     task: &Task,
 ) -> Result<Outcome, ProgramFault>
+    requires idle { C.is_idle ends.old.connections ≡ true }
     requires warned { not O.IS_OURS ≡ true → N.is_warned ends.old.notices ≡ true }
     ensures done { HasDone S.state task.now (known R.remaining W.contents C.coming C.told N.is_warned ends.old) (known R.remaining W.contents C.coming C.told N.is_warned ends.new) result shelf.old shelf.new }
     ensures quiet { N.is_warned ends.new.notices ≡ N.is_warned ends.old.notices }
+    ensures idle { C.is_idle ends.new.connections ≡ true }
 {
     match task {
         Task::Apply => {
@@ -213,9 +221,11 @@ fn serve<C: Connections, S: Shelf, D: Rules>(
     shelf: &mut S,
     rules: &mut D,
 ) -> Result<Outcome, ProgramFault>
-    ensures { let before : Peers = record { coming = C.coming connections.old; told = C.told connections.old } in
+    requires idle { C.is_idle connections.old ≡ true }
+    ensures served { let before : Peers = record { coming = C.coming connections.old; told = C.told connections.old } in
         let after : Peers = record { coming = C.coming connections.new; told = C.told connections.new } in
         ((result ≡ Err ProgramFault.Memory) × (shelf.new ≡ shelf.old) × (after ≡ before)) ⊎ EndsServed S.state count before after result shelf.old shelf.new }
+    ensures idle { C.is_idle connections.new ≡ true }
 {
     let Ok(routes) = Routes::new(alloc) else {
         return Err(ProgramFault::Memory);

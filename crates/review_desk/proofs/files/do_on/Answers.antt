@@ -6,6 +6,6 @@ returns g c = record {
   from = c.in_ok-conn.ensures.from;
   before = _;
   after = _;
-  unwarned = c.ends_of-ends.ensures;
+  unwarned = c.ends_of-ends.ensures.unwarned;
   worked = c.work.ensures.done;
 }

@@ -9,10 +9,10 @@ use Rattle.review_work.proofs.Turning.{ended, given_up, is_error, shut, too_many
 use Rattle.review_desk.proofs.serving.serve_on.Goals as goal
 
 pub loop-rest-init : goal.loop-rest-init
-loop-rest-init g c = ([], true, tt, (refl, refl, refl, refl), refl, omega arith, omega arith, c.requires.mode)
+loop-rest-init g c = ([], true, tt, (refl, refl, refl, refl), refl, omega arith, omega arith, c.requires.mode, c.requires.idle)
 
 pub work-worked-requires : goal.work-worked-requires
-work-worked-requires g c = record { mode = c.loop-rest.invariant.7 }
+work-worked-requires g c = record { mode = c.loop-rest.invariant.7; idle = c.loop-rest.invariant.8 }
 
 pub returns-in_default : goal.returns-in_default
 returns-in_default g c =
@@ -71,6 +71,7 @@ loop-rest-preserved-in_ok-conn g c =
       omega (arith, c.if-in_row-gt-MOST_IN_ROW.false),
       omega (arith, fewer, was.6),
       c.in_ok-conn.ensures.mode,
+      c.work-worked.ensures.idle,
     )
 
 pub loop-rest-smaller : goal.loop-rest-smaller
@@ -95,4 +96,5 @@ loop-rest-preserved g c =
       omega arith,
       omega (arith, fewer, was.6),
       c.is_shut.ensures.mode,
+      c.work-worked.ensures.idle,
     )

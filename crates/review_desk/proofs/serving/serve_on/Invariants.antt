@@ -1,4 +1,4 @@
-use Rattle.std.proofs.Common.{◌≡◌, ◌≤◌, List, Bool, false}
+use Rattle.std.proofs.Common.{◌≡◌, ◌≤◌, List, Bool, true, false}
 use Rattle.sqlite.specs.Files.{over_files}
 use Rattle.sqlite_wal.specs.Files.{image_at}
 use Rattle.review_work.specs.OnFile.{ClosedWell, OpenedFrom}
@@ -13,7 +13,7 @@ invariant-loop-rest g l =
     × AreTurns over_files l.fn.first (OpenedFrom (image_at g.F.Start)) ClosedWell l.fn.count (known g.R.Read.remaining g.W.Write.contents g.C.Connections.coming g.C.Connections.told g.N.Notices.is_warned l.fn.ends) turns
     × BeginsBehind over_files l.fn.first (OpenedFrom (image_at g.F.Start)) ClosedWell l.fn.count (known g.R.Read.remaining g.W.Write.contents g.C.Connections.coming g.C.Connections.told g.N.Notices.is_warned l.fn.ends) turns is_anew l.left
     (known g.R.Read.remaining g.W.Write.contents g.C.Connections.coming g.C.Connections.told g.N.Notices.is_warned l.ends) l.conn
-    × (row_behind turns is_anew l.left ≡ l.in_row) × (l.in_row ≤ 8) × (l.left ≤ l.fn.count) × (l.conn.in_transaction ≡ false)
+    × (row_behind turns is_anew l.left ≡ l.in_row) × (l.in_row ≤ 8) × (l.left ≤ l.fn.count) × (l.conn.in_transaction ≡ false) × (g.C.Connections.is_idle l.ends.connections ≡ true)
 
 abbrev pub decreases-loop-rest : goal.decreases-loop-rest
 decreases-loop-rest g l = l.left

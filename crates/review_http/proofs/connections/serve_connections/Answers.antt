@@ -7,6 +7,9 @@ use Rattle.review_http.proofs.connections.serve_connections.Goals as goal
 pub loop-served-init : goal.loop-served-init
 loop-served-init g c = (([], [], came_none _ _ c.in_ok-listen.ensures.coming, told_none _ _ c.in_ok-listen.ensures.told, refl, (refl, refl), ran_none _), c.in_ok-listen.ensures.idle)
 
+pub listen-requires : goal.listen-requires
+listen-requires g c = record { idle = c.requires.idle }
+
 pub accept-requires : goal.accept-requires
 accept-requires g c = record { idle = c.loop-served.invariant.1 }
 
@@ -29,8 +32,8 @@ loop-served-preserved g c =
       c.serve.ensures.idle,
     )
 
-pub returns : goal.returns
-returns g c =
+pub returns-clause-served : goal.returns-clause-served
+returns-clause-served g c =
     let was = c.loop-served.invariant.0 in
     let all : length was.0 ≡ c.args.count = omega (arith, was.4, c.loop-served.auto.served-end, c.loop-served-test.false) in
     record {
@@ -47,8 +50,8 @@ returns g c =
       ran = was.6;
     }
 
-pub returns-then-faults : goal.returns-then-faults
-returns-then-faults g c =
+pub returns-then-faults-clause-served : goal.returns-then-faults-clause-served
+returns-then-faults-clause-served g c =
     let was = c.loop-served.invariant.0 in
     record {
       exchanges = was.0;
@@ -64,8 +67,8 @@ returns-then-faults g c =
       ran = was.6;
     }
 
-pub returns-in_err-reader : goal.returns-in_err-reader
-returns-in_err-reader g c =
+pub returns-in_err-reader-clause-served : goal.returns-in_err-reader-clause-served
+returns-in_err-reader-clause-served g c =
     let was = c.loop-served.invariant.0 in
     record {
       exchanges = was.0;
@@ -81,8 +84,8 @@ returns-in_err-reader g c =
       ran = was.6;
     }
 
-pub returns-in_err-listen : goal.returns-in_err-listen
-returns-in_err-listen g c = record {
+pub returns-in_err-listen-clause-served : goal.returns-in_err-listen-clause-served
+returns-in_err-listen-clause-served g c = record {
   exchanges = [];
   later = g.C.Connections.coming c.args.connections.now;
   came = came_none _ _ refl;
@@ -95,3 +98,9 @@ returns-in_err-listen g c = record {
   each = (refl, refl);
   ran = ran_none _;
 }
+
+pub returns-clause-idle : goal.returns-clause-idle
+returns-clause-idle g c = c.loop-served.invariant.1
+
+pub returns-then-faults-clause-idle : goal.returns-then-faults-clause-idle
+returns-then-faults-clause-idle g c = c.loop-served.invariant.1

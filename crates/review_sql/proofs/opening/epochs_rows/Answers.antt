@@ -2,7 +2,7 @@ use Rattle.std.proofs.Common.{◌∙◌, ap, not, IsTrue}
 use Rattle.sqlite.specs.Held.{state}
 use Rattle.sqlite.proofs.StateLemmas.{clean_if_open}
 use Rattle.review_statements.specs.declared.texts.TheConstants.{FIND_EPOCHS}
-use Rattle.review_sql.proofs.Asking.{asked_rows, asked_stays, find_epochs_bare}
+use Rattle.review_sql.proofs.Asking.{asked_open, asked_rows, asked_stays, find_epochs_bare}
 use Rattle.review_sql.proofs.opening.epochs_rows.Goals as goal
 
 pub returns-clause-shown : goal.returns-clause-shown
@@ -14,3 +14,6 @@ returns-clause-stays g c =
     let auto : IsTrue c.is_autocommit-settled.result = c.is_autocommit-settled.ensures.value ∙ ap not c.requires.mode in
     asked_stays FIND_EPOCHS.now find_epochs_bare (state g.S.Store c.args.conn.now) (state g.S.Store last) (λ v. v.items) c.query_all.result (λ was. c.is_autocommit-settled.ensures.settled auto was)
     (λ is_open. clean_if_open (g.S.Store.view last.store) (g.met.S.Store.shut_if_dirty last.store) is_open) c.query_all.ensures.ok c.query_all.ensures.err c.query_all.ensures.survives
+
+pub returns-clause-opens : goal.returns-clause-opens
+returns-clause-opens g c clean = asked_open FIND_EPOCHS.now find_epochs_bare (state g.S.Store c.args.conn.now) (state g.S.Store c.query_all.new.self) (λ v. v.items) c.query_all.result (c.query_all.ensures.ok clean)

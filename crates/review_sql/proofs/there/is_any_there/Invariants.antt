@@ -1,4 +1,4 @@
-use Rattle.std.proofs.Common.{◌≡◌, ◌≤◌, ◌<◌, ℕ, List, get_or, map, false}
+use Rattle.std.proofs.Common.{◌≡◌, ◌≤◌, ◌<◌, ℕ, List, get_or, map, IsTrue, false}
 use Rattle.sqlite.specs.Held.{state}
 use Rattle.sqlite.specs.State.{HasCleanDisk}
 use Rattle.review_statements.specs.declared.texts.TheConstants.{ANY_ROW}
@@ -10,5 +10,6 @@ invariant-loop-at g l = record {
   within : l.at ≤ 15;
   mode : l.conn.in_transaction ≡ false;
   stays : Stays (state g.S.Store l.fn.conn) (state g.S.Store l.conn);
+  open : 0 < l.at → HasCleanDisk (state g.S.Store l.conn) → IsTrue (state g.S.Store l.conn).is_open;
   none : HasCleanDisk (state g.S.Store l.conn) → (i : ℕ) (d : List ℕ) → i < l.at → IsUnderstood (state g.S.Store l.fn.conn).now.schema (get_or (map (λ t. t.now) ANY_ROW) i d) → ⊥;
 }

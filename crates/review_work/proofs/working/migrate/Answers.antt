@@ -16,6 +16,7 @@ returns-in-Err-clause-migrated g c = inl (inr (
     unmade = c.in-Err.ensures.refused;
     cause = c.in-Err.ensures.cause;
     left = c.in-Err.ensures.left;
+    shut = elim c.in-Err.ensures.shut [ inl is ↦ absurd (search rules) | inr tells ↦ tells ];
   },
   refl,
 ))

@@ -13,6 +13,7 @@ returns-in-Err-clause-migrated g c = inr (
     unmade = c.in-Err.ensures.refused;
     cause = c.in-Err.ensures.cause;
     left = c.in-Err.ensures.left;
+    shut = elim c.in-Err.ensures.shut [ inl is ↦ (let none = c.in-Err.ensures.ours is in cc) | inr tells ↦ tells ];
   },
   refl,
 )

@@ -1,5 +1,4 @@
 use Rattle.std.proofs.Common.{rules, refl, Err, IsTrue, ap, inl, inr, subst, sym, ◌∙◌}
-use Rattle.std.proofs.KnownBytes.{Appends-nil}
 use Rattle.sqlite.specs.Held.{state}
 use Rattle.review_sql.specs.declared.faults.DeskFault.{DeskFault}
 use Rattle.review_sql.specs.Opened.{IsRefused}
@@ -27,8 +26,8 @@ returns-in-Err-clause-done g c = record {
     stays = c.in-Err.ensures.refused;
     cause = c.in-Err.ensures.cause;
     left = c.in-Err.ensures.left;
-    written = Appends-nil _;
-    unwarned = refl;
+    shut = elim c.in-Err.ensures.shut [ inl is ↦ absurd (search rules) | inr tells ↦ tells ];
+    same = refl;
   }));
 }
 

@@ -1,5 +1,4 @@
 use Rattle.std.proofs.Common.{refl, Err, ap, inl, inr}
-use Rattle.std.proofs.KnownBytes.{Appends-nil}
 use Rattle.review_work.proofs.working.work_on_others.Goals as goal
 
 pub returns-in-Ok-clause-done : goal.returns-in-Ok-clause-done
@@ -21,6 +20,6 @@ returns-in-Err-clause-done g c = inr (record {
   stays = c.in-Err.ensures.refused;
   cause = c.in-Err.ensures.cause;
   left = c.in-Err.ensures.left;
-  written = Appends-nil _;
-  unwarned = refl;
+  shut = elim c.in-Err.ensures.shut [ inl is ↦ (let none = c.in-Err.ensures.ours is in cc) | inr tells ↦ tells ];
+  same = refl;
 })
