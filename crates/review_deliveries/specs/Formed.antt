@@ -16,7 +16,7 @@ pub record HasForm (i : Identity) : Type 0 where
 -- version 1 of the rules knew the first epoch alone, which no request closed
 pub record IsOfVersion (e : Entry) : Type 0 where
   pub epoch : e.version < 2 → e.identity.epoch ≡ 0
-  pub open : e.version < 2 → (least : ℕ) → e.command ≡ CloseEpoch least → ⊥
+  pub closes_none : e.version < 2 → (least : ℕ) → e.command ≡ CloseEpoch least → ⊥
 
 -- each entry is of an identity that a request may have, and of what its version knew
 abbrev pub AreFormed : List Entry → Type 0

@@ -7,7 +7,7 @@ use Rattle.review_sql.proofs.Staying.{stays_still, stays_then}
 use Rattle.review_sql.proofs.there.are_all_there.Goals as goal
 
 pub loop-at-init : goal.loop-at-init
-loop-at-init g c = record { within = omega arith; mode = c.requires.mode; stays = stays_still (state g.S.Store c.args.conn.now); open = c.requires.open; all = λ clean is_open i d below. absurd (omega (arith, below)) }
+loop-at-init g c = record { within = omega arith; mode = c.requires.mode; stays = stays_still (state g.S.Store c.args.conn.now); opened = c.requires.open; all = λ clean is_open i d below. absurd (omega (arith, below)) }
 
 pub loop-at-preserved : goal.loop-at-preserved
 loop-at-preserved g c =
@@ -20,7 +20,7 @@ loop-at-preserved g c =
       within = omega (arith, below);
       mode = c.is_understood.ensures.mode;
       stays = stays_then s0 s1 s2 c.loop-at.invariant.stays c.is_understood.ensures.stays;
-      open = c.in_ok-is_understood.ensures.opens;
+      opened = c.in_ok-is_understood.ensures.opens;
       all = λ clean is_open i d up_to.
           let back = c.is_understood.ensures.stays.kept is_open in
           let first = c.loop-at.invariant.stays.kept back.0 in

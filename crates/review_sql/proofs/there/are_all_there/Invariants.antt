@@ -9,6 +9,6 @@ invariant-loop-at g l = record {
   within : l.at ≤ l.count;
   mode : l.conn.in_transaction ≡ false;
   stays : Stays (state g.S.Store l.fn.conn) (state g.S.Store l.conn);
-  open : HasCleanDisk (state g.S.Store l.conn) → IsTrue (state g.S.Store l.conn).is_open;
+  opened : HasCleanDisk (state g.S.Store l.conn) → IsTrue (state g.S.Store l.conn).is_open;
   all : HasCleanDisk (state g.S.Store l.conn) → IsTrue (state g.S.Store l.conn).is_open → (i : ℕ) (d : List ℕ) → i < l.at → IsUnderstood (state g.S.Store l.fn.conn).now.schema (get_or (rows_read l.fn.version) i d);
 }

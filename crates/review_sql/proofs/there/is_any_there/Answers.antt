@@ -8,7 +8,7 @@ use Rattle.review_sql.proofs.Staying.{stays_still, stays_then}
 use Rattle.review_sql.proofs.there.is_any_there.Goals as goal
 
 pub loop-at-init : goal.loop-at-init
-loop-at-init g c = record { within = omega arith; mode = c.requires.mode; stays = stays_still (state g.S.Store c.args.conn.now); open = λ below. absurd (omega (arith, below)); none = λ clean i d below known. absurd (omega (arith, below)) }
+loop-at-init g c = record { within = omega arith; mode = c.requires.mode; stays = stays_still (state g.S.Store c.args.conn.now); opened = λ below. absurd (omega (arith, below)); none = λ clean i d below known. absurd (omega (arith, below)) }
 
 pub loop-at-preserved : goal.loop-at-preserved
 loop-at-preserved g c =
@@ -21,7 +21,7 @@ loop-at-preserved g c =
       within = omega (arith, below);
       mode = c.is_understood.ensures.mode;
       stays = stays_then s0 s1 s2 c.loop-at.invariant.stays c.is_understood.ensures.stays;
-      open = λ _. c.in_ok-is_understood.ensures.opens;
+      opened = λ _. c.in_ok-is_understood.ensures.opens;
       none = λ clean i d up_to known.
           let opens = c.in_ok-is_understood.ensures.opens clean in
           let back = c.is_understood.ensures.stays.kept opens in
@@ -52,4 +52,4 @@ returns-then-branch-clause-is g c clean same is_open =
     (text, (c.loop-at.at, c.loop-at-test.true, sym (c.any_row.ensures text)), subst (λ (db : Database). IsUnderstood db.schema text) first.1 (c.in_ok-is_understood.ensures.is clean found))
 
 pub returns-clause-opens : goal.returns-clause-opens
-returns-clause-opens g c clean = c.loop-at.invariant.open (omega (arith, c.loop-at-test.false)) clean
+returns-clause-opens g c clean = c.loop-at.invariant.opened (omega (arith, c.loop-at-test.false)) clean

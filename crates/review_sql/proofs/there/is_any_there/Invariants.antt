@@ -10,6 +10,6 @@ invariant-loop-at g l = record {
   within : l.at ≤ 15;
   mode : l.conn.in_transaction ≡ false;
   stays : Stays (state g.S.Store l.fn.conn) (state g.S.Store l.conn);
-  open : 0 < l.at → HasCleanDisk (state g.S.Store l.conn) → IsTrue (state g.S.Store l.conn).is_open;
+  opened : 0 < l.at → HasCleanDisk (state g.S.Store l.conn) → IsTrue (state g.S.Store l.conn).is_open;
   none : HasCleanDisk (state g.S.Store l.conn) → (i : ℕ) (d : List ℕ) → i < l.at → IsUnderstood (state g.S.Store l.fn.conn).now.schema (get_or (map (λ t. t.now) ANY_ROW) i d) → ⊥;
 }
