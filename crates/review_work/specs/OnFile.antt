@@ -66,8 +66,8 @@ module _ {D : Type 0} {g : Ghosts D} where
       ((fault : ProgramFault) × IsDeskFault fault × (job ≡ Err fault))
       ⊎ ((last : Held (FileStore D g)) × (ended : Result X ProgramFault) × Did last ended × (closed : Result (Unit {0}) ProgramFault) × OnOk closed (ClosedWell last) × (job ≡ after_closing ended closed))
 
-  -- so many connections were to be served on the desk in a file: it didn't open; or they were served in turns, from the one that was opened first
-  abbrev pub WasServed : Image → ℕ → Result Outcome ProgramFault → Type 0
-  WasServed image count job =
-      ((fault : ProgramFault) × IsDeskFault fault × (job ≡ Err fault))
-      ⊎ ((first : Held (FileStore D g)) × OpenedFrom image first × (before : Known) × (after : Known) × (before.is_warned ≡ false) × ServedInTurns over_files first (OpenedFrom image) ClosedWell count before after job)
+-- so many connections were to be served on the desk in a file: it didn't open; or they were served in turns, from the one that was opened first
+abbrev pub WasServed : {D : Type 0} → Ghosts D → Image → ℕ → Result Outcome ProgramFault → Type 0
+WasServed {D} g image count job =
+    ((fault : ProgramFault) × IsDeskFault fault × (job ≡ Err fault))
+    ⊎ ((first : Held (FileStore D g)) × OpenedFrom image first × (before : Known) × (after : Known) × (before.is_warned ≡ false) × ServedInTurns over_files first (OpenedFrom image) ClosedWell count before after job)
