@@ -1,11 +1,14 @@
 //! Jobs on a file, which is opened once and closed at the end, when its log is copied into it. `serve` opens it again where a fault has shut it.
 //!
-//! Each is for whatever the file and its log hold when they are opened, and says what it does by that (`F`, which `main` names): what the program does in one run goes on from what the run before
-//! left, or what a stop left of it. Where `serve` opens a file again, that is said of each opening by itself.
-ghost use Rattle.std.specs.Prelude.{◌≡◌, ◌⊎◌, true, false, Result, Ok, Err, IfOk, IfErr, OnOk};
+//! `open` is for whatever the file and its log hold, and says what it finds by that (`F`, which `main` names), and a job what it does on such a connection: what the program does in one run goes
+//! on from what the run before left, or what a stop left of it. Where `serve` opens a file again, that is said of each opening by itself.
+ghost use Rattle.std.specs.Prelude.{◌≡◌, Bool, true, false, Result, IfOk, IfErr, OnOk};
+ghost use Rattle.sqlite.specs.Files.{over_files};
 ghost use Rattle.sqlite_wal.specs.Files.{image_at};
 ghost use Rattle.review_work.specs.Faults.{IsDeskFault};
-ghost use Rattle.review_work.specs.OnFile.{ClosedWell, IsTold, MadeFrom, MigratedFrom, OpenedFrom, WasDone, WasServed, WorkedFrom};
+ghost use Rattle.review_work.specs.OnFile.{ClosedWell, IsTold, OpenedFrom, ThenClosed};
+ghost use Rattle.review_work.specs.Turns.{ServedInTurns};
+ghost use Rattle.review_work.specs.Worked.{Known, WasMade, WasMigrated, Worked};
 
 use crate::listening::Listening;
 use crate::notices::StandardError;
@@ -24,9 +27,6 @@ pub trait Starts<F>: Drop {
     /// That of the next time.
     fn next(&mut self) -> F;
 }
-
-// What was done on a connection to a file, which is still to be closed.
-type DoneOn<F, T> = (FileConnection<F>, Result<T, ProgramFault>);
 
 /// A connection that finds what the file and its log hold.
 pub fn open<F: Start>(
@@ -70,72 +70,45 @@ fn ends_of(rt: &HostRuntime, port: u16) -> ProgramEnds<'_>
     }
 }
 
-fn make_on<F: Start>(rt: &HostRuntime, file: &str, start: F) -> Result<DoneOn<F, ()>, ProgramFault>
-    ensures done { IfOk result (λ r. MadeFrom (image_at F.Start) r.0 r.1) }
-    ensures cause { IfErr result IsDeskFault }
-{
-    let conn = open(rt, file, start)?;
-    Ok(create(rt.alloc(), conn))
-}
-
-/// Makes an empty desk in a new file, and says so once the file is closed.
-pub fn init<F: Start>(rt: &HostRuntime, file: &str, start: F) -> Result<Outcome, ProgramFault>
-    ensures { (job : Result (Unit {0}) ProgramFault) × WasDone (MadeFrom (image_at F.Start)) job × IsTold job result }
-{
-    let (conn, made) = make_on(rt, file, start)?;
-    after_closing(made, close(conn))?;
-    tell(rt, "desk created")
-}
-
-fn migrate_on<F: Start>(
+/// Makes an empty desk over a connection to a new file, and says so once the file is closed.
+pub fn init<F: Start>(
     rt: &HostRuntime,
-    file: &str,
-    start: F,
-) -> Result<DoneOn<F, ()>, ProgramFault>
-    ensures done { IfOk result (λ r. MigratedFrom (image_at F.Start) r.0 r.1) }
-    ensures cause { IfErr result IsDeskFault }
+    conn: FileConnection<F>,
+) -> Result<Outcome, ProgramFault>
+    requires mode { conn.in_transaction ≡ false }
+    ensures { (job : Result (Unit {0}) ProgramFault) × ThenClosed (λ last made. WasMade over_files conn last made) job × IsTold job result }
 {
-    let conn = open(rt, file, start)?;
-    let mut notices = StandardError::new(rt);
-    Ok(review_work::migrate(rt.alloc(), &mut notices, conn))
+    let (last, made) = create(rt.alloc(), conn);
+    tell(rt, after_closing(made, close(last)), "desk created")
 }
 
 /// Makes the tables of the desk in a file those of the latest version, and says so once the file is closed. Standard error is warned of tables that are not those of
 /// a desk alone.
-pub fn migrate<F: Start>(rt: &HostRuntime, file: &str, start: F) -> Result<Outcome, ProgramFault>
-    ensures { (job : Result (Unit {0}) ProgramFault) × WasDone (MigratedFrom (image_at F.Start)) job × IsTold job result }
-{
-    let (conn, migrated) = migrate_on(rt, file, start)?;
-    after_closing(migrated, close(conn))?;
-    tell(rt, "desk migrated")
-}
-
-fn do_on<F: Start>(
+pub fn migrate<F: Start>(
     rt: &HostRuntime,
-    file: &str,
-    start: F,
-    task: &Task,
-) -> Result<DoneOn<F, Outcome>, ProgramFault>
-    ensures done { IfOk result (λ r. WorkedFrom (image_at F.Start) task.now r.0 r.1) }
-    ensures cause { IfErr result IsDeskFault }
+    conn: FileConnection<F>,
+) -> Result<Outcome, ProgramFault>
+    requires mode { conn.in_transaction ≡ false }
+    ensures { (is_warned : Bool) × (job : Result (Unit {0}) ProgramFault) × ThenClosed (λ last ended. WasMigrated over_files false is_warned ended conn last) job × IsTold job result }
 {
-    let conn = open(rt, file, start)?;
-    let mut rules = DeskRules::new(rt.alloc());
-    let mut ends = ends_of(rt, 0);
-    Ok(work(rt.alloc(), &mut ends, conn, &mut rules, task))
+    let mut notices = StandardError::new(rt);
+    let (last, migrated) = review_work::migrate(rt.alloc(), &mut notices, conn);
+    tell(rt, after_closing(migrated, close(last)), "desk migrated")
 }
 
-/// Does a task on the desk in a file: from standard input, to standard output. Standard error is warned of tables that are not those of a desk alone.
+/// Does a task on the desk in a file, which is closed then: from standard input, to standard output. Standard error is warned of tables that are not those of a desk alone.
 pub fn work_on<F: Start>(
     rt: &HostRuntime,
-    file: &str,
-    start: F,
+    conn: FileConnection<F>,
     task: &Task,
 ) -> Result<Outcome, ProgramFault>
-    ensures { WasDone (WorkedFrom (image_at F.Start) task.now) result }
+    requires mode { conn.in_transaction ≡ false }
+    ensures { (before : Known) × (after : Known) × (before.is_warned ≡ false) × ThenClosed (λ last ended. Worked over_files task.now before after ended conn last) result }
 {
-    let (conn, ended) = do_on(rt, file, start, task)?;
-    after_closing(ended, close(conn))
+    let mut rules = DeskRules::new(rt.alloc());
+    let mut ends = ends_of(rt, 0);
+    let (last, ended) = work(rt.alloc(), &mut ends, conn, &mut rules, task);
+    after_closing(ended, close(last))
 }
 
 /// Serves so many connections on a port, and says how many once the file is closed. Where a fault shuts the file's store it is opened again, as `serve_on` says. Standard error is warned of
@@ -144,27 +117,38 @@ pub fn serve<F: Start, T: Starts<F>>(
     rt: &HostRuntime,
     file: &str,
     mut starts: T,
+    first: FileConnection<F>,
     port: u16,
     count: u32,
 ) -> Result<Outcome, ProgramFault>
-    ensures { (job : Result Outcome ProgramFault) × WasServed (image_at F.Start) count job × IsTold job result }
+    requires mode { first.in_transaction ≡ false }
+    ensures { (before : Known) × (after : Known) × (before.is_warned ≡ false) × (job : Result Outcome ProgramFault)
+        × ServedInTurns over_files first (OpenedFrom (image_at F.Start)) ClosedWell count before after job × IsTold job result }
 {
-    let first = open(rt, file, starts.next())?;
     let mut rules = DeskRules::new(rt.alloc());
     let mut ends = ends_of(rt, port);
-    serve_on(rt, file, &mut starts, first, &mut ends, &mut rules, count)?;
-    match println!(rt; "served {count}") {
-        Ok(()) => Ok(Outcome::Complete),
-        Err(_) => Err(ProgramFault::Output),
+    match serve_on(rt, file, &mut starts, first, &mut ends, &mut rules, count) {
+        Ok(_) => match println!(rt; "served {count}") {
+            Ok(()) => Ok(Outcome::Complete),
+            Err(_) => Err(ProgramFault::Output),
+        },
+        Err(fault) => Err(fault),
     }
 }
 
-// Tells that a job on a file is done.
-fn tell(rt: &HostRuntime, text: &str) -> Result<Outcome, ProgramFault>
-    ensures { (result ≡ Ok Outcome.Complete) ⊎ (result ≡ Err ProgramFault.Output) }
+// Tells that a job on a file is done, or why it isn't.
+fn tell(
+    rt: &HostRuntime,
+    job: Result<(), ProgramFault>,
+    text: &str,
+) -> Result<Outcome, ProgramFault>
+    ensures { IsTold job result }
 {
-    match println!(rt; "{text}") {
-        Ok(()) => Ok(Outcome::Complete),
-        Err(_) => Err(ProgramFault::Output),
+    match job {
+        Ok(()) => match println!(rt; "{text}") {
+            Ok(()) => Ok(Outcome::Complete),
+            Err(_) => Err(ProgramFault::Output),
+        },
+        Err(fault) => Err(fault),
     }
 }

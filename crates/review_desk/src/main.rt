@@ -55,19 +55,18 @@ fn run_on<F: Start, T: Starts<F>>(
     mut starts: T,
     job: Job<'_>,
 ) -> Result<Outcome, ProgramFault> {
+    let conn = files::open(rt, file, starts.next())?;
     match job {
-        Job::Init { .. } => files::init(rt, file, starts.next()),
-        Job::Migrate { .. } => files::migrate(rt, file, starts.next()),
-        Job::Apply { .. } => files::work_on(rt, file, starts.next(), &Task::Apply),
-        Job::Serve { port, count, .. } => files::serve(rt, file, starts, port, count),
-        Job::Show { change, .. } => {
-            files::work_on(rt, file, starts.next(), &Task::Show { change })
-        }
+        Job::Init { .. } => files::init(rt, conn),
+        Job::Migrate { .. } => files::migrate(rt, conn),
+        Job::Apply { .. } => files::work_on(rt, conn, &Task::Apply),
+        Job::Serve { port, count, .. } => files::serve(rt, file, starts, conn, port, count),
+        Job::Show { change, .. } => files::work_on(rt, conn, &Task::Show { change }),
         Job::Joined {
             project,
             branch,
             ..
-        } => files::work_on(rt, file, starts.next(), &Task::Joined { project, branch }),
+        } => files::work_on(rt, conn, &Task::Joined { project, branch }),
     }
 }
 
