@@ -127,7 +127,19 @@ pub fn serve<F: Start, T: Starts<F>>(
 {
     let mut rules = DeskRules::new(rt.alloc());
     let mut ends = ends_of(rt, port);
-    match serve_on(rt, file, &mut starts, first, &mut ends, &mut rules, count) {
+    let job = serve_on(rt, file, &mut starts, first, &mut ends, &mut rules, count);
+    tell_served(rt, job, count)
+}
+
+// Tells that so many connections were served, or why they weren't.
+fn tell_served(
+    rt: &HostRuntime,
+    job: Result<Outcome, ProgramFault>,
+    count: u32,
+) -> Result<Outcome, ProgramFault>
+    ensures { IsTold job result }
+{
+    match job {
         Ok(_) => match println!(rt; "served {count}") {
             Ok(()) => Ok(Outcome::Complete),
             Err(_) => Err(ProgramFault::Output),
