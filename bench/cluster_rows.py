@@ -6,7 +6,7 @@ import socket
 import sys
 
 from cluster_world import FEEDER, Log, World, check, free_port, until
-from desk_answers import subscribe, told
+from desk_answers import NEW, kept_in, subscribe, told
 from etcd_log import key_of
 
 STAND_IN = os.path.join(os.path.dirname(os.path.realpath(__file__)), "cluster_stand_in.py")
@@ -163,6 +163,25 @@ def refuses_to_start(fed):
     fed.reaches(fed.append("y"))
 
 
+def odd_positions(fed):
+    """What isn't a feeder's in the file of its position: it says so and stands still. Where a stop of the machine left nothing, or zeros, the desk is told all again."""
+    fed.feeder.end()
+    good = fed.kept()
+    for odd in ([], 7, "x", None, {**good, "position": "5"}, {**good, "position": -1}, {**good, "position": True}, {**good, "sum": 5}, {**good, "log": 5}):
+        try:
+            check(False, "an odd position", kept_in(json.dumps(odd).encode()))
+        except ValueError:
+            pass
+    check(kept_in(b"") == kept_in(bytes(400)) == NEW and kept_in(json.dumps(good).encode() + b"\r\n") == good, "positions")
+    for odd in ([good], {**good, "sum": "\0" * 400}):
+        write_kept(odd)
+        check(fed.feeder.status() == 3 and "isn't what a feeder keeps" in fed.feeder.said().splitlines()[-1], odd, fed.feeder.said()[-300:])
+        check("is no copy with its position" in fed.world.manage("truncate", "d.desk", "--log", *fed.world.addresses, status=1), "a copy with an odd position")
+    write_kept(good)
+    fed.feeder.is_wanted = True
+    fed.reaches(fed.append("behind odd ones"))
+
+
 def write_kept(kept):
     with open("d.desk.position", "w", encoding="utf-8") as file:
         json.dump(kept, file)
@@ -197,6 +216,7 @@ def main(_):
             part(fed)
         for word in ("DAMAGED", "FULL"):
             stands_still(fed, word)
+        odd_positions(fed)
         refuses_to_start(fed)
         upgraded(fed)
         made_anew(fed)
