@@ -3,6 +3,7 @@ import contextlib
 import json
 import os
 import socket
+import subprocess
 import sys
 
 from cluster_world import FEEDER, Log, World, check, free_port, until
@@ -165,6 +166,8 @@ def refuses_to_start(fed):
 
 def odd_positions(fed):
     """What isn't a feeder's in the file of its position: it says so and stands still. Where a stop of the machine left nothing, or zeros, the desk is told all again."""
+    second = subprocess.run([*map(str, fed.words)], stderr=subprocess.PIPE, text=True, check=False)
+    check(second.returncode == 1 and "another feeder may hold" in second.stderr, "two feeders of one desk", second)
     fed.feeder.end()
     good = fed.kept()
     for odd in ([], 7, "x", None, {**good, "position": "5"}, {**good, "position": -1}, {**good, "position": True}, {**good, "sum": 5}, {**good, "log": 5}):
