@@ -176,7 +176,7 @@ def written_over(address):
     log.put("tail", str(at))
     for written in (1, 3):
         log.put(etcd_log.key_of("log", at + written), "by hand")
-        check("behind that" in refused(log) and "behind that" in refused(fresh), written)
+        check("its last entry" in refused(log) and "its last entry" in refused(fresh), written)
         log.delete(etcd_log.key_of("log", at + written))
     check([it.request for it in some_of(log, head, 3)] == [b"a", b"b", b"c"] and log.first(at) is None, "what is there")
     check(fresh.append([b"d"]) == (at + 1, 1) and log.append([b"e"]) == (at + 2, 1), "and goes on")

@@ -2,14 +2,17 @@
 import contextlib
 import json
 import os
+import signal
 import socket
 import subprocess
 import sys
 
-from cluster_world import FEEDER, Log, World, check, free_port, until
+from cluster_world import EXAMPLE, FEEDER, FRONT, Log, World, check, exchange, free_port, until
 from desk_answers import NEW, kept_in, subscribe, told
 from etcd_log import key_of
 
+# A feeder that looks about after a second without an entry, and not after five.
+SOON = "import runpy, sys\ndel sys.argv[0]\nsys.path.insert(0, sys.argv[0])\nimport etcd_log\netcd_log.SILENCE = 1\ndel sys.argv[0]\nrunpy.run_path(sys.argv[0], run_name='__main__')\n"
 STAND_IN = os.path.join(os.path.dirname(os.path.realpath(__file__)), "cluster_stand_in.py")
 
 
@@ -20,7 +23,7 @@ class Fed:
         self.world, self.log, self.says, self.port = world, Log(world.addresses), {}, free_port()
         self.script("first", "ok")
         self.desk = world.add("desk", sys.executable, STAND_IN, self.port, "says", "told", pause=0.1)
-        self.words = [FEEDER, "d.desk", "--port", self.port, "--name", "one", "--log", *world.addresses]
+        self.words = [sys.executable, "-c", SOON, EXAMPLE, FEEDER, "d.desk", "--port", self.port, "--name", "one", "--log", *world.addresses]
         self.feeder = world.add("feeder", *self.words)
 
     def script(self, name, *words):
@@ -206,6 +209,31 @@ def upgraded(fed):
     check(list(fed.answers(place)) == [last], fed.answers(place))
 
 
+def gone_back(fed):
+    """A tail that is too low stops nobody who has more: a feeder that is started waits until it is mended. Where the entries are gone too the feeder stands still."""
+    last = fed.reaches(fed.append("z1", "z2")) and fed.kept()["position"]
+    fed.log.put("tail", str(last - 2))
+    starts = fed.feeder.starts
+    fed.feeder.kill()
+    until(lambda: fed.feeder.starts > starts and f"key `tail` the log ends at {last - 2}" in fed.feeder.said(), "it waits", fed.feeder.said()[-300:])
+    fed.log.put("tail", str(last))
+    fed.reaches(fed.append("z3"))
+    front = fed.world.add("front", FRONT, "d.desk", "--port", fed.world.port("front"), "--desk", fed.port, "--log", *fed.log.addresses)
+    until(lambda: exchange(fed.world.port("front"), "GET", "/", {"Log-Position": "0"}), "a front")
+    fed.feeder.kill(signal.SIGSTOP)
+    fed.log.delete(key_of("log", last), key_of("log", last + 2))
+    fed.log.put("tail", str(last - 1))
+    check(exchange(fed.world.port("front"), "POST", "/", {}, b"z5") is None and "has lost what it had" in front.said(), "a front tells nothing", front.said())
+    front.end()
+    fed.feeder.kill(signal.SIGCONT)
+    for word in ("running", "started"):
+        check(fed.feeder.status() == 3 and "has lost what it had" in fed.feeder.said().splitlines()[-1], word, fed.feeder.said()[-300:])
+    fed.log.tail = fed.log.head()
+    fed.log.append([b"lost"])
+    fed.feeder.is_wanted = True
+    fed.reaches(fed.append("z4"))
+
+
 def made_anew(fed):
     """A feeder whose log was made anew under it stands still."""
     fed.log.put("name", "another")
@@ -222,6 +250,7 @@ def main(_):
         odd_positions(fed)
         refuses_to_start(fed)
         upgraded(fed)
+        gone_back(fed)
         made_anew(fed)
         world.check_logs()
     print("the feeder's table: each row goes on, is told again, is left out or stands still as it should")

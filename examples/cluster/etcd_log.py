@@ -24,7 +24,7 @@ PAGE, OPERATIONS, BYTES = 200, 100, 800_000
 PATIENCE, SILENCE, LATELY = (2, 8), 5, 20
 IS_WRONG_EVERYWHERE = (3, 11)
 IS_ABSENT = {"target": "CREATE", "create_revision": "0"}
-EARLY = "by etcd's key `tail` the log ends at {}, and it has entries behind that"
+EARLY = "by etcd's key `tail` the log ends at {}, before its last entry"
 
 
 class NoLog(Exception):
