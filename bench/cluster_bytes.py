@@ -69,11 +69,12 @@ ODD_NODE = 1000
 NO_REQUESTS = [b"UPGRADE 7", b"\r\n\nUPGRADE 7", b"UPGRADE 7\n", b"UPGRADE 7\r\n\r\n", b"UPGRADE 7 HTTP/1.1\r\nX-Account: 1\r\n\r\n", b"\r\n", b"\n"]
 
 
-def tell_raw(port, sent):
-    """All that is answered to some bytes, behind which nothing comes."""
+def tell_raw(port, sent, is_end):
+    """All that is answered to some bytes, by one who says that nothing comes behind them or doesn't."""
     with socket.create_connection(("127.0.0.1", port), timeout=30) as peer:
         peer.sendall(sent)
-        peer.shutdown(socket.SHUT_WR)
+        if is_end:
+            peer.shutdown(socket.SHUT_WR)
         answer = b""
         while more := peer.recv(65536):
             answer += more
@@ -90,7 +91,7 @@ def odd_requests(world):
     until(lambda: is_served(world.port(f"front{ODD_NODE}")) and is_served(world.port("alone")), "a front and a desk")
     for sent in (*ODD, *NO_REQUESTS):
         begun = time.monotonic()
-        got, wanted = tell_raw(world.port(f"front{ODD_NODE}"), sent), tell_raw(world.port("alone"), sent)
+        got, wanted = (tell_raw(world.port(it), sent, sent in NO_REQUESTS) for it in (f"front{ODD_NODE}", "alone"))
         found = POSITION.findall(got)
         check(POSITION.sub(b"", got, 1) == wanted != b"" and len(found) == 1, "answered otherwise", sent, got, wanted)
         check(int(found[0].split()[1]) <= log.head() and time.monotonic() - begun < 8, "a position", sent, found)

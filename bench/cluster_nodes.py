@@ -158,6 +158,11 @@ def copied_over(world):
     world.manage("copy", "2.desk", "9.desk")
     check(not any(it.endswith(".new") for it in os.listdir(".")) and world.position_of("9.desk")["position"] <= world.position(2)["position"], "a copy")
     check(run("apply", "9.desk", program=world.program)[0] == 0, "the copy opens")
+    shutil.copy("9.desk", "7.desk")
+    with open("8.desk-wal", "w", encoding="utf-8") as file:
+        file.write("of an earlier one")
+    manage.copy_held("7.desk", "8.desk")
+    check(os.path.exists("8.desk") and not os.path.exists("8.desk-wal"), "a copy of a desk without a log beside it")
 
 
 def without_feeder(world, log):
