@@ -14,7 +14,7 @@ import threading
 import time
 
 from cluster_bytes import load
-from cluster_world import BASE, EXAMPLE, LARGE, MANAGE, PROJECT, Log, World, check, exchange, run, until
+from cluster_world import BASE, EXAMPLE, LARGE, MANAGE, PROJECT, SOON, Log, World, check, exchange, run, until
 from desk_answers import subscribe
 
 HOLDER = "import sys\nsys.path.insert(0, sys.argv[1])\nfrom desk_answers import subscribe\nfor line in subscribe(sys.argv[2], {'hold': True}):\n    print(line, flush=True)\n"
@@ -118,15 +118,15 @@ def stopped(world, log):
     """A feeder that its machine stops is found out by the first who waits in vain; then nothing is appended, others are told soon, and what waits for nothing is answered."""
     front = world.parts["front2"]
     front.end()
-    front.words, front.is_wanted = [*front.words, "--seconds", 4], True
+    front.words, front.is_wanted = [*front.words, "--seconds", 3], True
     world.settled([1, 2])
     until(lambda: world.once(2, None, "GET", "/changes/1"), "the front is back")
     world.parts["feeder2"].kill(signal.SIGSTOP)
     head = log.head()
     check(world.once(2, "s1", "POST", "/accounts", {"name": "sam"}) is None and log.head() == head + 1, "the first one waits")
     begun = time.monotonic()
-    check(world.once(2, "s2", "POST", "/accounts", {"name": "sid"}) is None and world.once(2, None, "GET", "/changes/1") is None, "the next ones")
-    check(time.monotonic() - begun < 7.5 and log.head() == head + 1, "are told soon, and not appended", time.monotonic() - begun, log.head() - head)
+    check(world.once(2, "s2", "POST", "/accounts", {"name": "sid"}) is None and log.head() == head + 1, "the next one isn't appended")
+    check(time.monotonic() - begun < 2.9, "it is told soon", time.monotonic() - begun)
     check(world.once(2, None, "GET", "/changes/1", **{"Log-Position": "0"}), "a question that waits for nothing")
     check(world.ask(1, "s1", "POST", "/accounts", {"name": "sam"})[0] == 200, "the other node has it")
     world.parts["feeder2"].kill(signal.SIGCONT)
@@ -273,7 +273,7 @@ def ends_in_time(world):
 
 def main(said):
     with World(said.program, engines=1) as world:
-        log = Log(world.addresses)
+        log, world.feeder_words = Log(world.addresses), SOON
         world.node(1)
         world.node(2)
         lost_and_twice(world, log)

@@ -7,12 +7,10 @@ import socket
 import subprocess
 import sys
 
-from cluster_world import EXAMPLE, FEEDER, FRONT, Log, World, check, exchange, free_port, until
+from cluster_world import FRONT, SOON, Log, World, check, exchange, free_port, until
 from desk_answers import NEW, kept_in, subscribe, told
 from etcd_log import key_of
 
-# A feeder that looks about after a second without an entry, and not after five.
-SOON = "import runpy, sys\ndel sys.argv[0]\nsys.path.insert(0, sys.argv[0])\nimport etcd_log\netcd_log.SILENCE = 1\ndel sys.argv[0]\nrunpy.run_path(sys.argv[0], run_name='__main__')\n"
 STAND_IN = os.path.join(os.path.dirname(os.path.realpath(__file__)), "cluster_stand_in.py")
 
 
@@ -23,7 +21,7 @@ class Fed:
         self.world, self.log, self.says, self.port = world, Log(world.addresses), {}, free_port()
         self.script("first", "ok")
         self.desk = world.add("desk", sys.executable, STAND_IN, self.port, "says", "told", pause=0.1)
-        self.words = [sys.executable, "-c", SOON, EXAMPLE, FEEDER, "d.desk", "--port", self.port, "--name", "one", "--log", *world.addresses]
+        self.words = [*SOON, "d.desk", "--port", self.port, "--name", "one", "--log", *world.addresses]
         self.feeder = world.add("feeder", *self.words)
 
     def script(self, name, *words):

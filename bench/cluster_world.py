@@ -21,6 +21,8 @@ import etcd_log  # noqa: E402
 from etcd_log import Log, NoLog  # noqa: E402
 
 FEEDER, FRONT, MANAGE = (os.path.join(EXAMPLE, name) for name in ("feeder", "front", "manage"))
+# A feeder that looks about after a second without an entry, and not after five.
+SOON = [sys.executable, "-c", "import runpy, sys\nsys.path.insert(0, sys.argv[1])\nimport etcd_log\netcd_log.SILENCE = 1\ndel sys.argv[:2]\nrunpy.run_path(sys.argv[0], run_name='__main__')\n", EXAMPLE, FEEDER]
 LONG, ROOM = 240, 3 << 30
 PROJECT = """[access]
 create = ["Registered-Users"]
@@ -103,7 +105,7 @@ class World:
     """etcd, and the nodes of a cluster, in a folder that is this process's own."""
 
     def __init__(self, program=PROGRAM, engines=3):
-        self.program, self.parts, self.is_open, self.ports, self.peers = os.path.abspath(program), {}, True, {}, {}
+        self.program, self.parts, self.is_open, self.ports, self.peers, self.feeder_words = os.path.abspath(program), {}, True, {}, {}, [FEEDER]
         threading.Thread(target=self.watch, daemon=True).start()
         if engines:
             self.engines(engines)
@@ -165,7 +167,7 @@ class World:
             self.add(f"front{n}", FRONT, f"{n}.desk", "--port", self.port(f"front{n}"), "--desk", self.port(f"desk{n}"), "--log", *self.log_of(n))
 
     def feeder(self, n, *more):
-        return self.add(f"feeder{n}", FEEDER, f"{n}.desk", "--port", self.port(f"desk{n}"), "--name", f"node{n}", *more, "--log", *self.log_of(n))
+        return self.add(f"feeder{n}", *self.feeder_words, f"{n}.desk", "--port", self.port(f"desk{n}"), "--name", f"node{n}", *more, "--log", *self.log_of(n))
 
     def position(self, n):
         """What the feeder of a node keeps."""
@@ -247,5 +249,5 @@ def own_folder(is_on_disk=False):
             os.chdir(TOP)
 
 
-__all__ = ["BASE", "EXAMPLE", "FEEDER", "FRONT", "LARGE", "LONG", "PROGRAM", "PROJECT", "TOP", "Log", "NoLog", "Part", "World", "check", "copy", "etcd_log", "exchange", "free_port", "has_log", "own_folder",
+__all__ = ["BASE", "EXAMPLE", "FEEDER", "FRONT", "LARGE", "LONG", "PROGRAM", "PROJECT", "SOON", "TOP", "Log", "NoLog", "Part", "World", "check", "copy", "etcd_log", "exchange", "free_port", "has_log", "own_folder",
            "run", "tables", "until"]
