@@ -180,6 +180,9 @@ def written_over(address):
         log.delete(etcd_log.key_of("log", at + written))
     check([it.request for it in some_of(log, head, 3)] == [b"a", b"b", b"c"] and log.first(at) is None, "what is there")
     check(fresh.append([b"d"]) == (at + 1, 1) and log.append([b"e"]) == (at + 2, 1), "and goes on")
+    log.delete("log/", "log0")
+    log.delete("tail")
+    check("`tail`" in refused(log) and log.append([b"f"]) == (1, 1), "a log that was made anew")
 
 
 def refused(log):

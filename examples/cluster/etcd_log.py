@@ -173,10 +173,11 @@ class Log:
             tail, name = (it["response_range"] for it in told["responses"])
             if self.name and text_in(name) != self.name:
                 raise NoLog(f"the log isn't {self.name} any more")
-            if number_in(tail) <= self.tail:
-                raise NoLog(EARLY.format(number_in(tail)))
-            # Another front was quicker, or this is a second try of what was done.
-            self.tail = number_in(tail)
+            now = number_in(tail)
+            # Another front was quicker, or this is a second try of what was done. Else the log isn't as it was, and is looked at anew before the next append.
+            self.tail = now if now > self.tail else 0
+            if not self.tail:
+                raise NoLog(EARLY.format(now))
 
     def end(self, seconds=30):
         """The position of the last entry, behind which the log has none."""
