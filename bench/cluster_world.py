@@ -180,7 +180,7 @@ class World:
         except (FileNotFoundError, ValueError):
             return {"position": 0, "sum": "none"}
 
-    def settled(self, nodes):
+    def settled(self, nodes, seconds=LONG):
         """Waits until nodes have come to the end of the log, with the same answers: what they keep."""
         log = Log(self.addresses)
 
@@ -188,7 +188,7 @@ class World:
             with contextlib.suppress(NoLog):
                 kept = [self.position(n) for n in nodes]
                 return len({(it["position"], it["sum"]) for it in kept}) == 1 and kept[0]["position"] == log.head() and kept[0]
-        return until(are_equal, "nodes at one place", nodes)
+        return until(are_equal, "nodes at one place", nodes, seconds=seconds)
 
     def tables(self, n):
         """The tables of a node's desk as they are now."""
@@ -211,8 +211,8 @@ class World:
         found = exchange(self.port(f"front{n}"), method, path, fields, None if body is None else body if isinstance(body, bytes) else json.dumps(body).encode(), seconds)
         return found and (found[0], json.loads(found[1][5:]), found[2])
 
-    def manage(self, *words, status=0):
-        ran = subprocess.run([MANAGE, *map(str, words)], capture_output=True, text=True, timeout=LONG, check=False)
+    def manage(self, *words, status=0, seconds=LONG):
+        ran = subprocess.run([MANAGE, *map(str, words)], capture_output=True, text=True, timeout=seconds, check=False)
         check(status is None or ran.returncode == status, words, ran.returncode, ran.stdout, ran.stderr)
         return ran.stdout if ran.returncode == 0 else ran.stderr
 
