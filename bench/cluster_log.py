@@ -169,7 +169,7 @@ def written_over(address):
     log, fresh = Log([address]), Log([address])
     log.tail = head = log.head()
     at = log.append([b"a", b"b", b"c"])[0] + 2
-    for wrong in (str(at - 2), str(head), "1", None, "nine"):
+    for wrong in (str(at - 2), str(head), "1", None, "nine", f"0{at}"):
         log.put("tail", wrong) if wrong else log.delete("tail")
         for one in (log, Log([address])):
             check("`tail`" in refused(one), wrong)

@@ -50,7 +50,7 @@ def text_in(told):
 
 def number_in(told):
     text = text_in(told) or "0"
-    if not re.fullmatch("[0-9]{1,15}", text):
+    if not re.fullmatch("0|[1-9][0-9]{0,14}", text):
         raise NoLog(f"etcd's key `tail` has no position: {text[:40]}")
     return int(text)
 
