@@ -13,7 +13,7 @@ import time
 
 from cluster_clients import Client, Told
 from cluster_links import Links
-from cluster_world import BASE, MANAGE, PROJECT, Log, World, check, exchange, run, until
+from cluster_world import BASE, LONG, MANAGE, PROJECT, Log, World, check, exchange, run, until
 from losing import NOT_TAKEN
 
 KINDS = ("engine", "desk", "feeder", "front")
@@ -170,8 +170,13 @@ def told_again(kills):
 
 def same_events(world, position, count):
     """What is told of the accepted requests is the same at nodes of each kind, and as many as were accepted."""
-    events = [world.manage("tail", f"{n}.desk", "--after", 0, "--until", position).splitlines() for n in (1, 4, 5)]
+    events = [world.manage("tail", f"{n}.desk", "--after", 0, "--until", position, seconds=patience(position)).splitlines() for n in (1, 4, 5)]
     check(events[0] == events[1] == events[2] and len(events[0]) == count, "events", [len(it) for it in events], count)
+
+
+def patience(position):
+    """How long a desk may take that is told the whole log."""
+    return max(LONG, position / 100)
 
 
 def compare(kills):
@@ -180,7 +185,7 @@ def compare(kills):
     told_again(kills)
     at = world.settled([1, 2, 3, 4])
     world.node(5)
-    world.settled([1, 2, 3, 4, 5])
+    world.settled([1, 2, 3, 4, 5], patience(at["position"]))
     until(lambda: world.once(1, None, "POST", "/accounts", b"{}"), "a fault, behind which the tails end")
     world.settled([1, 2, 3, 4, 5])
     accepted, taken = told.accepted(), told.taken()

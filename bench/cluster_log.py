@@ -104,6 +104,8 @@ def watched(world, address):
         for entry in log.read(head):
             if entry:
                 found.append(entry)
+            if entry and entry.request == b"three":
+                return
 
     threading.Thread(target=read, daemon=True).start()
     writer.append([b"one"])
@@ -162,6 +164,35 @@ def truncated(address):
     check(log.get_all("node") == {"a": "5"}, log.get_all("node"))
 
 
+def written_over(address):
+    """A tail that points lower than what is there, or is gone, and entries that somebody wrote: nothing is written over, and it goes on once the tail is right."""
+    log, fresh = Log([address]), Log([address])
+    log.tail = head = log.head()
+    at = log.append([b"a", b"b", b"c"])[0] + 2
+    for wrong in (str(at - 2), str(head), "1", None, "nine", f"0{at}"):
+        log.put("tail", wrong) if wrong else log.delete("tail")
+        for one in (log, Log([address])):
+            check("`tail`" in refused(one), wrong)
+    log.put("tail", str(at))
+    for written in (1, 3):
+        log.put(etcd_log.key_of("log", at + written), "by hand")
+        check("its last entry" in refused(log) and "its last entry" in refused(fresh), written)
+        log.delete(etcd_log.key_of("log", at + written))
+    check([it.request for it in some_of(log, head, 3)] == [b"a", b"b", b"c"] and log.first(at) is None, "what is there")
+    check(fresh.append([b"d"]) == (at + 1, 1) and log.append([b"e"]) == (at + 2, 1), "and goes on")
+    log.delete("log/", "log0")
+    log.delete("tail")
+    check("`tail`" in refused(log) and log.append([b"f"]) == (1, 1), "a log that was made anew")
+
+
+def refused(log):
+    """What is said where five entries aren't appended."""
+    try:
+        return check(False, "an append", log.append([b"new"] * 5))
+    except NoLog as why:
+        return str(why)
+
+
 def refusals(address):
     """What is asked wrongly is no fault of a node; where no node is there it is told in time."""
     log = Log([address])
@@ -181,5 +212,6 @@ def main(_):
         sizes(address)
         watched(world, address)
         truncated(address)
+        written_over(address)
         refusals(address)
-    print("the log: appends of three at once, lost answers, pages, watches, restarts, gaps and truncation are as they should be")
+    print("the log: appends of three at once, lost answers, pages, watches, restarts, gaps, truncation and a wrong tail are as they should be")

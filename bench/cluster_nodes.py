@@ -1,14 +1,21 @@
 """Two nodes and what may happen to each: lost answers, odd entries, patterns, copies, new nodes, truncation, closed epochs, feeders that stand still. A module of bench/cluster."""
+import argparse
+import contextlib
 import hashlib
 import http.client
+import itertools
 import json
+import os
 import shutil
+import signal
 import subprocess
 import sys
 import threading
 import time
 
-from cluster_world import BASE, EXAMPLE, LARGE, PROJECT, Log, World, check, exchange, until
+from cluster_bytes import load
+from cluster_world import BASE, EXAMPLE, LARGE, MANAGE, PROJECT, SOON, Log, World, check, exchange, run, until
+from desk_answers import subscribe
 
 HOLDER = "import sys\nsys.path.insert(0, sys.argv[1])\nfrom desk_answers import subscribe\nfor line in subscribe(sys.argv[2], {'hold': True}):\n    print(line, flush=True)\n"
 
@@ -107,6 +114,57 @@ def stands_still(world, log):
     check(found[0] == 200 and found[2] == log.head(), "and goes on", found)
 
 
+def stopped(world, log):
+    """A feeder that its machine stops is found out by the first who waits in vain; then nothing is appended, others are told soon, and what waits for nothing is answered."""
+    front = world.parts["front2"]
+    front.end()
+    front.words, front.is_wanted = [*front.words, "--seconds", 3], True
+    world.settled([1, 2])
+    until(lambda: world.once(2, None, "GET", "/changes/1"), "the front is back")
+    world.parts["feeder2"].kill(signal.SIGSTOP)
+    head = log.head()
+    check(world.once(2, "s1", "POST", "/accounts", {"name": "sam"}) is None and log.head() == head + 1, "the first one waits")
+    begun = time.monotonic()
+    check(world.once(2, "s2", "POST", "/accounts", {"name": "sid"}) is None and log.head() == head + 1, "the next one isn't appended")
+    check(time.monotonic() - begun < 2.9, "it is told soon", time.monotonic() - begun)
+    check(world.once(2, None, "GET", "/changes/1", **{"Log-Position": "0"}), "a question that waits for nothing")
+    check(world.ask(1, "s1", "POST", "/accounts", {"name": "sam"})[0] == 200, "the other node has it")
+    world.parts["feeder2"].kill(signal.SIGCONT)
+    check(world.ask(2, "s2", "POST", "/accounts", {"name": "sid"})[0] == 200, "and goes on")
+
+
+def copied_over(world):
+    """A copy notices that a feeder came back and went on meanwhile, and leaves nothing; what an earlier one left goes."""
+    manage, count = load("manage", MANAGE), itertools.count()
+    sync, feeder = manage.sync, world.parts["feeder2"]
+
+    def restarted(file):
+        if next(count) == 0:
+            starts = feeder.starts
+            feeder.kill()
+            until(lambda: feeder.starts > starts, "the feeder is back")
+            check(world.ask(2, "o1", "POST", "/accounts", {"name": "ola"})[0] == 200, "and goes on")
+        sync(file)
+
+    manage.sync = restarted
+    for end in ("-wal", "-wal.new", ".position"):
+        with open("9.desk" + end, "w", encoding="utf-8") as file:
+            file.write("of an earlier one")
+    try:
+        check(False, "a copy", manage.copy(argparse.Namespace(desk_file="2.desk", to="9.desk")))
+    except SystemExit as why:
+        check("was written to meanwhile" in str(why), why)
+    check(not os.path.exists("9.desk") and not any(it.endswith(".new") for it in os.listdir(".")), "what is left", os.listdir("."))
+    world.manage("copy", "2.desk", "9.desk")
+    check(not any(it.endswith(".new") for it in os.listdir(".")) and world.position_of("9.desk")["position"] <= world.position(2)["position"], "a copy")
+    check(run("apply", "9.desk", program=world.program)[0] == 0, "the copy opens")
+    shutil.copy("9.desk", "7.desk")
+    with open("8.desk-wal", "w", encoding="utf-8") as file:
+        file.write("of an earlier one")
+    manage.copy_held("7.desk", "8.desk")
+    check(os.path.exists("8.desk") and not os.path.exists("8.desk-wal"), "a copy of a desk without a log beside it")
+
+
 def without_feeder(world, log):
     """A front without a feeder says so soon, appends nothing, and passes on no word that isn't the desk's."""
     words = world.parts["feeder2"]
@@ -157,7 +215,27 @@ def copies(world, log):
     until(lambda: is_taken(world, sly), "told past the log")
     world.ask(1, "after", "POST", "/accounts", {"name": "after"}, epoch=49)
     check(world.parts["feeder3"].status() == 3 and "differ from those of node1, node2" in world.parts["feeder3"].said(), "a desk that was told something past the log", world.parts["feeder3"].said()[-300:])
+    stays_still(world)
     world.settled([1, 2])
+
+
+def stays_still(world):
+    """A feeder that stood still for its answers does so again when it is started, and nobody is told anything meanwhile."""
+    feeder, told = world.parts["feeder3"], []
+
+    def listen():
+        while feeder.is_wanted or feeder.process:
+            with contextlib.suppress(OSError):
+                told.extend(subscribe("3.desk", {"after": 0}))
+
+    starts, feeder.is_wanted = feeder.starts, True
+    listening = threading.Thread(target=listen, daemon=True)
+    listening.start()
+    until(lambda: feeder.starts > starts, "it starts")
+    check(feeder.status() == 3 and "differ from those of node1, node2" in feeder.said().splitlines()[-1], "it stands still again", feeder.said()[-300:])
+    until(lambda: not feeder.process, "it has ended")
+    listening.join()
+    check(not told and world.once(3, None, "GET", "/changes/1", **{"Log-Position": "0"}) is None, "nobody is told anything", told)
 
 
 def goes_back(world, older):
@@ -195,7 +273,7 @@ def ends_in_time(world):
 
 def main(said):
     with World(said.program, engines=1) as world:
-        log = Log(world.addresses)
+        log, world.feeder_words = Log(world.addresses), SOON
         world.node(1)
         world.node(2)
         lost_and_twice(world, log)
@@ -203,6 +281,8 @@ def main(said):
         patterns(world)
         a_change(world)
         stands_still(world, log)
+        stopped(world, log)
+        copied_over(world)
         without_feeder(world, log)
         epochs(world)
         copies(world, log)

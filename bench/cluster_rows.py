@@ -2,11 +2,13 @@
 import contextlib
 import json
 import os
+import signal
 import socket
+import subprocess
 import sys
 
-from cluster_world import FEEDER, Log, World, check, free_port, until
-from desk_answers import subscribe, told
+from cluster_world import FRONT, SOON, Log, World, check, exchange, free_port, until
+from desk_answers import NEW, kept_in, subscribe, told
 from etcd_log import key_of
 
 STAND_IN = os.path.join(os.path.dirname(os.path.realpath(__file__)), "cluster_stand_in.py")
@@ -19,7 +21,7 @@ class Fed:
         self.world, self.log, self.says, self.port = world, Log(world.addresses), {}, free_port()
         self.script("first", "ok")
         self.desk = world.add("desk", sys.executable, STAND_IN, self.port, "says", "told", pause=0.1)
-        self.words = [FEEDER, "d.desk", "--port", self.port, "--name", "one", "--log", *world.addresses]
+        self.words = [*SOON, "d.desk", "--port", self.port, "--name", "one", "--log", *world.addresses]
         self.feeder = world.add("feeder", *self.words)
 
     def script(self, name, *words):
@@ -163,6 +165,27 @@ def refuses_to_start(fed):
     fed.reaches(fed.append("y"))
 
 
+def odd_positions(fed):
+    """What isn't a feeder's in the file of its position: it says so and stands still. Where a stop of the machine left nothing, or zeros, the desk is told all again."""
+    second = subprocess.run([*map(str, fed.words)], stderr=subprocess.PIPE, text=True, check=False)
+    check(second.returncode == 1 and "another feeder may hold" in second.stderr, "two feeders of one desk", second)
+    fed.feeder.end()
+    good = fed.kept()
+    for odd in ([], 7, "x", None, {**good, "position": "5"}, {**good, "position": -1}, {**good, "position": True}, {**good, "sum": 5}, {**good, "log": 5}):
+        try:
+            check(False, "an odd position", kept_in(json.dumps(odd).encode()))
+        except ValueError:
+            pass
+    check(kept_in(b"") == kept_in(bytes(400)) == NEW and kept_in(json.dumps(good).encode() + b"\r\n") == good, "positions")
+    for odd in ([good], {**good, "sum": "\0" * 400}):
+        write_kept(odd)
+        check(fed.feeder.status() == 3 and "isn't what a feeder keeps" in fed.feeder.said().splitlines()[-1], odd, fed.feeder.said()[-300:])
+        check("is no copy with its position" in fed.world.manage("truncate", "d.desk", "--log", *fed.world.addresses, status=1), "a copy with an odd position")
+    write_kept(good)
+    fed.feeder.is_wanted = True
+    fed.reaches(fed.append("behind odd ones"))
+
+
 def write_kept(kept):
     with open("d.desk.position", "w", encoding="utf-8") as file:
         json.dump(kept, file)
@@ -184,6 +207,31 @@ def upgraded(fed):
     check(list(fed.answers(place)) == [last], fed.answers(place))
 
 
+def gone_back(fed):
+    """A tail that is too low stops nobody who has more: a feeder that is started waits until it is mended. Where the entries are gone too the feeder stands still."""
+    last = fed.reaches(fed.append("z1", "z2")) and fed.kept()["position"]
+    fed.log.put("tail", str(last - 2))
+    starts = fed.feeder.starts
+    fed.feeder.kill()
+    until(lambda: fed.feeder.starts > starts and f"key `tail` the log ends at {last - 2}" in fed.feeder.said(), "it waits", fed.feeder.said()[-300:])
+    fed.log.put("tail", str(last))
+    fed.reaches(fed.append("z3"))
+    front = fed.world.add("front", FRONT, "d.desk", "--port", fed.world.port("front"), "--desk", fed.port, "--log", *fed.log.addresses)
+    until(lambda: exchange(fed.world.port("front"), "GET", "/", {"Log-Position": "0"}), "a front")
+    fed.feeder.kill(signal.SIGSTOP)
+    fed.log.delete(key_of("log", last), key_of("log", last + 2))
+    fed.log.put("tail", str(last - 1))
+    check(exchange(fed.world.port("front"), "POST", "/", {}, b"z5") is None and "has lost what it had" in front.said(), "a front tells nothing", front.said())
+    front.end()
+    fed.feeder.kill(signal.SIGCONT)
+    for word in ("running", "started"):
+        check(fed.feeder.status() == 3 and "has lost what it had" in fed.feeder.said().splitlines()[-1], word, fed.feeder.said()[-300:])
+    fed.log.tail = fed.log.head()
+    fed.log.append([b"lost"])
+    fed.feeder.is_wanted = True
+    fed.reaches(fed.append("z4"))
+
+
 def made_anew(fed):
     """A feeder whose log was made anew under it stands still."""
     fed.log.put("name", "another")
@@ -197,8 +245,10 @@ def main(_):
             part(fed)
         for word in ("DAMAGED", "FULL"):
             stands_still(fed, word)
+        odd_positions(fed)
         refuses_to_start(fed)
         upgraded(fed)
+        gone_back(fed)
         made_anew(fed)
         world.check_logs()
     print("the feeder's table: each row goes on, is told again, is left out or stands still as it should")

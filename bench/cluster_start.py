@@ -12,6 +12,7 @@ import sys
 import threading
 import time
 
+from cluster_bytes import entries
 from cluster_world import EXAMPLE, MANAGE, Log, NoLog, check, free_port, run, tables, until
 
 START, RUN = os.path.join(EXAMPLE, "start"), os.path.join(EXAMPLE, "run")
@@ -102,6 +103,25 @@ def without_certificate(started):
     peer.close()
 
 
+BEHIND = b"POST /changes/9/submit HTTP/1.1\r\nX-Account: 1\r\nRequest-Id: behind\r\n\r\n"
+LENGTHS = (b"Content-Length: 2", b"Content-Length: 0", b"Content-Length: 2\r\nContent-Length: 0", b"Content-Length: 2\r\nTransfer-Encoding: chunked", b"Transfer-Encoding: chunked\r\nContent-Length: 4",
+           b"Transfer-Encoding: chunked", b"Transfer-Encoding:\x0bchunked", b"Transfer-Encoding:\r\n chunked", b"Content-Length: +2", b"Content-Length: 2, 2", b"Content-Length : 2", b"Content_Length: 2")
+
+
+def one_request(started):
+    """Over one connection comes one request, whatever its fields say of its length: what stands behind it never comes to the log."""
+    head, count = started.log().head(), 0
+    for at, length in enumerate(LENGTHS):
+        for body in (b"{}", b"2\r\n{}\r\n0\r\n\r\n", b"0\r\n\r\n"):
+            count += 1
+            with contextlib.suppress(ConnectionError), socket.create_connection(("127.0.0.1", started.first + 10), timeout=60) as peer:
+                peer.sendall(b"POST /changes/8/submit HTTP/1.1\r\nHost: x\r\nX-Account: 1\r\nRequest-Id: o%d\r\n%s\r\n\r\n%s%s" % (at, length, body, BEHIND))
+                while peer.recv(65536):
+                    pass
+    found = [entry.request for entry in entries(started.log())][head:]
+    check(found and len(found) <= count and not any(b"behind" in it for it in found), "one request", len(found), [it for it in found if b"behind" in it])
+
+
 def each_killed(started):
     """Each program of the first node killed, one after the other, and asked at that node at once: a request is answered, and acts once."""
     for at, program in enumerate(PROGRAMS):
@@ -186,6 +206,7 @@ def main(said):
         started.start()
         check(started.ask(1, "a1", "/accounts", {"name": "ann"}) == started.ask(2, "a1", "/accounts", {"name": "ann"}) == (200, {"account": 2}), "ann")
         without_certificate(started)
+        one_request(started)
         each_killed(started)
         took = goes_on_elsewhere(started)
         a_fourth(started)

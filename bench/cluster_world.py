@@ -21,6 +21,8 @@ import etcd_log  # noqa: E402
 from etcd_log import Log, NoLog  # noqa: E402
 
 FEEDER, FRONT, MANAGE = (os.path.join(EXAMPLE, name) for name in ("feeder", "front", "manage"))
+# A feeder that looks about after a second without an entry, and not after five.
+SOON = [sys.executable, "-c", "import runpy, sys\nsys.path.insert(0, sys.argv[1])\nimport etcd_log\netcd_log.SILENCE = 1\ndel sys.argv[:2]\nrunpy.run_path(sys.argv[0], run_name='__main__')\n", EXAMPLE, FEEDER]
 LONG, ROOM = 240, 3 << 30
 PROJECT = """[access]
 create = ["Registered-Users"]
@@ -103,7 +105,7 @@ class World:
     """etcd, and the nodes of a cluster, in a folder that is this process's own."""
 
     def __init__(self, program=PROGRAM, engines=3):
-        self.program, self.parts, self.is_open, self.ports, self.peers = os.path.abspath(program), {}, True, {}, {}
+        self.program, self.parts, self.is_open, self.ports, self.peers, self.feeder_words = os.path.abspath(program), {}, True, {}, {}, [FEEDER]
         threading.Thread(target=self.watch, daemon=True).start()
         if engines:
             self.engines(engines)
@@ -165,7 +167,7 @@ class World:
             self.add(f"front{n}", FRONT, f"{n}.desk", "--port", self.port(f"front{n}"), "--desk", self.port(f"desk{n}"), "--log", *self.log_of(n))
 
     def feeder(self, n, *more):
-        return self.add(f"feeder{n}", FEEDER, f"{n}.desk", "--port", self.port(f"desk{n}"), "--name", f"node{n}", *more, "--log", *self.log_of(n))
+        return self.add(f"feeder{n}", *self.feeder_words, f"{n}.desk", "--port", self.port(f"desk{n}"), "--name", f"node{n}", *more, "--log", *self.log_of(n))
 
     def position(self, n):
         """What the feeder of a node keeps."""
@@ -178,7 +180,7 @@ class World:
         except (FileNotFoundError, ValueError):
             return {"position": 0, "sum": "none"}
 
-    def settled(self, nodes):
+    def settled(self, nodes, seconds=LONG):
         """Waits until nodes have come to the end of the log, with the same answers: what they keep."""
         log = Log(self.addresses)
 
@@ -186,7 +188,7 @@ class World:
             with contextlib.suppress(NoLog):
                 kept = [self.position(n) for n in nodes]
                 return len({(it["position"], it["sum"]) for it in kept}) == 1 and kept[0]["position"] == log.head() and kept[0]
-        return until(are_equal, "nodes at one place", nodes)
+        return until(are_equal, "nodes at one place", nodes, seconds=seconds)
 
     def tables(self, n):
         """The tables of a node's desk as they are now."""
@@ -209,8 +211,8 @@ class World:
         found = exchange(self.port(f"front{n}"), method, path, fields, None if body is None else body if isinstance(body, bytes) else json.dumps(body).encode(), seconds)
         return found and (found[0], json.loads(found[1][5:]), found[2])
 
-    def manage(self, *words, status=0):
-        ran = subprocess.run([MANAGE, *map(str, words)], capture_output=True, text=True, timeout=LONG, check=False)
+    def manage(self, *words, status=0, seconds=LONG):
+        ran = subprocess.run([MANAGE, *map(str, words)], capture_output=True, text=True, timeout=seconds, check=False)
         check(status is None or ran.returncode == status, words, ran.returncode, ran.stdout, ran.stderr)
         return ran.stdout if ran.returncode == 0 else ran.stderr
 
@@ -247,5 +249,5 @@ def own_folder(is_on_disk=False):
             os.chdir(TOP)
 
 
-__all__ = ["BASE", "EXAMPLE", "FEEDER", "FRONT", "LARGE", "LONG", "PROGRAM", "PROJECT", "TOP", "Log", "NoLog", "Part", "World", "check", "copy", "etcd_log", "exchange", "free_port", "has_log", "own_folder",
+__all__ = ["BASE", "EXAMPLE", "FEEDER", "FRONT", "LARGE", "LONG", "PROGRAM", "PROJECT", "SOON", "TOP", "Log", "NoLog", "Part", "World", "check", "copy", "etcd_log", "exchange", "free_port", "has_log", "own_folder",
            "run", "tables", "until"]

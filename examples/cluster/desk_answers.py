@@ -9,6 +9,20 @@ import socket
 LENGTH = re.compile(rb"(?i)\r\ncontent-length: *(\d+)")
 # The only entry that is no request. No front appends it: who sends it is told by the desk that it is none.
 UPGRADE = re.compile(rb"UPGRADE (\d{1,9})")
+NEW = {"position": 0, "sum": "none", "log": None, "version": 0, "since": 0}
+NUMBERS = ("position", "version", "since")
+
+
+def kept_in(text):
+    """How far a feeder's desk is, by the bytes that it keeps; it is new where there are none, or where a stop of the machine left only zeros."""
+    found = json.loads(text) if text.strip(b"\0 \n") else {}
+    if not isinstance(found, dict):
+        raise ValueError("no JSON object")
+    kept = {**NEW, **found}
+    for name, value in kept.items():
+        if not (type(value) is int and value >= 0 if name in NUMBERS else isinstance(value, str) or (name, value) == ("log", None)):
+            raise ValueError(f"{name} is {value!r}")
+    return kept
 
 
 def tell(port, request, seconds=40):

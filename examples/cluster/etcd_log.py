@@ -12,6 +12,7 @@ import http.client
 import json
 import os
 import queue
+import re
 import ssl
 import time
 
@@ -22,6 +23,8 @@ PAGE, OPERATIONS, BYTES = 200, 100, 800_000
 # more. Who gave no answer is asked after the others for so long.
 PATIENCE, SILENCE, LATELY = (2, 8), 5, 20
 IS_WRONG_EVERYWHERE = (3, 11)
+IS_ABSENT = {"target": "CREATE", "create_revision": "0"}
+EARLY = "by etcd's key `tail` the log ends at {}, before its last entry"
 
 
 class NoLog(Exception):
@@ -46,7 +49,10 @@ def text_in(told):
 
 
 def number_in(told):
-    return int(text_in(told) or 0)
+    text = text_in(told) or "0"
+    if not re.fullmatch("0|[1-9][0-9]{0,14}", text):
+        raise NoLog(f"etcd's key `tail` has no position: {text[:40]}")
+    return int(text)
 
 
 def add_log_words(parser):
@@ -138,25 +144,27 @@ class Log:
 
     def claim(self, key, text, seconds=30):
         """Sets a key that nobody has set, or tells what it was set to."""
-        is_new = {"key": coded(key), "target": "CREATE", "create_revision": "0"}
-        told = self.call("/v3/kv/txn", {"compare": [is_new], "success": [{"request_put": {"key": coded(key), "value": coded(text)}}],
+        told = self.call("/v3/kv/txn", {"compare": [{"key": coded(key), **IS_ABSENT}], "success": [{"request_put": {"key": coded(key), "value": coded(text)}}],
                                         "failure": [{"request_range": {"key": coded(key)}}]}, seconds)
         return text if told.get("succeeded") else text_in(told["responses"][0]["response_range"])
 
     # ---- entries
 
     def append(self, requests, seconds=30):
-        """Appends some requests behind one another, as many as one transaction takes: the position of the first, and how many. Where the log's name is known it has to be that one."""
+        """Appends some requests behind one another, as many as one transaction takes: the position of the first, and how many. Where the log's name is known it has to be that one. An
+        entry that is there is never written over, whatever the tail says."""
         some, size = 0, 0
         while some < len(requests) and some < OPERATIONS and (some == 0 or size + len(requests[some]) <= BYTES):
             size += len(requests[some])
             some += 1
         end, is_named = time.monotonic() + seconds, [{"key": coded("name"), "target": "VALUE", "value": coded(self.name)}] if self.name else []
+        self.tail = self.tail or self.end(seconds)
         while True:
             last = self.tail + some
             puts = [(key_of("log", self.tail + 1 + at), base64.b64encode(requests[at]).decode()) for at in range(some)] + [("tail", coded(str(last)))]
-            is_tail = {"target": "VALUE", "value": coded(str(self.tail))} if self.tail else {"target": "CREATE", "create_revision": "0"}
-            told = self.call("/v3/kv/txn", {"compare": [{"key": coded("tail"), **is_tail}, *is_named],
+            is_tail = {"target": "VALUE", "value": coded(str(self.tail))} if self.tail else IS_ABSENT
+            are_free = {"key": coded(key_of("log", self.tail + 1)), "range_end": coded(key_of("log", last + 1)), **IS_ABSENT}
+            told = self.call("/v3/kv/txn", {"compare": [{"key": coded("tail"), **is_tail}, are_free, *is_named],
                                             "success": [{"request_put": {"key": coded(key), "value": value}} for key, value in puts],
                                             "failure": [{"request_range": {"key": coded(key)}} for key in ("tail", "name")]}, end - time.monotonic())
             if told.get("succeeded"):
@@ -165,16 +173,29 @@ class Log:
             tail, name = (it["response_range"] for it in told["responses"])
             if self.name and text_in(name) != self.name:
                 raise NoLog(f"the log isn't {self.name} any more")
-            # Another front was quicker, or this is a second try of what was done.
-            self.tail = number_in(tail)
+            now = number_in(tail)
+            # Another front was quicker, or this is a second try of what was done. Else the log isn't as it was, and is looked at anew before the next append.
+            self.tail = now if now > self.tail else 0
+            if not self.tail:
+                raise NoLog(EARLY.format(now))
+
+    def end(self, seconds=30):
+        """The position of the last entry, behind which the log has none."""
+        last = self.head(seconds)
+        behind = self.first(last, seconds)
+        # What another front has appended meanwhile has moved the tail too.
+        if behind and behind > (now := self.head(seconds)):
+            raise NoLog(EARLY.format(now))
+        return last
 
     def head(self, seconds=30):
         """The position of the last entry, as a majority says now."""
         return number_in(self.call("/v3/kv/range", {"key": coded("tail")}, seconds))
 
-    def first(self):
-        """The position of the first entry that the log still has, or None."""
-        found = self.call("/v3/kv/range", {"key": coded("log/"), "range_end": coded("log0"), "limit": "1", "keys_only": True}).get("kvs")
+    def first(self, after=0, seconds=30):
+        """The position of the first entry behind another that the log still has, or None."""
+        asked = {"key": coded(key_of("log", after + 1)), "range_end": coded("log0"), "limit": "1", "keys_only": True}
+        found = self.call("/v3/kv/range", asked, seconds).get("kvs")
         return position_in(found[0]) if found else None
 
     def read(self, after):
