@@ -1,9 +1,10 @@
--- The row with the greatest value of a column, and whether there are more than so many rows.
+-- The row with the greatest value of a column, whether there are more than so many rows, and how many there are.
 use Rattle.std.specs.Prelude.{ℕ, ◌≡◌, ◌==◌, false, List, [], ◌∷◌, length, Option, Some, None, nat_le}
 use Rattle.std.specs.List.{AllByRecursion}
 use Rattle.std.specs.Ordering.{is_gt}
 use Rattle.sqlite_value.specs.Order.{Row as Raw, column, value_cmp}
 use Rattle.sqlite_rules.specs.Lists.{Has}
+use Rattle.sqlite_sql.specs.Aggregate.{count}
 use Rattle.sqlite_trees.specs.Tree.{Trees}
 use Rattle.review_statements.specs.Search.{Search, reads, rows_at, shown}
 
@@ -20,6 +21,10 @@ ShowsGreatest show place found (x ∷ xs) = (r : Raw) × IsGreatest place found 
 -- a text shows no row where there are at most so many
 abbrev pub ShowsBeyond : ℕ → List Raw → List Raw → Type 0
 ShowsBeyond count found rows = (length rows == 0) ≡ nat_le (length found) count
+
+-- a text shows how many rows there are
+abbrev pub ShowsCount : List Raw → List Raw → Type 0
+ShowsCount found rows = rows ≡ (count (length found) ∷ []) ∷ []
 
 -- a look-up shows the row with the greatest value of a column
 abbrev pub FindsGreatest : {A X : Type 0} → Search A X → ℕ → A → Trees → List Raw → Type 0
