@@ -9,17 +9,20 @@ use Rattle.review_rows.proofs.Looked.{asked_more, looked_agrees}
 use Rattle.review_statements.specs.Ran.{Looks}
 use Rattle.review_tables.proofs.Found.{look_on, look_both}
 use Rattle.review_database.specs.declared.sights.Sight.TheVariants as sight
-use Rattle.review_database.specs.Loads.{HasLearnt, Sees}
+use Rattle.review_database.specs.Loads.{HasLearnt}
 use Rattle.review_database.specs.Tables.{tables_at}
+use Rattle.review_lookups.specs.declared.counts.Counts.{Counts}
+use Rattle.review_lookups.specs.Counts.{AreBounded, SeesBounded}
 
--- what rows know is so
-abbrev pub Have : Rows → Trees → Unit {0} → Type 0
-Have rows db u = Agrees (tables_at db) rows
+-- what rows know is so, and what is known of the bases of projects, where what was known is so
+abbrev pub Have : Rows → Counts → Counts → Trees → Unit {0} → Type 0
+Have rows known more db u = AreBounded known (tables_at db) → Agrees (tables_at db) rows × AreBounded more (tables_at db)
 
 -- one more look-up was asked
 pub learnt_asked : (wants : List Want) (i : ℕ) (w : Want) (old new : Rows) → i < length wants → w ≡ get_or wants i w → AreAsked (take i wants) old → HasLearnt w old new → AreAsked (take (i + 1) wants) new
 learnt_asked wants i w old new below is asked learnt = asked_more wants i w learnt.0 old new below is asked learnt.1
 
-module _ (w : Want) (old new : Rows) (a b c : State) (have : Looks (Have old) a b (Ok (tt {0}))) where
-  pub have_more : Looks (Sees w old new) b c (Ok sight.Learnt) → Looks (Have new) a c (Ok (tt {0}))
-  have_more sees = look_on _ (Have new) a c sight.Learnt (Ok (tt {0})) (look_both (Have old) (Sees w old new) a b c (tt {0}) (Ok sight.Learnt) have sees) (λ db h. looked_agrees (tables_at db) w old new h.1 h.0)
+module _ (w : Want) (old new : Rows) (known mid more : Counts) (a b c : State) (have : Looks (Have old known mid) a b (Ok (tt {0}))) where
+  pub have_more : Looks (SeesBounded w old new mid more) b c (Ok sight.Learnt) → Looks (Have new known more) a c (Ok (tt {0}))
+  have_more sees = look_on _ (Have new known more) a c sight.Learnt (Ok (tt {0})) (look_both (Have old known mid) (SeesBounded w old new mid more) a b c (tt {0}) (Ok sight.Learnt) have sees)
+      (λ db h so. let was = h.0 so in let s = h.1 was.1 in (looked_agrees (tables_at db) w old new s.0 was.0, s.1))
