@@ -1,5 +1,5 @@
 -- Look-ups one after the other.
-use Rattle.std.proofs.Common.{◌≡◌, ℕ, ◌+◌, ◌<◌, List, take, get_or, length, Ok}
+use Rattle.std.proofs.Common.{◌≡◌, ℕ, ◌+◌, ◌<◌, List, take, get_or, length, Result, Ok, Err}
 use Rattle.sqlite_trees.specs.Tree.{Trees}
 use Rattle.sqlite.specs.State.{State}
 use Rattle.review_rows.specs.declared.rows.Rows.{Rows}
@@ -8,8 +8,10 @@ use Rattle.review_rows.specs.Known.{AreAsked, Agrees}
 use Rattle.review_rows.proofs.Looked.{asked_more, looked_agrees}
 use Rattle.review_statements.specs.Ran.{Looks}
 use Rattle.review_tables.proofs.Found.{look_on, look_both}
+use Rattle.sqlite.specs.declared.error.Error.{Error}
+use Rattle.review_database.specs.declared.sights.Sight.{Sight}
 use Rattle.review_database.specs.declared.sights.Sight.TheVariants as sight
-use Rattle.review_database.specs.Loads.{HasLearnt}
+use Rattle.review_database.specs.Loads.{HasLearnt, Sees}
 use Rattle.review_database.specs.Tables.{tables_at}
 use Rattle.review_lookups.specs.declared.counts.Counts.{Counts}
 use Rattle.review_lookups.specs.Counts.{AreBounded, SeesBounded}
@@ -17,6 +19,11 @@ use Rattle.review_lookups.specs.Counts.{AreBounded, SeesBounded}
 -- what rows know is so, and what is known of the bases of projects, where what was known is so
 abbrev pub Have : Rows → Counts → Counts → Trees → Unit {0} → Type 0
 Have rows known more db u = AreBounded known (tables_at db) → Agrees (tables_at db) rows × AreBounded more (tables_at db)
+
+-- a look-up that isn't of bases leaves what is known of them
+pub beside : (w : Want) (old new : Rows) (counts : Counts) (a b : State) (r : Result Sight Error) → Looks (Sees w old new) a b r → Looks (SeesBounded w old new counts counts) a b r
+beside w old new counts a b (Ok s) it = record { found = λ clean on ready. let f = it.found clean on ready in (f.0, f.1, λ bounded. (f.2, bounded)); kept = it.kept; survives = it.survives }
+beside w old new counts a b (Err e) it = record { found = λ _ _ _. tt; kept = it.kept; survives = it.survives }
 
 -- one more look-up was asked
 pub learnt_asked : (wants : List Want) (i : ℕ) (w : Want) (old new : Rows) → i < length wants → w ≡ get_or wants i w → AreAsked (take i wants) old → HasLearnt w old new → AreAsked (take (i + 1) wants) new
