@@ -1,12 +1,13 @@
 //! The bases of branches, by their places.
-ghost use Rattle.std.specs.Prelude.{ℕ, pos, ◌≡◌, ◌∷◌, [], length, Some};
+ghost use Rattle.std.specs.Prelude.{◌≡◌, ◌∷◌, [], length, Some};
 ghost use Rattle.sqlite.specs.Held.{state};
-ghost use Rattle.sqlite_value.specs.declared.value.Value.TheVariants.{Int, Text};
+ghost use Rattle.sqlite_value.specs.declared.value.Value.TheVariants.{Text};
 ghost use Rattle.review_statements.specs.Desk as table;
 ghost use Rattle.review_statements.specs.Greatest.{as_counted, ShowsCount};
 ghost use Rattle.review_statements.specs.Ran.{Looks};
 ghost use Rattle.review_statements.specs.Search.{rows_at};
 
+use crate::counted::read_count;
 use crate::names::{name_at, place_at};
 use crate::rows::PlaceNo;
 use review_rows::{Base, BranchKey, PlaceKey};
@@ -243,14 +244,6 @@ fn select_count<S: Alter>(
 {
     let values = Bound::new().text(project.as_str());
     tx.query_all(texts::COUNT_BASES, values.as_slice())
-}
-
-// The number that the one row has.
-fn read_count(rows: &[Row]) -> Option<u64>
-    ensures { (n : ℕ) → rows.now ≡ (Int (pos n) ∷ []) ∷ [] → result ≡ Some n }
-{
-    let row = rows.first()?;
-    number_at(row, 0)
 }
 
 /// How many bases a project has; none where the store tells no number.

@@ -1,5 +1,5 @@
--- The row with the greatest value of a column, whether there are more than so many rows, and how many there are.
-use Rattle.std.specs.Prelude.{ℕ, ◌≡◌, ◌==◌, false, List, [], ◌∷◌, length, Option, Some, None, nat_le, min, pos}
+-- The row with the greatest value of a column, and how many rows there are.
+use Rattle.std.specs.Prelude.{ℕ, ◌≡◌, false, List, [], ◌∷◌, length, Option, Some, None, min, pos}
 use Rattle.std.specs.List.{AllByRecursion}
 use Rattle.std.specs.Ordering.{is_gt}
 use Rattle.sqlite_value.specs.Order.{Row as Raw, column, value_cmp}
@@ -17,10 +17,6 @@ pub record IsGreatest (place : ℕ) (rows : List Raw) (r : Raw) : Type 0 where
 abbrev pub ShowsGreatest : (Raw → Raw) → ℕ → List Raw → List Raw → Type 0
 ShowsGreatest show place found [] = found ≡ []
 ShowsGreatest show place found (x ∷ xs) = (r : Raw) × IsGreatest place found r × (x ∷ xs ≡ show r ∷ [])
-
--- a text shows no row where there are at most so many
-abbrev pub ShowsBeyond : ℕ → List Raw → List Raw → Type 0
-ShowsBeyond count found rows = (length rows == 0) ≡ nat_le (length found) count
 
 -- how many rows there are as SQL counts them, up to its greatest integer
 abbrev pub as_counted : ℕ → ℕ

@@ -81,10 +81,6 @@ falling place = (col 1 place, record { collation = Binary; descending = Rattle.s
 abbrev pub last_where : ℕ → At → List ℕ → ℕ → Query
 last_where tree key columns place = record (over_table tree (tests_from 0 key) (map (col 1) columns) (falling place)) { limit = lit (Int (pos 1)) }
 
--- the same of one row after so many
-abbrev pub beyond_where : ℕ → At → List ℕ → ℕ → Query
-beyond_where tree key columns count = record (over_table tree (tests_from 0 key) (map (col 1) columns) []) { limit = lit (Int (pos 1)); offset = lit (Int (pos count)) }
-
 -- how many rows have a key
 abbrev pub count_where : ℕ → At → Query
 count_where tree key = counting (over_table tree (tests_from 0 key) [] [])
