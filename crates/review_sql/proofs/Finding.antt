@@ -16,11 +16,11 @@ use Rattle.review_database.specs.Tables.{tables_at}
 use Rattle.review_lookups.specs.declared.counts.Counts.{Counts}
 use Rattle.review_lookups.specs.Counts.{AreBounded, SeesBounded}
 
--- what rows know is so, and what is known of the bases of projects, where what was known is so
+-- what rows know is so, and what is known of counts, where what was known is so
 abbrev pub Have : Rows → Counts → Counts → Trees → Unit {0} → Type 0
 Have rows known more db u = AreBounded known (tables_at db) → Agrees (tables_at db) rows × AreBounded more (tables_at db)
 
--- a look-up that isn't of bases leaves what is known of them
+-- a look-up that isn't of a count leaves what is known of them
 pub beside : (w : Want) (old new : Rows) (counts : Counts) (a b : State) (r : Result Sight Error) → Looks (Sees w old new) a b r → Looks (SeesBounded w old new counts counts) a b r
 beside w old new counts a b (Ok s) it = record { found = λ clean on ready. let f = it.found clean on ready in (f.0, f.1, λ bounded. (f.2, bounded)); kept = it.kept; survives = it.survives }
 beside w old new counts a b (Err e) it = record { found = λ _ _ _. tt; kept = it.kept; survives = it.survives }

@@ -17,7 +17,7 @@ use Rattle.review_database.specs.Tables.{tables_at}
 use Rattle.review_lookups.specs.declared.counts.Counts.{Counts}
 use Rattle.review_lookups.specs.Counts.{AreBounded}
 use Rattle.review_sql.specs.Loading.{AreLoadedBounded}
-use Rattle.review_sql.specs.Shelf.{Holds, KnowsBases, answer_of, tables_of}
+use Rattle.review_sql.specs.Shelf.{Holds, KnowsCounts, answer_of, tables_of}
 use Rattle.review_sql.proofs.Shown.{desk_if_open, same_shown, shown_now}
 
 pub was_asked : (wants : List Want) (found : Loaded) → WereAsked wants found → IfOk (answer_of found) (AreAsked wants)
@@ -30,14 +30,14 @@ keeps_loaded (loaded.Rows rows) old new same = same
 keeps_loaded loaded.NoMemory old new same = same
 keeps_loaded loaded.Damaged old new same = same
 
-module _ {S : Type 0} (g : Ghosts S) (old new : Held S) (is_ours : Bool) (numbers : Numbers) (holds : Holds g old is_ours numbers) (known more : Counts) (knows : KnowsBases g old is_ours known)
+module _ {S : Type 0} (g : Ghosts S) (old new : Held S) (is_ours : Bool) (numbers : Numbers) (holds : Holds g old is_ours numbers) (known more : Counts) (knows : KnowsCounts g old is_ours known)
     (found : Loaded) (it : Serves (AreLoadedBounded known more) (state g old) (state g new) (Ok found)) where
   -- what look-ups found, on a shelf that knew what is so
   pub load_served : IsTrue is_ours → HasCleanDisk (state g new) → IsTrue (state g old).is_open × AreLoaded (state g old).now.trees found
   load_served ours clean = let f = it.found clean (desk_if_open g old new is_ours numbers holds ours) in (f.0, (f.3 (knows ours f.0)).0)
 
   -- and what it knows then
-  pub knows_loaded : (IsTrue (state g new).is_open → HasCleanDisk (state g new)) → KnowsBases g new is_ours more
+  pub knows_loaded : (IsTrue (state g new).is_open → HasCleanDisk (state g new)) → KnowsCounts g new is_ours more
   knows_loaded clean = λ ours is_open.
       let f = it.found (clean is_open) (desk_if_open g old new is_ours numbers holds ours) in
       subst (λ (d : Database). AreBounded more (tables_at d.trees)) (sym f.2) (f.3 (knows ours f.0)).1

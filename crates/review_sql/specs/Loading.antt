@@ -31,7 +31,7 @@ AreSeen rows db sight.Learnt = Agrees (tables_at db) rows
 AreSeen rows db sight.NoMemory = Unit {0}
 AreSeen rows db sight.Damaged = IsDamaged (tables_at db)
 
--- the same where what was known of the bases of projects is so, and what is known then is so too
+-- the same where what was known of counts is so, and what is known then is so too
 abbrev pub WereSeen : Rows → Counts → Counts → Trees → Sight → Type 0
 WereSeen rows known more db s = AreBounded known (tables_at db) → AreSeen rows db s × AreBounded more (tables_at db)
 

@@ -47,9 +47,9 @@ pub record Holds {S : Type 0} (g : Ghosts S) (conn : Held S) (is_ours : Bool) (n
   pub autocommit : conn.in_transaction ≡ false
   pub ready : IsTrue is_ours → IsTrue (state g conn).is_open → IsReady (state g conn).now × IsDesk numbers (state g conn).now.trees
 
--- what is known of the bases of projects is so in the tables, where these are ours
-abbrev pub KnowsBases : {S : Type 0} → Ghosts S → Held S → Bool → Counts → Type 0
-KnowsBases g conn is_ours counts = IsTrue is_ours → IsTrue (state g conn).is_open → AreBounded counts (tables_at (state g conn).now.trees)
+-- what is known of counts is so in the tables, where these are ours
+abbrev pub KnowsCounts : {S : Type 0} → Ghosts S → Held S → Bool → Counts → Type 0
+KnowsCounts g conn is_ours counts = IsTrue is_ours → IsTrue (state g conn).is_open → AreBounded counts (tables_at (state g conn).now.trees)
 
 -- a shelf was closed, which leaves its connection
 abbrev pub IsHandedBack : {S : Type 0} → Ghosts S → Bool → ShelfView S → Held S → Type 0

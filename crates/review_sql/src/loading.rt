@@ -38,7 +38,7 @@ fn find<S: Alter>(
         Want::Group(group) => people::find_group(tx, alloc, group, rows),
         Want::File(project) => branches::find_file(tx, alloc, project, rows),
         Want::Project(project) => branches::find_project(tx, alloc, project, rows),
-        Want::Room(Counted::Projects) => branches::find_room_for_projects(tx, rows),
+        Want::Room(Counted::Projects) => branches::find_room_for_projects(tx, alloc, counts, rows),
         Want::Room(Counted::BasesOf(project)) => {
             branches::find_room_for_bases(tx, alloc, project, counts, rows)
         }
@@ -113,7 +113,7 @@ fn loaded(seen: Result<Sight, Error>, rows: Rows) -> Result<Loaded, Error>
     }
 }
 
-/// What look-ups find, and no others. Where the store fails, what is known then of the bases of projects counts no more.
+/// What look-ups find, and no others. Where the store fails, what is known of counts then is of no more use.
 pub fn load<S: Alter>(
     conn: &mut Connection<S>,
     alloc: Global,

@@ -83,7 +83,7 @@ impl<S: Alter + Drop, O: Origin> Drop for SqlShelf<S, O> {
 }
 
 impl<S: Alter, O: Origin> Model for SqlShelf<S, O> {
-    ghost use Rattle.review_sql.specs.Shelf.{ShelfView, view_code, Holds, KnowsBases};
+    ghost use Rattle.review_sql.specs.Shelf.{ShelfView, view_code, Holds, KnowsCounts};
 
     ghost Value = { ShelfView S };
 
@@ -91,7 +91,7 @@ impl<S: Alter, O: Origin> Model for SqlShelf<S, O> {
 
     ghost view = { λ s. record { conn = s.conn; numbers = s.numbers; faults = s.faults } };
 
-    ghost invariant = { λ s. Holds S.Store s.conn O.IS_OURS s.numbers × KnowsBases S.Store s.conn O.IS_OURS s.counts };
+    ghost invariant = { λ s. Holds S.Store s.conn O.IS_OURS s.numbers × KnowsCounts S.Store s.conn O.IS_OURS s.counts };
 }
 
 /// Whether a store has no table, no index and no view.
