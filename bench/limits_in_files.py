@@ -12,6 +12,7 @@ from desk_file import CREATED, FIRST, line, make_earlier, run
 FILE = '[access]\ncreate = ["Registered-Users"]\nsubmit = ["Registered-Users"]\n'
 COMMIT = "c" * 40
 MANY_ANSWERS, MANY_CHANGES, MANY_BRANCHES = 70_000, 65_536, 20
+MOST_PROJECTS, MOST_BASES = 1000, 100_000
 MIGRATED = (0, b"desk migrated\n", b"")
 
 
@@ -110,7 +111,25 @@ def many_changes(program, file):
     return wrong or (None if places == [(last + 2, last + 2), (last + 1, last + 1)] else f"places {places}")
 
 
-FEW = {"one commit in 40 branches": one_commit, "70,000 answers of version 2": many_answers(2)}
+def last_rows(program, file):
+    """The last of the projects and of the bases of one are taken, and no more, within a run and by the next; a file in place of another is, and a base of another project."""
+    wrong = made(program, file) or asked(program, file, [*projects("p", "q"), base("p", "main"), base("q", "main")])
+    if wrong:
+        return wrong
+    with contextlib.closing(sqlite3.connect(file)) as conn:
+        conn.executemany("INSERT INTO projects_2 VALUES (?, ?, '')", ((f"more{at}", FILE) for at in range(MOST_PROJECTS - 3)))
+        conn.executemany("INSERT INTO bases VALUES ('p', ?, 1, ?)", ((f"b{at}", FIRST) for at in range(MOST_BASES - 2)))
+        conn.commit()
+    put = lambda id, project, answer: (line("PutProject", id, 1, {"file": FILE}, project=project), answer)
+    record = lambda id, project, answer: (line("RecordBase", id, 1, {"commit": f"{id:0>40}"}, project=project, branch="main"), answer)
+    done, full = b"{}", b'{"number":28,"refused":"LIMIT"}'
+    first = [put("1", "p", done), put("2", "last", done), put("3", "none", full), put("4", "p", done), put("5", "none", full)]
+    first += [record("6", "p", done), record("7", "p", full), record("8", "q", done), record("9", "p", full)]
+    again = [put("a1", "none", full), put("a2", "last", done), put("a3", "none", full), record("a4", "p", full), record("a5", "q", done), record("a6", "p", full)]
+    return asked(program, file, first) or asked(program, file, again)
+
+
+FEW = {"the last of 1,000 projects and of 100,000 bases": last_rows, "one commit in 40 branches": one_commit, "70,000 answers of version 2": many_answers(2)}
 MANY = {"70,000 answers of version 1": many_answers(1), "65,538 changes of a branch": many_changes}
 
 

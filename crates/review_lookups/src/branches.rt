@@ -9,12 +9,16 @@ ghost use Rattle.review_rows.specs.declared.rows.Want.TheVariants as want;
 ghost use Rattle.review_rows.specs.declared.rows.Counted.TheVariants as counted;
 ghost use Rattle.review_records.specs.Forms.{base_commits, branch_bases, base_parts, base_places, bases, desk, epochs, project_names, projects};
 ghost use Rattle.review_tables.specs.Fronts.{AreParts};
-ghost use Rattle.review_statements.specs.Greatest.{HasGreatest, HasOne};
+ghost use Rattle.review_rows.specs.Limits.{most_bases, most_projects};
+ghost use Rattle.review_rows.specs.Rows.{BasesOf, Projects as ProjectCount};
+ghost use Rattle.review_statements.specs.Greatest.{as_counted, HasGreatest, HasOne};
 ghost use Rattle.review_statements.specs.Ran.{Looks};
 ghost use Rattle.review_statements.specs.Search.{row_at, rows_at};
 ghost use Rattle.review_database.specs.Loads.{HasLearnt, IfTold, Sees, IsOrdered};
 ghost use Rattle.review_database.specs.Tables.{tables_at};
+ghost use Rattle.review_lookups.specs.Counts.{SeesBounded};
 
+use crate::counts::{Counts, MOST_BASES, MOST_PROJECTS};
 use review_database::Sight;
 use review_database::learning::{
     last, learn_bases, learn_file, learn_last_place, learn_project, learn_room_for_bases, learnt,
@@ -150,48 +154,91 @@ pub fn find_project<S: Alter>(
 }
 
 #[tactic(auto, using(review_database::proofs::Telling::has_learnt))]
-fn tell_room_for_projects(found: bool, rows: &mut Rows) -> Sight
-    ensures told { (db : Trees) → nat_lt (length (db projects.tree)) 1000 ≡ found → Sees (want.Room counted.Projects) rows.old rows.new db result }
+fn tell_room_for_projects(is: bool, rows: &mut Rows) -> Sight
+    ensures told { (db : Trees) → nat_lt ((tables_at db).count ProjectCount) most_projects ≡ is → Sees (want.Room counted.Projects) rows.old rows.new db result }
     ensures learnt { result ≡ Sight.Learnt → HasLearnt (want.Room counted.Projects) rows.old rows.new }
 {
-    rows.learn_room_for_projects(found);
+    rows.learn_room_for_projects(is);
     Sight::Learnt
 }
 
-/// Whether there may be one more project.
+// The same of a count, of which the shelf learns too.
+fn tell_project_count(count: Option<u64>, counts: &mut Counts, rows: &mut Rows) -> Sight
+    ensures told { (db : Trees) → count ≡ Some (as_counted ((tables_at db).count ProjectCount)) → SeesBounded (want.Room counted.Projects) rows.old rows.new counts.old counts.new db result }
+    ensures learnt { result ≡ Sight.Learnt → HasLearnt (want.Room counted.Projects) rows.old rows.new }
+{
+    let Some(count) = count else {
+        return Sight::Damaged;
+    };
+    counts.learn_projects(count);
+    tell_room_for_projects(count < MOST_PROJECTS, rows)
+}
+
+/// Whether there may be one more project. They are counted only where the shelf doesn't know it.
 pub fn find_room_for_projects<S: Alter>(
     tx: &mut Transaction<'_, S>,
+    alloc: Global,
+    counts: &mut Counts,
     rows: &mut Rows,
 ) -> Result<Sight, Error>
     ensures same_reference { tx.new.conn.ghost_name ≡ tx.old.conn.ghost_name }
-    ensures looks { Looks (Sees (want.Room counted.Projects) rows.old rows.new) (state S.Store tx.old.conn.now) (state S.Store tx.new.conn.now) result }
+    ensures looks { Looks (SeesBounded (want.Room counted.Projects) rows.old rows.new counts.old counts.new) (state S.Store tx.old.conn.now) (state S.Store tx.new.conn.now) result }
     ensures learnt { IfOk result (λ s. s ≡ Sight.Learnt → HasLearnt (want.Room counted.Projects) rows.old rows.new) }
 {
-    let found = projects::has_room(tx)?;
-    Ok(tell_room_for_projects(found, rows))
+    let Some(is) = counts.room_for_projects() else {
+        let count = projects::count(tx)?;
+        return Ok(tell_project_count(count, counts, rows));
+    };
+    // A store that was shut is found so, whatever is known.
+    let _desk = find::<Desk, S>(tx, alloc, &())?;
+    Ok(tell_room_for_projects(is, rows))
 }
 
 #[tactic(auto, using(review_database::proofs::Telling::has_learnt))]
-fn tell_room_for_bases(alloc: Global, project: &ProjectName, found: bool, rows: &mut Rows) -> Sight
-    ensures told { (db : Trees) → nat_lt (length (rows_at ((1, Text project.now) ∷ []) (db bases.tree))) 100000 ≡ found → Sees (want.Room (counted.BasesOf project.now)) rows.old rows.new db result }
+fn tell_room_for_bases(alloc: Global, project: &ProjectName, is: bool, rows: &mut Rows) -> Sight
+    ensures told { (db : Trees) → nat_lt ((tables_at db).count (BasesOf project.now)) most_bases ≡ is → Sees (want.Room (counted.BasesOf project.now)) rows.old rows.new db result }
     ensures learnt { result ≡ Sight.Learnt → HasLearnt (want.Room (counted.BasesOf project.now)) rows.old rows.new }
 {
-    learnt(learn_room_for_bases(alloc, project, found, rows))
+    learnt(learn_room_for_bases(alloc, project, is, rows))
 }
 
-/// Whether there may be one more base of a project.
+// The same of a count, of which the shelf learns too.
+fn tell_base_count(
+    alloc: Global,
+    project: &ProjectName,
+    count: Option<u64>,
+    counts: &mut Counts,
+    rows: &mut Rows,
+) -> Sight
+    ensures told { (db : Trees) → count ≡ Some (as_counted ((tables_at db).count (BasesOf project.now))) → SeesBounded (want.Room (counted.BasesOf project.now)) rows.old rows.new counts.old counts.new db result }
+    ensures learnt { result ≡ Sight.Learnt → HasLearnt (want.Room (counted.BasesOf project.now)) rows.old rows.new }
+{
+    let Some(count) = count else {
+        return Sight::Damaged;
+    };
+    counts.learn_bases(alloc, project, count);
+    tell_room_for_bases(alloc, project, count < MOST_BASES, rows)
+}
+
+/// Whether there may be one more base of a project. They are counted only where the shelf doesn't know it.
 pub fn find_room_for_bases<S: Alter>(
     tx: &mut Transaction<'_, S>,
     alloc: Global,
     project: &ProjectName,
+    counts: &mut Counts,
     rows: &mut Rows,
 ) -> Result<Sight, Error>
     ensures same_reference { tx.new.conn.ghost_name ≡ tx.old.conn.ghost_name }
-    ensures looks { Looks (Sees (want.Room (counted.BasesOf project.now)) rows.old rows.new) (state S.Store tx.old.conn.now) (state S.Store tx.new.conn.now) result }
+    ensures looks { Looks (SeesBounded (want.Room (counted.BasesOf project.now)) rows.old rows.new counts.old counts.new) (state S.Store tx.old.conn.now) (state S.Store tx.new.conn.now) result }
     ensures learnt { IfOk result (λ s. s ≡ Sight.Learnt → HasLearnt (want.Room (counted.BasesOf project.now)) rows.old rows.new) }
 {
-    let found = bases::has_room(tx, project)?;
-    Ok(tell_room_for_bases(alloc, project, found, rows))
+    let Some(is) = counts.room_for_bases(project) else {
+        let count = bases::count(tx, project)?;
+        return Ok(tell_base_count(alloc, project, count, counts, rows));
+    };
+    // A store that was shut is found so, whatever is known.
+    let _desk = find::<Desk, S>(tx, alloc, &())?;
+    Ok(tell_room_for_bases(alloc, project, is, rows))
 }
 
 #[tactic(auto, using(review_database::proofs::Telling::has_learnt))]

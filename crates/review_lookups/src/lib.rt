@@ -2,4 +2,5 @@
 #![tactic(auto)]
 
 pub mod branches;
+pub mod counts;
 pub mod people;

@@ -1,12 +1,13 @@
 //! The bases of branches, by their places.
-ghost use Rattle.std.specs.Prelude.{◌≡◌, ◌∷◌, [], length, nat_lt};
+ghost use Rattle.std.specs.Prelude.{◌≡◌, ◌∷◌, [], length, Some};
 ghost use Rattle.sqlite.specs.Held.{state};
 ghost use Rattle.sqlite_value.specs.declared.value.Value.TheVariants.{Text};
 ghost use Rattle.review_statements.specs.Desk as table;
-ghost use Rattle.review_statements.specs.Greatest.{ShowsBeyond};
+ghost use Rattle.review_statements.specs.Greatest.{as_counted, ShowsCount};
 ghost use Rattle.review_statements.specs.Ran.{Looks};
 ghost use Rattle.review_statements.specs.Search.{rows_at};
 
+use crate::counted::read_count;
 use crate::names::{name_at, place_at};
 use crate::rows::PlaceNo;
 use review_rows::{Base, BranchKey, PlaceKey};
@@ -233,23 +234,26 @@ impl Greatest for LastPlace {
     ghost asks = { λ b. find_last_place b.project b.branch };
 }
 
-// A base of a project, where it has more than 99,999.
-fn find_beyond<S: Alter>(
+// The row that says how many bases a project has.
+fn select_count<S: Alter>(
     tx: &mut Transaction<'_, S>,
     project: &ProjectName,
 ) -> Result<Vec<Row>, Error>
     ensures same_reference { tx.new.conn.ghost_name ≡ tx.old.conn.ghost_name }
-    ensures looks { Looks (λ db rows. ShowsBeyond 99999 (rows_at ((1, Text project.now) ∷ []) (db table.bases.tree)) rows.items) (state S.Store tx.old.conn.now) (state S.Store tx.new.conn.now) result }
+    ensures looks { Looks (λ db rows. ShowsCount (rows_at ((1, Text project.now) ∷ []) (db table.bases.tree)) rows.items) (state S.Store tx.old.conn.now) (state S.Store tx.new.conn.now) result }
 {
     let values = Bound::new().text(project.as_str());
-    tx.query_all(texts::FIND_BASE_BEYOND, values.as_slice())
+    tx.query_all(texts::COUNT_BASES, values.as_slice())
 }
 
-/// Whether a project has fewer than 100,000 bases.
-pub fn has_room<S: Alter>(tx: &mut Transaction<'_, S>, project: &ProjectName) -> Result<bool, Error>
+/// How many bases a project has; none where the store tells no number.
+pub fn count<S: Alter>(
+    tx: &mut Transaction<'_, S>,
+    project: &ProjectName,
+) -> Result<Option<u64>, Error>
     ensures same_reference { tx.new.conn.ghost_name ≡ tx.old.conn.ghost_name }
-    ensures looks { Looks (λ db is. nat_lt (length (rows_at ((1, Text project.now) ∷ []) (db table.bases.tree))) 100000 ≡ is) (state S.Store tx.old.conn.now) (state S.Store tx.new.conn.now) result }
+    ensures looks { Looks (λ db count. count ≡ Some (as_counted (length (rows_at ((1, Text project.now) ∷ []) (db table.bases.tree))))) (state S.Store tx.old.conn.now) (state S.Store tx.new.conn.now) result }
 {
-    let rows = find_beyond(tx, project)?;
-    Ok(rows.is_empty())
+    let rows = select_count(tx, project)?;
+    Ok(read_count(&rows))
 }

@@ -4,6 +4,7 @@
 pub mod accounts;
 pub mod answers;
 pub mod bases;
+pub mod counted;
 pub mod desk;
 pub mod epochs;
 pub mod members;

@@ -1,14 +1,15 @@
 //! The projects and their files.
-ghost use Rattle.std.specs.Prelude.{◌≡◌, [], true, IfOk, length, nat_lt};
+ghost use Rattle.std.specs.Prelude.{◌≡◌, [], true, Some, IfOk, length};
 ghost use Rattle.sqlite.specs.Held.{state};
 ghost use Rattle.sqlite_value.specs.Order.{column};
 ghost use Rattle.review_statements.specs.Desk as table;
-ghost use Rattle.review_statements.specs.Greatest.{ShowsBeyond};
+ghost use Rattle.review_statements.specs.Greatest.{as_counted, ShowsCount};
 ghost use Rattle.review_statements.specs.Ran.{Looks};
 ghost use Rattle.review_statements.specs.Search.{rows_at};
 ghost use Rattle.review_tables.specs.Columns.{text_in};
 ghost use Rattle.review_records.specs.Forms.{is_parent, stored_parent, parent_text};
 
+use crate::counted::read_count;
 use crate::names::name_at;
 use review_rows::StoredFile;
 use review_statements::texts;
@@ -159,19 +160,19 @@ impl Lookup for ProjectNames {
     ghost asks = { find_project_name };
 }
 
-// A project, where there are more than 999.
-fn find_beyond<S: Alter>(tx: &mut Transaction<'_, S>) -> Result<Vec<Row>, Error>
+// The row that says how many projects there are.
+fn select_count<S: Alter>(tx: &mut Transaction<'_, S>) -> Result<Vec<Row>, Error>
     ensures same_reference { tx.new.conn.ghost_name ≡ tx.old.conn.ghost_name }
-    ensures looks { Looks (λ db rows. ShowsBeyond 999 (rows_at [] (db table.projects_2.tree)) rows.items) (state S.Store tx.old.conn.now) (state S.Store tx.new.conn.now) result }
+    ensures looks { Looks (λ db rows. ShowsCount (rows_at [] (db table.projects_2.tree)) rows.items) (state S.Store tx.old.conn.now) (state S.Store tx.new.conn.now) result }
 {
-    tx.query_all(texts::FIND_PROJECT_BEYOND, &[])
+    tx.query_all(texts::COUNT_PROJECTS, &[])
 }
 
-/// Whether there are fewer than 1,000 projects.
-pub fn has_room<S: Alter>(tx: &mut Transaction<'_, S>) -> Result<bool, Error>
+/// How many projects there are; none where the store tells no number.
+pub fn count<S: Alter>(tx: &mut Transaction<'_, S>) -> Result<Option<u64>, Error>
     ensures same_reference { tx.new.conn.ghost_name ≡ tx.old.conn.ghost_name }
-    ensures looks { Looks (λ db is. nat_lt (length (db table.projects_2.tree)) 1000 ≡ is) (state S.Store tx.old.conn.now) (state S.Store tx.new.conn.now) result }
+    ensures looks { Looks (λ db count. count ≡ Some (as_counted (length (db table.projects_2.tree)))) (state S.Store tx.old.conn.now) (state S.Store tx.new.conn.now) result }
 {
-    let rows = find_beyond(tx)?;
-    Ok(rows.is_empty())
+    let rows = select_count(tx)?;
+    Ok(read_count(&rows))
 }

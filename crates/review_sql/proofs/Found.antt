@@ -7,20 +7,21 @@ use Rattle.review_rows.specs.Known.{AreAsked}
 use Rattle.review_rows.specs.declared.rows.Rows.{Rows}
 use Rattle.review_rows.specs.declared.rows.Want.{Want}
 use Rattle.review_statements.specs.Ran.{Serves}
-use Rattle.review_database.specs.Loads.{AreLoaded, WereAsked}
+use Rattle.review_database.specs.Loads.{WereAsked}
 use Rattle.review_database.specs.declared.sights.Loaded.{Loaded}
 use Rattle.review_database.specs.declared.sights.Sight.{Sight}
 use Rattle.review_database.specs.declared.sights.Sight.TheVariants as sight
-use Rattle.review_sql.specs.Loading.{WereSeen, loaded_by}
+use Rattle.review_lookups.specs.declared.counts.Counts.{Counts}
+use Rattle.review_sql.specs.Loading.{AreLoadedBounded, WereSeen, loaded_by}
 
-on_loaded : (rows : Rows) (old new : State) (r : Result Sight Error) → Serves (WereSeen rows) old new r → Serves AreLoaded old new (loaded_by rows r)
-on_loaded rows old new (Ok sight.Learnt) it = record { found = it.found; undone = it.undone; survives = it.survives }
-on_loaded rows old new (Ok sight.NoMemory) it = record { found = it.found; undone = it.undone; survives = it.survives }
-on_loaded rows old new (Ok sight.Damaged) it = record { found = it.found; undone = it.undone; survives = it.survives }
-on_loaded rows old new (Err e) it = record { found = it.found; undone = it.undone; survives = it.survives }
+on_loaded : (rows : Rows) (known more : Counts) (old new : State) (r : Result Sight Error) → Serves (WereSeen rows known more) old new r → Serves (AreLoadedBounded known more) old new (loaded_by rows r)
+on_loaded rows known more old new (Ok sight.Learnt) it = record { found = it.found; undone = it.undone; survives = it.survives }
+on_loaded rows known more old new (Ok sight.NoMemory) it = record { found = it.found; undone = it.undone; survives = it.survives }
+on_loaded rows known more old new (Ok sight.Damaged) it = record { found = it.found; undone = it.undone; survives = it.survives }
+on_loaded rows known more old new (Err e) it = record { found = it.found; undone = it.undone; survives = it.survives }
 
-pub served_loaded : (rows : Rows) (old new : State) (r : Result Sight Error) (l : Result Loaded Error) → l ≡ loaded_by rows r → Serves (WereSeen rows) old new r → Serves AreLoaded old new l
-served_loaded rows old new r l is it = subst (Serves AreLoaded old new) (sym is) (on_loaded rows old new r it)
+pub served_loaded : (rows : Rows) (known more : Counts) (old new : State) (r : Result Sight Error) (l : Result Loaded Error) → l ≡ loaded_by rows r → Serves (WereSeen rows known more) old new r → Serves (AreLoadedBounded known more) old new l
+served_loaded rows known more old new r l is it = subst (Serves (AreLoadedBounded known more) old new) (sym is) (on_loaded rows known more old new r it)
 
 on_asked : (wants : List Want) (rows : Rows) (r : Result Sight Error) → IfOk r (λ s. s ≡ sight.Learnt → AreAsked wants rows) → IfOk (loaded_by rows r) (WereAsked wants)
 on_asked wants rows (Ok sight.Learnt) asked = asked refl

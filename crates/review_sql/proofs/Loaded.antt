@@ -1,5 +1,5 @@
 -- What is answered of what look-ups found.
-use Rattle.std.proofs.Common.{◌≡◌, Bool, List, Option, Ok, IfOk, IsTrue}
+use Rattle.std.proofs.Common.{◌≡◌, Bool, List, Option, Ok, IfOk, IsTrue, subst, sym}
 use Rattle.sqlite.specs.State.{HasCleanDisk}
 use Rattle.review_rows.specs.Rows.{Tables}
 use Rattle.review_statements.specs.Ran.{Serves}
@@ -12,7 +12,12 @@ use Rattle.review_database.specs.declared.sights.Loaded.{Loaded}
 use Rattle.review_database.specs.declared.sights.Loaded.TheVariants as loaded
 use Rattle.review_database.specs.Loads.{AreLoaded, WereAsked}
 use Rattle.review_transactions.specs.declared.numbers.Numbers.{Numbers}
-use Rattle.review_sql.specs.Shelf.{Holds, answer_of, tables_of}
+use Rattle.sqlite.specs.Effect.{Database}
+use Rattle.review_database.specs.Tables.{tables_at}
+use Rattle.review_lookups.specs.declared.counts.Counts.{Counts}
+use Rattle.review_lookups.specs.Counts.{AreBounded}
+use Rattle.review_sql.specs.Loading.{AreLoadedBounded}
+use Rattle.review_sql.specs.Shelf.{Holds, KnowsCounts, answer_of, tables_of}
 use Rattle.review_sql.proofs.Shown.{desk_if_open, same_shown, shown_now}
 
 pub was_asked : (wants : List Want) (found : Loaded) → WereAsked wants found → IfOk (answer_of found) (AreAsked wants)
@@ -25,10 +30,21 @@ keeps_loaded (loaded.Rows rows) old new same = same
 keeps_loaded loaded.NoMemory old new same = same
 keeps_loaded loaded.Damaged old new same = same
 
--- a call that read leaves the tables
-pub tables_kept : {S : Type 0} (g : Ghosts S) (old new : Held S) (is_ours : Bool) (numbers : Numbers) → Holds g old is_ours numbers → IsTrue is_ours → HasCleanDisk (state g new)
-    → (found : Loaded) → Serves AreLoaded (state g old) (state g new) (Ok found) → tables_of g new ≡ tables_of g old
-tables_kept g old new is_ours numbers holds ours clean found it = let f = it.found clean (desk_if_open g old new is_ours numbers holds ours) in same_shown g old new f.0 f.1 f.2
+module _ {S : Type 0} (g : Ghosts S) (old new : Held S) (is_ours : Bool) (numbers : Numbers) (holds : Holds g old is_ours numbers) (known more : Counts) (knows : KnowsCounts g old is_ours known)
+    (found : Loaded) (it : Serves (AreLoadedBounded known more) (state g old) (state g new) (Ok found)) where
+  -- what look-ups found, on a shelf that knew what is so
+  pub load_served : IsTrue is_ours → HasCleanDisk (state g new) → IsTrue (state g old).is_open × AreLoaded (state g old).now.trees found
+  load_served ours clean = let f = it.found clean (desk_if_open g old new is_ours numbers holds ours) in (f.0, (f.3 (knows ours f.0)).0)
+
+  -- and what it knows then
+  pub knows_loaded : (IsTrue (state g new).is_open → HasCleanDisk (state g new)) → KnowsCounts g new is_ours more
+  knows_loaded clean = λ ours is_open.
+      let f = it.found (clean is_open) (desk_if_open g old new is_ours numbers holds ours) in
+      subst (λ (d : Database). AreBounded more (tables_at d.trees)) (sym f.2) (f.3 (knows ours f.0)).1
+
+  -- a call that read leaves the tables
+  pub tables_kept : IsTrue is_ours → HasCleanDisk (state g new) → tables_of g new ≡ tables_of g old
+  tables_kept ours clean = let f = it.found clean (desk_if_open g old new is_ours numbers holds ours) in same_shown g old new f.0 f.1 f.2
 
 module _ {S : Type 0} (g : Ghosts S) (conn : Held S) where
   pub shows_loaded : (found : Loaded) → IsTrue (state g conn).is_open → AreLoaded (state g conn).now.trees found → IfOk (answer_of found) (λ rows. Shows (tables_of g conn) (λ t. Agrees t rows))

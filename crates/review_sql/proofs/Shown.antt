@@ -8,7 +8,7 @@ use Rattle.sqlite.specs.State.{HasCleanDisk}
 use Rattle.sqlite.specs.Held.{Held, state}
 use Rattle.sqlite.specs.declared.error.Error.{Error}
 use Rattle.review_words.specs.History.{Entry, Identity, is_same, is_closed}
-use Rattle.review_rows.specs.Rows.{Tables, OddAnswer, kept_row}
+use Rattle.review_rows.specs.Rows.{AnswerRow, Tables, OddAnswer, kept_row}
 use Rattle.review_rows.specs.declared.rows.Delta.{Delta}
 use Rattle.review_rows.specs.declared.rows.Kept.{Kept as Request}
 use Rattle.review_rows.specs.View.{stored_answer, kept_answer}
@@ -21,7 +21,9 @@ use Rattle.review_database.specs.Tables.{tables_at}
 use Rattle.review_transactions.specs.Numbers.{IsDesk, with_request}
 use Rattle.review_transactions.specs.declared.numbers.Numbers.{Numbers}
 use Rattle.review_transactions.specs.Commits.{AreSingle, Commits}
-use Rattle.review_sql.specs.Shelf.{AreOurs, Holds, ShowsLeft, Stays, tables_of, stops_of}
+use Rattle.review_lookups.specs.declared.counts.Counts.{Counts}
+use Rattle.review_lookups.specs.Counts.{AreBounded}
+use Rattle.review_sql.specs.Shelf.{AreOurs, Holds, KnowsCounts, ShowsLeft, Stays, tables_of, stops_of}
 
 -- a stored request that is odd is one of no history
 pub not_odd : (h : List Entry) (i : Identity) → stored_answer h i ≡ Some OddAnswer → ⊥
@@ -78,6 +80,15 @@ module _ {S : Type 0} (g : Ghosts S) (old new : Held S) where
       ready = λ ours is_open. let f = it.undone (desk_if_open ours) is_open in ready_as f.1 (holds.ready ours f.0);
     }
 
+    knows_as : (counts : Counts) → (state g new).now ≡ (state g old).now → AreBounded counts (tables_at (state g old).now.trees) → AreBounded counts (tables_at (state g new).now.trees)
+    knows_as counts same it = subst (λ (d : Database). AreBounded counts (tables_at d.trees)) (sym same) it
+
+    -- what was known of counts still is so
+    pub knows_read : {X : Type 0} (Found : Trees → X → Type 0) (r : Result X Error) (counts : Counts) → KnowsCounts g old is_ours counts → (IsTrue (state g new).is_open → HasCleanDisk (state g new))
+        → Serves Found (state g old) (state g new) r → KnowsCounts g new is_ours counts
+    knows_read Found (Ok x) counts knows clean it = λ ours is_open. let f = it.found (clean is_open) (desk_if_open ours) in knows_as counts f.2 (knows ours f.0)
+    knows_read Found (Err e) counts knows clean it = λ ours is_open. let f = it.undone (desk_if_open ours) is_open in knows_as counts f.1 (knows ours f.0)
+
     pub stops_read : {X : Type 0} (Found : Trees → X → Type 0) (r : Result X Error) → (IsTrue (state g old).is_open → (state g old).now ≡ (state g old).committed) → (IsTrue (state g old).is_open → (state g old).may_leave (state g old).committed.trees)
         → Serves Found (state g old) (state g new) r → IsTrue is_ours → HasCleanDisk (state g new) → (t : Tables) → stops_of g is_ours new t → stops_of g is_ours old t
     stops_read Found r settled kept it ours clean t left = elim ((it.survives (desk_if_open ours)).crash clean left.0 left.1) [
@@ -118,6 +129,17 @@ module _ {S : Type 0} (g : Ghosts S) (old new : Held S) where
             (d.2.ready it.0, d.2.desk it.0 it.1);
       }
 
+      pub knows_committed : r ≡ Ok (tt {0}) → (IsTrue (state g new).is_open → HasCleanDisk (state g new)) → (known more : Counts) → KnowsCounts g old is_ours known
+          → ((t next : Tables) (row : AnswerRow) → AreBounded known t → IsCommitted t delta row next → AreBounded more next) → KnowsCounts g new is_ours more
+      knows_committed is clean known more knows noted = λ ours is_open.
+          let d = done_as is (clean is_open) in
+          noted (tables_at (state g old).now.trees) (tables_at (state g new).now.trees) (kept_row kept) (knows ours d.0) (committed_from ours d.0 (state g new).now d.2)
+
+      pub knows_undone : {e : Error} → r ≡ Err e → (counts : Counts) → KnowsCounts g old is_ours counts → KnowsCounts g new is_ours counts
+      knows_undone {e} is counts knows = λ ours is_open.
+          let it = subst (λ q. Rattle.std.proofs.Common.OnErr q (IsTrue (state g old).is_open × ((state g new).now ≡ (state g old).now))) is (acts.undone is_open) in
+          knows_as counts it.1 (knows ours it.0)
+
       pub committed_shown : r ≡ Ok (tt {0}) → IsTrue is_ours → HasCleanDisk (state g new) → Shows (tables_of g old) (λ t. Shows (tables_of g new) (IsCommitted t delta (kept_row kept)))
       committed_shown is ours clean = let d = done_as is clean in let was = d.0 in let now = d.1 in rw (was, now) (committed_from ours d.0 (state g new).now d.2)
 
@@ -145,6 +167,9 @@ module _ {S : Type 0} (g : Ghosts S) (mid new : Held S) (still : Stays (state g 
     autocommit = mode;
     ready = λ ours is_open. let k = still.kept is_open in subst (λ (d : Database). IsReady d × IsDesk numbers d.trees) (sym k.1) (holds.ready ours k.0);
   }
+
+  pub knows_still : (is_ours : Bool) (counts : Counts) → KnowsCounts g mid is_ours counts → KnowsCounts g new is_ours counts
+  knows_still is_ours counts knows = λ ours is_open. let k = still.kept is_open in subst (λ (d : Database). AreBounded counts (tables_at d.trees)) (sym k.1) (knows ours k.0)
 
   pub stops_still : (is_ours : Bool) → HasCleanDisk (state g new) → (t : Tables) → stops_of g is_ours new t → stops_of g is_ours mid t
   stops_still is_ours clean t left = elim (still.survives.crash clean left.0 left.1) [ inl was ↦ (left.0, was, left.2) | inr none ↦ absurd none ]

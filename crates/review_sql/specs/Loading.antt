@@ -9,7 +9,10 @@ use Rattle.review_database.specs.declared.sights.Loaded.{Loaded}
 use Rattle.review_database.specs.declared.sights.Loaded.TheVariants as loaded
 use Rattle.review_database.specs.declared.sights.Sight.{Sight}
 use Rattle.review_database.specs.declared.sights.Sight.TheVariants as sight
+use Rattle.review_database.specs.Loads.{AreLoaded}
 use Rattle.review_database.specs.Tables.{tables_at}
+use Rattle.review_lookups.specs.declared.counts.Counts.{Counts}
+use Rattle.review_lookups.specs.Counts.{AreBounded}
 
 -- what all found, by how the last one ended, and the rows that learnt it
 abbrev pub all_found : Rows → Sight → Loaded
@@ -23,7 +26,14 @@ loaded_by rows (Ok s) = Ok (all_found rows s)
 loaded_by rows (Err e) = Err e
 
 -- What look-ups tell of tables: where all learnt, what the rows know is so in them; where there was no memory, nothing; and where one met damage, they are those of no history.
-abbrev pub WereSeen : Rows → Trees → Sight → Type 0
-WereSeen rows db sight.Learnt = Agrees (tables_at db) rows
-WereSeen rows db sight.NoMemory = Unit {0}
-WereSeen rows db sight.Damaged = IsDamaged (tables_at db)
+abbrev pub AreSeen : Rows → Trees → Sight → Type 0
+AreSeen rows db sight.Learnt = Agrees (tables_at db) rows
+AreSeen rows db sight.NoMemory = Unit {0}
+AreSeen rows db sight.Damaged = IsDamaged (tables_at db)
+
+-- the same where what was known of counts is so, and what is known then is so too
+abbrev pub WereSeen : Rows → Counts → Counts → Trees → Sight → Type 0
+WereSeen rows known more db s = AreBounded known (tables_at db) → AreSeen rows db s × AreBounded more (tables_at db)
+
+abbrev pub AreLoadedBounded : Counts → Counts → Trees → Loaded → Type 0
+AreLoadedBounded known more db found = AreBounded known (tables_at db) → AreLoaded db found × AreBounded more (tables_at db)

@@ -26,6 +26,8 @@ use Rattle.review_tables.specs.declared.versions.TablesVersion.{TablesVersion}
 use Rattle.review_tables.specs.declared.versions.TablesVersion.TheVariants.{First, Second, Third}
 use Rattle.review_transactions.specs.First.{MakesDesk}
 use Rattle.review_database.specs.Tables.{tables_at}
+use Rattle.review_lookups.specs.declared.counts.Counts.{Counts}
+use Rattle.review_lookups.specs.Counts.{AreBounded}
 use Rattle.review_transactions.specs.Numbers.{IsDesk}
 use Rattle.review_transactions.specs.declared.numbers.Numbers.{Numbers}
 
@@ -44,6 +46,10 @@ view_code {S} store =
 pub record Holds {S : Type 0} (g : Ghosts S) (conn : Held S) (is_ours : Bool) (numbers : Numbers) : Type 0 where
   pub autocommit : conn.in_transaction ≡ false
   pub ready : IsTrue is_ours → IsTrue (state g conn).is_open → IsReady (state g conn).now × IsDesk numbers (state g conn).now.trees
+
+-- what is known of counts is so in the tables, where these are ours
+abbrev pub KnowsCounts : {S : Type 0} → Ghosts S → Held S → Bool → Counts → Type 0
+KnowsCounts g conn is_ours counts = IsTrue is_ours → IsTrue (state g conn).is_open → AreBounded counts (tables_at (state g conn).now.trees)
 
 -- a shelf was closed, which leaves its connection
 abbrev pub IsHandedBack : {S : Type 0} → Ghosts S → Bool → ShelfView S → Held S → Type 0

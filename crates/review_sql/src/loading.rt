@@ -3,11 +3,13 @@ ghost use Rattle.std.specs.Prelude.{◌≡◌, None, false, IfOk};
 ghost use Rattle.sqlite.specs.Held.{state};
 ghost use Rattle.review_statements.specs.Ran.{Looks, Serves};
 ghost use Rattle.review_rows.specs.Known.{AreAsked, known};
-ghost use Rattle.review_database.specs.Loads.{Sees, AreLoaded, HasLearnt, WereAsked};
-ghost use Rattle.review_sql.specs.Loading.{WereSeen, loaded_by};
+ghost use Rattle.review_database.specs.Loads.{HasLearnt, WereAsked};
+ghost use Rattle.review_lookups.specs.Counts.{SeesBounded};
+ghost use Rattle.review_sql.specs.Loading.{AreLoadedBounded, WereSeen, loaded_by};
 
 use review_change_lookups::{bases, joins, places, reviews, senders};
 use review_database::{Loaded, Sight};
+use review_lookups::counts::Counts;
 use review_lookups::{branches, people};
 use review_records::desk::Desk;
 use review_rows::{Counted, Rows, Want};
@@ -19,10 +21,11 @@ fn find<S: Alter>(
     tx: &mut Transaction<'_, S>,
     alloc: Global,
     want: &Want,
+    counts: &mut Counts,
     rows: &mut Rows,
 ) -> Result<Sight, Error>
     ensures same_reference { tx.new.conn.ghost_name ≡ tx.old.conn.ghost_name }
-    ensures looks { Looks (Sees want.now rows.old rows.new) (state S.Store tx.old.conn.now) (state S.Store tx.new.conn.now) result }
+    ensures looks { Looks (SeesBounded want.now rows.old rows.new counts.old counts.new) (state S.Store tx.old.conn.now) (state S.Store tx.new.conn.now) result }
     ensures learnt { IfOk result (λ s. s ≡ Sight.Learnt → HasLearnt want.now rows.old rows.new) }
 {
     match want {
@@ -35,9 +38,9 @@ fn find<S: Alter>(
         Want::Group(group) => people::find_group(tx, alloc, group, rows),
         Want::File(project) => branches::find_file(tx, alloc, project, rows),
         Want::Project(project) => branches::find_project(tx, alloc, project, rows),
-        Want::Room(Counted::Projects) => branches::find_room_for_projects(tx, rows),
+        Want::Room(Counted::Projects) => branches::find_room_for_projects(tx, alloc, counts, rows),
         Want::Room(Counted::BasesOf(project)) => {
-            branches::find_room_for_bases(tx, alloc, project, rows)
+            branches::find_room_for_bases(tx, alloc, project, counts, rows)
         }
         Want::Base(base) => bases::find_base(tx, alloc, base, rows),
         Want::LastPlace(branch) => branches::find_last_place(tx, alloc, branch, rows),
@@ -56,17 +59,18 @@ fn find_each<S: Alter>(
     tx: &mut Transaction<'_, S>,
     alloc: Global,
     wants: &[Want],
+    counts: &mut Counts,
     rows: &mut Rows,
 ) -> Result<Sight, Error>
     requires nothing { (w : Want) → known rows.old w ≡ None }
     ensures same_reference { tx.new.conn.ghost_name ≡ tx.old.conn.ghost_name }
-    ensures looks { Looks (WereSeen rows.new) (state S.Store tx.old.conn.now) (state S.Store tx.new.conn.now) result }
+    ensures looks { Looks (WereSeen rows.new counts.old counts.new) (state S.Store tx.old.conn.now) (state S.Store tx.new.conn.now) result }
     ensures asked { IfOk result (λ s. s ≡ Sight.Learnt → AreAsked wants.now rows.new) }
 {
     // A store that was shut is found so, whatever is asked.
     let _desk = find_row::<Desk, S>(tx, alloc, &())?;
     for want in wants {
-        let sight = find(tx, alloc, want, rows)?;
+        let sight = find(tx, alloc, want, counts, rows)?;
         match sight {
             Sight::Learnt => {}
             Sight::NoMemory => return Ok(Sight::NoMemory),
@@ -81,17 +85,18 @@ fn load_each<S: Alter>(
     conn: &mut Connection<S>,
     alloc: Global,
     wants: &[Want],
+    counts: &mut Counts,
     rows: &mut Rows,
 ) -> Result<Sight, Error>
     requires mode { conn.old.in_transaction ≡ false }
     requires nothing { (w : Want) → known rows.old w ≡ None }
     ensures mode { conn.new.in_transaction ≡ false }
-    ensures serves { Serves (WereSeen rows.new) (state S.Store conn.old) (state S.Store conn.new) result }
+    ensures serves { Serves (WereSeen rows.new counts.old counts.new) (state S.Store conn.old) (state S.Store conn.new) result }
     ensures asked { IfOk result (λ s. s ≡ Sight.Learnt → AreAsked wants.now rows.new) }
 {
     let _settled = conn.is_autocommit();
     let mut tx = conn.transaction();
-    let sight = find_each(&mut tx, alloc, wants, rows)?;
+    let sight = find_each(&mut tx, alloc, wants, counts, rows)?;
     tx.commit()?;
     Ok(sight)
 }
@@ -108,18 +113,19 @@ fn loaded(seen: Result<Sight, Error>, rows: Rows) -> Result<Loaded, Error>
     }
 }
 
-/// What look-ups find, and no others.
+/// What look-ups find, and no others. Where the store fails, what is known of counts then is of no more use.
 pub fn load<S: Alter>(
     conn: &mut Connection<S>,
     alloc: Global,
     wants: &[Want],
+    counts: &mut Counts,
 ) -> Result<Loaded, Error>
     requires mode { conn.old.in_transaction ≡ false }
     ensures mode { conn.new.in_transaction ≡ false }
-    ensures serves { Serves AreLoaded (state S.Store conn.old) (state S.Store conn.new) result }
+    ensures serves { Serves (AreLoadedBounded counts.old counts.new) (state S.Store conn.old) (state S.Store conn.new) result }
     ensures asked { IfOk result (WereAsked wants.now) }
 {
     let mut rows = Rows::new(alloc);
-    let seen = load_each(conn, alloc, wants, &mut rows);
+    let seen = load_each(conn, alloc, wants, counts, &mut rows);
     loaded(seen, rows)
 }

@@ -16,6 +16,7 @@ use crate::opening::see;
 use crate::serving::{LookedUp, find_stored};
 use crate::there::{is_any_there, seen};
 use review_database::Loaded;
+use review_lookups::counts::Counts;
 use review_records::rows::{Answered, RequestKey};
 use review_rows::{Delta, Kept, Need, Recalled, Rows, Shelf, ShelfFault};
 use review_transactions::Numbers;
@@ -64,6 +65,7 @@ impl Origin for Others {
 pub struct SqlShelf<S: Alter, O: Origin> {
     conn: Connection<S>,
     numbers: Numbers,
+    counts: Counts,
     faults: u64,
     origin: PhantomData<O>,
 }
@@ -73,6 +75,7 @@ impl<S: Alter + Drop, O: Origin> Drop for SqlShelf<S, O> {
         let SqlShelf {
             conn: _,
             numbers: _,
+            counts: _,
             faults: _,
             origin: _,
         } = self;
@@ -80,7 +83,7 @@ impl<S: Alter + Drop, O: Origin> Drop for SqlShelf<S, O> {
 }
 
 impl<S: Alter, O: Origin> Model for SqlShelf<S, O> {
-    ghost use Rattle.review_sql.specs.Shelf.{ShelfView, view_code, Holds};
+    ghost use Rattle.review_sql.specs.Shelf.{ShelfView, view_code, Holds, KnowsCounts};
 
     ghost Value = { ShelfView S };
 
@@ -88,7 +91,7 @@ impl<S: Alter, O: Origin> Model for SqlShelf<S, O> {
 
     ghost view = { λ s. record { conn = s.conn; numbers = s.numbers; faults = s.faults } };
 
-    ghost invariant = { λ s. Holds S.Store s.conn O.IS_OURS s.numbers };
+    ghost invariant = { λ s. Holds S.Store s.conn O.IS_OURS s.numbers × KnowsCounts S.Store s.conn O.IS_OURS s.counts };
 }
 
 /// Whether a store has no table, no index and no view.
@@ -150,6 +153,7 @@ impl<S: Alter + Drop, O: Origin> SqlShelf<S, O> {
                 Ok(SqlShelf {
                     conn,
                     numbers: Numbers::first(),
+                    counts: Counts::new(alloc),
                     faults: 0,
                     origin: PhantomData,
                 })
@@ -197,6 +201,7 @@ impl<S: Alter + Drop, O: Origin> SqlShelf<S, O> {
                 Ok(SqlShelf {
                     conn,
                     numbers: seen.numbers,
+                    counts: Counts::new(alloc),
                     faults: 0,
                     origin: PhantomData,
                 })
@@ -235,6 +240,7 @@ impl<S: Alter + Drop, O: Origin> SqlShelf<S, O> {
                 Ok(SqlShelf {
                     conn,
                     numbers,
+                    counts: Counts::new(alloc),
                     faults: 0,
                     origin: PhantomData,
                 })
@@ -251,6 +257,7 @@ impl<S: Alter + Drop, O: Origin> SqlShelf<S, O> {
         let SqlShelf {
             conn,
             numbers: _,
+            counts: _,
             faults: _,
             origin: _,
         } = self;
@@ -321,9 +328,12 @@ impl<S: Alter, O: Origin> Shelf for SqlShelf<S, O> {
 
     fn load(&mut self, alloc: Global, need: &Need) -> Result<Rows, ShelfFault> {
         let _settled = self.conn.is_autocommit();
-        match load(&mut self.conn, alloc, &need.wants) {
+        match load(&mut self.conn, alloc, &need.wants, &mut self.counts) {
             Ok(found) => answered(found),
-            Err(error) => Err(told(&mut self.conn, &mut self.faults, error)),
+            Err(error) => {
+                self.counts = Counts::new(alloc);
+                Err(told(&mut self.conn, &mut self.faults, error))
+            }
         }
     }
 
@@ -337,6 +347,7 @@ impl<S: Alter, O: Origin> Shelf for SqlShelf<S, O> {
             Ok(()) => {
                 let _settled = self.conn.is_autocommit();
                 self.numbers = more;
+                self.counts.note(alloc, delta);
                 Ok(())
             }
             Err(error) => Err(told(&mut self.conn, &mut self.faults, error)),

@@ -1,7 +1,6 @@
--- What a query shows that is cut: the row with the greatest value of a column, or one where there are more than so many.
+-- What a query shows that is cut: the row with the greatest value of a column.
 use Rattle.std.proofs.Common.{◌≡◌, ◌∙◌, ◌==◌, ℕ, suc, pos, List, [], ◌∷◌, false, Ordering, Less, Equal, Greater, refl, sym, ap, subst, subst₂, arith, map, filter, length, take, drop, nat_le, nat_lt, is_gt, is_lt, inl, inr, IsSorted}
-use Rattle.std.proofs.lemmas.Bool.Decides.{leb_tells}
-use Rattle.std.proofs.lemmas.List.{length-map, length-take-le, length-drop, drop_all}
+use Rattle.std.proofs.lemmas.List.{length-map}
 use Rattle.std.specs.List.{AllByRecursion}
 use Rattle.std.specs.List.Sorted.{IsPermutation}
 use Rattle.std.specs.Ordering.{ordering_reverse, ordering_then}
@@ -22,8 +21,8 @@ use Rattle.sqlite.specs.State.{State, Shown}
 use Rattle.sqlite.proofs.Callers.{reads_as}
 use Rattle.review_statements.specs.Desk.{desk_schema}
 use Rattle.review_statements.specs.Content.{has_key}
-use Rattle.review_statements.specs.Greatest.{ShowsGreatest, ShowsBeyond}
-use Rattle.review_statements.specs.Texts.{Asks, values_of, tests_from, over_table, falling, last_where, beyond_where}
+use Rattle.review_statements.specs.Greatest.{ShowsGreatest}
+use Rattle.review_statements.specs.Texts.{Asks, values_of, tests_from, over_table, falling, last_where}
 use Rattle.review_statements.specs.Search.{At}
 use Rattle.review_statements.proofs.Queries.{passes, shows, staged_is}
 use Rattle.review_statements.proofs.Meaning.{tested, plain, shows_columns}
@@ -113,34 +112,3 @@ asked_last sql tree key columns place it old new rows has h =
     let answer = reads_as sql params old new desk_schema has _ it.is it.plain it.unlisted rows h in
     subst₂ (λ (show : Row → Row) l. ShowsGreatest show place l rows) (λ i row. shows_columns params columns row i) (filter_same _ _ (tested key) (old.now.trees tree))
     (greatest tree (tests_from 0 key) (map (col 1) columns) place params old.now.trees rows (plain old.now.trees tree) (answer.answer Null))
-
--- ---- whether there are more
-
-pub fewer : (n count : ℕ) → nat_lt n (suc count) ≡ nat_le n count
-fewer n count = elim (leb_tells n count) [
-  | inl few ↦ elim (leb_tells (suc n) (suc count)) [ inl less ↦ less.0 ∙ sym few.0 | inr other ↦ absurd (omega (arith, few.1, other.1)) ]
-  | inr many ↦ elim (leb_tells (suc n) (suc count)) [ inl less ↦ absurd (omega (arith, many.1, less.1)) | inr other ↦ other.0 ∙ sym many.0 ]
-]
-
-no_more : {X : Type 0} (count : ℕ) (xs : List X) → (length (take 1 (drop count xs)) == 0) ≡ nat_le (length xs) count
-no_more count xs = elim (leb_tells (length xs) count) [
-  | inl few ↦ ap (λ l. length (take 1 l) == 0) (drop_all count xs few.1) ∙ sym few.0
-  | inr many ↦ ap (λ n. n == 0) (length-take-le 1 (drop count xs) (let e = length-drop count xs in omega (arith, e, many.1))) ∙ sym many.0
-]
-
--- what a query for one row after so many shows
-pub asked_beyond : (sql : List ℕ) (tree : ℕ) (key : At) (columns : List ℕ) (count : ℕ) → Asks sql (beyond_where tree key columns count) → (old new : State) (rows : List Row) → old.now.schema ≡ desk_schema → Shown sql (values_of key) old new rows
-    → ShowsBeyond count (filter (has_key key) (old.now.trees tree)) rows
-asked_beyond sql tree key columns count it old new rows has h =
-    let params = values_of key in
-    let tests = tests_from 0 key in
-    let a = (reads_as sql params old new desk_schema has _ it.is it.plain it.unlisted rows h).answer Null in
-    let q = beyond_where tree key columns count in
-    let db = old.now.trees in
-    let found = filter (passes params tests) (db tree) in
-    let staged : a.staged ≡ map (λ r. params ∷ r ∷ []) found = a.grouped ∙ staged_is params tests (overlay db [] tree) ∙ ap (λ all. map (λ r. params ∷ r ∷ []) (filter (passes params tests) all)) (plain db tree) in
-    let kept : a.kept ≡ map (output q) (map (λ r. params ∷ r ∷ []) found) = a.distinct ∙ ap (map (output q)) staged in
-    let many : length (map (λ (o : Output). o.1) a.ordered) ≡ length found =
-    length-map _ _ ∙ (length_permutation _ _ a.same ∙ (ap length kept ∙ (length-map _ _ ∙ length-map _ _))) in
-    subst (λ l. ShowsBeyond count l rows) (filter_same _ _ (tested key) (db tree))
-    (ap (λ (l : List Row). length l == 0) a.shown ∙ (no_more count (map (λ (o : Output). o.1) a.ordered) ∙ ap (λ n. nat_le n count) many))

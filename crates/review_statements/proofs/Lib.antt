@@ -3,6 +3,7 @@ pub mod Queries
 pub mod Statements
 pub mod Meaning
 pub mod Cut
+pub mod Counting
 pub mod Changes
 pub mod TextsOfTables
 pub mod TextsOfChanges

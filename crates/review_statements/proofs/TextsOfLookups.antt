@@ -3,9 +3,9 @@ use Rattle.std.proofs.Common.{ℕ, ℤ, List, [], ◌∷◌, codes, refl}
 use Rattle.sqlite_value.specs.declared.value.Value.TheVariants.{Int, Text}
 use Rattle.sqlite_tied.specs.Compute.{everything}
 use Rattle.sqlite.specs.Listing.{understood}
-use Rattle.review_statements.specs.declared.texts.TheConstants.{FIND_ACCOUNT, FIND_MEMBER, FIND_PROJECT, FIND_BASE, FIND_CHANGE, FIND_PATCH, FIND_VOTE, FIND_REVIEWER, FIND_COMMENT, FIND_ATTENTION, FIND_ANSWER, FIND_DESK, FIND_EPOCHS, FIND_ACCOUNT_NAMED, FIND_GROUP, FIND_PROJECT_NAME, FIND_BASE_COMMIT, FIND_BRANCH, FIND_PATCHES, FIND_VOTES, FIND_REVIEWERS, FIND_COMMENTS, FIND_CALLS, FIND_CHANGE_BRANCH, FIND_SENT, FIND_CHANGE_AT, FIND_LAST_ACCOUNT, FIND_LAST_PLACE, FIND_LAST_CHANGE, FIND_LAST_JOINED, FIND_LAST_PATCH, FIND_PROJECT_BEYOND, FIND_BASE_BEYOND}
+use Rattle.review_statements.specs.declared.texts.TheConstants.{FIND_ACCOUNT, FIND_MEMBER, FIND_PROJECT, FIND_BASE, FIND_CHANGE, FIND_PATCH, FIND_VOTE, FIND_REVIEWER, FIND_COMMENT, FIND_ATTENTION, FIND_ANSWER, FIND_DESK, FIND_EPOCHS, FIND_ACCOUNT_NAMED, FIND_GROUP, FIND_PROJECT_NAME, FIND_BASE_COMMIT, FIND_BRANCH, FIND_PATCHES, FIND_VOTES, FIND_REVIEWERS, FIND_COMMENTS, FIND_CALLS, FIND_CHANGE_BRANCH, FIND_SENT, FIND_CHANGE_AT, FIND_LAST_ACCOUNT, FIND_LAST_PLACE, FIND_LAST_CHANGE, FIND_LAST_JOINED, FIND_LAST_PATCH, COUNT_PROJECTS, COUNT_BASES}
 use Rattle.review_statements.specs.Desk.{accounts, members, projects_2, bases, changes, patches, votes, reviewers, comments, attention, answers_3, desk, epochs}
-use Rattle.review_statements.specs.Texts.{Asks, rows_where, last_where, beyond_where}
+use Rattle.review_statements.specs.Texts.{Asks, rows_where, last_where, count_where}
 
 pub find_account : (number : ℤ) → Asks FIND_ACCOUNT.now (rows_where accounts.tree ((0, Int number) ∷ []) (2 ∷ []))
 unfolding understood everything
@@ -131,10 +131,10 @@ pub find_last_patch : (change : ℤ) → Asks FIND_LAST_PATCH.now (last_where pa
 unfolding understood everything
 find_last_patch change = record { names = codes "patch" ∷ []; is = refl; plain = (refl, refl); unlisted = refl }
 
-pub find_project_beyond : Asks FIND_PROJECT_BEYOND.now (beyond_where projects_2.tree [] (1 ∷ []) 999)
+pub count_projects : Asks COUNT_PROJECTS.now (count_where projects_2.tree [])
 unfolding understood everything
-find_project_beyond = record { names = codes "name" ∷ []; is = refl; plain = (refl, refl); unlisted = refl }
+count_projects = record { names = codes "count(*)" ∷ []; is = refl; plain = (refl, refl); unlisted = refl }
 
-pub find_base_beyond : (project : List ℕ) → Asks FIND_BASE_BEYOND.now (beyond_where bases.tree ((1, Text project) ∷ []) (3 ∷ []) 99999)
+pub count_bases : (project : List ℕ) → Asks COUNT_BASES.now (count_where bases.tree ((1, Text project) ∷ []))
 unfolding understood everything
-find_base_beyond project = record { names = codes "place" ∷ []; is = refl; plain = (refl, refl); unlisted = refl }
+count_bases project = record { names = codes "count(*)" ∷ []; is = refl; plain = (refl, refl); unlisted = refl }

@@ -1,9 +1,10 @@
--- The row with the greatest value of a column, and whether there are more than so many rows.
-use Rattle.std.specs.Prelude.{ℕ, ◌≡◌, ◌==◌, false, List, [], ◌∷◌, length, Option, Some, None, nat_le}
+-- The row with the greatest value of a column, and how many rows there are.
+use Rattle.std.specs.Prelude.{ℕ, ◌≡◌, false, List, [], ◌∷◌, length, Option, Some, None, min, pos}
 use Rattle.std.specs.List.{AllByRecursion}
 use Rattle.std.specs.Ordering.{is_gt}
 use Rattle.sqlite_value.specs.Order.{Row as Raw, column, value_cmp}
 use Rattle.sqlite_rules.specs.Lists.{Has}
+use Rattle.sqlite_value.specs.declared.value.Value.TheVariants.{Int}
 use Rattle.sqlite_trees.specs.Tree.{Trees}
 use Rattle.review_statements.specs.Search.{Search, reads, rows_at, shown}
 
@@ -17,9 +18,13 @@ abbrev pub ShowsGreatest : (Raw → Raw) → ℕ → List Raw → List Raw → T
 ShowsGreatest show place found [] = found ≡ []
 ShowsGreatest show place found (x ∷ xs) = (r : Raw) × IsGreatest place found r × (x ∷ xs ≡ show r ∷ [])
 
--- a text shows no row where there are at most so many
-abbrev pub ShowsBeyond : ℕ → List Raw → List Raw → Type 0
-ShowsBeyond count found rows = (length rows == 0) ≡ nat_le (length found) count
+-- how many rows there are as SQL counts them, up to its greatest integer
+abbrev pub as_counted : ℕ → ℕ
+as_counted n = min n 9223372036854775807
+
+-- a text shows how many rows there are
+abbrev pub ShowsCount : List Raw → List Raw → Type 0
+ShowsCount found rows = rows ≡ (Int (pos (as_counted (length found))) ∷ []) ∷ []
 
 -- a look-up shows the row with the greatest value of a column
 abbrev pub FindsGreatest : {A X : Type 0} → Search A X → ℕ → A → Trees → List Raw → Type 0

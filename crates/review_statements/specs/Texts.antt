@@ -16,6 +16,7 @@ use Rattle.sqlite_schema.specs.declared.schema.Table.{Table}
 use Rattle.sqlite_schema.specs.declared.command.Command.{Command}
 use Rattle.sqlite_schema.specs.declared.command.Command.TheVariants.{Insert, Select, Delete}
 use Rattle.sqlite_schema.specs.declared.command.Source.TheVariants.{Values}
+use Rattle.sqlite_tied.specs.Listing.{counting}
 use Rattle.sqlite_rules.specs.declared.error.Rowids.TheVariants.{Chosen}
 use Rattle.sqlite_rules.specs.Edit.{edit_of}
 use Rattle.sqlite.specs.Effect.{value_rows}
@@ -80,9 +81,9 @@ falling place = (col 1 place, record { collation = Binary; descending = Rattle.s
 abbrev pub last_where : ℕ → At → List ℕ → ℕ → Query
 last_where tree key columns place = record (over_table tree (tests_from 0 key) (map (col 1) columns) (falling place)) { limit = lit (Int (pos 1)) }
 
--- the same of one row after so many
-abbrev pub beyond_where : ℕ → At → List ℕ → ℕ → Query
-beyond_where tree key columns count = record (over_table tree (tests_from 0 key) (map (col 1) columns) []) { limit = lit (Int (pos 1)); offset = lit (Int (pos count)) }
+-- how many rows have a key
+abbrev pub count_where : ℕ → At → Query
+count_where tree key = counting (over_table tree (tests_from 0 key) [] [])
 
 -- a text is understood as this query
 pub record Asks (sql : List ℕ) (query : Query) : Type 0 where

@@ -269,12 +269,11 @@ pub const FIND_LAST_JOINED: &str =
 pub const FIND_LAST_PATCH: &str =
     "SELECT patch FROM patches WHERE change = ?1 AND typeof(change) = 'integer' ORDER BY patch DESC LIMIT 1";
 
-// ---- whether there are so many rows and more
+// ---- how many there are
 
-pub const FIND_PROJECT_BEYOND: &str = "SELECT name FROM projects_2 LIMIT 1 OFFSET 999";
+pub const COUNT_PROJECTS: &str = "SELECT count(*) FROM projects_2";
 
-pub const FIND_BASE_BEYOND: &str =
-    "SELECT place FROM bases WHERE project = ?1 LIMIT 1 OFFSET 99999";
+pub const COUNT_BASES: &str = "SELECT count(*) FROM bases WHERE project = ?1";
 
 // ---- whether a table is there
 

@@ -9,5 +9,5 @@ abbrev pub invariant-loop-want : goal.invariant-loop-want
 invariant-loop-want g l = record {
   reference : l.tx.conn.ghost_name ≡ l.fn.tx.conn.ghost_name;
   asked : AreAsked (take l.want-index l.wants) l.rows;
-  looks : Looks (Have l.rows) (state g.S.Store l.fn.tx.conn.now) (state g.S.Store l.tx.conn.now) (Ok (tt {0}));
+  looks : Looks (Have l.rows l.fn.counts l.counts) (state g.S.Store l.fn.tx.conn.now) (state g.S.Store l.tx.conn.now) (Ok (tt {0}));
 }

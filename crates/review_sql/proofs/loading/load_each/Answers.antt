@@ -8,7 +8,7 @@ use Rattle.review_sql.proofs.loading.load_each.Goals as goal
 
 pub returns-in_err-sight-clause-serves : goal.returns-in_err-sight-clause-serves
 returns-in_err-sight-clause-serves g c =
-    let F = WereSeen c.find_each.new.rows in
+    let F = WereSeen c.find_each.new.rows c.args.counts.now c.find_each.new.counts in
     let last = c.drop-tx.new.self.0 in
     let same : last ≡ c.conn-1.given.0 = search rules in
     let s0 = state g.S.Store c.args.conn.now in
@@ -21,7 +21,7 @@ returns-in_err-sight-clause-serves g c =
 
 pub returns-in_err-commit-clause-serves : goal.returns-in_err-commit-clause-serves
 returns-in_err-commit-clause-serves g c =
-    let F = WereSeen c.find_each.new.rows in
+    let F = WereSeen c.find_each.new.rows c.args.counts.now c.find_each.new.counts in
     let last = c.commit.new.self.0 in
     let same : last ≡ c.conn-2-1.given.0 = search rules in
     let s0 = state g.S.Store c.args.conn.now in

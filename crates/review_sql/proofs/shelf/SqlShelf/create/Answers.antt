@@ -3,6 +3,7 @@ use Rattle.review_sql.specs.Created.{IsCreated}
 use Rattle.review_sql.specs.Shelf.{Holds}
 use Rattle.sqlite.proofs.StateLemmas.{clean_if_open}
 use Rattle.sqlite.specs.Held.{state}
+use Rattle.review_database.specs.Tables.{tables_at}
 use Rattle.review_sql.proofs.Made.{holds_made, is_created, unmade}
 use Rattle.review_sql.proofs.shelf.SqlShelf.create.Goals as goal
 
@@ -16,8 +17,9 @@ invariant_of-result g c =
     let last = c.make_desk.new.conn in
     let blank = rw c.schema.ensures.value at c.is_blank-is_blank.ensures in
     let may : c.may_be_made.result ≡ true = search rules in
-    subst (Holds g.S.Store last g.O.Origin.IS_OURS) (sym c.first.ensures)
-    (holds_made g.S.Store c.args.conn c.is_any_there.new.conn last g.O.Origin.IS_OURS (λ ours. blank.0 (c.may_be_made.ensures.made may ours)) _ c.in-Ok.ensures.acts c.make_desk.ensures.mode (λ is_open. clean_if_open (g.S.Store.view last.store) (g.met.S.Store.shut_if_dirty last.store) is_open))
+    let holds = subst (Holds g.S.Store last g.O.Origin.IS_OURS) (sym c.first.ensures)
+    (holds_made g.S.Store c.args.conn c.is_any_there.new.conn last g.O.Origin.IS_OURS (λ ours. blank.0 (c.may_be_made.ensures.made may ours)) _ c.in-Ok.ensures.acts c.make_desk.ensures.mode (λ is_open. clean_if_open (g.S.Store.view last.store) (g.met.S.Store.shut_if_dirty last.store) is_open)) in
+    (holds, λ ours is_open. c.new.ensures (tables_at (state g.S.Store last).now.trees))
 
 pub returns-in-Ok-clause-created : goal.returns-in-Ok-clause-created
 returns-in-Ok-clause-created g c =

@@ -1,6 +1,7 @@
 use Rattle.std.proofs.Common.{rules, ◌≡◌, ◌∙◌, ap, not, subst, IsTrue}
 use Rattle.sqlite.proofs.StateLemmas.{clean_if_open}
 use Rattle.sqlite.specs.Held.{state}
+use Rattle.review_database.specs.Tables.{tables_at}
 use Rattle.review_sql.specs.Migrated.{IsBrought, IsNotMigrated}
 use Rattle.review_sql.proofs.Again.{unfit_closed}
 use Rattle.review_sql.proofs.Left.{unfit_left_behind}
@@ -12,7 +13,8 @@ invariant_of-result g c =
     let last = c.bring.new.conn in
     let same : c.IS_OURS.result ≡ g.O.Origin.IS_OURS = search rules in
     let brought = subst (λ b. IsBrought g.S.Store b c.args.conn last c.in-Ok.numbers) same c.in-Ok.ensures.brought in
-    holds_brought g.S.Store g.O.Origin.IS_OURS c.args.conn last _ c.bring.ensures.mode (λ is_open. clean_if_open (g.S.Store.view last.store) (g.met.S.Store.shut_if_dirty last.store) is_open) brought
+    let holds = holds_brought g.S.Store g.O.Origin.IS_OURS c.args.conn last _ c.bring.ensures.mode (λ is_open. clean_if_open (g.S.Store.view last.store) (g.met.S.Store.shut_if_dirty last.store) is_open) brought in
+    (holds, λ ours is_open. c.new.ensures (tables_at (state g.S.Store last).now.trees))
 
 pub returns-in-Ok-clause-migrated : goal.returns-in-Ok-clause-migrated
 returns-in-Ok-clause-migrated g c =

@@ -1,10 +1,18 @@
 use Rattle.std.proofs.Common.{rules, ◌≡◌, false}
 use Rattle.sqlite.specs.Held.{state}
+use Rattle.review_database.specs.Tables.{tables_at}
+use Rattle.review_sql.specs.Shelf.{Holds}
 use Rattle.review_sql.proofs.Again.{goes_on, refused_again}
 use Rattle.review_sql.proofs.Left.{refused_left}
 use Rattle.review_sql.proofs.Made.{empty_refused, is_opened, none_seen, not_ours}
 use Rattle.review_sql.specs.declared.faults.DeskFault.TheVariants.{NotOurs}
 use Rattle.review_sql.proofs.shelf.SqlShelf.open.Goals as goal
+
+pub invariant_of-result : goal.invariant_of-result
+invariant_of-result g c =
+    let last = c.see.new.conn in
+    let holds : Holds g.S.Store last g.O.Origin.IS_OURS c.in-Ok.seen.numbers = search rules in
+    (holds, λ ours is_open. c.new.ensures (tables_at (state g.S.Store last).now.trees))
 
 pub returns-else-IS_OURS-clause-goes_on : goal.returns-else-IS_OURS-clause-goes_on
 returns-else-IS_OURS-clause-goes_on g c = goes_on g.S.Store g.O.Origin.IS_OURS c.args.conn _ (is_opened g.S.Store c.args.conn c.see.new.conn c.in-Ok.seen c.see.ensures.stays)

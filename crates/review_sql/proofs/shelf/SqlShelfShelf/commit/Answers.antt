@@ -1,11 +1,13 @@
-use Rattle.std.proofs.Common.{rules, ◌≡◌, ◌⊎◌, ap, not, subst, IsTrue, Ok, ◌∙◌}
+use Rattle.std.proofs.Common.{rules, ◌≡◌, ◌⊎◌, ap, not, subst, IsTrue, Ok, Err, ◌∙◌}
+use Rattle.sqlite.specs.State.{HasCleanDisk}
 use Rattle.sqlite.specs.Held.{Held, state}
+use Rattle.review_transactions.specs.Commits.{AreSingle}
 use Rattle.sqlite.proofs.StateLemmas.{clean_if_open}
 use Rattle.review_rows.specs.Rows.{Tables, kept_row}
 use Rattle.review_rows.specs.Shelf.{Shows, IsCommitted, LeavesBy, cause_of}
 use Rattle.review_transactions.specs.Numbers.{with_request}
 use Rattle.review_sql.specs.Shelf.{ShelfView, Holds, tables_of, stops_of}
-use Rattle.review_sql.proofs.Shown.{alone, holds_committed, stops_committed, committed_shown, clean_still, stops_still, leaves}
+use Rattle.review_sql.proofs.Shown.{alone, holds_committed, holds_still, holds_undone, knows_committed, knows_still, knows_undone, stops_committed, committed_shown, clean_still, stops_still, leaves}
 use Rattle.review_sql.proofs.Singles.{are_single}
 use Rattle.review_sql.proofs.shelf.SqlShelfShelf.commit.Goals as goal
 
@@ -15,9 +17,28 @@ invariant_of-self-in-Ok g c =
     let last = c.transact.new.conn in
     let more : with_request c.self.inside.numbers c.args.delta.now.least_epoch ≡ c.in-Some.more = search rules in
     let done : c.transact.result ≡ Ok (tt {0}) = search rules in
-    subst (Holds g.S.Store last g.O.Origin.IS_OURS) more
-    (holds_committed g.S.Store old last g.O.Origin.IS_OURS c.self.inside.numbers c.self.invariant c.args.delta.now c.args.kept.now c.transact.result c.transact.ensures.acts
-    (λ ours was. are_single (state g.S.Store old).now (c.self.invariant.ready ours was).0 (c.schema-live.ensures.live was).0) done c.transact.ensures.mode (λ is_open. clean_if_open (g.S.Store.view last.store) (g.met.S.Store.shut_if_dirty last.store) is_open))
+    let single : IsTrue g.O.Origin.IS_OURS → IsTrue (state g.S.Store old).is_open → AreSingle (state g.S.Store old).now.trees = λ ours was. are_single (state g.S.Store old).now (c.self.invariant.0.ready ours was).0 (c.schema-live.ensures.live was).0 in
+    let clean : IsTrue (state g.S.Store last).is_open → HasCleanDisk (state g.S.Store last) = λ is_open. clean_if_open (g.S.Store.view last.store) (g.met.S.Store.shut_if_dirty last.store) is_open in
+    (
+      subst (Holds g.S.Store last g.O.Origin.IS_OURS) more
+      (holds_committed g.S.Store old last g.O.Origin.IS_OURS c.self.inside.numbers c.self.invariant.0 c.args.delta.now c.args.kept.now c.transact.result c.transact.ensures.acts single done c.transact.ensures.mode clean),
+      knows_committed g.S.Store old last g.O.Origin.IS_OURS c.self.inside.numbers c.self.invariant.0 c.args.delta.now c.args.kept.now c.transact.result c.transact.ensures.acts single done clean c.self.inside.counts c.note.new.self
+      c.self.invariant.1 c.note.ensures,
+    )
+
+pub invariant_of-self-in-Err : goal.invariant_of-self-in-Err
+invariant_of-self-in-Err g c =
+    let old = c.self.inside.conn in
+    let mid = c.transact.new.conn in
+    let last = c.told.new.conn in
+    let failed : c.transact.result ≡ Err c.in-Err.error = search rules in
+    let single : IsTrue g.O.Origin.IS_OURS → IsTrue (state g.S.Store old).is_open → AreSingle (state g.S.Store old).now.trees = λ ours was. are_single (state g.S.Store old).now (c.self.invariant.0.ready ours was).0 (c.schema-live.ensures.live was).0 in
+    (
+      holds_still g.S.Store mid last c.told.ensures.stays g.O.Origin.IS_OURS c.self.inside.numbers c.told.ensures.mode
+      (holds_undone g.S.Store old mid g.O.Origin.IS_OURS c.self.inside.numbers c.self.invariant.0 c.args.delta.now c.args.kept.now c.transact.result c.transact.ensures.acts single failed c.transact.ensures.mode),
+      knows_still g.S.Store mid last c.told.ensures.stays g.O.Origin.IS_OURS c.self.inside.counts
+      (knows_undone g.S.Store old mid g.O.Origin.IS_OURS c.self.inside.numbers c.self.invariant.0 c.args.delta.now c.args.kept.now c.transact.result c.transact.ensures.acts single failed c.self.inside.counts c.self.invariant.1),
+    )
 
 pub returns-in-Ok-clause-done : goal.returns-in-Ok-clause-done
 returns-in-Ok-clause-done g c honest =
@@ -25,16 +46,16 @@ returns-in-Ok-clause-done g c honest =
     let last = c.transact.new.conn in
     let done : c.transact.result ≡ Ok (tt {0}) = search rules in
     subst (λ (h : Held _). Shows (tables_of g.S.Store h) (λ t. Shows (tables_of g.S.Store last) (IsCommitted t c.args.delta.now (kept_row c.args.kept.now)))) (ap (λ (k : ShelfView _). k.conn) c.self.view_is)
-    (committed_shown g.S.Store old last g.O.Origin.IS_OURS c.self.inside.numbers c.self.invariant c.args.delta.now c.args.kept.now c.transact.result c.transact.ensures.acts
-    (λ ours was. are_single (state g.S.Store old).now (c.self.invariant.ready ours was).0 (c.schema-live.ensures.live was).0) done honest.1 honest.0)
+    (committed_shown g.S.Store old last g.O.Origin.IS_OURS c.self.inside.numbers c.self.invariant.0 c.args.delta.now c.args.kept.now c.transact.result c.transact.ensures.acts
+    (λ ours was. are_single (state g.S.Store old).now (c.self.invariant.0.ready ours was).0 (c.schema-live.ensures.live was).0) done honest.1 honest.0)
 
 pub returns-in-Ok-clause-stops : goal.returns-in-Ok-clause-stops
 returns-in-Ok-clause-stops g c honest =
     let old = c.self.inside.conn in
     let last = c.transact.new.conn in
     subst (λ (h : Held _). (t : Tables) → stops_of g.S.Store g.O.Origin.IS_OURS last t → stops_of g.S.Store g.O.Origin.IS_OURS h t ⊎ Shows (tables_of g.S.Store h) (λ was. IsCommitted was c.args.delta.now (kept_row c.args.kept.now) t)) (ap (λ (k : ShelfView _). k.conn) c.self.view_is)
-    (stops_committed g.S.Store old last g.O.Origin.IS_OURS c.self.inside.numbers c.self.invariant c.args.delta.now c.args.kept.now c.transact.result c.transact.ensures.acts
-    (λ ours was. are_single (state g.S.Store old).now (c.self.invariant.ready ours was).0 (c.schema-live.ensures.live was).0) honest.1 honest.0)
+    (stops_committed g.S.Store old last g.O.Origin.IS_OURS c.self.inside.numbers c.self.invariant.0 c.args.delta.now c.args.kept.now c.transact.result c.transact.ensures.acts
+    (λ ours was. are_single (state g.S.Store old).now (c.self.invariant.0.ready ours was).0 (c.schema-live.ensures.live was).0) honest.1 honest.0)
 
 pub returns-in-Err-clause-stops : goal.returns-in-Err-clause-stops
 returns-in-Err-clause-stops g c honest =
@@ -43,8 +64,8 @@ returns-in-Err-clause-stops g c honest =
     let last = c.told.new.conn in
     let clean = clean_still g.S.Store mid last c.told.ensures.stays honest.0 in
     subst (λ (h : Held _). (t : Tables) → stops_of g.S.Store g.O.Origin.IS_OURS last t → stops_of g.S.Store g.O.Origin.IS_OURS h t ⊎ Shows (tables_of g.S.Store h) (λ was. IsCommitted was c.args.delta.now (kept_row c.args.kept.now) t)) (ap (λ (k : ShelfView _). k.conn) c.self.view_is)
-    (λ t left. stops_committed g.S.Store old mid g.O.Origin.IS_OURS c.self.inside.numbers c.self.invariant c.args.delta.now c.args.kept.now c.transact.result c.transact.ensures.acts
-    (λ ours was. are_single (state g.S.Store old).now (c.self.invariant.ready ours was).0 (c.schema-live.ensures.live was).0) honest.1 clean t (stops_still g.S.Store mid last c.told.ensures.stays g.O.Origin.IS_OURS honest.0 t left))
+    (λ t left. stops_committed g.S.Store old mid g.O.Origin.IS_OURS c.self.inside.numbers c.self.invariant.0 c.args.delta.now c.args.kept.now c.transact.result c.transact.ensures.acts
+    (λ ours was. are_single (state g.S.Store old).now (c.self.invariant.0.ready ours was).0 (c.schema-live.ensures.live was).0) honest.1 clean t (stops_still g.S.Store mid last c.told.ensures.stays g.O.Origin.IS_OURS honest.0 t left))
 
 pub returns-in-Err-clause-undone : goal.returns-in-Err-clause-undone
 returns-in-Err-clause-undone g c honest =
@@ -61,6 +82,6 @@ returns-in-Ok-clause-alone g c honest =
     let last = c.transact.new.conn in
     let done : c.transact.result ≡ Ok (tt {0}) = search rules in
     let auto : IsTrue c.is_autocommit-settled.result = c.is_autocommit-settled.ensures.value ∙ ap not c.transact.ensures.mode in
-    alone g.S.Store old last g.O.Origin.IS_OURS c.self.inside.numbers c.self.invariant c.args.delta.now c.args.kept.now c.transact.result c.transact.ensures.acts
-    (λ ours was. are_single (state g.S.Store old).now (c.self.invariant.ready ours was).0 (c.schema-live.ensures.live was).0) done honest.0
+    alone g.S.Store old last g.O.Origin.IS_OURS c.self.inside.numbers c.self.invariant.0 c.args.delta.now c.args.kept.now c.transact.result c.transact.ensures.acts
+    (λ ours was. are_single (state g.S.Store old).now (c.self.invariant.0.ready ours was).0 (c.schema-live.ensures.live was).0) done honest.0
     (λ is_open. c.is_autocommit-settled.ensures.settled auto is_open) (g.met.S.Store.settled last.store)

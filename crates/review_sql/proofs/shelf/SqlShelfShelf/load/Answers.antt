@@ -1,4 +1,5 @@
 use Rattle.std.proofs.Common.{rules, ◌≡◌, ◌∙◌, Ok, Result, IfOk, ap, not, subst, sym, IsTrue}
+use Rattle.sqlite.specs.State.{HasCleanDisk}
 use Rattle.sqlite.specs.Held.{Held, state}
 use Rattle.sqlite.proofs.StateLemmas.{clean_if_open}
 use Rattle.review_rows.specs.Known.{AreAsked, Agrees}
@@ -7,16 +8,32 @@ use Rattle.review_rows.specs.Shelf.{BlamesTables, KeepsTables, LeavesBy, Shows, 
 use Rattle.review_rows.specs.declared.rows.Rows.{Rows}
 use Rattle.review_rows.specs.declared.shelf.ShelfFault.{ShelfFault}
 use Rattle.review_statements.specs.Ran.{Serves}
-use Rattle.review_database.specs.Loads.{AreLoaded}
+use Rattle.review_database.specs.Tables.{tables_at}
+use Rattle.review_sql.specs.Loading.{AreLoadedBounded}
 use Rattle.review_sql.specs.Shelf.{ShelfView, answer_of, tables_of, stops_of}
-use Rattle.review_sql.proofs.Loaded.{blames_loaded, keeps_loaded, shows_loaded, tables_kept, was_asked}
-use Rattle.review_sql.proofs.Shown.{desk_if_open, holds_read, leaves, served, stops_read, clean_still, stops_still}
+use Rattle.review_sql.proofs.Loaded.{blames_loaded, keeps_loaded, knows_loaded, load_served, shows_loaded, tables_kept, was_asked}
+use Rattle.review_sql.proofs.Shown.{desk_if_open, holds_read, holds_still, leaves, stops_read, clean_still, stops_still}
 use Rattle.review_sql.proofs.shelf.SqlShelfShelf.load.Goals as goal
 
 pub invariant_of-self : goal.invariant_of-self
 invariant_of-self g c =
     let last = c.load.new.conn in
-    holds_read g.S.Store c.self.inside.conn last g.O.Origin.IS_OURS c.self.inside.numbers c.self.invariant AreLoaded c.load.result c.load.ensures.mode (λ is_open. clean_if_open (g.S.Store.view last.store) (g.met.S.Store.shut_if_dirty last.store) is_open) c.load.ensures.serves
+    let clean : IsTrue (state g.S.Store last).is_open → HasCleanDisk (state g.S.Store last) = λ is_open. clean_if_open (g.S.Store.view last.store) (g.met.S.Store.shut_if_dirty last.store) is_open in
+    let is : c.load.result ≡ Ok c.in-Ok.found = search rules in
+    let serves = subst (Serves (AreLoadedBounded c.self.inside.counts c.load.new.counts) (state g.S.Store c.self.inside.conn) (state g.S.Store last)) is c.load.ensures.serves in
+    (
+      holds_read g.S.Store c.self.inside.conn last g.O.Origin.IS_OURS c.self.inside.numbers c.self.invariant.0 _ c.load.result c.load.ensures.mode clean c.load.ensures.serves,
+      knows_loaded g.S.Store c.self.inside.conn last g.O.Origin.IS_OURS c.self.inside.numbers c.self.invariant.0 c.self.inside.counts c.load.new.counts c.self.invariant.1 c.in-Ok.found serves clean,
+    )
+
+pub invariant_of-self-in-Err : goal.invariant_of-self-in-Err
+invariant_of-self-in-Err g c =
+    let mid = c.load.new.conn in
+    let last = c.told.new.conn in
+    let clean : IsTrue (state g.S.Store mid).is_open → HasCleanDisk (state g.S.Store mid) = λ is_open. clean_if_open (g.S.Store.view mid.store) (g.met.S.Store.shut_if_dirty mid.store) is_open in
+    let holds = holds_still g.S.Store mid last c.told.ensures.stays g.O.Origin.IS_OURS c.self.inside.numbers c.told.ensures.mode
+    (holds_read g.S.Store c.self.inside.conn mid g.O.Origin.IS_OURS c.self.inside.numbers c.self.invariant.0 _ c.load.result c.load.ensures.mode clean c.load.ensures.serves) in
+    (holds, λ ours is_open. c.new.ensures (tables_at (state g.S.Store last).now.trees))
 
 pub returns-in-Ok-clause-asked : goal.returns-in-Ok-clause-asked
 returns-in-Ok-clause-asked g c =
@@ -28,7 +45,8 @@ returns-in-Ok-clause-found g c honest =
     let last = c.load.new.conn in
     let same : old ≡ c.args.self.now.conn = ap (λ (k : ShelfView _). k.conn) c.self.view_is in
     let is : c.load.result ≡ Ok c.in-Ok.found = search rules in
-    let it = served g.S.Store old last g.O.Origin.IS_OURS c.self.inside.numbers c.self.invariant honest.1 honest.0 c.in-Ok.found (subst (Serves AreLoaded (state g.S.Store old) (state g.S.Store last)) is c.load.ensures.serves) in
+    let serves = subst (Serves (AreLoadedBounded c.self.inside.counts c.load.new.counts) (state g.S.Store old) (state g.S.Store last)) is c.load.ensures.serves in
+    let it = load_served g.S.Store old last g.O.Origin.IS_OURS c.self.inside.numbers c.self.invariant.0 c.self.inside.counts c.load.new.counts c.self.invariant.1 c.in-Ok.found serves honest.1 honest.0 in
     subst (λ r. IfOk r (λ rows. Shows (tables_of g.S.Store c.args.self.now.conn) (λ t. Agrees t rows))) (sym c.answered.ensures)
     (subst (λ (h : Held _). IfOk (answer_of c.in-Ok.found) (λ rows. Shows (tables_of g.S.Store h) (λ t. Agrees t rows))) same (shows_loaded g.S.Store old c.in-Ok.found it.0 it.1))
 
@@ -38,7 +56,8 @@ returns-in-Ok-clause-tables g c honest =
     let last = c.load.new.conn in
     let same : old ≡ c.args.self.now.conn = ap (λ (k : ShelfView _). k.conn) c.self.view_is in
     let is : c.load.result ≡ Ok c.in-Ok.found = search rules in
-    let kept = tables_kept g.S.Store old last g.O.Origin.IS_OURS c.self.inside.numbers c.self.invariant honest.1 honest.0 c.in-Ok.found (subst (Serves AreLoaded (state g.S.Store old) (state g.S.Store last)) is c.load.ensures.serves) in
+    let serves = subst (Serves (AreLoadedBounded c.self.inside.counts c.load.new.counts) (state g.S.Store old) (state g.S.Store last)) is c.load.ensures.serves in
+    let kept = tables_kept g.S.Store old last g.O.Origin.IS_OURS c.self.inside.numbers c.self.invariant.0 c.self.inside.counts c.load.new.counts c.self.invariant.1 c.in-Ok.found serves honest.1 honest.0 in
     subst (λ (r : Result Rows ShelfFault). KeepsTables r (tables_of g.S.Store c.args.self.now.conn) (tables_of g.S.Store last)) (sym c.answered.ensures)
     (subst (λ (h : Held _). KeepsTables (answer_of c.in-Ok.found) (tables_of g.S.Store h) (tables_of g.S.Store last)) same (keeps_loaded c.in-Ok.found _ _ kept))
 
@@ -48,7 +67,8 @@ returns-in-Ok-clause-damaged g c honest =
     let last = c.load.new.conn in
     let same : old ≡ c.args.self.now.conn = ap (λ (k : ShelfView _). k.conn) c.self.view_is in
     let is : c.load.result ≡ Ok c.in-Ok.found = search rules in
-    let it = served g.S.Store old last g.O.Origin.IS_OURS c.self.inside.numbers c.self.invariant honest.1 honest.0 c.in-Ok.found (subst (Serves AreLoaded (state g.S.Store old) (state g.S.Store last)) is c.load.ensures.serves) in
+    let serves = subst (Serves (AreLoadedBounded c.self.inside.counts c.load.new.counts) (state g.S.Store old) (state g.S.Store last)) is c.load.ensures.serves in
+    let it = load_served g.S.Store old last g.O.Origin.IS_OURS c.self.inside.numbers c.self.invariant.0 c.self.inside.counts c.load.new.counts c.self.invariant.1 c.in-Ok.found serves honest.1 honest.0 in
     subst (λ (r : Result Rows ShelfFault). BlamesTables r (tables_of g.S.Store c.args.self.now.conn)) (sym c.answered.ensures)
     (subst (λ (h : Held _). BlamesTables (answer_of c.in-Ok.found) (tables_of g.S.Store h)) same (blames_loaded g.S.Store old c.in-Ok.found it.0 it.1))
 
@@ -57,9 +77,9 @@ returns-in-Ok-clause-stops g c honest =
     let old = c.self.inside.conn in
     let last = c.load.new.conn in
     let same : old ≡ c.args.self.now.conn = ap (λ (k : ShelfView _). k.conn) c.self.view_is in
-    let auto : IsTrue c.is_autocommit-settled.result = c.is_autocommit-settled.ensures.value ∙ ap not c.self.invariant.autocommit in
+    let auto : IsTrue c.is_autocommit-settled.result = c.is_autocommit-settled.ensures.value ∙ ap not c.self.invariant.0.autocommit in
     subst (λ (h : Held _). (t : Tables) → stops_of g.S.Store g.O.Origin.IS_OURS last t → stops_of g.S.Store g.O.Origin.IS_OURS h t) same
-    (stops_read g.S.Store old last g.O.Origin.IS_OURS c.self.inside.numbers c.self.invariant AreLoaded c.load.result (λ was. c.is_autocommit-settled.ensures.settled auto was) (g.met.S.Store.stays old.store) c.load.ensures.serves honest.1 honest.0)
+    (stops_read g.S.Store old last g.O.Origin.IS_OURS c.self.inside.numbers c.self.invariant.0 _ c.load.result (λ was. c.is_autocommit-settled.ensures.settled auto was) (g.met.S.Store.stays old.store) c.load.ensures.serves honest.1 honest.0)
 
 pub returns-in-Err-clause-stops : goal.returns-in-Err-clause-stops
 returns-in-Err-clause-stops g c honest =
@@ -67,10 +87,10 @@ returns-in-Err-clause-stops g c honest =
     let mid = c.load.new.conn in
     let last = c.told.new.conn in
     let same : old ≡ c.args.self.now.conn = ap (λ (k : ShelfView _). k.conn) c.self.view_is in
-    let auto : IsTrue c.is_autocommit-settled.result = c.is_autocommit-settled.ensures.value ∙ ap not c.self.invariant.autocommit in
+    let auto : IsTrue c.is_autocommit-settled.result = c.is_autocommit-settled.ensures.value ∙ ap not c.self.invariant.0.autocommit in
     let clean = clean_still g.S.Store mid last c.told.ensures.stays honest.0 in
     subst (λ (h : Held _). (t : Tables) → stops_of g.S.Store g.O.Origin.IS_OURS last t → stops_of g.S.Store g.O.Origin.IS_OURS h t) same
-    (λ t left. stops_read g.S.Store old mid g.O.Origin.IS_OURS c.self.inside.numbers c.self.invariant AreLoaded c.load.result (λ was. c.is_autocommit-settled.ensures.settled auto was) (g.met.S.Store.stays old.store) c.load.ensures.serves honest.1 clean t
+    (λ t left. stops_read g.S.Store old mid g.O.Origin.IS_OURS c.self.inside.numbers c.self.invariant.0 _ c.load.result (λ was. c.is_autocommit-settled.ensures.settled auto was) (g.met.S.Store.stays old.store) c.load.ensures.serves honest.1 clean t
     (stops_still g.S.Store mid last c.told.ensures.stays g.O.Origin.IS_OURS honest.0 t left))
 
 pub returns-in-Err-clause-tables : goal.returns-in-Err-clause-tables
@@ -78,7 +98,7 @@ returns-in-Err-clause-tables g c honest =
     let old = c.self.inside.conn in
     let last = c.told.new.conn in
     let same : old ≡ c.args.self.now.conn = ap (λ (k : ShelfView _). k.conn) c.self.view_is in
-    let desk = desk_if_open g.S.Store old last g.O.Origin.IS_OURS c.self.inside.numbers c.self.invariant honest.1 in
+    let desk = desk_if_open g.S.Store old last g.O.Origin.IS_OURS c.self.inside.numbers c.self.invariant.0 honest.1 in
     subst (λ (h : Held _). LeavesBy (cause_of c.told.result) (tables_of g.S.Store h) (tables_of g.S.Store last)) same
     (leaves g.S.Store old last (λ is_open. let k = c.told.ensures.stays.kept is_open in let u = c.in-Err.ensures.serves.undone desk k.0 in (u.0, k.1 ∙ u.1)) c.told.result c.told.ensures.sound
     (λ is. c.told.ensures.memory is honest.0))

@@ -1,14 +1,14 @@
-use Rattle.std.proofs.Common.{[], ◌∷◌}
+use Rattle.std.proofs.Common.{[]}
 use Rattle.sqlite.specs.Held.{state}
 use Rattle.review_statements.specs.Desk.{projects_2}
-use Rattle.review_statements.proofs.Cut.{asked_beyond}
-use Rattle.review_statements.proofs.TextsOfLookups.{find_project_beyond}
+use Rattle.review_statements.proofs.Counting.{asked_count}
+use Rattle.review_statements.proofs.TextsOfLookups.{count_projects}
 use Rattle.review_tables.proofs.Sequences.{look}
-use Rattle.review_records.proofs.projects.find_beyond.Goals as goal
+use Rattle.review_records.proofs.projects.select_count.Goals as goal
 
 pub returns-clause-looks : goal.returns-clause-looks
 returns-clause-looks g c =
     let old = state g.S.Store c.args.tx.now.conn.now in
     let new = state g.S.Store c.query_all.new.self.conn.now in
-    look (λ v. v.items) _ _ old new c.query_all.result _ find_project_beyond.plain (λ x has h. asked_beyond _ projects_2.tree [] (1 ∷ []) 999 find_project_beyond old new x.items has h)
+    look (λ v. v.items) _ _ old new c.query_all.result _ count_projects.plain (λ x has h. asked_count _ projects_2.tree [] count_projects old new x.items has h)
     (λ clean. c.query_all.ensures.ok clean) (λ clean. c.query_all.ensures.err clean) c.query_all.ensures.survives

@@ -1,0 +1,14 @@
+use Rattle.std.proofs.Common.{◌≡◌, ◌∙◌, sym, arith}
+use Rattle.std.proofs.lemmas.Option.{same_Some}
+use Rattle.review_rows.specs.Limits.{most_projects}
+use Rattle.review_rows.specs.Rows.{Projects}
+use Rattle.review_statements.specs.Greatest.{as_counted}
+use Rattle.review_database.specs.Tables.{tables_at}
+use Rattle.review_lookups.proofs.Bounded.{counted_below}
+use Rattle.review_lookups.proofs.branches.tell_project_count.Goals as goal
+
+pub returns-clause-told : goal.returns-clause-told
+returns-clause-told c db is bounded =
+    let n = (tables_at db).count Projects in
+    let counted : as_counted n ≡ c.in-Some.count = same_Some _ _ (sym is ∙ c.in-Some.is) in
+    (c.tell_room_for_projects.ensures.told db (counted_below most_projects n c.in-Some.count (omega arith) counted), c.learn_projects.ensures (tables_at db) bounded counted)
