@@ -22,34 +22,52 @@ fn put_text(out: &mut String, text: &str) -> Result<(), AllocError>
     write!(out, "{}:{},", text.len(), text)
 }
 
+// Writes a number in place of what a text had.
 #[tactic(auto, using(review_names::proofs::Numerals::decimal_numeral))]
-fn decimal(alloc: Global, number: u64) -> Result<String, AllocError>
-    ensures { IfOk result (λ t. string_bytes t ≡ numeral number) }
+fn set_decimal(digits: &mut String, number: u64) -> Result<(), AllocError>
+    ensures { OnOk result (string_bytes digits.new ≡ numeral number) }
 {
-    format!(in alloc; "{number}")
+    digits.clear();
+    write!(digits, "{number}")
 }
 
 #[tactic(auto, using(crate::proofs::Signed::signed_decimal_pos, crate::proofs::Signed::signed_decimal_neg))]
-fn signed_decimal(alloc: Global, number: i8) -> Result<String, AllocError>
-    ensures { IfOk result (λ t. string_bytes t ≡ signed number) }
+fn set_signed_decimal(digits: &mut String, number: i8) -> Result<(), AllocError>
+    ensures { OnOk result (string_bytes digits.new ≡ signed number) }
 {
-    format!(in alloc; "{number}")
+    digits.clear();
+    write!(digits, "{number}")
 }
 
-fn put(alloc: Global, out: &mut String, piece: &Piece) -> Result<(), AllocError>
+// Adds the field of a piece. Numbers are written in a text that each call has for it.
+fn put(out: &mut String, digits: &mut String, piece: &Piece) -> Result<(), AllocError>
     ensures { OnOk result (string_bytes out.new ≡ string_bytes out.old ++ field (shown piece.now)) }
 {
     match piece {
         Piece::Text(text) => put_text(out, text),
         Piece::Number(number) => {
-            let text = decimal(alloc, *number)?;
-            put_text(out, text.as_str())
+            set_decimal(digits, *number)?;
+            put_text(out, digits.as_str())
         }
         Piece::Signed(number) => {
-            let text = signed_decimal(alloc, *number)?;
-            put_text(out, text.as_str())
+            set_signed_decimal(digits, *number)?;
+            put_text(out, digits.as_str())
         }
     }
+}
+
+// The bytes that the fields of pieces take at most, where no text has 10^7 bytes.
+fn room_for(pieces: &[Piece]) -> usize {
+    let mut room = 0usize;
+    for piece in pieces {
+        let most = match piece {
+            Piece::Text(text) => text.len(),
+            Piece::Number(_) => 20,
+            Piece::Signed(_) => 4,
+        };
+        room = room.saturating_add(most).saturating_add(9);
+    }
+    room
 }
 
 /// The text whose fields the pieces are. An error is want of memory.
@@ -57,9 +75,10 @@ fn put(alloc: Global, out: &mut String, piece: &Piece) -> Result<(), AllocError>
 pub fn joined(alloc: Global, pieces: &[Piece]) -> Result<String, AllocError>
     ensures { IfOk result (λ t. string_bytes t ≡ text_of (map shown pieces.now)) }
 {
-    let mut out = String::new(alloc);
+    let mut out = String::with_capacity(alloc, room_for(pieces))?;
+    let mut digits = String::new(alloc);
     for piece in pieces {
-        put(alloc, &mut out, piece)?;
+        put(&mut out, &mut digits, piece)?;
     }
     Ok(out)
 }

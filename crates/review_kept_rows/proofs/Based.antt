@@ -26,9 +26,9 @@ use Rattle.review_kept_rows.specs.Bases.{commit_cmp, base_at, total_in, last_in,
 
 pub commit_total : IsTotalOrder commit_cmp
 commit_total =
-    then_total (on_total (λ (k : CommitKey). k.project) nat_list_cmp_total)
-    (then_total (on_total (λ (k : CommitKey). k.branch) nat_list_cmp_total)
-    (then_total (on_total (λ (k : CommitKey). k.commit) nat_list_cmp_total) (on_total (λ (k : CommitKey). k.place) nat_cmp_total)))
+    then_total (on_total (λ (k : CommitKey). k.commit) nat_list_cmp_total)
+    (then_total (on_total (λ (k : CommitKey). k.project) nat_list_cmp_total)
+    (then_total (on_total (λ (k : CommitKey). k.branch) nat_list_cmp_total) (on_total (λ (k : CommitKey). k.place) nat_cmp_total)))
 
 -- a table with another row at a key
 abbrev pub WithRow : {K X : Type 0} → (K → K → Ordering) → List (K × X) → K → X → List (K × X) → Type 0

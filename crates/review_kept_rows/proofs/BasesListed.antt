@@ -22,14 +22,14 @@ use Rattle.review_kept_rows.proofs.Based.{WithRow, commit_total}
 
 exact_commit : CmpEqualImpliesEq commit_cmp
 exact_commit x y e =
-    let one = both_equal (slice_cmp nat_cmp x.project y.project) (ordering_then (slice_cmp nat_cmp x.branch y.branch) (ordering_then (slice_cmp nat_cmp x.commit y.commit) (nat_cmp x.place y.place))) e in
-    let two = both_equal (slice_cmp nat_cmp x.branch y.branch) (ordering_then (slice_cmp nat_cmp x.commit y.commit) (nat_cmp x.place y.place)) one.1 in
-    let three = both_equal (slice_cmp nat_cmp x.commit y.commit) (nat_cmp x.place y.place) two.1 in
-    let p = exact_bytes x.project y.project one.0 in
-    let b = exact_bytes x.branch y.branch two.0 in
-    let c = exact_bytes x.commit y.commit three.0 in
+    let one = both_equal (slice_cmp nat_cmp x.commit y.commit) (ordering_then (slice_cmp nat_cmp x.project y.project) (ordering_then (slice_cmp nat_cmp x.branch y.branch) (nat_cmp x.place y.place))) e in
+    let two = both_equal (slice_cmp nat_cmp x.project y.project) (ordering_then (slice_cmp nat_cmp x.branch y.branch) (nat_cmp x.place y.place)) one.1 in
+    let three = both_equal (slice_cmp nat_cmp x.branch y.branch) (nat_cmp x.place y.place) two.1 in
+    let c = exact_bytes x.commit y.commit one.0 in
+    let p = exact_bytes x.project y.project two.0 in
+    let b = exact_bytes x.branch y.branch three.0 in
     let n = exact_unsigned x.place y.place three.1 in
-    λ i. record { project = p i; branch = b i; commit = c i; place = n i }
+    λ i. record { commit = c i; project = p i; branch = b i; place = n i }
 
 itself : (q : CommitKey) → is_at (commit_cmp q) q ≡ true
 itself q = ap is_eq (tied_itself commit_total q)

@@ -71,7 +71,7 @@ between_places p b c n fits =
     let pp = tied_itself nat_list_cmp_total p in
     let bb = tied_itself nat_list_cmp_total b in
     let k = tied_itself nat_list_cmp_total c in
-    (λ i. is_le (ordering_then (pp i) (ordering_then (bb i) (ordering_then (k i) (nat_cmp 0 n)))) && not (is_lt (ordering_then (pp i) (ordering_then (bb i) (ordering_then (k i) (nat_cmp greatest_place n))))))
+    (λ i. is_le (ordering_then (k i) (ordering_then (pp i) (ordering_then (bb i) (nat_cmp 0 n)))) && not (is_lt (ordering_then (k i) (ordering_then (pp i) (ordering_then (bb i) (nat_cmp greatest_place n))))))
     ∙ both n fits
   where
     both : (n : ℕ) → n ≤ greatest_place → (is_le (nat_cmp 0 n) && not (is_lt (nat_cmp greatest_place n))) ≡ true

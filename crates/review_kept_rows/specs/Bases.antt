@@ -17,11 +17,11 @@ use Rattle.review_kept_rows.specs.declared.bases.BaseChanges.{BaseChanges}
 use Rattle.review_rows.specs.declared.rows.PlaceKey.{PlaceKey}
 use Rattle.review_kept_rows.specs.declared.keys.CommitKey.{CommitKey}
 
--- by project, then by branch, then by commit, then by place
+-- by commit, then by project, then by branch, then by place
 abbrev pub commit_cmp : CommitKey → CommitKey → Ordering
 commit_cmp a b =
-    ordering_then (slice_cmp nat_cmp a.project b.project)
-    (ordering_then (slice_cmp nat_cmp a.branch b.branch) (ordering_then (slice_cmp nat_cmp a.commit b.commit) (nat_cmp a.place b.place)))
+    ordering_then (slice_cmp nat_cmp a.commit b.commit)
+    (ordering_then (slice_cmp nat_cmp a.project b.project) (ordering_then (slice_cmp nat_cmp a.branch b.branch) (nat_cmp a.place b.place)))
 
 -- the commits at places of branches, and of projects how many bases they have
 pub record BranchesView : Type 0 where
@@ -86,9 +86,8 @@ abbrev pub IsCommitThere : List (PlaceKey × List ℕ) → Base → Bool → Typ
 IsCommitThere rows base true = (place : ℕ) × (base_at rows base.project base.branch place ≡ Some base.commit)
 IsCommitThere rows base false = (place : ℕ) → base_at rows base.project base.branch place ≡ Some base.commit → ⊥
 
--- the changes put a base, where its branch has this last place then and its project so many bases
+-- the changes of the other tables put a base, where its branch has this last place then and its project so many bases
 pub record PutsBase (base : Put PlaceKey (List ℕ)) (branch : BranchKey) (last total : ℕ) (changes : BaseChanges) : Type 0 where
-  pub placed : changes.placed.items ≡ record { key = base.key; row = Some base.row } ∷ []
   pub listed : changes.listed.items ≡ record { key = commit_at base.key base.row; row = Some tt } ∷ []
   pub ended : changes.ended.items ≡ record { key = branch; row = Some last } ∷ []
   pub counted : changes.counted.items ≡ record { key = base.key.project; row = Some total } ∷ []
@@ -100,9 +99,9 @@ pub record HasNoSpare (bases : List (PlaceKey × Option (List ℕ))) (commits : 
   pub lasts_full : HasNoEmptyPlace branch_cmp lasts
   pub totals_full : HasNoEmptyPlace (slice_cmp nat_cmp) totals
 
--- every place of the tables has a row, but for those that the changes name
+-- every place of the tables has a row, but for those that the changes name; of the bases each has one
 pub record HasSpareOnly (changes : BaseChanges) (bases : List (PlaceKey × Option (List ℕ))) (commits : List (CommitKey × Option (Unit {0}))) (lasts : List (BranchKey × Option ℕ)) (totals : List (List ℕ × Option ℕ)) : Type 0 where
-  pub bases_spare : HasEmptyOnly place_cmp (is_named place_cmp changes.placed.items) bases
+  pub bases_spare : HasNoEmptyPlace place_cmp bases
   pub commits_spare : HasEmptyOnly commit_cmp (is_named commit_cmp changes.listed.items) commits
   pub lasts_spare : HasEmptyOnly branch_cmp (is_named branch_cmp changes.ended.items) lasts
   pub totals_spare : HasEmptyOnly (slice_cmp nat_cmp) (is_named (slice_cmp nat_cmp) changes.counted.items) totals

@@ -1,8 +1,10 @@
 //! The bases of branches in memory.
-ghost use Rattle.std.specs.Prelude.{◌≡◌, ◌∷◌, ◌-◌, ◌^◌, ◌<◌, ◌↔◌, [], Some, None, IsTrue, IfOk, IfErr, OnOk, OnErr, option_map, if◌then◌else◌};
+ghost use Rattle.std.specs.Prelude.{◌≡◌, ◌∷◌, ◌-◌, ◌^◌, ◌<◌, ◌↔◌, [], List, Option, ℕ, Some, None, IsTrue, IfOk, IfErr, OnOk, OnErr, option_map, if◌then◌else◌};
 ghost use Rattle.std.specs.Ordering.{nat_cmp};
 ghost use Rattle.std.specs.Cmp.Lexicographic.{slice_cmp};
 ghost use Rattle.review_table.specs.Rows.{rows_of, row_in, HasNoEmptyPlace, HavePlaces};
+ghost use Rattle.std.specs.BTreeMap.{is_at};
+ghost use Rattle.review_rows.specs.declared.rows.PlaceKey.{PlaceKey};
 ghost use Rattle.review_rows.specs.Rows.{branch_cmp, place_cmp};
 ghost use Rattle.review_kept_rows.specs.declared.keys.CommitKey.{CommitKey};
 ghost use Rattle.review_kept_rows.specs.Bases.{commit_cmp, base_at, total_in, IsLastPlace, IsPut, commit_at, is_stale, AreBases, IsCommitThere, IsUnlisted, PutsBase, HasNoSpare, HasSpareOnly};
@@ -159,22 +161,24 @@ impl Branches {
         ensures same { OnErr result (self.new ≡ self.old) }
     {
         let branch = branch_of(alloc, base)?;
-        let last = self.last_place(&branch).max(base.key.place);
-        let before = self.listed_at(alloc, base)?;
+        let ended = self.last_place(&branch);
+        let before = self.listed_at(alloc, base, ended)?;
         let known = before.is_some();
+        let last = ended.max(base.key.place);
         let total = self.total(&base.key.project) + u64::from(!known);
+        let placed = placed_base(alloc, base)?;
         let changes = changes_of(alloc, base, branch, last, total)?;
-        let reserved = reserve(
+        let begun = begin(
             alloc,
             &mut self.bases,
             &mut self.commits,
             &mut self.lasts,
             &mut self.totals,
             &changes,
+            placed,
         );
-        match reserved {
+        match begun {
             Ok(()) => {
-                self.bases.apply(changes.placed);
                 self.commits.apply(changes.listed);
                 drop_stale(&mut self.commits, &before, base);
                 self.lasts.apply(changes.ended);
@@ -183,7 +187,6 @@ impl Branches {
             }
             Err(error) => {
                 release(
-                    &mut self.bases,
                     &mut self.commits,
                     &mut self.lasts,
                     &mut self.totals,
@@ -194,14 +197,19 @@ impl Branches {
         }
     }
 
-    // The key in the index of the base that stands at the place of one, where there is one.
+    // The key in the index of the base that stands at the place of one, where there is one: none behind the last place of its branch.
     fn listed_at(
         &self,
         alloc: Global,
         base: &Put<PlaceKey, CommitName>,
+        last: u64,
     ) -> Result<Option<CommitKey>, AllocError>
+        requires { IsLastPlace self.now.bases base.now.key.project base.now.key.branch last }
         ensures { IfOk result (λ key. key ≡ option_map (commit_at base.now.key) (row_in place_cmp self.now.bases base.now.key)) }
     {
+        if base.key.place > last {
+            return Ok(None);
+        }
         let key = base.key.copy(alloc)?;
         let commit = match self.bases.get(&key) {
             Some(commit) => commit.copy(alloc)?,
@@ -213,9 +221,9 @@ impl Branches {
             place,
         } = key;
         Ok(Some(CommitKey {
+            commit,
             project,
             branch,
-            commit,
             place,
         }))
     }
@@ -247,10 +255,9 @@ fn is_there(bases: &Table<PlaceKey, CommitName>, key: &PlaceKey, commit: &Commit
     }
 }
 
-// What the putting of a base changes, table by table.
+// What the putting of a base changes beside its own table, table by table.
 #[derive(Drop)]
 struct BaseChanges {
-    placed: Vec<Change<PlaceKey, CommitName>>,
     listed: Vec<Change<CommitKey, ()>>,
     ended: Vec<Change<BranchKey, u64>>,
     counted: Vec<Change<ProjectName, u64>>,
@@ -267,27 +274,26 @@ fn changes_of(
     ensures { IfOk result (PutsBase base.now branch last total) }
 {
     let ended = ended_change(alloc, branch, last)?;
-    let placed = placed_change(alloc, base)?;
     let listed = listed_change(alloc, base)?;
     let counted = counted_change(alloc, &base.key.project, total)?;
     Ok(BaseChanges {
-        placed,
         listed,
         ended,
         counted,
     })
 }
 
-// The change that puts a base at its place.
-fn placed_change(
+// A base once more, to be put.
+fn placed_base(
     alloc: Global,
     base: &Put<PlaceKey, CommitName>,
-) -> Result<Vec<Change<PlaceKey, CommitName>>, AllocError>
-    ensures { IfOk result (λ changes. changes.items ≡ record { key = base.now.key; row = Some base.now.row } ∷ []) }
+) -> Result<Put<PlaceKey, CommitName>, AllocError>
+    ensures { IfOk result (λ copy. copy ≡ base.now) }
 {
-    let key = base.key.copy(alloc)?;
-    let row = Some(base.row.copy(alloc)?);
-    Ok(vec![in alloc; Change { key, row }]?)
+    Ok(Put {
+        key: base.key.copy(alloc)?,
+        row: base.row.copy(alloc)?,
+    })
 }
 
 // The change that puts it into the index.
@@ -339,26 +345,47 @@ fn counted_change(
     ]?)
 }
 
-// Makes room for changes, which changes no row.
-fn reserve(
+// Makes room for changes and puts a base at its place, by one walk over the bases. Where there is no memory for it no row changes.
+fn begin(
     alloc: Global,
     bases: &mut Table<PlaceKey, CommitName>,
     commits: &mut Table<CommitKey, ()>,
     lasts: &mut Table<BranchKey, u64>,
     totals: &mut Table<ProjectName, u64>,
     changes: &BaseChanges,
+    base: Put<PlaceKey, CommitName>,
 ) -> Result<(), AllocError>
-    ensures bases { rows_of bases.new ≡ rows_of bases.old }
+    ensures bases { OnErr result (rows_of bases.new ≡ rows_of bases.old) }
+    ensures placed { OnOk result ((q : PlaceKey) → row_in place_cmp (rows_of bases.new) q ≡ (if is_at (place_cmp base.key) q then Some base.row else row_in place_cmp (rows_of bases.old) q)) }
     ensures commits { rows_of commits.new ≡ rows_of commits.old }
     ensures lasts { rows_of lasts.new ≡ rows_of lasts.old }
     ensures totals { rows_of totals.new ≡ rows_of totals.old }
-    ensures placed { OnOk result (HavePlaces place_cmp bases.new changes.now.placed.items) }
     ensures listed { OnOk result (HavePlaces commit_cmp commits.new changes.now.listed.items) }
     ensures ended { OnOk result (HavePlaces branch_cmp lasts.new changes.now.ended.items) }
     ensures counted { OnOk result (HavePlaces (slice_cmp nat_cmp) totals.new changes.now.counted.items) }
     ensures spare { HasNoSpare bases.old commits.old lasts.old totals.old → HasSpareOnly changes.now bases.new commits.new lasts.new totals.new }
 {
-    bases.reserve_all(alloc, &changes.placed)?;
+    reserve(alloc, commits, lasts, totals, changes)?;
+    let Put { key, row } = base;
+    bases.put(key, row)
+}
+
+// Makes room for changes, which changes no row.
+fn reserve(
+    alloc: Global,
+    commits: &mut Table<CommitKey, ()>,
+    lasts: &mut Table<BranchKey, u64>,
+    totals: &mut Table<ProjectName, u64>,
+    changes: &BaseChanges,
+) -> Result<(), AllocError>
+    ensures commits { rows_of commits.new ≡ rows_of commits.old }
+    ensures lasts { rows_of lasts.new ≡ rows_of lasts.old }
+    ensures totals { rows_of totals.new ≡ rows_of totals.old }
+    ensures listed { OnOk result (HavePlaces commit_cmp commits.new changes.now.listed.items) }
+    ensures ended { OnOk result (HavePlaces branch_cmp lasts.new changes.now.ended.items) }
+    ensures counted { OnOk result (HavePlaces (slice_cmp nat_cmp) totals.new changes.now.counted.items) }
+    ensures spare { (bases : List (PlaceKey × Option (List ℕ))) → HasNoSpare bases commits.old lasts.old totals.old → HasSpareOnly changes.now bases commits.new lasts.new totals.new }
+{
     commits.reserve_all(alloc, &changes.listed)?;
     lasts.reserve_all(alloc, &changes.ended)?;
     totals.reserve_all(alloc, &changes.counted)?;
@@ -367,19 +394,16 @@ fn reserve(
 
 // Drops the places that hold no row, of those that changes name, which changes no row.
 fn release(
-    bases: &mut Table<PlaceKey, CommitName>,
     commits: &mut Table<CommitKey, ()>,
     lasts: &mut Table<BranchKey, u64>,
     totals: &mut Table<ProjectName, u64>,
     changes: &BaseChanges,
 )
-    ensures bases { rows_of bases.new ≡ rows_of bases.old }
     ensures commits { rows_of commits.new ≡ rows_of commits.old }
     ensures lasts { rows_of lasts.new ≡ rows_of lasts.old }
     ensures totals { rows_of totals.new ≡ rows_of totals.old }
-    ensures full { HasSpareOnly changes.now bases.old commits.old lasts.old totals.old → HasNoSpare bases.new commits.new lasts.new totals.new }
+    ensures full { (bases : List (PlaceKey × Option (List ℕ))) → HasSpareOnly changes.now bases commits.old lasts.old totals.old → HasNoSpare bases commits.new lasts.new totals.new }
 {
-    bases.release(&changes.placed);
     commits.release(&changes.listed);
     lasts.release(&changes.ended);
     totals.release(&changes.counted);

@@ -1,20 +1,21 @@
 -- The tables after changes.
-use Rattle.std.proofs.Common.{◌≡◌, ℕ, ◌+◌, ◌≤◌, Bool, true, false, cond, arith, List, [], ◌∷◌, ◌++◌, Option, Some, None, Result, Ok, Err, ap, sym, ◌∙◌, subst, refl, ◌⊎◌, inl, inr}
+use Rattle.std.proofs.Common.{◌≡◌, ℕ, ◌+◌, ◌≤◌, Bool, true, false, cond, arith, List, [], ◌∷◌, ◌++◌, Option, Some, None, Result, Ok, Err, length, ⊎_elim, ap, sym, ◌∙◌, subst, refl, ◌⊎◌, inl, inr}
 use Rattle.std.specs.Option.{IfSome, option_map, is_some}
 use Rattle.std.specs.Str.{bytes_eq}
 use Rattle.std.specs.Cmp.Lexicographic.{slice_cmp}
 use Rattle.std.specs.Prelude.{OnOk, OnErr}
 use Rattle.std.specs.declared.alloc.AllocError.{AllocError}
 use Rattle.std.specs.declared.cmp.Ordering.{Ordering}
-use Rattle.std.specs.Ordering.{nat_cmp}
+use Rattle.std.specs.Ordering.{nat_cmp, is_eq}
+use Rattle.std.proofs.lemmas.Cmp.{nat_cmp_total, tied_itself}
 use Rattle.std.specs.List.{All, Contains}
 use Rattle.std.specs.BTreeMap.{is_at}
 use Rattle.std.proofs.lemmas.Option.{same_Some}
-use Rattle.std.proofs.lemmas.List.Elements.{All-head, All-tail, All-contains, Contains-append_left, Contains-push}
+use Rattle.std.proofs.lemmas.List.Elements.{All-head, All-tail, All-contains, All-weaker, Contains-append_left, Contains-push, Contains-push_cases}
 use Rattle.std.proofs.lemmas.Map.Lookups.{CmpEqualImpliesEq, exact_unsigned}
 use Rattle.std.proofs.lemmas.Map.Views.{tells_apart}
 use Rattle.review_table.specs.declared.table.Change.{Change}
-use Rattle.review_table.specs.Rows.{row_in, rows_of, change_of, after_change, changed}
+use Rattle.review_table.specs.Rows.{row_in, rows_of, change_of, after_change, changed, HasNoEmptyPlace}
 use Rattle.review_words.specs.History.{Identity, is_same}
 use Rattle.review_rows.specs.declared.rows.MemberKey.{MemberKey as Member}
 use Rattle.review_rows.specs.declared.rows.Delta.{Delta}
@@ -26,14 +27,14 @@ use Rattle.review_rows.specs.Rows.{Key, AccountKey, MemberKey, FileKey, BaseKey,
 use Rattle.review_rows.specs.Shelf.{IsCommitted}
 use Rattle.review_changes.specs.Parts.{PartRow}
 use Rattle.review_rows.specs.Rows.{edited}
-use Rattle.review_kept_rows.specs.Kept.{ArePrepared, KeptView, part_at}
+use Rattle.review_kept_rows.specs.Kept.{ArePrepared, part_at}
 use Rattle.review_kept_rows.proofs.Made.{made_by}
 use Rattle.review_shelves.specs.declared.changes.Changes.{Changes}
 use Rattle.review_kept_answers.specs.declared.keys.AnswerKey.{AnswerKey}
 use Rattle.review_shelves.specs.declared.keys.NameKey.{NameKey}
 use Rattle.review_kept_answers.specs.declared.keys.StoredAnswer.{StoredAnswer}
 use Rattle.review_shelves.specs.declared.tables.MemoryTables.{MemoryTables}
-use Rattle.review_shelves.specs.Desk.{beside_epoch, Desk, desk_of, tables_of, row_of, count_of, stored_row, file_changes, name_cmp, IsNumber, AreInUse, IsIndexed, IsNumbered, IsBounded, IsSound, IsGiven, IsHeld, AreIndexed, KeepsNames, AreChangesOf, AreApplied, IsWithBase, HasRoom, HasRoomOnlyFor, with_branches, with_changes}
+use Rattle.review_shelves.specs.Desk.{beside_epoch, Desk, desk_of, desk_with, tables_of, row_of, count_of, stored_row, file_changes, name_cmp, IsNumber, AddsNames, AreInUse, IsIndexed, IsNumbered, IsBounded, IsSound, IsGiven, IsHeld, IsNameOf, IsStored, IsUsed, AreIndexed, KeepsNames, AreChangesOf, AreApplied, IsWithBase, HasChanged, HasNoSpareRoom, HasRoom, HasRoomOnlyFor, PutsAnswer, with_stored}
 use Rattle.review_kept_answers.specs.Answers.{key_of, answer_cmp}
 use Rattle.review_kept_rows.specs.Bases.{BranchesView, total_in}
 use Rattle.review_shelves.proofs.Orders.{exact_member}
@@ -69,9 +70,9 @@ account_indexed : (change : Option (Option (List ℕ))) (was : Option (List ℕ)
 account_indexed None was name P is put kept = kept is
 account_indexed (Some row) was name P is put kept = put row refl is
 
-pub applied_indexed : (delta : Delta) (kept : Kept) (changes : Changes) (given : List NameKey) (projects : ℕ) (old new : MemoryTables) → AreChangesOf delta kept changes → All (IsGiven given) delta.accounts.items → AreIndexed (rows_of new.names) given
+pub applied_indexed : (delta : Delta) (changes : Changes) (given : List NameKey) (projects : ℕ) (old new : MemoryTables) → AreChangesOf delta changes → All (IsGiven given) delta.accounts.items → AreIndexed (rows_of new.names) given
     → KeepsNames (rows_of old.names) (rows_of new.names) → AreApplied (desk_of old) changes projects (desk_of new) → IsIndexed (rows_of old.accounts) (rows_of old.names) → IsIndexed (rows_of new.accounts) (rows_of new.names)
-applied_indexed delta kept changes given projects old new copies are listed keeps applied indexed number name is =
+applied_indexed delta changes given projects old new copies are listed keeps applied indexed number name is =
     let G : Type 0 = IsNumber number × (row_in name_cmp (rows_of new.names) (record { name = name; account = number }) ≡ Some tt) in
     let was = row_in nat_cmp (rows_of old.accounts) number in
     let change = change_of nat_cmp delta.accounts.items number in
@@ -87,8 +88,8 @@ member_numbered : (change : Option (Option (Unit {0}))) (was : Option (Unit {0})
 member_numbered None was P is put kept = kept is
 member_numbered (Some row) was P is put kept = put row refl
 
-pub applied_numbered : (delta : Delta) (kept : Kept) (changes : Changes) (projects : ℕ) (old new : Desk) → AreChangesOf delta kept changes → AreApplied old changes projects new → IsNumbered old.members → IsNumbered new.members
-applied_numbered delta kept changes projects old new copies applied numbered k is =
+pub applied_numbered : (delta : Delta) (changes : Changes) (projects : ℕ) (old new : Desk) → AreChangesOf delta changes → AreApplied old changes projects new → IsNumbered old.members → IsNumbered new.members
+applied_numbered delta changes projects old new copies applied numbered k is =
     let was = row_in member_cmp old.members k in
     member_numbered (change_of member_cmp delta.members.items k) was (IsNumber k.account)
     (ap (λ cs. changed member_cmp cs k was) (sym copies.members) ∙ (sym (applied.members k) ∙ is))
@@ -104,9 +105,9 @@ member_after : (change : Option (Option (Unit {0}))) (was : Option (Unit {0})) �
 member_after None was = refl
 member_after (Some row) was = refl
 
-answer_after : (kept : Kept) (i : Identity) (b : Bool) (row was : Option StoredAnswer) → (b ≡ true → (kept_row kept).identity ≡ i) → stored_row (kept_row kept).identity row ≡ Some (kept_row kept)
-    → stored_row i (after_change (cond b (Some row) None) was) ≡ cond b (Some (kept_row kept)) (stored_row i was)
-answer_after kept i true row was same is = ap (λ j. stored_row j row) (sym (same refl)) ∙ is
+answer_after : (kept : Kept) (i : Identity) (b : Bool) (row : StoredAnswer) (was : Option StoredAnswer) → (b ≡ true → (kept_row kept).identity ≡ i) → stored_row (kept_row kept).identity (Some row) ≡ Some (kept_row kept)
+    → stored_row i (cond b (Some row) was) ≡ cond b (Some (kept_row kept)) (stored_row i was)
+answer_after kept i true row was same is = ap (λ j. stored_row j (Some row)) (sym (same refl)) ∙ is
 answer_after kept i false row was same is = refl
 
 answer_there : (b : Bool) (row : AnswerRow) (was : Option AnswerRow) → option_map Answered (cond b (Some row) was) ≡ cond b (Some (Answered row)) (option_map Answered was)
@@ -156,18 +157,18 @@ total_after (Some base) old new put p =
     ∙ ap (λ t. cond (bytes_eq base.key.project p) (cond t (total_in old.branches.totals p) (total_in old.branches.totals p + 1)) (total_in old.branches.totals p))
     (sym (some_based (row_in place_cmp old.branches.bases base.key)))
 
-pub committed : (delta : Delta) (kept : Kept) (changes : Changes) (projects : ℕ) (old new : Desk) → AreChangesOf delta kept changes → ArePrepared old.changes delta.changes.items changes.edits →
-    AreApplied old changes projects new → IsWithBase delta.base old.branches new.branches → projects ≡ count_put (λ p. true) delta.file (files_of (row_of old)) old.projects → IsCommitted (tables_of old) (beside_epoch delta) (kept_row kept) (tables_of new)
-committed delta kept changes projects old new copies prepared applied based number = record {
+pub committed : (delta : Delta) (kept : Kept) (changes : Changes) (projects : ℕ) (answer : Put AnswerKey StoredAnswer) (old new : Desk) → AreChangesOf delta changes → ArePrepared old.changes delta.changes.items changes.edits →
+    PutsAnswer kept answer → AreApplied old changes projects new → IsWithBase delta.base old.branches new.branches → IsStored answer old.answers new.answers → projects ≡ count_put (λ p. true) delta.file (files_of (row_of old)) old.projects →
+    IsCommitted (tables_of old) (beside_epoch delta) (kept_row kept) (tables_of new)
+committed delta kept changes projects answer old new copies prepared puts applied based stored number = record {
   row_is = rows;
   count_is = counts;
   answer_is = λ i.
       let key : AnswerKey = key_of (kept_row kept).identity in
       let asked : AnswerKey = key_of i in
       let was = row_in answer_cmp old.answers asked in
-      let c = copies.answers.0 in
-      ap (option_map Answered) (ap (stored_row i) (applied.answers asked ∙ ap (λ cs. changed answer_cmp cs asked was) copies.answers.1 ∙ ap (λ k. after_change (cond (is_at (answer_cmp k) asked) (Some c.row) None) was) copies.answers.2.key)
-      ∙ answer_after kept i (is_at (answer_cmp key) asked) c.row was (λ same. ap (λ (k : AnswerKey). record { caller = k.caller; epoch = k.epoch; id = k.id }) (tells_apart exact_answer key asked same)) copies.answers.2.row
+      ap (option_map Answered) (ap (stored_row i) (stored asked ∙ ap (λ k. cond (is_at (answer_cmp k) asked) (Some answer.row) was) puts.key)
+      ∙ answer_after kept i (is_at (answer_cmp key) asked) answer.row was (λ same. ap (λ (k : AnswerKey). record { caller = k.caller; epoch = k.epoch; id = k.id }) (tells_apart exact_answer key asked same)) puts.row
       ∙ ap (λ b. cond b (Some (kept_row kept)) (stored_row i was)) (at_answer key asked))
       ∙ answer_there (is_same (kept_row kept).identity i) (kept_row kept) (stored_row i was);
   version = refl;
@@ -193,29 +194,27 @@ committed delta kept changes projects old new copies prepared applied based numb
         ∙ part_after (edited delta.changes.items n part) (part_at old.changes n part)
     rows (OddKey o) = refl
 
--- there is room beside other branches
-pub room_beside : (t : MemoryTables) (branches : BranchesView) (changes : Changes) → HasRoom t changes → HasRoom (with_branches t branches) changes
-room_beside t branches changes room = record { accounts = room.accounts; members = room.members; files = room.files; edits = room.edits; answers = room.answers }
+-- there is room beside other branches and answers
+pub room_stored : (t : MemoryTables) (branches : BranchesView) (answers : List (AnswerKey × Option StoredAnswer)) (changes : Changes) → HasRoom t changes → HasRoom (with_stored t branches answers) changes
+room_stored t branches answers changes room = record { accounts = room.accounts; members = room.members; files = room.files; edits = room.edits }
 
-pub spare_beside : (t : MemoryTables) (branches : BranchesView) (changes : Changes) → HasRoomOnlyFor changes t → HasRoomOnlyFor changes (with_branches t branches)
-spare_beside t branches changes only = record { accounts = only.accounts; names = only.names; members = only.members; files = only.files; answers = only.answers }
+pub spare_stored : (t : MemoryTables) (branches : BranchesView) (answers : List (AnswerKey × Option StoredAnswer)) (changes : Changes) → HasNoEmptyPlace answer_cmp answers → HasRoomOnlyFor changes t → HasRoomOnlyFor changes (with_stored t branches answers)
+spare_stored t branches answers changes full only = record { accounts = only.accounts; names = only.names; members = only.members; files = only.files; edits = only.edits; answers = full }
 
-pub spare_undone : (t : MemoryTables) (kept : KeptView) (changes : Changes) → HasRoomOnlyFor changes t → HasRoomOnlyFor changes (with_changes t kept)
-spare_undone t kept changes only = record { accounts = only.accounts; names = only.names; members = only.members; files = only.files; answers = only.answers }
-
--- the changes of the same rows beside other branches
-pub applied_from : (old mid : MemoryTables) (branches : BranchesView) (changes : Changes) (projects : ℕ) (new : Desk) → desk_of mid ≡ desk_of old →
-    AreApplied (desk_of (with_branches mid branches)) changes projects new → AreApplied (desk_of old) changes projects new
-applied_from old mid branches changes projects new same applied = record {
-  accounts = λ k. applied.accounts k ∙ ap (λ (d : Desk). changed nat_cmp changes.accounts.items k (row_in nat_cmp d.accounts k)) same;
-  members = λ k. applied.members k ∙ ap (λ (d : Desk). changed member_cmp changes.members.items k (row_in member_cmp d.members k)) same;
-  files = λ k. applied.files k ∙ ap (λ (d : Desk). changed (slice_cmp nat_cmp) changes.files.items k (row_in (slice_cmp nat_cmp) d.files k)) same;
-  edits = λ k. applied.edits k ∙ ap (λ (d : Desk). changed nat_cmp changes.edits.tables.items k (row_in nat_cmp d.changes k)) same;
-  projects_are = applied.projects_are;
-  least = applied.least ∙ ap (λ (d : Desk). d.least) same;
-  answers = λ k. applied.answers k ∙ ap (λ (d : Desk). changed answer_cmp changes.answers.items k (row_in answer_cmp d.answers k)) same;
-  requests = applied.requests ∙ ap (λ (d : Desk). d.requests + 1) same;
-}
+-- the changes of the same rows beside other branches and answers
+pub applied_from : (old mid : Desk) (branches : BranchesView) (answers : List (AnswerKey × StoredAnswer)) (changes : Changes) (projects : ℕ) (new : Desk) → mid ≡ desk_with old branches answers →
+    AreApplied mid changes projects new → AreApplied old changes projects new
+applied_from old mid branches answers changes projects new same was =
+    let applied = subst (λ d. AreApplied d changes projects new) same was in
+    record {
+      accounts = applied.accounts;
+      members = applied.members;
+      files = applied.files;
+      edits = applied.edits;
+      projects_are = applied.projects_are;
+      least = applied.least;
+      requests = applied.requests;
+    }
 
 -- nothing is counted more often than there were requests
 total_bounded : (b c : Bool) (t n : ℕ) → t ≤ n → cond b (cond c t (t + 1)) t ≤ n + 1
@@ -227,7 +226,7 @@ count_bounded : {K X : Type 0} (test : K → Bool) (put : Option (Put K X)) (row
 count_bounded test None row t n le = omega arith
 count_bounded test (Some put) row t n le = total_bounded (test put.key) (is_some (row put.key)) t n le
 
-applied_bounded : (delta : Delta) (changes : Changes) (projects : ℕ) (old new : Desk) → AreApplied old changes projects new → IsWithBase delta.base old.branches new.branches →
+pub applied_bounded : (delta : Delta) (changes : Changes) (projects : ℕ) (old new : Desk) → AreApplied old changes projects new → IsWithBase delta.base old.branches new.branches →
     projects ≡ count_put (λ p. true) delta.file (files_of (row_of old)) old.projects → IsBounded old → IsBounded new
 applied_bounded delta changes projects old new applied based number bounded = record {
   projects = subst (λ n. new.projects ≤ n) (sym applied.requests) (subst (λ n. n ≤ old.requests + 1) (sym (applied.projects_are ∙ number)) (count_bounded (λ p. true) delta.file (files_of (row_of old)) old.projects old.requests bounded.projects));
@@ -246,43 +245,47 @@ still_held delta held old new are done k there = at (change_of nat_cmp delta.acc
         let h = change_holds exact_unsigned (λ n r. IfSome (row_in nat_cmp old n) (λ name. Contains held (record { name = name; account = n }))) delta.accounts.items are k.account row is in
         inr (subst (λ o. IfSome o (λ name. Contains held (record { name = name; account = k.account }))) there h)
 
-pub made_held : (delta : Delta) (kept : Kept) (changes : Changes) (held : List NameKey) (projects : ℕ) (r : Result (Unit {0}) AllocError) (old new : MemoryTables) → AreChangesOf delta kept changes →
-    All (IsHeld (rows_of old.accounts) held) delta.accounts.items → OnOk r (AreApplied (desk_of old) changes projects (desk_of new)) → OnErr r (desk_of new ≡ desk_of old) → AreInUse (rows_of old.accounts) (rows_of old.names) →
+pub made_held : (delta : Delta) (changes : Changes) (held : List NameKey) (projects : ℕ) (old new : MemoryTables) → AreChangesOf delta changes →
+    All (IsHeld (rows_of old.accounts) held) delta.accounts.items → AreApplied (desk_of old) changes projects (desk_of new) → AreInUse (rows_of old.accounts) (rows_of old.names) →
     (k : NameKey) → row_in name_cmp (rows_of old.names) k ≡ Some tt → (row_in nat_cmp (rows_of new.accounts) k.account ≡ Some k.name) ⊎ Contains held k
-made_held delta kept changes held projects (Ok u) old new copies are done same used k there =
+made_held delta changes held projects old new copies are done used k there =
     still_held delta held (rows_of old.accounts) (rows_of new.accounts) are (λ n. done.accounts n ∙ ap (λ cs. changed nat_cmp cs n (row_in nat_cmp (rows_of old.accounts) n)) copies.accounts) k (used k there)
-made_held delta kept changes held projects (Err e) old new copies are done same used k there = inl (ap (λ (d : Desk). row_in nat_cmp d.accounts k.account) same ∙ used k there)
 
--- what holds of the tables, whether the changes were made or not
-pub record IsMadeSound (t : MemoryTables) : Type 0 where
-  pub indexed : IsIndexed (rows_of t.accounts) (rows_of t.names)
-  pub numbered : IsNumbered (rows_of t.members)
-  pub bounded : IsBounded (desk_of t)
+-- the names of accounts are listed still where more are listed
+pub listed_still : (old new : MemoryTables) → desk_of new ≡ desk_of old → KeepsNames (rows_of old.names) (rows_of new.names) → IsIndexed (rows_of old.accounts) (rows_of old.names) → IsIndexed (rows_of new.accounts) (rows_of new.names)
+listed_still old new same keeps indexed number name is =
+    let was = indexed number name (ap (λ (d : Desk). row_in nat_cmp d.accounts number) (sym same) ∙ is) in (was.0, keeps (record { name = name; account = number }) was.1)
 
-pub made_sound : (delta : Delta) (kept : Kept) (changes : Changes) (given : List NameKey) (projects : ℕ) (r : Result (Unit {0}) AllocError) (old new : MemoryTables) → AreChangesOf delta kept changes → All (IsGiven given) delta.accounts.items
-    → KeepsNames (rows_of old.names) (rows_of new.names) → OnOk r (AreIndexed (rows_of new.names) given) → OnOk r (AreApplied (desk_of old) changes projects (desk_of new)) → OnOk r (IsWithBase delta.base old.branches new.branches)
-    → projects ≡ count_put (λ p. true) delta.file (files_of (row_of (desk_of old))) old.projects → OnErr r (desk_of new ≡ desk_of old) → IsSound old → IsMadeSound new
-made_sound delta kept changes given projects (Ok u) old new copies are keeps listed done based number same sound = record {
-  indexed = applied_indexed delta kept changes given projects old new copies are listed keeps done sound.indexed;
-  numbered = applied_numbered delta kept changes projects (desk_of old) (desk_of new) copies done sound.numbered;
-  bounded = applied_bounded delta changes projects (desk_of old) (desk_of new) done based number sound.bounded;
-}
-made_sound delta kept changes given projects (Err e) old new copies are keeps listed done based number same sound = record {
-  indexed = λ number name is.
-      let was = sound.indexed number name (ap (λ (d : Desk). row_in nat_cmp d.accounts number) (sym same) ∙ is) in (was.0, keeps (record { name = name; account = number }) was.1);
+-- where no change was made, and the names that were listed for it are dropped, the tables are sound
+pub unmade_sound : (given : List NameKey) (old mid last : MemoryTables) → IsSound old → desk_of last ≡ desk_of old → AddsNames (rows_of old.names) given (rows_of mid.names) → KeepsNames (rows_of last.names) (rows_of mid.names) →
+    All (IsUsed (rows_of last.accounts) (rows_of last.names)) given → IsIndexed (rows_of last.accounts) (rows_of last.names) → HasNoSpareRoom last → IsSound last
+unmade_sound given old mid last sound same only fewer dropped indexed filled = record {
+  indexed = indexed;
+  in_use = λ k there.
+      ⊎_elim
+      (λ had. ap (λ (d : Desk). row_in nat_cmp d.accounts k.account) same ∙ sound.in_use k had)
+      (λ put. All-contains (IsUsed (rows_of last.accounts) (rows_of last.names)) given k dropped put there)
+      (only k (fewer k there));
   numbered = subst (λ (d : Desk). IsNumbered d.members) (sym same) sound.numbered;
   bounded = subst IsBounded (sym same) sound.bounded;
+  filled = filled;
 }
 
-pub made_committed : (delta : Delta) (kept : Kept) (changes : Changes) (projects : ℕ) (r : Result (Unit {0}) AllocError) (old made new : Desk) → AreChangesOf delta kept changes →
-    ArePrepared old.changes delta.changes.items changes.edits → OnOk r (AreApplied old changes projects made) → OnOk r (IsWithBase delta.base old.branches made.branches) → projects ≡ count_put (λ p. true) delta.file (files_of (row_of old)) old.projects → new ≡ made → OnOk r (IsCommitted (tables_of old) (beside_epoch delta) (kept_row kept) (tables_of new))
-made_committed delta kept changes projects (Ok u) old made new copies prepared done based number same =
-    subst (λ d. IsCommitted (tables_of old) (beside_epoch delta) (kept_row kept) (tables_of d)) (sym same) (committed delta kept changes projects old made copies prepared done based number)
-made_committed delta kept changes projects (Err e) old made new copies prepared done based number same = tt
+nat_at_itself : (n : ℕ) → is_at (nat_cmp n) n ≡ true
+nat_at_itself n = ap is_eq (tied_itself nat_cmp_total n)
 
-pub unmade_same : (r : Result (Unit {0}) AllocError) (old made new : Desk) → OnErr r (made ≡ old) → new ≡ made → OnErr r (tables_of new ≡ tables_of old)
-unmade_same (Ok u) old made new undone same = tt
-unmade_same (Err e) old made new undone same = ap tables_of (same ∙ undone)
+-- one change of an account gives it the name that it has then
+used_one : (changes : List (Change ℕ (List ℕ))) (accounts : List (ℕ × List ℕ)) (k : NameKey) → length changes ≤ 1 → HasChanged changes accounts → IsNameOf changes k → row_in nat_cmp accounts k.account ≡ Some k.name
+used_one [] accounts k few has is = let none = is.1 in absurd (omega arith)
+used_one (c ∷ []) accounts k few has is =
+    let here : c ≡ record { key = k.account; row = Some k.name } = ⊎_elim (λ (none : Contains [] _). let below = none.1 in absurd (omega arith)) (λ same. same) (Contains-push_cases [] c (record { key = k.account; row = Some k.name }) is) in
+    let h = has k.account in
+    h.1 ∙ (ap (λ x. changed nat_cmp (x ∷ []) k.account h.0) here ∙ ap (λ b. after_change (cond b (Some (Some k.name)) None) h.0) (nat_at_itself k.account))
+used_one (c ∷ d ∷ cs) accounts k few has is = absurd (omega arith)
+
+pub used_given : (changes : List (Change ℕ (List ℕ))) (accounts : List (ℕ × List ℕ)) (names : List (NameKey × Unit {0})) (given : List NameKey) → length changes ≤ 1 → All (IsNameOf changes) given → HasChanged changes accounts →
+    All (IsUsed accounts names) given
+used_given changes accounts names given few only has = All-weaker (IsNameOf changes) (IsUsed accounts names) (λ k is there. used_one changes accounts k few has is) given only
 
 -- a stop after the changes leaves the desk before them or after them
 pub made_stops : (delta : Delta) (kept : Kept) (r : Result (Unit {0}) AllocError) (old new : Desk) (t : Tables) → OnOk r (IsCommitted (tables_of old) delta (kept_row kept) (tables_of new)) → OnErr r (tables_of new ≡ tables_of old) → t ≡ tables_of new

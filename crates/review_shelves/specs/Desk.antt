@@ -1,11 +1,12 @@
 -- The desk that tables in memory hold.
-use Rattle.std.specs.Prelude.{ℕ, ◌≡◌, ◌≤◌, ◌+◌, ◌⊎◌, List, [], ◌∷◌, Option, Some, None, IfSome, option_map, string_bytes}
+use Rattle.std.specs.Prelude.{ℕ, ◌≡◌, ◌≤◌, ◌+◌, ◌⊎◌, Bool, true, false, List, [], ◌∷◌, Option, Some, None, IfSome, option_map, string_bytes, if◌then◌else◌}
+use Rattle.std.specs.BTreeMap.{is_at}
 use Rattle.std.specs.List.{All, Contains}
 use Rattle.std.specs.declared.cmp.Ordering.{Ordering}
 use Rattle.std.specs.Ordering.{nat_cmp, ordering_then}
 use Rattle.std.specs.Cmp.Lexicographic.{slice_cmp}
 use Rattle.review_table.specs.declared.table.Change.{Change}
-use Rattle.review_table.specs.Rows.{row_in, rows_of, is_named, HasEmptyOnly, HasNoEmptyPlace, HavePlaces, changed}
+use Rattle.review_table.specs.Rows.{row_in, rows_of, change_of, is_named, HasEmptyOnly, HasNoEmptyPlace, HavePlaces, changed}
 use Rattle.review_words.specs.History.{Identity}
 use Rattle.review_rows.specs.declared.rows.MemberKey.{MemberKey as Member}
 use Rattle.review_rows.specs.declared.rows.PlaceKey.{PlaceKey}
@@ -16,7 +17,7 @@ use Rattle.review_rows.specs.declared.rows.Kept.{Kept}
 use Rattle.review_rows.specs.Rows.{Key, AccountKey, MemberKey, FileKey, BaseKey, PartKey, OddKey, Row, AccountRow, FileRow, BaseRow, APart, Count, Projects, BasesOf, ClosedEpochs, AnswerRow, Stored, Answered, Tables, member_cmp, member_row, kept_row}
 use Rattle.review_rows.specs.View.{tables_version}
 use Rattle.review_change_rows.specs.declared.tables.ChangeTables.{ChangeTables}
-use Rattle.review_kept_rows.specs.Kept.{KeptView, HasRoomFor, IsFull, part_at}
+use Rattle.review_kept_rows.specs.Kept.{HasRoomFor, IsFull, IsFullBut, part_at}
 use Rattle.review_kept_rows.specs.Bases.{BranchesView, IsPut, base_at, total_in}
 use Rattle.review_shelves.specs.declared.keys.NameKey.{NameKey}
 use Rattle.review_kept_answers.specs.declared.keys.AnswerKey.{AnswerKey}
@@ -79,9 +80,9 @@ count_of d Projects = d.projects
 count_of d (BasesOf project) = total_in d.branches.totals project
 count_of d ClosedEpochs = d.least
 
--- the same tables but for those of branches
-abbrev pub with_branches : MemoryTables → BranchesView → MemoryTables
-with_branches t branches = record {
+-- the same tables but for those of branches and what is stored of requests
+abbrev pub with_stored : MemoryTables → BranchesView → List (AnswerKey × Option StoredAnswer) → MemoryTables
+with_stored t branches answers = record {
   accounts = t.accounts;
   names = t.names;
   members = t.members;
@@ -89,9 +90,23 @@ with_branches t branches = record {
   branches = branches;
   changes = t.changes;
   projects = t.projects;
-  answers = t.answers;
+  answers = answers;
   least = t.least;
   requests = t.requests;
+}
+
+-- the same desk but for branches and what is stored of requests
+abbrev pub desk_with : Desk → BranchesView → List (AnswerKey × StoredAnswer) → Desk
+desk_with d branches answers = record {
+  accounts = d.accounts;
+  members = d.members;
+  files = d.files;
+  branches = branches;
+  changes = d.changes;
+  projects = d.projects;
+  answers = answers;
+  least = d.least;
+  requests = d.requests;
 }
 
 -- the same tables but for what is stored of requests, and the least open epoch
@@ -112,21 +127,6 @@ with_answers t answers least = record {
 -- a delta but for the epoch that it names
 abbrev pub beside_epoch : Delta → Delta
 beside_epoch delta = record delta { least_epoch = None }
-
--- the same tables but for those of changes
-abbrev pub with_changes : MemoryTables → KeptView → MemoryTables
-with_changes t changes = record {
-  accounts = t.accounts;
-  names = t.names;
-  members = t.members;
-  files = t.files;
-  branches = t.branches;
-  changes = changes;
-  projects = t.projects;
-  answers = t.answers;
-  least = t.least;
-  requests = t.requests;
-}
 
 -- the stored request of an identity
 abbrev pub answer_of : List (AnswerKey × StoredAnswer) → Identity → Option Stored
@@ -182,23 +182,34 @@ IsHeld accounts names c = IfSome (row_in nat_cmp accounts c.key) (λ name. Conta
 abbrev pub IsGiven : List NameKey → Change ℕ (List ℕ) → Type 0
 IsGiven names c = IsNumber c.key × IfSome c.row (λ name. Contains names (record { name = name; account = c.key }))
 
--- the change puts a stored request
-pub record PutsAnswer (kept : Kept) (c : Change AnswerKey StoredAnswer) : Type 0 where
-  pub key : c.key ≡ key_of (kept_row kept).identity
-  pub row : stored_row (kept_row kept).identity c.row ≡ Some (kept_row kept)
+-- an account gets the name
+abbrev pub IsNameOf : List (Change ℕ (List ℕ)) → NameKey → Type 0
+IsNameOf changes k = Contains changes (record { key = k.account; row = Some k.name })
+
+-- accounts have what changes gave them
+abbrev pub HasChanged : List (Change ℕ (List ℕ)) → List (ℕ × List ℕ) → Type 0
+HasChanged changes accounts = (n : ℕ) → (was : Option (List ℕ)) × (row_in nat_cmp accounts n ≡ changed nat_cmp changes n was)
+
+-- a name of the index is that of its account
+abbrev pub IsUsed : List (ℕ × List ℕ) → List (NameKey × Unit {0}) → NameKey → Type 0
+IsUsed accounts names k = row_in name_cmp names k ≡ Some tt → row_in nat_cmp accounts k.account ≡ Some k.name
+
+-- the answer is that of a stored request, under its identity
+pub record PutsAnswer (kept : Kept) (answer : Put AnswerKey StoredAnswer) : Type 0 where
+  pub key : answer.key ≡ key_of (kept_row kept).identity
+  pub row : stored_row (kept_row kept).identity (Some answer.row) ≡ Some (kept_row kept)
 
 -- the change of a project's file
 abbrev pub file_changes : Option (Put (List ℕ) StoredFile) → List (Change (List ℕ) StoredFile)
 file_changes None = []
 file_changes (Some put) = record { key = put.key; row = Some put.row } ∷ []
 
--- the changes are those of the delta, and the request's row
-pub record AreChangesOf (delta : Delta) (kept : Kept) (changes : Changes) : Type 0 where
+-- the changes are those of the delta
+pub record AreChangesOf (delta : Delta) (changes : Changes) : Type 0 where
   pub accounts : changes.accounts.items ≡ delta.accounts.items
   pub members : changes.members.items ≡ delta.members.items
   pub files : changes.files.items ≡ file_changes delta.file
   pub numbered : All (λ c. IsNumber c.key.account) delta.members.items
-  pub answers : (c : Change AnswerKey StoredAnswer) × (changes.answers.items ≡ c ∷ []) × PutsAnswer kept c
 
 -- each name of a list is in the index
 abbrev pub AreIndexed : List (NameKey × Unit {0}) → List NameKey → Type 0
@@ -218,22 +229,45 @@ pub record HasRoom (t : MemoryTables) (changes : Changes) : Type 0 where
   pub members : HavePlaces member_cmp t.members changes.members.items
   pub files : HavePlaces (slice_cmp nat_cmp) t.files changes.files.items
   pub edits : HasRoomFor changes.edits t.changes
-  pub answers : HavePlaces answer_cmp t.answers changes.answers.items
 
--- every place has a row, but for those that changes name; the tables of changes have words of their own for it
+-- every place has a row, but for those that changes name
 pub record HasRoomOnlyFor (changes : Changes) (t : MemoryTables) : Type 0 where
   pub accounts : HasEmptyOnly nat_cmp (is_named nat_cmp changes.accounts.items) t.accounts
   pub names : HasNoEmptyPlace name_cmp t.names
   pub members : HasEmptyOnly member_cmp (is_named member_cmp changes.members.items) t.members
   pub files : HasEmptyOnly (slice_cmp nat_cmp) (is_named (slice_cmp nat_cmp) changes.files.items) t.files
-  pub answers : HasEmptyOnly answer_cmp (is_named answer_cmp changes.answers.items) t.answers
+  pub edits : IsFullBut changes.edits t.changes
+  pub answers : HasNoEmptyPlace answer_cmp t.answers
+
+-- whether a row is taken away
+abbrev pub is_taken : {X : Type 0} → Option (Option X) → Bool
+is_taken None = false
+is_taken (Some None) = true
+is_taken (Some (Some row)) = false
+
+-- whether the change of a key takes its row away
+abbrev pub is_removed : {K X : Type 0} → (K → K → Ordering) → List (Change K X) → K → Bool
+is_removed cmp changes q = is_taken (change_of cmp changes q)
+
+-- every place has a row, but for those whose rows changes take away
+pub record HasRemovedOnly (changes : Changes) (t : MemoryTables) : Type 0 where
+  pub accounts : HasEmptyOnly nat_cmp (is_removed nat_cmp changes.accounts.items) t.accounts
+  pub names : HasNoEmptyPlace name_cmp t.names
+  pub members : HasEmptyOnly member_cmp (is_removed member_cmp changes.members.items) t.members
+  pub files : HasEmptyOnly (slice_cmp nat_cmp) (is_removed (slice_cmp nat_cmp) changes.files.items) t.files
+  pub edits : IsFull t.changes
+  pub answers : HasNoEmptyPlace answer_cmp t.answers
 
 -- a base was put, where there is one to put
 abbrev pub IsWithBase : Option (Put PlaceKey (List ℕ)) → BranchesView → BranchesView → Type 0
 IsWithBase None old new = new ≡ old
 IsWithBase (Some base) old new = IsPut base old new
 
--- all rows are changed but those of branches, and so many projects are there
+-- an answer is stored under its identity
+abbrev pub IsStored : Put AnswerKey StoredAnswer → List (AnswerKey × StoredAnswer) → List (AnswerKey × StoredAnswer) → Type 0
+IsStored answer old new = (k : AnswerKey) → row_in answer_cmp new k ≡ (if is_at (answer_cmp answer.key) k then Some answer.row else row_in answer_cmp old k)
+
+-- all rows are changed but those of branches and of stored requests, and so many projects are there
 pub record AreApplied (old : Desk) (changes : Changes) (projects : ℕ) (new : Desk) : Type 0 where
   pub accounts : (k : ℕ) → row_in nat_cmp new.accounts k ≡ changed nat_cmp changes.accounts.items k (row_in nat_cmp old.accounts k)
   pub members : (k : Member) → row_in member_cmp new.members k ≡ changed member_cmp changes.members.items k (row_in member_cmp old.members k)
@@ -241,5 +275,4 @@ pub record AreApplied (old : Desk) (changes : Changes) (projects : ℕ) (new : D
   pub edits : (k : ℕ) → row_in nat_cmp new.changes k ≡ changed nat_cmp changes.edits.tables.items k (row_in nat_cmp old.changes k)
   pub projects_are : new.projects ≡ projects
   pub least : new.least ≡ old.least
-  pub answers : (k : AnswerKey) → row_in answer_cmp new.answers k ≡ changed answer_cmp changes.answers.items k (row_in answer_cmp old.answers k)
   pub requests : new.requests ≡ old.requests + 1

@@ -3,7 +3,7 @@ ghost use Rattle.std.specs.Prelude.{◌≡◌, IfOk, OnOk};
 ghost use Rattle.std.specs.List.{All};
 ghost use Rattle.review_table.specs.Rows.{rows_of};
 ghost use Rattle.review_kept_rows.specs.Kept.{ArePrepared};
-ghost use Rattle.review_shelves.specs.Desk.{IsNumber, IsHeld, IsGiven, AreChangesOf, PutsAnswer, file_changes};
+ghost use Rattle.review_shelves.specs.Desk.{IsNumber, IsHeld, IsGiven, IsNameOf, AreChangesOf, PutsAnswer, file_changes};
 
 use crate::keys::NameKey;
 use review_kept_answers::{AnswerKey, StoredAnswer};
@@ -13,39 +13,30 @@ use review_table::{Change, Key, Table};
 use review_words::{AccountName, AccountNo, ProjectName};
 use std::alloc::{AllocError, Global};
 
-/// The changes of a delta but for the base of a branch, and the row of its request.
+/// The changes of a delta but for the base of a branch.
 #[derive(Drop)]
 pub struct Changes {
     pub accounts: Vec<Change<AccountNo, AccountName>>,
     pub members: Vec<Change<MemberKey, ()>>,
     pub files: Vec<Change<ProjectName, StoredFile>>,
     pub edits: Prepared,
-    pub answers: Vec<Change<AnswerKey, StoredAnswer>>,
 }
 
 impl Changes {
-    /// Those of a delta and its request, where these are the changes before it.
-    pub fn new(
-        alloc: Global,
-        delta: &Delta,
-        kept: &Kept,
-        changes: &KeptChanges,
-    ) -> Result<Changes, AllocError>
-        ensures copied { IfOk result (AreChangesOf delta.now kept.now) }
+    /// Those of a delta, where these are the changes before it.
+    pub fn new(alloc: Global, delta: &Delta, changes: &KeptChanges) -> Result<Changes, AllocError>
+        ensures copied { IfOk result (AreChangesOf delta.now) }
         ensures edits { IfOk result (λ c. ArePrepared (rows_of changes.now.kept) delta.now.changes.items c.edits) }
     {
         let accounts = copied_accounts(alloc, &delta.accounts)?;
         let members = copied_members(alloc, &delta.members)?;
         let files = copied_file(alloc, &delta.file)?;
         let edits = changes.prepare(alloc, &delta.changes)?;
-        let mut answers = Vec::new(alloc);
-        answers.push(stored(alloc, kept)?)?;
         Ok(Changes {
             accounts,
             members,
             files,
             edits,
-            answers,
         })
     }
 }
@@ -125,7 +116,8 @@ fn copied_file(
     }
 }
 
-fn stored(alloc: Global, kept: &Kept) -> Result<Change<AnswerKey, StoredAnswer>, AllocError>
+/// The answer of a stored request, under its identity.
+pub fn stored(alloc: Global, kept: &Kept) -> Result<Put<AnswerKey, StoredAnswer>, AllocError>
     ensures { IfOk result (PutsAnswer kept.now) }
 {
     let key = AnswerKey {
@@ -138,10 +130,7 @@ fn stored(alloc: Global, kept: &Kept) -> Result<Change<AnswerKey, StoredAnswer>,
         content: kept.content.clone()?,
         reply: kept.reply.clone()?,
     };
-    Ok(Change {
-        key,
-        row: Some(row),
-    })
+    Ok(Put { key, row })
 }
 
 /// The names that accounts have before they change, each with its account.
@@ -169,7 +158,8 @@ pub fn names_given(
     alloc: Global,
     changes: &[Change<AccountNo, AccountName>],
 ) -> Result<Vec<NameKey>, AllocError>
-    ensures { IfOk result (λ names. All (IsGiven names.items) changes.now) }
+    ensures all { IfOk result (λ names. All (IsGiven names.items) changes.now) }
+    ensures only { IfOk result (λ names. All (IsNameOf changes.now) names.items) }
 {
     let mut names = Vec::new(alloc);
     for change in changes {

@@ -1,5 +1,5 @@
 //! The tables of a desk in memory, and what changes in them.
-ghost use Rattle.std.specs.Prelude.{◌≡◌, Some, IfOk, OnOk, OnErr, ◌<◌, ◌^◌, ◌-◌, IsTrue, ◌↔◌, [], true, None, unwrap_or, if◌then◌else◌};
+ghost use Rattle.std.specs.Prelude.{◌≡◌, List, ◌∷◌, Some, IfOk, OnOk, OnErr, ◌<◌, ◌^◌, ◌-◌, IsTrue, ◌↔◌, [], true, None, unwrap_or, if◌then◌else◌};
 ghost use Rattle.std.specs.List.{All};
 ghost use Rattle.review_kept_answers.specs.declared.keys.AnswerKey.{AnswerKey};
 ghost use Rattle.review_kept_answers.specs.Answers.{answer_cmp, is_among, key_of};
@@ -7,20 +7,21 @@ ghost use Rattle.std.specs.Ordering.{nat_cmp};
 ghost use Rattle.std.specs.Cmp.Lexicographic.{slice_cmp};
 ghost use Rattle.review_table.specs.Rows.{row_in, rows_of, is_named, HasEmptyOnly, HasNoEmptyPlace};
 ghost use Rattle.review_rows.specs.Rows.{FileKey, count_put, kept_row, member_cmp};
-ghost use Rattle.review_rows.specs.declared.rows.Kept.{Kept};
 ghost use Rattle.review_shelves.specs.declared.changes.Changes.{Changes};
 ghost use Rattle.review_rows.specs.Shelf.{IsRecalled, IsCommitted};
 ghost use Rattle.review_rows.specs.View.{IsView};
-ghost use Rattle.review_shelves.specs.Desk.{tables_of, desk_of, row_of, name_cmp, file_changes, IsIndexed, IsBounded, IsSound, AddsNames, AreChangesOf, AreIndexed, KeepsNames, HasNoSpareRoom, HasRoom, HasRoomOnlyFor, AreApplied, IsWithBase, beside_epoch, with_answers, with_branches, with_changes};
+ghost use Rattle.review_shelves.specs.Desk.{tables_of, desk_of, desk_with, row_of, name_cmp, is_removed, IsIndexed, IsBounded, IsSound, AddsNames, AreChangesOf, AreIndexed, KeepsNames, HasChanged, HasNoSpareRoom, HasRemovedOnly, HasRoom, HasRoomOnlyFor, AreApplied, IsNameOf, IsStored, IsUsed, IsWithBase, beside_epoch, with_answers, with_stored};
 ghost use Rattle.review_shelves.specs.First.{HasAccount, HasName, HasMember};
-ghost use Rattle.review_kept_rows.specs.Kept.{IsFull, IsFullBut, IsReady};
+ghost use Rattle.review_table.specs.declared.table.Change.{Change};
+ghost use Rattle.review_kept_rows.specs.Bases.{IsPut};
+ghost use Rattle.review_kept_rows.specs.Kept.{IsReady};
 
-use crate::changes::{Changes, names_given, names_held};
+use crate::changes::{Changes, names_given, names_held, stored};
 use crate::keys::NameKey;
-use review_kept_answers::{AnswerKey, StoredAnswer, key_of, lower_keys, remove_keys};
-use review_kept_rows::{Branches, KeptChanges, Prepared};
+use review_kept_answers::{AnswerKey, StoredAnswer, lower_keys, remove_keys};
+use review_kept_rows::{Branches, KeptChanges};
 use review_rows::{Delta, Kept, MemberKey, PlaceKey, Put, Recalled, StoredFile};
-use review_table::{Key, Table};
+use review_table::{Change, Key, Table};
 use review_words::{
     AccountName, AccountNo, CommitName, Epoch, ProjectName, RequestId, admin_name, administrators,
 };
@@ -135,14 +136,14 @@ impl MemoryTables {
     {
         let held = names_held(alloc, &self.accounts, &delta.accounts)?;
         let given = names_given(alloc, &delta.accounts)?;
-        let identity = key_of(alloc, kept)?;
-        let changes = Changes::new(alloc, delta, kept, &self.changes)?;
+        let changes = Changes::new(alloc, delta, &self.changes)?;
+        let answer = stored(alloc, kept)?;
         let projects = self.projects_with(&delta.file);
-        let made = self.make(alloc, &given, changes, projects, &delta.base);
-        self.release(delta, &identity);
-        self.drop_names(&given);
+        self.make(alloc, &given, changes, projects, &delta.base, answer)?;
+        self.release_removed(delta);
+        self.drop_given(&delta.accounts, &given);
         self.drop_names(&held);
-        made
+        Ok(())
     }
 
     /// How many projects there are once one gets a file.
@@ -156,7 +157,8 @@ impl MemoryTables {
         }
     }
 
-    /// Makes changes, puts a base, and lists the names that they give, or changes no row. Places of changes that got no row are given back.
+    /// Makes changes, puts a base, stores an answer and lists the names that accounts get. Where there is no memory for it no row changes, and
+    /// what was begun is given back.
     fn make(
         &mut self,
         alloc: Global,
@@ -164,73 +166,110 @@ impl MemoryTables {
         changes: Changes,
         projects: u64,
         base: &Option<Put<PlaceKey, CommitName>>,
+        answer: Put<AnswerKey, StoredAnswer>,
     ) -> Result<(), AllocError>
         requires number { self.old.requests < 2 ^ 64 - 1 }
-        requires bounded { IsBounded (desk_of self.old) }
+        requires sound { IsSound self.old }
         requires ready { IsReady (rows_of self.old.changes.kept) changes.edits }
-        ensures kept { KeepsNames (rows_of self.old.names) (rows_of self.new.names) }
-        ensures only { AddsNames (rows_of self.old.names) given.now (rows_of self.new.names) }
+        ensures kept { OnOk result (KeepsNames (rows_of self.old.names) (rows_of self.new.names)) }
+        ensures only { OnOk result (AddsNames (rows_of self.old.names) given.now (rows_of self.new.names)) }
         ensures listed { OnOk result (AreIndexed (rows_of self.new.names) given.now) }
-        ensures spare { HasNoSpareRoom self.old → HasRoomOnlyFor changes self.new }
-        ensures full { HasNoSpareRoom self.old → IsFull self.new.changes }
+        ensures spare { OnOk result (HasRemovedOnly changes self.new) }
         ensures done { OnOk result (AreApplied (desk_of self.old) changes projects (desk_of self.new)) }
         ensures based { OnOk result (IsWithBase base.now self.old.branches self.new.branches) }
+        ensures stored { OnOk result (IsStored answer (rows_of self.old.answers) (rows_of self.new.answers)) }
         ensures same { OnErr result (desk_of self.new ≡ desk_of self.old) }
+        ensures undone { OnErr result (IsSound self.new) }
     {
-        self.reserve(alloc, given, &changes)?;
-        self.put_base_beside(alloc, base, &changes.edits)?;
-        self.apply(changes, projects);
-        Ok(())
-    }
-
-    /// Puts a base, where there is one, or changes no row and drops the places that were made for edits.
-    fn put_base_beside(
-        &mut self,
-        alloc: Global,
-        base: &Option<Put<PlaceKey, CommitName>>,
-        edits: &Prepared,
-    ) -> Result<(), AllocError>
-        requires number { self.old.requests < 2 ^ 64 - 1 }
-        requires bounded { IsBounded (desk_of self.old) }
-        ensures added { OnOk result (IsWithBase base.now self.old.branches self.new.branches) }
-        ensures rest { OnOk result (self.new ≡ with_branches self.old self.new.branches) }
-        ensures undone { OnErr result (self.new ≡ with_changes self.old self.new.changes) }
-        ensures same { OnErr result (desk_of self.new ≡ desk_of self.old) }
-        ensures full { OnErr result (IsFullBut edits.now self.old.changes → IsFull self.new.changes) }
-    {
-        match self.put_base(alloc, base) {
-            Ok(()) => Ok(()),
+        match self.begin(alloc, given, &changes, base, answer) {
+            Ok(()) => {
+                self.apply(changes, projects);
+                Ok(())
+            }
             Err(error) => {
-                self.release_changes(edits);
+                self.release(&changes);
+                self.drop_names(given);
                 Err(error)
             }
         }
     }
 
-    /// Drops the places of changes that hold no row, of those that edits name.
-    fn release_changes(&mut self, edits: &Prepared)
-        ensures same { desk_of self.new ≡ desk_of self.old }
-        ensures full { IsFullBut edits.now self.old.changes → IsFull self.new.changes }
-        ensures rest { self.new ≡ with_changes self.old self.new.changes }
-    {
-        self.changes.release(edits);
-    }
-
-    /// Puts a base, where there is one, or changes nothing.
-    fn put_base(
+    /// Makes room for changes, lists names, puts a base and stores an answer. Where there is no memory for it no row changes.
+    fn begin(
         &mut self,
         alloc: Global,
+        given: &[NameKey],
+        changes: &Changes,
         base: &Option<Put<PlaceKey, CommitName>>,
+        answer: Put<AnswerKey, StoredAnswer>,
     ) -> Result<(), AllocError>
         requires number { self.old.requests < 2 ^ 64 - 1 }
         requires bounded { IsBounded (desk_of self.old) }
-        ensures added { OnOk result (IsWithBase base.now self.old.branches self.new.branches) }
-        ensures same { OnErr result (self.new.branches ≡ self.old.branches) }
-        ensures rest { self.new ≡ with_branches self.old self.new.branches }
+        ensures kept { KeepsNames (rows_of self.old.names) (rows_of self.new.names) }
+        ensures only { AddsNames (rows_of self.old.names) given.now (rows_of self.new.names) }
+        ensures listed { OnOk result (AreIndexed (rows_of self.new.names) given.now) }
+        ensures room { OnOk result (HasRoom self.new changes.now) }
+        ensures spare { HasNoSpareRoom self.old → HasRoomOnlyFor changes.now self.new }
+        ensures based { OnOk result (IsWithBase base.now self.old.branches self.new.branches) }
+        ensures stored { OnOk result (IsStored answer (rows_of self.old.answers) (rows_of self.new.answers)) }
+        ensures rest { desk_of self.new ≡ desk_with (desk_of self.old) self.new.branches (rows_of self.new.answers) }
+        ensures same { OnErr result (desk_of self.new ≡ desk_of self.old) }
+    {
+        self.reserve(alloc, given, changes)?;
+        self.store(alloc, base, answer)
+    }
+
+    /// Stores an answer and puts a base, where there is one. Where there is no memory for it nothing changes. The answers are walked once, and
+    /// no place of them is left without a row.
+    fn store(
+        &mut self,
+        alloc: Global,
+        base: &Option<Put<PlaceKey, CommitName>>,
+        answer: Put<AnswerKey, StoredAnswer>,
+    ) -> Result<(), AllocError>
+        requires number { self.old.requests < 2 ^ 64 - 1 }
+        requires bounded { IsBounded (desk_of self.old) }
+        ensures based { OnOk result (IsWithBase base.now self.old.branches self.new.branches) }
+        ensures stored { OnOk result (IsStored answer (rows_of self.old.answers) (rows_of self.new.answers)) }
+        ensures filled { HasNoEmptyPlace answer_cmp self.old.answers → HasNoEmptyPlace answer_cmp self.new.answers }
+        ensures rest { self.new ≡ with_stored self.old self.new.branches self.new.answers }
+        ensures same { OnErr result (desk_of self.new ≡ desk_of self.old) }
     {
         match base {
-            Some(base) => self.branches.put(alloc, base),
-            None => Ok(()),
+            Some(base) => self.store_beside(alloc, base, answer),
+            None => {
+                let Put { key, row } = answer;
+                self.answers.put(key, row)
+            }
+        }
+    }
+
+    /// The same with a base, which is put between: only a place for the answer may be given back.
+    fn store_beside(
+        &mut self,
+        alloc: Global,
+        base: &Put<PlaceKey, CommitName>,
+        answer: Put<AnswerKey, StoredAnswer>,
+    ) -> Result<(), AllocError>
+        requires number { self.old.requests < 2 ^ 64 - 1 }
+        requires bounded { IsBounded (desk_of self.old) }
+        ensures based { OnOk result (IsPut base.now self.old.branches self.new.branches) }
+        ensures stored { OnOk result (IsStored answer (rows_of self.old.answers) (rows_of self.new.answers)) }
+        ensures filled { HasNoEmptyPlace answer_cmp self.old.answers → HasNoEmptyPlace answer_cmp self.new.answers }
+        ensures rest { self.new ≡ with_stored self.old self.new.branches self.new.answers }
+        ensures same { OnErr result (desk_of self.new ≡ desk_of self.old) }
+    {
+        let Put { key, row } = answer;
+        self.answers.reserve(key.copy(alloc)?)?;
+        match self.branches.put(alloc, base) {
+            Ok(()) => {
+                self.answers.restore(key, row);
+                Ok(())
+            }
+            Err(error) => {
+                self.answers.release_one(&key);
+                Err(error)
+            }
         }
     }
 
@@ -247,14 +286,11 @@ impl MemoryTables {
         ensures listed { OnOk result (AreIndexed (rows_of self.new.names) names.now) }
         ensures room { OnOk result (HasRoom self.new changes.now) }
         ensures spare { HasNoSpareRoom self.old → HasRoomOnlyFor changes.now self.new }
-        ensures full { OnErr result (HasNoSpareRoom self.old → IsFull self.new.changes) }
-        ensures full_but { OnOk result (HasNoSpareRoom self.old → IsFullBut changes.now.edits self.new.changes) }
     {
         self.list_names(alloc, names)?;
         self.accounts.reserve_all(alloc, &changes.accounts)?;
         self.members.reserve_all(alloc, &changes.members)?;
         self.files.reserve_all(alloc, &changes.files)?;
-        self.answers.reserve_all(alloc, &changes.answers)?;
         self.changes.reserve(alloc, &changes.edits)?;
         Ok(())
     }
@@ -272,17 +308,26 @@ impl MemoryTables {
         Ok(())
     }
 
-    /// Drops the places that hold no row, of those that a delta and its request name.
-    fn release(&mut self, delta: &Delta, identity: &AnswerKey)
+    /// Drops the places that hold no row, of those that changes name.
+    fn release(&mut self, changes: &Changes)
         ensures same { desk_of self.new ≡ desk_of self.old }
         ensures names { self.new.names ≡ self.old.names }
-        ensures filled { (kept : Kept) (changes : Changes) → AreChangesOf delta.now kept changes → identity.now ≡ key_of (kept_row kept).identity →
-            HasRoomOnlyFor changes self.old → IsFull self.old.changes → HasNoSpareRoom self.new }
+        ensures filled { HasRoomOnlyFor changes.now self.old → HasNoSpareRoom self.new }
     {
-        self.accounts.release(&delta.accounts);
-        self.members.release(&delta.members);
-        release_file(&mut self.files, &delta.file);
-        self.answers.release_one(identity);
+        self.accounts.release(&changes.accounts);
+        self.members.release(&changes.members);
+        self.files.release(&changes.files);
+        self.changes.release(&changes.edits);
+    }
+
+    /// Drops the places of the rows that a delta took away.
+    fn release_removed(&mut self, delta: &Delta)
+        ensures same { desk_of self.new ≡ desk_of self.old }
+        ensures names { self.new.names ≡ self.old.names }
+        ensures filled { (changes : Changes) → AreChangesOf delta.now changes → HasRemovedOnly changes self.old → HasNoSpareRoom self.new }
+    {
+        release_removed(&mut self.accounts, &delta.accounts);
+        release_removed(&mut self.members, &delta.members);
     }
 
     /// Makes changes for which there is room.
@@ -292,24 +337,36 @@ impl MemoryTables {
         requires ready { IsReady (rows_of self.old.changes.kept) changes.edits }
         ensures done { AreApplied (desk_of self.old) changes projects (desk_of self.new) }
         ensures branches { self.new.branches ≡ self.old.branches }
+        ensures answers { self.new.answers ≡ self.old.answers }
         ensures names { self.new.names ≡ self.old.names }
-        ensures spare { HasRoomOnlyFor changes self.old → HasRoomOnlyFor changes self.new }
-        ensures full { IsFullBut changes.edits self.old.changes → IsFull self.new.changes }
+        ensures spare { HasRoomOnlyFor changes self.old → HasRemovedOnly changes self.new }
     {
         let Changes {
             accounts,
             members,
             files,
             edits,
-            answers,
         } = changes;
         self.accounts.apply(accounts);
         self.members.apply(members);
         self.files.apply(files);
         self.changes.apply(edits);
         self.projects = projects;
-        self.answers.apply(answers);
         self.requests += 1;
+    }
+
+    /// Takes those of the names that accounts got out of the index that they don't have. One change gives its account the name that it keeps.
+    fn drop_given(&mut self, accounts: &[Change<AccountNo, AccountName>], given: &[NameKey])
+        requires { IsIndexed (rows_of self.old.accounts) (rows_of self.old.names) }
+        ensures same { desk_of self.new ≡ desk_of self.old }
+        ensures indexed { IsIndexed (rows_of self.new.accounts) (rows_of self.new.names) }
+        ensures no_more { KeepsNames (rows_of self.new.names) (rows_of self.old.names) }
+        ensures dropped { All (IsNameOf accounts.now) given.now → HasChanged accounts.now (rows_of self.old.accounts) → All (IsUsed (rows_of self.new.accounts) (rows_of self.new.names)) given.now }
+        ensures filled { HasNoSpareRoom self.old → HasNoSpareRoom self.new }
+    {
+        if accounts.len() > 1 {
+            self.drop_names(given);
+        }
     }
 
     /// Takes those of some names out of the index that their accounts don't have.
@@ -318,7 +375,7 @@ impl MemoryTables {
         ensures same { desk_of self.new ≡ desk_of self.old }
         ensures indexed { IsIndexed (rows_of self.new.accounts) (rows_of self.new.names) }
         ensures no_more { KeepsNames (rows_of self.new.names) (rows_of self.old.names) }
-        ensures dropped { All (λ k. row_in name_cmp (rows_of self.new.names) k ≡ Some tt → row_in nat_cmp (rows_of self.new.accounts) k.account ≡ Some k.name) names.now }
+        ensures dropped { All (IsUsed (rows_of self.new.accounts) (rows_of self.new.names)) names.now }
         ensures filled { HasNoSpareRoom self.old → HasNoSpareRoom self.new }
     {
         for key in names {
@@ -331,7 +388,7 @@ impl MemoryTables {
         ensures same { desk_of self.new ≡ desk_of self.old }
         ensures indexed { IsIndexed (rows_of self.old.accounts) (rows_of self.old.names) → IsIndexed (rows_of self.new.accounts) (rows_of self.new.names) }
         ensures no_more { KeepsNames (rows_of self.new.names) (rows_of self.old.names) }
-        ensures dropped { row_in name_cmp (rows_of self.new.names) key.now ≡ Some tt → row_in nat_cmp (rows_of self.new.accounts) key.now.account ≡ Some key.now.name }
+        ensures dropped { IsUsed (rows_of self.new.accounts) (rows_of self.new.names) key.now }
         ensures filled { HasNoSpareRoom self.old → HasNoSpareRoom self.new }
     {
         if !self.has_name(key.account, &key.name) {
@@ -391,15 +448,22 @@ fn first_members(alloc: Global) -> Result<Table<MemberKey, ()>, AllocError>
     Ok(members)
 }
 
-// Drops the place of a project's file, where it holds none.
-fn release_file(
-    files: &mut Table<ProjectName, StoredFile>,
-    file: &Option<Put<ProjectName, StoredFile>>,
-)
-    ensures same { rows_of files.new ≡ rows_of files.old }
-    ensures filled { HasEmptyOnly (slice_cmp nat_cmp) (is_named (slice_cmp nat_cmp) (file_changes file.now)) files.old → HasNoEmptyPlace (slice_cmp nat_cmp) files.new }
+// Drops the places of the rows that changes took away.
+fn release_removed<K: Key, V: Drop>(table: &mut Table<K, V>, changes: &[Change<K, V>])
+    ensures same { rows_of table.new ≡ rows_of table.old }
+    ensures filled { HasEmptyOnly K.cmp (is_removed K.cmp changes.now) table.old → HasNoEmptyPlace K.cmp table.new }
 {
-    if let Some(put) = file {
-        files.release_one(&put.key);
+    for change in changes {
+        release_one(table, change);
+    }
+}
+
+// Drops the place of the row that a change took away, if it took one.
+fn release_one<K: Key, V: Drop>(table: &mut Table<K, V>, change: &Change<K, V>)
+    ensures same { rows_of table.new ≡ rows_of table.old }
+    ensures left { (rest : List (Change K V)) → HasEmptyOnly K.cmp (is_removed K.cmp (change.now ∷ rest)) table.old → HasEmptyOnly K.cmp (is_removed K.cmp rest) table.new }
+{
+    if change.row.is_none() {
+        table.release_one(&change.key);
     }
 }

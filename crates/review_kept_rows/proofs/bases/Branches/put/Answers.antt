@@ -13,41 +13,44 @@ use Rattle.std.specs.List.{All}
 use Rattle.review_table.specs.declared.table.Change.{Change}
 use Rattle.std.specs.Option.{IsSome}
 use Rattle.review_rows.specs.declared.rows.PlaceKey.{PlaceKey}
+use Rattle.review_rows.specs.declared.rows.Put.{Put}
 use Rattle.review_kept_rows.specs.declared.keys.CommitKey.{CommitKey}
 use Rattle.review_kept_rows.proofs.bases.Branches.put.Goals as goal
 
+pub listed_at-requires : goal.listed_at-requires
+listed_at-requires c = subst (λ (k : BranchKey). IsLastPlace c.args.self.now.bases k.project k.branch c.last_place-ended.result) c.in_ok-branch.ensures c.last_place-ended.ensures
+
 -- the base stands at its place
-put_there : (c : goal.Joined-before-2) → WithRow place_cmp (rows_of c.self.inside.bases) c.args.base.now.key c.args.base.now.row (rows_of c.apply.new.self)
+put_there : (c : goal.Joined-before-3) → WithRow place_cmp (rows_of c.self.inside.bases) c.args.base.now.key c.args.base.now.row (rows_of c.begin-begun.new.bases)
 put_there c =
-    with_row place_cmp (rows_of c.self.inside.bases) (rows_of c.apply.new.self) c.args.base.now.key c.args.base.now.row
-    (λ q. c.apply.ensures.all c.in-Ok.ensures.placed q ∙ (λ i. changed place_cmp (c.in_ok-changes.ensures.placed i) q (row_in place_cmp (c.reserve-reserved.ensures.bases i) q)))
+    subst (λ (p : Put PlaceKey (List ℕ)). WithRow place_cmp (rows_of c.self.inside.bases) p.key p.row (rows_of c.begin-begun.new.bases)) c.in_ok-placed.ensures c.in-Ok.ensures.placed
 
 -- the last place is the greater of what it was and that of the base
-greater : (c : goal.Joined-before-2) → IsGreater (last_in (rows_of c.self.inside.lasts) c.args.base.now.key.project c.args.base.now.key.branch) c.args.base.now.key.place c.max-last.result
+greater : (c : goal.Joined-before-3) → IsGreater (last_in (rows_of c.self.inside.lasts) c.args.base.now.key.project c.args.base.now.key.branch) c.args.base.now.key.place c.max-last.result
 greater c =
     let base = c.args.base.now in
-    let was = c.last_place.result in
+    let was = c.last_place-ended.result in
     let same : last_in (rows_of c.self.inside.lasts) base.key.project base.key.branch ≡ was =
     last_unique (rows_of c.self.inside.bases) base.key.project base.key.branch (last_in (rows_of c.self.inside.lasts) base.key.project base.key.branch) was (c.self.invariant.1 base.key.project base.key.branch)
     (subst (λ (v : BranchesView). IsLastPlace v.bases base.key.project base.key.branch was) (sym c.self.view_is)
-    (subst (λ (k : BranchKey). IsLastPlace c.args.self.now.bases k.project k.branch was) c.in_ok-branch.ensures c.last_place.ensures)) in
+    (subst (λ (k : BranchKey). IsLastPlace c.args.self.now.bases k.project k.branch was) c.in_ok-branch.ensures c.last_place-ended.ensures)) in
     subst (λ n. IsGreater n base.key.place c.max-last.result) (sym same) (greater_of was base.key.place c.max-last.result c.max-last.ensures)
 
 pub invariant_of-self : goal.invariant_of-self
 invariant_of-self c =
     let base = c.args.base.now in
     let last = c.max-last.result in
-    let listed : WithRow commit_cmp (rows_of c.self.inside.commits) (commit_at base.key base.row) tt (rows_of c.apply-in-Ok.new.self) =
-    with_row commit_cmp (rows_of c.self.inside.commits) (rows_of c.apply-in-Ok.new.self) (commit_at base.key base.row) tt
-    (λ q. c.apply-in-Ok.ensures.all c.in-Ok.ensures.listed q ∙ (λ i. changed commit_cmp (c.in_ok-changes.ensures.listed i) q (row_in commit_cmp (c.reserve-reserved.ensures.commits i) q))) in
-    let ended : WithRow branch_cmp (rows_of c.self.inside.lasts) (record { project = base.key.project; branch = base.key.branch }) last (rows_of c.apply-in-Ok-2.new.self) =
-    with_row branch_cmp (rows_of c.self.inside.lasts) (rows_of c.apply-in-Ok-2.new.self) (record { project = base.key.project; branch = base.key.branch }) last
-    (λ q. c.apply-in-Ok-2.ensures.all c.in-Ok.ensures.ended q
-    ∙ (λ i. changed branch_cmp (c.in_ok-changes.ensures.ended i) q (row_in branch_cmp (c.reserve-reserved.ensures.lasts i) q))
+    let listed : WithRow commit_cmp (rows_of c.self.inside.commits) (commit_at base.key base.row) tt (rows_of c.apply.new.self) =
+    with_row commit_cmp (rows_of c.self.inside.commits) (rows_of c.apply.new.self) (commit_at base.key base.row) tt
+    (λ q. c.apply.ensures.all c.in-Ok.ensures.listed q ∙ (λ i. changed commit_cmp (c.in_ok-changes.ensures.listed i) q (row_in commit_cmp (c.begin-begun.ensures.commits i) q))) in
+    let ended : WithRow branch_cmp (rows_of c.self.inside.lasts) (record { project = base.key.project; branch = base.key.branch }) last (rows_of c.apply-in-Ok.new.self) =
+    with_row branch_cmp (rows_of c.self.inside.lasts) (rows_of c.apply-in-Ok.new.self) (record { project = base.key.project; branch = base.key.branch }) last
+    (λ q. c.apply-in-Ok.ensures.all c.in-Ok.ensures.ended q
+    ∙ (λ i. changed branch_cmp (c.in_ok-changes.ensures.ended i) q (row_in branch_cmp (c.begin-begun.ensures.lasts i) q))
     ∙ (λ i. changed branch_cmp (record { key = c.in_ok-branch.ensures i; row = Some last } ∷ []) q (row_in branch_cmp (rows_of c.self.inside.lasts) q))) in
     let fits : last ≤ greatest_place = let t : last < 18446744073709551616 = c.max-last.type_inv in omega (arith, t) in
-    let spare = c.in-Ok.ensures.spare c.self.invariant.2 in (
-      listed_more base c.in_ok-before.before (rows_of c.self.inside.commits) (rows_of c.apply-in-Ok.new.self) (rows_of c.drop_stale.new.commits) (rows_of c.self.inside.bases) (rows_of c.apply.new.self)
+    let spare = c.begin-begun.ensures.spare c.self.invariant.2 in (
+      listed_more base c.in_ok-before.before (rows_of c.self.inside.commits) (rows_of c.apply.new.self) (rows_of c.drop_stale.new.commits) (rows_of c.self.inside.bases) (rows_of c.begin-begun.new.bases)
           (record {
             fits = let g = greater c in let h = g.1 in omega arith;
             all = c.self.invariant.0;
@@ -56,22 +59,22 @@ invariant_of-self c =
             dropped = c.drop_stale.ensures.rows;
             put = put_there c;
           }),
-      last_more base last (rows_of c.self.inside.lasts) (rows_of c.apply-in-Ok-2.new.self) (rows_of c.self.inside.bases) (rows_of c.apply.new.self) c.self.invariant.1 (greater c) ended (put_there c),
+      last_more base last (rows_of c.self.inside.lasts) (rows_of c.apply-in-Ok.new.self) (rows_of c.self.inside.bases) (rows_of c.begin-begun.new.bases) c.self.invariant.1 (greater c) ended (put_there c),
       record {
-        bases_full = c.apply.ensures.mended (subst (All (λ (x : Change PlaceKey (List ℕ)). IsSome x.row)) (sym c.in_ok-changes.ensures.placed) (one_has base.key base.row)) spare.bases_spare;
-        commits_full = c.drop_stale.ensures.full (c.apply-in-Ok.ensures.mended (subst (All (λ (x : Change CommitKey (Unit {0})). IsSome x.row)) (sym c.in_ok-changes.ensures.listed) (one_has (commit_at base.key base.row) tt)) spare.commits_spare);
-        lasts_full = c.apply-in-Ok-2.ensures.mended (subst (All (λ (x : Change BranchKey ℕ). IsSome x.row)) (sym c.in_ok-changes.ensures.ended) (one_has c.in_ok-branch.branch last)) spare.lasts_spare;
-        totals_full = c.apply-in-Ok-3.ensures.mended (subst (All (λ (x : Change (List ℕ) ℕ). IsSome x.row)) (sym c.in_ok-changes.ensures.counted) (one_has base.key.project (c.total.result + c.from.result))) spare.totals_spare;
+        bases_full = spare.bases_spare;
+        commits_full = c.drop_stale.ensures.full (c.apply.ensures.mended (subst (All (λ (x : Change CommitKey (Unit {0})). IsSome x.row)) (sym c.in_ok-changes.ensures.listed) (one_has (commit_at base.key base.row) tt)) spare.commits_spare);
+        lasts_full = c.apply-in-Ok.ensures.mended (subst (All (λ (x : Change BranchKey ℕ). IsSome x.row)) (sym c.in_ok-changes.ensures.ended) (one_has c.in_ok-branch.branch last)) spare.lasts_spare;
+        totals_full = c.apply-in-Ok-2.ensures.mended (subst (All (λ (x : Change (List ℕ) ℕ). IsSome x.row)) (sym c.in_ok-changes.ensures.counted) (one_has base.key.project (c.total.result + c.from.result))) spare.totals_spare;
       },
     )
 
 pub invariant_of-self-in-Err : goal.invariant_of-self-in-Err
 invariant_of-self-in-Err c =
     let kept =
-    still_listed (rows_of c.self.inside.commits) (rows_of c.release.new.commits) (rows_of c.self.inside.bases) (rows_of c.release.new.bases) (rows_of c.self.inside.lasts) (rows_of c.release.new.lasts)
-    (sym (c.release.ensures.commits ∙ c.reserve-reserved.ensures.commits)) (sym (c.release.ensures.bases ∙ c.reserve-reserved.ensures.bases)) (sym (c.release.ensures.lasts ∙ c.reserve-reserved.ensures.lasts))
+    still_listed (rows_of c.self.inside.commits) (rows_of c.release.new.commits) (rows_of c.self.inside.bases) (rows_of c.begin-begun.new.bases) (rows_of c.self.inside.lasts) (rows_of c.release.new.lasts)
+    (sym (c.release.ensures.commits ∙ c.begin-begun.ensures.commits)) (sym c.in-Err.ensures.bases) (sym (c.release.ensures.lasts ∙ c.begin-begun.ensures.lasts))
     (c.self.invariant.0, c.self.invariant.1) in
-    (kept.0, kept.1, c.release.ensures.full (c.in-Err.ensures.spare c.self.invariant.2))
+    (kept.0, kept.1, c.release.ensures.full c.begin-begun.new.bases (c.begin-begun.ensures.spare c.self.invariant.2))
 
 pub returns-in-Ok-clause-put : goal.returns-in-Ok-clause-put
 returns-in-Ok-clause-put c =
@@ -79,11 +82,11 @@ returns-in-Ok-clause-put c =
     let known = is_some (row_in place_cmp (rows_of c.self.inside.bases) base.key) in
     let total = c.total.result + c.from.result in
     let totals = rows_of c.self.inside.totals in
-    let after = rows_of c.apply-in-Ok-3.new.self in
+    let after = rows_of c.apply-in-Ok-2.new.self in
     let counted : WithRow (slice_cmp nat_cmp) totals base.key.project total after =
     with_row (slice_cmp nat_cmp) totals after base.key.project total
-    (λ q. c.apply-in-Ok-3.ensures.all c.in-Ok.ensures.counted q ∙ (λ i. changed (slice_cmp nat_cmp) (c.in_ok-changes.ensures.counted i) q (row_in (slice_cmp nat_cmp) (c.reserve-reserved.ensures.totals i) q))) in
-    subst (λ (v : BranchesView). IsPut base v (record { bases = rows_of c.apply.new.self; totals = after })) c.self.view_is
+    (λ q. c.apply-in-Ok-2.ensures.all c.in-Ok.ensures.counted q ∙ (λ i. changed (slice_cmp nat_cmp) (c.in_ok-changes.ensures.counted i) q (row_in (slice_cmp nat_cmp) (c.begin-begun.ensures.totals i) q))) in
+    subst (λ (v : BranchesView). IsPut base v (record { bases = rows_of c.begin-begun.new.bases; totals = after })) c.self.view_is
     (record {
       bases = put_there c;
       totals = total_more base known total totals after
