@@ -14,7 +14,7 @@ use Rattle.std.proofs.lemmas.Option.{same_Some}
 use Rattle.review_rows.specs.declared.rows.Delta.{Delta}
 use Rattle.review_rows.specs.declared.rows.PlaceKey.{PlaceKey}
 use Rattle.review_rows.specs.declared.rows.Put.{Put}
-use Rattle.review_rows.specs.Rows.{Key, Row, BaseKey, BasesOf, AnswerRow, Tables, count_put, count_after}
+use Rattle.review_rows.specs.Rows.{Row, BaseKey, BasesOf, AnswerRow, Tables, count_put}
 use Rattle.review_rows.specs.Shelf.{IsCommitted}
 use Rattle.review_statements.specs.Greatest.{as_counted}
 use Rattle.review_rows.specs.Limits.{most_bases}

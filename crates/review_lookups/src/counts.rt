@@ -48,13 +48,7 @@ impl Bound {
         ensures { (n : ℕ) → Bounds most self n → IfSome result (λ is. nat_lt n most ≡ is) }
     {
         match self {
-            Bound::AtMost(count) => {
-                if count < most {
-                    Some(true)
-                } else {
-                    None
-                }
-            }
+            Bound::AtMost(count) => { if count < most { Some(true) } else { None } }
             Bound::Full => Some(false),
         }
     }
@@ -122,7 +116,12 @@ impl Counts {
         ensures { (t : Tables) → AreBounded self.old t → as_counted (t.count (BasesOf project.now)) ≡ count → AreBounded self.new t }
     {
         if count > 0 {
-            let _ = set(&mut self.bases, alloc, project, Bound::of(count, MOST_BASES));
+            let _ = set(
+                &mut self.bases,
+                alloc,
+                project,
+                Bound::of(count, MOST_BASES),
+            );
         }
     }
 

@@ -1,6 +1,5 @@
 -- What a query shows that is cut: the row with the greatest value of a column.
 use Rattle.std.proofs.Common.{◌≡◌, ◌∙◌, ◌==◌, ℕ, suc, pos, List, [], ◌∷◌, false, Ordering, Less, Equal, Greater, refl, sym, ap, subst, subst₂, arith, map, filter, length, take, drop, nat_le, nat_lt, is_gt, is_lt, inl, inr, IsSorted}
-use Rattle.std.proofs.lemmas.List.{length-map}
 use Rattle.std.specs.List.{AllByRecursion}
 use Rattle.std.specs.List.Sorted.{IsPermutation}
 use Rattle.std.specs.Ordering.{ordering_reverse, ordering_then}

@@ -18,12 +18,11 @@ invariant_of-self-in-Ok g c =
     let more : with_request c.self.inside.numbers c.args.delta.now.least_epoch ≡ c.in-Some.more = search rules in
     let done : c.transact.result ≡ Ok (tt {0}) = search rules in
     let single : IsTrue g.O.Origin.IS_OURS → IsTrue (state g.S.Store old).is_open → AreSingle (state g.S.Store old).now.trees = λ ours was. are_single (state g.S.Store old).now (c.self.invariant.0.ready ours was).0 (c.schema-live.ensures.live was).0 in
-    let clean : IsTrue (state g.S.Store last).is_open → HasCleanDisk (state g.S.Store last) = λ is_open. clean_if_open (g.S.Store.view last.store) (g.met.S.Store.shut_if_dirty last.store) is_open in
-    (
+    let clean : IsTrue (state g.S.Store last).is_open → HasCleanDisk (state g.S.Store last) = λ is_open. clean_if_open (g.S.Store.view last.store) (g.met.S.Store.shut_if_dirty last.store) is_open in (
       subst (Holds g.S.Store last g.O.Origin.IS_OURS) more
-      (holds_committed g.S.Store old last g.O.Origin.IS_OURS c.self.inside.numbers c.self.invariant.0 c.args.delta.now c.args.kept.now c.transact.result c.transact.ensures.acts single done c.transact.ensures.mode clean),
+          (holds_committed g.S.Store old last g.O.Origin.IS_OURS c.self.inside.numbers c.self.invariant.0 c.args.delta.now c.args.kept.now c.transact.result c.transact.ensures.acts single done c.transact.ensures.mode clean),
       knows_committed g.S.Store old last g.O.Origin.IS_OURS c.self.inside.numbers c.self.invariant.0 c.args.delta.now c.args.kept.now c.transact.result c.transact.ensures.acts single done clean c.self.inside.counts c.note.new.self
-      c.self.invariant.1 c.note.ensures,
+          c.self.invariant.1 c.note.ensures,
     )
 
 pub invariant_of-self-in-Err : goal.invariant_of-self-in-Err
@@ -32,12 +31,11 @@ invariant_of-self-in-Err g c =
     let mid = c.transact.new.conn in
     let last = c.told.new.conn in
     let failed : c.transact.result ≡ Err c.in-Err.error = search rules in
-    let single : IsTrue g.O.Origin.IS_OURS → IsTrue (state g.S.Store old).is_open → AreSingle (state g.S.Store old).now.trees = λ ours was. are_single (state g.S.Store old).now (c.self.invariant.0.ready ours was).0 (c.schema-live.ensures.live was).0 in
-    (
+    let single : IsTrue g.O.Origin.IS_OURS → IsTrue (state g.S.Store old).is_open → AreSingle (state g.S.Store old).now.trees = λ ours was. are_single (state g.S.Store old).now (c.self.invariant.0.ready ours was).0 (c.schema-live.ensures.live was).0 in (
       holds_still g.S.Store mid last c.told.ensures.stays g.O.Origin.IS_OURS c.self.inside.numbers c.told.ensures.mode
-      (holds_undone g.S.Store old mid g.O.Origin.IS_OURS c.self.inside.numbers c.self.invariant.0 c.args.delta.now c.args.kept.now c.transact.result c.transact.ensures.acts single failed c.transact.ensures.mode),
+          (holds_undone g.S.Store old mid g.O.Origin.IS_OURS c.self.inside.numbers c.self.invariant.0 c.args.delta.now c.args.kept.now c.transact.result c.transact.ensures.acts single failed c.transact.ensures.mode),
       knows_still g.S.Store mid last c.told.ensures.stays g.O.Origin.IS_OURS c.self.inside.counts
-      (knows_undone g.S.Store old mid g.O.Origin.IS_OURS c.self.inside.numbers c.self.invariant.0 c.args.delta.now c.args.kept.now c.transact.result c.transact.ensures.acts single failed c.self.inside.counts c.self.invariant.1),
+          (knows_undone g.S.Store old mid g.O.Origin.IS_OURS c.self.inside.numbers c.self.invariant.0 c.args.delta.now c.args.kept.now c.transact.result c.transact.ensures.acts single failed c.self.inside.counts c.self.invariant.1),
     )
 
 pub returns-in-Ok-clause-done : goal.returns-in-Ok-clause-done

@@ -20,8 +20,7 @@ invariant_of-self g c =
     let last = c.load.new.conn in
     let clean : IsTrue (state g.S.Store last).is_open → HasCleanDisk (state g.S.Store last) = λ is_open. clean_if_open (g.S.Store.view last.store) (g.met.S.Store.shut_if_dirty last.store) is_open in
     let is : c.load.result ≡ Ok c.in-Ok.found = search rules in
-    let serves = subst (Serves (AreLoadedBounded c.self.inside.counts c.load.new.counts) (state g.S.Store c.self.inside.conn) (state g.S.Store last)) is c.load.ensures.serves in
-    (
+    let serves = subst (Serves (AreLoadedBounded c.self.inside.counts c.load.new.counts) (state g.S.Store c.self.inside.conn) (state g.S.Store last)) is c.load.ensures.serves in (
       holds_read g.S.Store c.self.inside.conn last g.O.Origin.IS_OURS c.self.inside.numbers c.self.invariant.0 _ c.load.result c.load.ensures.mode clean c.load.ensures.serves,
       knows_loaded g.S.Store c.self.inside.conn last g.O.Origin.IS_OURS c.self.inside.numbers c.self.invariant.0 c.self.inside.counts c.load.new.counts c.self.invariant.1 c.in-Ok.found serves clean,
     )

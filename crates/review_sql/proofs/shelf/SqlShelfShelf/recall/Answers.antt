@@ -13,8 +13,7 @@ use Rattle.review_sql.proofs.shelf.SqlShelfShelf.recall.Goals as goal
 pub invariant_of-self : goal.invariant_of-self
 invariant_of-self g c =
     let last = c.find_stored.new.conn in
-    let clean : IsTrue (state g.S.Store last).is_open → HasCleanDisk (state g.S.Store last) = λ is_open. clean_if_open (g.S.Store.view last.store) (g.met.S.Store.shut_if_dirty last.store) is_open in
-    (
+    let clean : IsTrue (state g.S.Store last).is_open → HasCleanDisk (state g.S.Store last) = λ is_open. clean_if_open (g.S.Store.view last.store) (g.met.S.Store.shut_if_dirty last.store) is_open in (
       holds_read g.S.Store c.self.inside.conn last g.O.Origin.IS_OURS c.self.inside.numbers c.self.invariant.0 _ c.find_stored.result c.find_stored.ensures.mode clean c.find_stored.ensures.serves,
       knows_read g.S.Store c.self.inside.conn last g.O.Origin.IS_OURS c.self.inside.numbers c.self.invariant.0 _ c.find_stored.result c.self.inside.counts c.self.invariant.1 clean c.find_stored.ensures.serves,
     )
@@ -85,10 +84,9 @@ pub invariant_of-self-in-Err-1 : goal.invariant_of-self-in-Err-1
 invariant_of-self-in-Err-1 g c =
     let mid = c.find_stored.new.conn in
     let last = c.told.new.conn in
-    let clean : IsTrue (state g.S.Store mid).is_open → HasCleanDisk (state g.S.Store mid) = λ is_open. clean_if_open (g.S.Store.view mid.store) (g.met.S.Store.shut_if_dirty mid.store) is_open in
-    (
+    let clean : IsTrue (state g.S.Store mid).is_open → HasCleanDisk (state g.S.Store mid) = λ is_open. clean_if_open (g.S.Store.view mid.store) (g.met.S.Store.shut_if_dirty mid.store) is_open in (
       holds_still g.S.Store mid last c.told.ensures.stays g.O.Origin.IS_OURS c.self.inside.numbers c.told.ensures.mode
-      (holds_read g.S.Store c.self.inside.conn mid g.O.Origin.IS_OURS c.self.inside.numbers c.self.invariant.0 _ c.find_stored.result c.find_stored.ensures.mode clean c.find_stored.ensures.serves),
+          (holds_read g.S.Store c.self.inside.conn mid g.O.Origin.IS_OURS c.self.inside.numbers c.self.invariant.0 _ c.find_stored.result c.find_stored.ensures.mode clean c.find_stored.ensures.serves),
       knows_still g.S.Store mid last c.told.ensures.stays g.O.Origin.IS_OURS c.self.inside.counts
-      (knows_read g.S.Store c.self.inside.conn mid g.O.Origin.IS_OURS c.self.inside.numbers c.self.invariant.0 _ c.find_stored.result c.self.inside.counts c.self.invariant.1 clean c.find_stored.ensures.serves),
+          (knows_read g.S.Store c.self.inside.conn mid g.O.Origin.IS_OURS c.self.inside.numbers c.self.invariant.0 _ c.find_stored.result c.self.inside.counts c.self.invariant.1 clean c.find_stored.ensures.serves),
     )
