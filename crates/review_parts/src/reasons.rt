@@ -1,5 +1,5 @@
 //! The words for why an account is called.
-ghost use Rattle.std.specs.Prelude.{◌≡◌, ◌≤◌, ◌++◌, IfOk, true, not, length, string_bytes, codes};
+ghost use Rattle.std.specs.Prelude.{◌≡◌, ◌≤◌, ◌++◌, IfOk, OnOk, true, not, length, string_bytes, codes};
 ghost use Rattle.std.specs.Char.{is_ascii_control};
 ghost use Rattle.std.specs.List.{list_all};
 ghost use Rattle.review_names.specs.Forms.{is_line};
@@ -22,10 +22,10 @@ fn worded(alloc: Global, text: &str) -> Result<Reason, AllocError>
 }
 
 #[tactic(auto, using(review_names::proofs::Numerals::decimal_numeral))]
-fn decimal(alloc: Global, number: u32) -> Result<String, AllocError>
-    ensures { IfOk result (λ t. string_bytes t ≡ numeral number) }
+fn add_account(text: &mut String, number: u32, does: &str) -> Result<(), AllocError>
+    ensures { OnOk result (string_bytes text.new ≡ string_bytes text.old ++ (codes "account " ++ (numeral number ++ does.now))) }
 {
-    format!(in alloc; "{number}")
+    write!(text, "account {number}{does}")
 }
 
 fn by_account(alloc: Global, account: AccountNo, does: &str) -> Result<Reason, AllocError>
@@ -33,10 +33,8 @@ fn by_account(alloc: Global, account: AccountNo, does: &str) -> Result<Reason, A
     requires shown { list_all (λ c. not (is_ascii_control c)) does.now ≡ true }
     ensures { IfOk result (λ r. r ≡ codes "account " ++ (numeral account ++ does.now)) }
 {
-    let number = decimal(alloc, account.get())?;
-    let mut text = String::from_str(alloc, "account ")?;
-    text.push_str(number.as_str())?;
-    text.push_str(does)?;
+    let mut text = String::with_capacity(alloc, 120)?;
+    add_account(&mut text, account.get(), does)?;
     worded(alloc, text.as_str())
 }
 
