@@ -68,7 +68,10 @@ fn are_forms(delivery: &Delivery)
     ensures { IsFormed delivery.now }
 {
     if let Delivery::Write {
-        caller, epoch, id, ..
+        caller,
+        epoch,
+        id,
+        ..
     } = delivery
     {
         let _caller = caller.get();

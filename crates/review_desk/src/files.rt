@@ -71,10 +71,7 @@ fn ends_of(rt: &HostRuntime, port: u16) -> ProgramEnds<'_>
 }
 
 /// Makes an empty desk over a connection to a new file, and says so once the file is closed.
-pub fn init<F: Start>(
-    rt: &HostRuntime,
-    conn: FileConnection<F>,
-) -> Result<Outcome, ProgramFault>
+pub fn init<F: Start>(rt: &HostRuntime, conn: FileConnection<F>) -> Result<Outcome, ProgramFault>
     requires mode { conn.in_transaction ≡ false }
     ensures { (job : Result (Unit {0}) ProgramFault) × ThenClosed (λ last made. WasMade over_files conn last made) job × IsTold job result }
 {
@@ -84,10 +81,7 @@ pub fn init<F: Start>(
 
 /// Makes the tables of the desk in a file those of the latest version, and says so once the file is closed. Standard error is warned of tables that are not those of
 /// a desk alone.
-pub fn migrate<F: Start>(
-    rt: &HostRuntime,
-    conn: FileConnection<F>,
-) -> Result<Outcome, ProgramFault>
+pub fn migrate<F: Start>(rt: &HostRuntime, conn: FileConnection<F>) -> Result<Outcome, ProgramFault>
     requires mode { conn.in_transaction ≡ false }
     ensures { (is_warned : Bool) × (job : Result (Unit {0}) ProgramFault) × ThenClosed (λ last ended. WasMigrated over_files false is_warned ended conn last) job × IsTold job result }
 {

@@ -1,4 +1,4 @@
-use Rattle.std.proofs.Common.{◌≡◌, ◌∙◌, ◌∷◌, ◌+◌, ◌≤◌, ◌==◌, ◌<◌, [], true, false, if◌then◌else◌, refl, sym, ap, arith}
+use Rattle.std.proofs.Common.{◌∙◌, ◌∷◌, ◌+◌, ◌≤◌, ◌==◌, ◌<◌, [], true, false, if◌then◌else◌, refl, sym, ap, arith}
 use Rattle.sqlite.specs.Files.{over_files}
 use Rattle.sqlite_wal.specs.Files.{image_at}
 use Rattle.review_work.specs.OnFile.{ClosedWell, OpenedFrom}
