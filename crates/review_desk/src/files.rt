@@ -2,11 +2,10 @@
 //!
 //! `open` is for whatever the file and its log hold, and says what it finds by that (`F`, which `main` names), and a job what it does on such a connection: what the program does in one run goes
 //! on from what the run before left, or what a stop left of it. Where `serve` opens a file again, that is said of each opening by itself.
-ghost use Rattle.std.specs.Prelude.{◌≡◌, Bool, true, false, Result, IfOk, IfErr, OnOk};
+ghost use Rattle.std.specs.Prelude.{◌≡◌, ◌⊎◌, Bool, true, false, Result, IfOk, IfErr};
 ghost use Rattle.sqlite.specs.Files.{over_files};
 ghost use Rattle.sqlite_wal.specs.Files.{image_at};
-ghost use Rattle.review_work.specs.Faults.{IsDeskFault};
-ghost use Rattle.review_work.specs.OnFile.{ClosedWell, IsTold, OpenedFrom, ThenClosed};
+ghost use Rattle.review_work.specs.OnFile.{ClosedAs, IsTold, OpenedFrom, ThenClosed};
 ghost use Rattle.review_work.specs.Turns.{ServedInTurns};
 ghost use Rattle.review_work.specs.Worked.{Known, WasMade, WasMigrated, Worked};
 
@@ -36,7 +35,7 @@ pub fn open<F: Start>(
 ) -> Result<FileConnection<F>, ProgramFault>
     ensures mode { IfOk result (λ conn. conn.in_transaction ≡ false) }
     ensures from { IfOk result (OpenedFrom (image_at F.Start)) }
-    ensures cause { IfErr result IsDeskFault }
+    ensures cause { IfErr result (λ fault. (fault ≡ ProgramFault.Store) ⊎ (fault ≡ ProgramFault.Memory)) }
 {
     match Connection::open_from(rt, file, false, start) {
         Ok(conn) => Ok(conn),
@@ -46,7 +45,7 @@ pub fn open<F: Start>(
 
 /// Copies the log into the file, and closes both.
 pub fn close<F: Start>(conn: FileConnection<F>) -> Result<(), ProgramFault>
-    ensures { OnOk result (ClosedWell conn) }
+    ensures { ClosedAs conn result }
 {
     match conn.close_files() {
         Ok(_) => Ok(()),
@@ -117,7 +116,7 @@ pub fn serve<F: Start, T: Starts<F>>(
 ) -> Result<Outcome, ProgramFault>
     requires mode { first.in_transaction ≡ false }
     ensures { (before : Known) × (after : Known) × (before.is_warned ≡ false) × (job : Result Outcome ProgramFault)
-        × ServedInTurns over_files first (OpenedFrom (image_at F.Start)) ClosedWell count before after job × IsTold job result }
+        × ServedInTurns over_files first (OpenedFrom (image_at F.Start)) ClosedAs count before after job × IsTold job result }
 {
     let mut rules = DeskRules::new(rt.alloc());
     let mut ends = ends_of(rt, port);

@@ -2,7 +2,7 @@
 ghost use Rattle.std.specs.Prelude.{◌≡◌, true, false};
 ghost use Rattle.sqlite.specs.Files.{over_files};
 ghost use Rattle.sqlite_wal.specs.Files.{image_at};
-ghost use Rattle.review_work.specs.OnFile.{ClosedWell, OpenedFrom};
+ghost use Rattle.review_work.specs.OnFile.{ClosedAs, OpenedFrom};
 ghost use Rattle.review_work.specs.Turns.{ServedInTurns};
 ghost use Rattle.review_work.specs.Worked.{known};
 
@@ -30,7 +30,7 @@ pub fn serve_on<F: Start, T: Starts<F>, R: Read, W: Write, C: Connections, N: No
 ) -> Result<Outcome, ProgramFault>
     requires mode { first.in_transaction ≡ false }
     requires idle { C.is_idle ends.old.connections ≡ true }
-    ensures { ServedInTurns over_files first (OpenedFrom (image_at F.Start)) ClosedWell count (known R.remaining W.contents C.coming C.told N.is_warned ends.old) (known R.remaining W.contents C.coming C.told N.is_warned ends.new) result }
+    ensures { ServedInTurns over_files first (OpenedFrom (image_at F.Start)) ClosedAs count (known R.remaining W.contents C.coming C.told N.is_warned ends.old) (known R.remaining W.contents C.coming C.told N.is_warned ends.new) result }
 {
     let mut conn = first;
     let mut left = count;

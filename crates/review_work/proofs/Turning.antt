@@ -1,13 +1,14 @@
 -- Turns of serving: how they end.
-use Rattle.std.proofs.Common.{◌≡◌, ◌≤◌, ◌<◌, ◌+◌, ◌==◌, ◌∷◌, ℕ, Bool, true, false, List, Some, None, Result, Ok, Err, IsErrAnd, OnOk, ap, inl, inr, refl, arith, if◌then◌else◌}
+use Rattle.std.proofs.Common.{◌≡◌, ◌≤◌, ◌<◌, ◌+◌, ◌==◌, ◌∷◌, ◌⊎◌, ℕ, Bool, true, false, List, Some, None, Result, Ok, Err, IsErrAnd, ap, inl, inr, refl, arith, if◌then◌else◌}
 use Rattle.std.proofs.lemmas.Bool.Decides.{nat_tests}
 use Rattle.sqlite_trees.specs.declared.store.Store.{Ghosts}
 use Rattle.sqlite.specs.Held.{Held}
 use Rattle.review_lines.specs.declared.fault.Outcome.{Outcome}
-use Rattle.review_work.specs.Faults.{after_closing, IsDeskFault}
+use Rattle.review_work.specs.Faults.{after_closing}
 use Rattle.review_work.specs.Worked.{Known}
 use Rattle.review_work.specs.Turns.{Turn, AreTurns, ServedInTurns, in_row, left_by}
 use Rattle.review_work.specs.declared.fault.ProgramFault.{ProgramFault}
+use Rattle.review_work.specs.declared.fault.ProgramFault.TheVariants.{Memory, Store}
 
 -- an error that another one was told as is that one
 pub is_error : (result : Result Outcome ProgramFault) (fault : ProgramFault) → IsErrAnd result (λ (f : ProgramFault). f ≡ fault) → result ≡ Err fault
@@ -22,10 +23,10 @@ too_many left had row now is many few = by (left + 1 == had) refl is
     by true same last = (grind (arith, nat_tests), omega (arith, last))
     by false same last = absurd (omega (arith, last))
 
-module _ {S : Type 0} (g : Ghosts S) (first : Held S) (opens closes : Held S → Type 0) (count : ℕ) (before : Known) where
+module _ {S : Type 0} (g : Ghosts S) (first : Held S) (opens : Held S → Type 0) (closes : Held S → Result (Unit {0}) ProgramFault → Type 0) (count : ℕ) (before : Known) where
   module _ (turns : List (Turn S)) (t : Turn S) (are : AreTurns g first opens closes count before (t ∷ turns)) (few : in_row (t ∷ turns) ≤ 8) where
     -- the last turn ended otherwise than behind a fault of the store
-    pub ended : (closed : Result (Unit {0}) ProgramFault) (result : Result Outcome ProgramFault) → left_by t.ended ≡ None → OnOk closed (closes t.new) → result ≡ after_closing t.ended closed → ServedInTurns g first opens closes count before t.after result
+    pub ended : (closed : Result (Unit {0}) ProgramFault) (result : Result Outcome ProgramFault) → left_by t.ended ≡ None → closes t.new closed → result ≡ after_closing t.ended closed → ServedInTurns g first opens closes count before t.after result
     ended closed result none closes_it is = record { turns = t ∷ turns; are = are; few = few; ends = (refl, inl (none, (closed, closes_it, is))) }
 
     -- it was opened again too often
@@ -33,5 +34,5 @@ module _ {S : Type 0} (g : Ghosts S) (first : Held S) (opens closes : Held S →
     given_up rest is single row = record { turns = t ∷ turns; are = are; few = few; ends = (refl, inr (rest, is, inl (refl, single, row))) }
 
     -- it didn't open again
-    pub shut : (rest : ℕ) (fault : ProgramFault) (result : Result Outcome ProgramFault) → left_by t.ended ≡ Some rest → IsDeskFault fault → result ≡ Err fault → ServedInTurns g first opens closes count before t.after result
+    pub shut : (rest : ℕ) (fault : ProgramFault) (result : Result Outcome ProgramFault) → left_by t.ended ≡ Some rest → (fault ≡ Store) ⊎ (fault ≡ Memory) → result ≡ Err fault → ServedInTurns g first opens closes count before t.after result
     shut rest fault result is cause failed = record { turns = t ∷ turns; are = are; few = few; ends = (refl, inr (rest, is, inr (fault, cause, failed))) }

@@ -22,10 +22,6 @@ desk_fault desk.Store = Store
 desk_fault desk.NotEmpty = NotEmpty
 desk_fault desk.Memory = Memory
 
--- a fault of making or opening a desk
-abbrev pub IsDeskFault : ProgramFault → Type 0
-IsDeskFault fault = (cause : DeskFault) × (fault ≡ desk_fault cause)
-
 -- why lines are not all taken
 abbrev pub line_fault : Fault → ProgramFault
 line_fault line.Memory = Memory

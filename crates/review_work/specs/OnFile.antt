@@ -1,5 +1,5 @@
 -- A connection to a file, by what the file and its log held when they were opened, and how it is closed behind what was done on it.
-use Rattle.std.specs.Prelude.{◌≡◌, ◌⊎◌, IsTrue, OnOk, Result, Ok, Err}
+use Rattle.std.specs.Prelude.{◌≡◌, ◌⊎◌, IsTrue, Result, Ok, Err}
 use Rattle.sqlite_disk.specs.declared.Disk.{Ghosts}
 use Rattle.sqlite_disk.specs.declared.Files.{Files}
 use Rattle.sqlite_wal.specs.Reads.{AreClean}
@@ -16,7 +16,7 @@ use Rattle.review_lines.specs.declared.fault.Outcome.{Outcome}
 use Rattle.review_lines.specs.declared.fault.Outcome.TheVariants.{Complete}
 use Rattle.review_work.specs.Faults.{after_closing}
 use Rattle.review_work.specs.declared.fault.ProgramFault.{ProgramFault}
-use Rattle.review_work.specs.declared.fault.ProgramFault.TheVariants.{Output}
+use Rattle.review_work.specs.declared.fault.ProgramFault.TheVariants.{Memory, Output, Store}
 
 -- what is told once a job is done: that it is, or that it couldn't be said; else why it isn't
 abbrev pub IsTold : {X : Type 0} → Result X ProgramFault → Result Outcome ProgramFault → Type 0
@@ -35,6 +35,11 @@ module _ {D : Type 0} {g : Ghosts D} where
       (last : FileStore D g) × (closed : Files D) × (files last ≡ (closed.log, closed.db)) × IsClosed conn last × (IsClean (view last) → IsTrue (view last).is_open × (log_frames last ≡ 0))
       × (AreClean g closed.log closed.db → IsCopied conn closed)
 
-  -- this was done on a connection to a file, and it was closed; the fault of what was done is told, or that of closing
+  -- how it was closed: well, or the store failed or there was no memory, and a stop leaves nothing that it couldn't leave before
+  abbrev pub ClosedAs : Held (FileStore D g) → Result (Unit {0}) ProgramFault → Type 0
+  ClosedAs conn (Ok done) = ClosedWell conn
+  ClosedAs conn (Err fault) = ((last : FileStore D g) × IsClosed conn last) × ((fault ≡ Store) ⊎ (fault ≡ Memory))
+
+  -- this was done on a connection to a file, which was closed then; the fault of what was done is told, or that of closing
   abbrev pub ThenClosed : {X : Type 0} → (Held (FileStore D g) → Result X ProgramFault → Type 0) → Result X ProgramFault → Type 0
-  ThenClosed {X} Did job = (last : Held (FileStore D g)) × (ended : Result X ProgramFault) × Did last ended × (closed : Result (Unit {0}) ProgramFault) × OnOk closed (ClosedWell last) × (job ≡ after_closing ended closed)
+  ThenClosed {X} Did job = (last : Held (FileStore D g)) × (ended : Result X ProgramFault) × Did last ended × (closed : Result (Unit {0}) ProgramFault) × ClosedAs last closed × (job ≡ after_closing ended closed)

@@ -1,14 +1,14 @@
 -- Serving on a desk that is opened again where a fault has shut its store.
-use Rattle.std.specs.Prelude.{◌≡◌, ◌⊎◌, ◌+◌, ◌≤◌, ◌==◌, ℕ, Bool, true, false, if◌then◌else◌, List, [], ◌∷◌, Option, Some, None, Result, Err, IsTrue, OnOk}
+use Rattle.std.specs.Prelude.{◌≡◌, ◌⊎◌, ◌+◌, ◌≤◌, ◌==◌, ℕ, Bool, true, false, if◌then◌else◌, List, [], ◌∷◌, Option, Some, None, Result, Err, IsTrue}
 use Rattle.sqlite_trees.specs.declared.store.Store.{Ghosts}
 use Rattle.sqlite.specs.State.{HasCleanDisk}
 use Rattle.sqlite.specs.Held.{Held, state}
 use Rattle.review_lines.specs.declared.fault.Outcome.{Outcome}
 use Rattle.review_sql.specs.Shelf.{Stays}
-use Rattle.review_work.specs.Faults.{after_closing, IsDeskFault}
+use Rattle.review_work.specs.Faults.{after_closing}
 use Rattle.review_work.specs.Worked.{Known, Worked}
 use Rattle.review_work.specs.declared.fault.ProgramFault.{ProgramFault}
-use Rattle.review_work.specs.declared.fault.ProgramFault.TheVariants.{ServedInPart}
+use Rattle.review_work.specs.declared.fault.ProgramFault.TheVariants.{Memory, ServedInPart, Store}
 use Rattle.review_work.specs.declared.task.Task.TheVariants.{Serve}
 
 -- how many connections are left, where serving ended behind a fault of the store
@@ -40,7 +40,7 @@ abbrev pub in_row : {S : Type 0} → List (Turn S) → ℕ
 in_row [] = 0
 in_row (t ∷ turns) = row_behind turns t.is_anew t.count
 
-module _ {S : Type 0} (g : Ghosts S) (first : Held S) (opens closes : Held S → Type 0) where
+module _ {S : Type 0} (g : Ghosts S) (first : Held S) (opens : Held S → Type 0) (closes : Held S → Result (Unit {0}) ProgramFault → Type 0) where
   -- what a turn did
   abbrev pub IsTurn : Turn S → Type 0
   IsTurn t = Worked g (Serve t.count) t.before t.after t.ended t.old t.new
@@ -65,9 +65,9 @@ module _ {S : Type 0} (g : Ghosts S) (first : Held S) (opens closes : Held S →
   EndsTurns [] after result = ⊥
   EndsTurns (t ∷ turns) after result =
       (after ≡ t.after)
-      × (((left_by t.ended ≡ None) × ((closed : Result (Unit {0}) ProgramFault) × OnOk closed (closes t.new) × (result ≡ after_closing t.ended closed)))
+      × (((left_by t.ended ≡ None) × ((closed : Result (Unit {0}) ProgramFault) × closes t.new closed × (result ≡ after_closing t.ended closed)))
       ⊎ ((rest : ℕ) × (left_by t.ended ≡ Some rest)
-      × (((result ≡ t.ended) × (rest + 1 ≡ t.count) × (in_row (t ∷ turns) ≡ most_in_row)) ⊎ ((fault : ProgramFault) × IsDeskFault fault × (result ≡ Err fault)))))
+      × (((result ≡ t.ended) × (rest + 1 ≡ t.count) × (in_row (t ∷ turns) ≡ most_in_row)) ⊎ ((fault : ProgramFault) × ((fault ≡ Store) ⊎ (fault ≡ Memory)) × (result ≡ Err fault)))))
 
   -- so many connections were served in turns, on a desk that was opened first and each other time that a fault had shut it
   pub record ServedInTurns (count : ℕ) (before after : Known) (result : Result Outcome ProgramFault) : Type 0 where

@@ -3,6 +3,7 @@ use Rattle.std.specs.Prelude.{◌≡◌, ◌≢◌, ◌⊎◌, ◌||◌, ℕ, Bo
 use Rattle.std.specs.Io.KnownBytes.{Appends}
 use Rattle.sqlite_trees.specs.declared.store.Store.{Ghosts}
 use Rattle.sqlite.specs.Held.{Held, state}
+use Rattle.sqlite.specs.State.{HasCleanDisk}
 use Rattle.review_statements.specs.Desk.{schema_0}
 use Rattle.review_words.specs.declared.command.Delivery.{Delivery}
 use Rattle.review_words.specs.declared.reply.Reply.{Reply}
@@ -65,16 +66,16 @@ known remaining contents coming told is_warned ends =
     record { input = remaining ends.input; output = contents ends.output; peers = record { coming = coming ends.connections; told = told ends.connections }; is_warned = is_warned ends.notices }
 
 -- What a task did on a shelf that shows its tables so, with ends of which this is known before and after, and how it ended. Only to serve touches
--- connections, and it writes nothing to the writer; where there was no memory for the table of paths, it did nothing at all.
+-- connections, and it writes nothing to the writer; only to take lines reads from the reader; where there was no memory for the table of paths, it did nothing at all.
 abbrev pub HasDone : {X : Type 0} → (X → Shown) → Task → Known → Known → Result Outcome ProgramFault → X → X → Type 0
 HasDone state Apply before after ended old new = TookLines before.input before.output after.output ended (state old) (state new) × (after.peers ≡ before.peers)
 HasDone state (Serve count) before after ended old new =
     (((ended ≡ Err Memory) × (new ≡ old) × (after.peers ≡ before.peers)) ⊎ EndsServed state count before.peers after.peers ended old new)
-    × Appends before.output after.output []
+    × Appends before.output after.output [] × (after.input ≡ before.input)
 HasDone state (Show change) before after ended old new =
-    EndsShown (change_questions change) change_page before.output after.output ended (state old) (state new) × (after.peers ≡ before.peers)
+    EndsShown (change_questions change) change_page before.output after.output ended (state old) (state new) × (after.peers ≡ before.peers) × (after.input ≡ before.input)
 HasDone state (Joined project branch) before after ended old new =
-    EndsShown (branch_questions project branch) joined_page before.output after.output ended (state old) (state new) × (after.peers ≡ before.peers)
+    EndsShown (branch_questions project branch) joined_page before.output after.output ended (state old) (state new) × (after.peers ≡ before.peers) × (after.input ≡ before.input)
 
 -- What a task did on a shelf that is ours or not: where it isn't, and only there, that was told.
 abbrev pub Does : {X : Type 0} → Task → Known → Known → Result Outcome ProgramFault → Bool → (X → Shown) → X → X → Type 0
@@ -144,7 +145,7 @@ IsCauseOf g is_ours old new cause =
 abbrev pub Made : {S X : Type 0} → Ghosts S → Bool → Held S → Held S → Result X ProgramFault → Type 0
 Made {S} g is_ours old new made =
     IfOk made (λ done. (shelf : ShelfView S) × IsCreated g is_ours old shelf × IsHandedBack g is_ours shelf new)
-    × IfErr made (λ fault. IsUnmade (state g old) (state g new) × ((cause : DeskFault) × (fault ≡ desk_fault cause) × IsCauseOf g is_ours old new cause))
+    × IfErr made (λ fault. IsUnmade (state g old) (state g new) × (IsAnyThere old.schema → HasCleanDisk (state g new) → Stays (state g old) (state g new)) × ((cause : DeskFault) × (fault ≡ desk_fault cause) × IsCauseOf g is_ours old new cause))
 
 -- A desk was to be made: one of ours exactly in a store with no table.
 pub record WasMade {S X : Type 0} (g : Ghosts S) (old new : Held S) (made : Result X ProgramFault) : Type 0 where

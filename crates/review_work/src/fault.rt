@@ -1,6 +1,6 @@
 //! Why the program ends with status 1.
-ghost use Rattle.std.specs.Prelude.{◌≡◌};
-ghost use Rattle.review_work.specs.Faults.{IsDeskFault, fault_text};
+ghost use Rattle.std.specs.Prelude.{◌≡◌, ◌⊎◌};
+ghost use Rattle.review_work.specs.Faults.{fault_text};
 
 use review_http::ConnectionsFault;
 use review_lines::Fault;
@@ -43,7 +43,7 @@ pub enum ProgramFault {
 impl ProgramFault {
     /// The fault of an error of the store.
     pub fn of_store(error: Error) -> ProgramFault
-        ensures { IsDeskFault result }
+        ensures { (result ≡ ProgramFault.Store) ⊎ (result ≡ ProgramFault.Memory) }
     {
         ProgramFault::from(DeskFault::of(error))
     }

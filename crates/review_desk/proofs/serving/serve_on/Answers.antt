@@ -1,7 +1,7 @@
 use Rattle.std.proofs.Common.{◌∙◌, ◌∷◌, ◌+◌, ◌≤◌, ◌==◌, ◌<◌, [], true, false, if◌then◌else◌, refl, sym, ap, arith}
 use Rattle.sqlite.specs.Files.{over_files}
 use Rattle.sqlite_wal.specs.Files.{image_at}
-use Rattle.review_work.specs.OnFile.{ClosedWell, OpenedFrom}
+use Rattle.review_work.specs.OnFile.{ClosedAs, OpenedFrom}
 use Rattle.review_work.specs.Worked.{known}
 use Rattle.review_work.specs.Turns.{Turn, row_behind}
 use Rattle.review_work.proofs.Fewer.{fewer_left}
@@ -20,7 +20,7 @@ returns-in_default g c =
     let was = c.loop-rest.invariant in
     let t : Turn _ = record { is_anew = was.1; count = c.loop-rest.left; before = now c.loop-rest.ends; after = now c.work-worked.new.ends; old = c.loop-rest.conn; new = c.work-worked.result.0; ended = c.work-worked.result.1 } in
     let few : row_behind was.0 was.1 c.loop-rest.left ≤ 8 = omega (arith, was.4, was.5) in
-    ended over_files c.args.first (OpenedFrom (image_at g.F.Start)) ClosedWell c.args.count (now c.args.ends.now) was.0 t (was.3, c.work-worked.ensures.done, was.2) few c.close.result c.after_closing.result (sym c.left_by.ensures ∙ c.in_default.is) c.close.ensures c.after_closing.ensures
+    ended over_files c.args.first (OpenedFrom (image_at g.F.Start)) ClosedAs c.args.count (now c.args.ends.now) was.0 t (was.3, c.work-worked.ensures.done, was.2) few c.close.result c.after_closing.result (sym c.left_by.ensures ∙ c.in_default.is) c.close.ensures c.after_closing.ensures
 
 pub row_with-in_row-requires : goal.row_with-in_row-requires
 row_with-in_row-requires g c =
@@ -38,7 +38,7 @@ returns-then-in_row-gt-MOST_IN_ROW g c =
     let t : Turn _ = record { is_anew = was.1; count = c.loop-rest.left; before = now c.loop-rest.ends; after = now c.work-worked.new.ends; old = c.loop-rest.conn; new = c.work-worked.result.0; ended = c.work-worked.result.1 } in
     let few : row_behind was.0 was.1 c.loop-rest.left ≤ 8 = omega (arith, was.4, was.5) in
     let many = too_many c.in-Some.rest c.loop-rest.left c.loop-rest.in_row c.row_with-in_row.result c.row_with-in_row.ensures (omega (arith, c.if-in_row-gt-MOST_IN_ROW.true)) was.5 in
-    given_up over_files c.args.first (OpenedFrom (image_at g.F.Start)) ClosedWell c.args.count (now c.args.ends.now) was.0 t (was.3, c.work-worked.ensures.done, was.2) few c.in-Some.rest (sym c.left_by.ensures ∙ c.in-Some.is) many.0 (was.4 ∙ many.1)
+    given_up over_files c.args.first (OpenedFrom (image_at g.F.Start)) ClosedAs c.args.count (now c.args.ends.now) was.0 t (was.3, c.work-worked.ensures.done, was.2) few c.in-Some.rest (sym c.left_by.ensures ∙ c.in-Some.is) many.0 (was.4 ∙ many.1)
 
 pub returns-in_err-conn : goal.returns-in_err-conn
 returns-in_err-conn g c =
@@ -46,7 +46,7 @@ returns-in_err-conn g c =
     let was = c.loop-rest.invariant in
     let t : Turn _ = record { is_anew = was.1; count = c.loop-rest.left; before = now c.loop-rest.ends; after = now c.work-worked.new.ends; old = c.loop-rest.conn; new = c.work-worked.result.0; ended = c.work-worked.result.1 } in
     let few : row_behind was.0 was.1 c.loop-rest.left ≤ 8 = omega (arith, was.4, was.5) in
-    shut over_files c.args.first (OpenedFrom (image_at g.F.Start)) ClosedWell c.args.count (now c.args.ends.now) was.0 t (was.3, c.work-worked.ensures.done, was.2) few c.in-Some.rest c.in_err-conn.field-0.0 c.from_residual.result (sym c.left_by.ensures ∙ c.in-Some.is) c.in_err-conn.ensures.cause
+    shut over_files c.args.first (OpenedFrom (image_at g.F.Start)) ClosedAs c.args.count (now c.args.ends.now) was.0 t (was.3, c.work-worked.ensures.done, was.2) few c.in-Some.rest c.in_err-conn.field-0.0 c.from_residual.result (sym c.left_by.ensures ∙ c.in-Some.is) c.in_err-conn.ensures.cause
     (is_error c.from_residual.result c.in_err-conn.field-0.0 c.from_residual.ensures.1)
 
 pub loop-rest-smaller-in_ok-conn : goal.loop-rest-smaller-in_ok-conn

@@ -7,4 +7,4 @@ returns-in-Ok-clause-made g c = ((c.in-Ok.shelf, c.in-Ok.ensures.created, c.clos
 pub returns-in-Err-clause-made : goal.returns-in-Err-clause-made
 returns-in-Err-clause-made g c =
     let e = c.in-Err.ensures in
-    (tt, (e.refused, (c.in-Err.fault, c.from.ensures, (e.kinds.0, e.kinds.1, λ is. (e.untouched (inl is), e.not_empty is), λ is. (e.ours is, e.not_ours is), e.shut))))
+    (tt, (e.refused, e.spared, (c.in-Err.fault, c.from.ensures, (e.kinds.0, e.kinds.1, λ is. (e.untouched (inl is), e.not_empty is), λ is. (e.ours is, e.not_ours is), e.shut))))
