@@ -127,7 +127,7 @@ pub record IsServed (h : List Entry) (d : Delivery) (reply : Reply) (old new : S
   pub stops : (t : Tables) → new.stops t → old.stops t ⊎ HasEffect h d t
   pub alone : IsNew h d → IsDoneOrRefused reply → StopLeavesOwnTables new
 
--- the tables of a history that goes on from this one, by requests of their forms
+-- the tables of a history that goes on from this one, by requests whose identities have their forms
 abbrev pub GoesOn : List Entry → Tables → Type 0
 GoesOn h t = (more : List Entry) × AreFormed more × IsHistory (more ++ h) × IsView (more ++ h) t
 
